@@ -1,0 +1,256 @@
+//! The field access policies.
+ghost use Rattle.std.specs.Prelude.{◌≡◌, ◌≢◌, ℕ, ◌+◌, ◌-◌, ◌^◌, ◌<◌, ◌≤◌, IfSome, IsNone, find, bytes_eq};
+ghost use Rattle.rl_policy.specs.Bits.{bit, from_bits};
+ghost use Rattle.rl_policy.specs.Names.{name_of};
+ghost use Rattle.rl_policy.specs.Table.{after_write, after_read, value_read, update_bit, neutral_bit, is_write_only, spends_mark};
+
+use crate::word::{mask, repeated, replaced};
+
+/// What a write and a read do to the bits of a field.
+#[derive(Debug, Clone, Copy, PartialEq, Eq)]
+pub enum Policy {
+    Ro,
+    Rw,
+    Rc,
+    Rs,
+    Wrc,
+    Wrs,
+    Wc,
+    Ws,
+    Wsrc,
+    Wcrs,
+    W1c,
+    W1s,
+    W1t,
+    W0c,
+    W0s,
+    W0t,
+    W1src,
+    W1crs,
+    W0src,
+    W0crs,
+    Wo,
+    Woc,
+    Wos,
+    W1,
+    Wo1,
+}
+
+/// The policies in the order of the table.
+const ALL: [Policy; 25] = [
+    Policy::Ro,
+    Policy::Rw,
+    Policy::Rc,
+    Policy::Rs,
+    Policy::Wrc,
+    Policy::Wrs,
+    Policy::Wc,
+    Policy::Ws,
+    Policy::Wsrc,
+    Policy::Wcrs,
+    Policy::W1c,
+    Policy::W1s,
+    Policy::W1t,
+    Policy::W0c,
+    Policy::W0s,
+    Policy::W0t,
+    Policy::W1src,
+    Policy::W1crs,
+    Policy::W0src,
+    Policy::W0crs,
+    Policy::Wo,
+    Policy::Woc,
+    Policy::Wos,
+    Policy::W1,
+    Policy::Wo1,
+];
+
+// The first policy of this name.
+fn first_named(name: &[u8]) -> Option<Policy>
+    ensures { result ≡ find (λ p. bytes_eq (name_of p) name.now) ALL }
+{
+    ALL.iter().copied().find(|p| p.name().as_bytes() == name)
+}
+
+impl Policy {
+    /// The policy of this name.
+    pub fn of_name(name: &[u8]) -> Option<Policy>
+        ensures found { IfSome result (λ p. name.now ≡ name_of p) }
+        ensures none { IsNone result → (p : Policy) → name.now ≢ name_of p }
+    {
+        first_named(name)
+    }
+
+    /// The policy's name.
+    pub fn name(self) -> &'static str
+        ensures { result.now ≡ name_of self }
+    {
+        match self {
+            Policy::Ro => "RO",
+            Policy::Rw => "RW",
+            Policy::Rc => "RC",
+            Policy::Rs => "RS",
+            Policy::Wrc => "WRC",
+            Policy::Wrs => "WRS",
+            Policy::Wc => "WC",
+            Policy::Ws => "WS",
+            Policy::Wsrc => "WSRC",
+            Policy::Wcrs => "WCRS",
+            Policy::W1c => "W1C",
+            Policy::W1s => "W1S",
+            Policy::W1t => "W1T",
+            Policy::W0c => "W0C",
+            Policy::W0s => "W0S",
+            Policy::W0t => "W0T",
+            Policy::W1src => "W1SRC",
+            Policy::W1crs => "W1CRS",
+            Policy::W0src => "W0SRC",
+            Policy::W0crs => "W0CRS",
+            Policy::Wo => "WO",
+            Policy::Woc => "WOC",
+            Policy::Wos => "WOS",
+            Policy::W1 => "W1",
+            Policy::Wo1 => "WO1",
+        }
+    }
+
+    #[tactic(auto, using(crate::proofs::BitLemmas::word_bits))]
+    /// The bits after a write, with a spent mark for each bit.
+    pub fn written(self, cur: u64, w: u64, spent: u64) -> u64
+        ensures { (i : ℕ) → i < 64 → bit result i ≡ after_write self (bit cur i) (bit w i) (bit spent i) }
+    {
+        match self {
+            Policy::Ro | Policy::Rc | Policy::Rs => cur,
+            Policy::Rw | Policy::Wrc | Policy::Wrs | Policy::Wo => w,
+            Policy::Wc | Policy::Wcrs | Policy::Woc => 0,
+            Policy::Ws | Policy::Wsrc | Policy::Wos => u64::MAX,
+            Policy::W1c | Policy::W1crs => cur & !w,
+            Policy::W1s | Policy::W1src => cur | w,
+            Policy::W1t => cur ^ w,
+            Policy::W0c | Policy::W0crs => cur & w,
+            Policy::W0s | Policy::W0src => cur | !w,
+            Policy::W0t => cur ^ !w,
+            Policy::W1 | Policy::Wo1 => replaced(w, cur, spent),
+        }
+    }
+
+    /// The bits after a read.
+    #[tactic(auto, using(crate::proofs::BitLemmas::word_bits))]
+    pub fn left_by_read(self, cur: u64) -> u64
+        ensures { (i : ℕ) → i < 64 → bit result i ≡ after_read self (bit cur i) }
+    {
+        match self {
+            Policy::Rc | Policy::Wrc | Policy::Wsrc | Policy::W1src | Policy::W0src => 0,
+            Policy::Rs | Policy::Wrs | Policy::Wcrs | Policy::W1crs | Policy::W0crs => u64::MAX,
+            _ => cur,
+        }
+    }
+
+    /// The bits that a read answers.
+    #[tactic(auto, using(crate::proofs::BitLemmas::word_bits))]
+    pub fn answered(self, cur: u64) -> u64
+        ensures { (i : ℕ) → i < 64 → bit result i ≡ value_read self (bit cur i) }
+    {
+        if write_only(self) { 0 } else { cur }
+    }
+
+    /// The bits to write so that those desired result.
+    #[tactic(auto, using(crate::proofs::BitLemmas::word_bits))]
+    pub fn updating(self, desired: u64, mirrored: u64) -> u64
+        ensures { (i : ℕ) → i < 64 → bit result i ≡ update_bit self (bit desired i) (bit mirrored i) }
+    {
+        match self {
+            Policy::W1c | Policy::W0s | Policy::W1crs | Policy::W0src => !desired,
+            Policy::W1t => desired ^ mirrored,
+            Policy::W0t => !(desired ^ mirrored),
+            _ => desired,
+        }
+    }
+
+    /// The bits to write so that a field keeps its bits as far as it can.
+    #[tactic(auto, using(crate::proofs::BitLemmas::word_bits))]
+    pub fn neutral(self, mirrored: u64) -> u64
+        ensures { (i : ℕ) → i < 64 → bit result i ≡ neutral_bit self (bit mirrored i) }
+    {
+        match self {
+            Policy::Ro
+            | Policy::Rc
+            | Policy::Rs
+            | Policy::W1c
+            | Policy::W1s
+            | Policy::W1t
+            | Policy::W1src
+            | Policy::W1crs => 0,
+            Policy::W0c | Policy::W0s | Policy::W0t | Policy::W0src | Policy::W0crs => u64::MAX,
+            _ => mirrored,
+        }
+    }
+}
+
+/// Whether a read of a field answers 0.
+pub fn write_only(p: Policy) -> bool
+    ensures { result ≡ is_write_only p }
+{
+    matches!(p, Policy::Wo | Policy::Woc | Policy::Wos | Policy::Wo1)
+}
+
+/// Whether only the first write after a hard reset takes effect.
+pub fn spends(p: Policy) -> bool
+    ensures { result ≡ spends_mark p }
+{
+    matches!(p, Policy::W1 | Policy::Wo1)
+}
+
+/// The field after a write of `w`.
+pub fn write_effect(p: Policy, width: u32, cur: u64, w: u64, spent: bool) -> u64
+    requires some { 1 ≤ width }
+    requires most { width ≤ 64 }
+    ensures { result ≡ from_bits width (λ i. after_write p (bit cur i) (bit w i) spent) }
+{
+    p.written(cur, w, repeated(spent)) & mask(width)
+}
+
+/// The field after a read.
+pub fn read_effect(p: Policy, width: u32, cur: u64) -> u64
+    requires some { 1 ≤ width }
+    requires most { width ≤ 64 }
+    ensures { result ≡ from_bits width (λ i. after_read p (bit cur i)) }
+{
+    p.left_by_read(cur) & mask(width)
+}
+
+/// What a read of the field answers.
+pub fn read_value(p: Policy, width: u32, cur: u64) -> u64
+    requires some { 1 ≤ width }
+    requires most { width ≤ 64 }
+    ensures { result ≡ from_bits width (λ i. value_read p (bit cur i)) }
+{
+    p.answered(cur) & mask(width)
+}
+
+/// The desired value after `v` was set.
+pub fn set_value(p: Policy, width: u32, desired: u64, v: u64, spent: bool) -> u64
+    requires some { 1 ≤ width }
+    requires most { width ≤ 64 }
+    ensures { result ≡ from_bits width (λ i. after_write p (bit desired i) (bit v i) spent) }
+{
+    write_effect(p, width, desired, v, spent)
+}
+
+/// The word that turns the mirrored value into the desired one.
+pub fn update_word(p: Policy, width: u32, desired: u64, mirrored: u64) -> u64
+    requires some { 1 ≤ width }
+    requires most { width ≤ 64 }
+    ensures { result ≡ from_bits width (λ i. update_bit p (bit desired i) (bit mirrored i)) }
+{
+    p.updating(desired, mirrored) & mask(width)
+}
+
+/// The word that leaves the field as it is.
+pub fn neutral_word(p: Policy, width: u32, mirrored: u64) -> u64
+    requires some { 1 ≤ width }
+    requires most { width ≤ 64 }
+    ensures { result ≡ from_bits width (λ i. neutral_bit p (bit mirrored i)) }
+{
+    p.neutral(mirrored) & mask(width)
+}
