@@ -8,6 +8,8 @@
 pub mod law;
 pub mod number;
 pub mod policy;
+#[cfg(test)]
+mod tests;
 pub mod word;
 
 pub use number::{NumberText, hex_text, read_number, spell};

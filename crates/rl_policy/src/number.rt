@@ -1,4 +1,4 @@
-//! Numbers as text.
+//! Numbers as text: decimal digits, or `0x` and hexadecimal digits.
 ghost use Rattle.std.specs.Prelude.{◌≡◌, ℕ, ◌+◌, ◌-◌, ◌*◌, ◌^◌, ◌<◌, ◌≤◌, take, slice_index, option_and_then};
 ghost use Rattle.std.specs.Char.{digit_char};
 ghost use Rattle.rl_policy.specs.Numbers.{hex_digit_at, hex_digits, fitting_option, has_hex_prefix, numeral_of, number_of};
@@ -6,8 +6,11 @@ ghost use Rattle.rl_policy.specs.Numbers.{hex_digit_at, hex_digits, fitting_opti
 /// What a text says as a number.
 #[derive(Debug, Clone, Copy, PartialEq, Eq)]
 pub enum NumberText {
+    /// The number that the text writes.
     Value(u64),
+    /// The text writes no number.
     Bad,
+    /// The text writes a number of more than 64 bits.
     TooLarge,
 }
 
@@ -22,7 +25,7 @@ fn hex_digit(digit: u8) -> u8
     }
 }
 
-/// Writes the value in lower-case hexadecimal digits, with leading zeros, to the first places.
+/// Writes the value in `digits` lower-case hexadecimal digits, with leading zeros, to the first places.
 pub fn hex_text(buf: &mut [u8; 16], value: u64, digits: u32)
     requires some { 1 ≤ digits }
     requires most { digits ≤ 16 }
@@ -36,7 +39,7 @@ pub fn hex_text(buf: &mut [u8; 16], value: u64, digits: u32)
     }
 }
 
-/// Writes the hexadecimal digits of a number, with no zero in front, and answers how many there are.
+/// Writes the lower-case hexadecimal digits of a number, with no zero in front, and answers how many there are.
 ///
 /// What stands in the places after them is left open.
 pub fn spell(buf: &mut [u8; 16], value: u64) -> usize
@@ -79,7 +82,9 @@ fn has_hex_prefix(text: &[u8]) -> bool
     text.len() >= 2 && text[0] == b'0' && (text[1] == b'x' || text[1] == b'X')
 }
 
-/// Reads a text as a number: decimal digits, or `0x` or `0X` and hexadecimal digits.
+/// Reads a text as a number: decimal digits, or `0x` or `0X` and hexadecimal digits of either case.
+///
+/// Leading zeros are allowed. A text with a digit that isn't one is `Bad`, however long it is.
 pub fn read_number(text: &[u8]) -> NumberText
     ensures { result ≡ number_of text.now }
 {

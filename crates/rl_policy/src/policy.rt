@@ -1,4 +1,7 @@
 //! The field access policies.
+//!
+//! The calls on [`Policy`] work on all 64 bits of a word at once, so that a caller may keep several fields
+//! in one word; the free functions work on the value of one field.
 ghost use Rattle.std.specs.Prelude.{◌≡◌, ◌≢◌, ℕ, ◌+◌, ◌-◌, ◌^◌, ◌<◌, ◌≤◌, IfSome, IsNone, find, bytes_eq};
 ghost use Rattle.rl_policy.specs.Bits.{bit, from_bits};
 ghost use Rattle.rl_policy.specs.Names.{name_of};
@@ -6,7 +9,11 @@ ghost use Rattle.rl_policy.specs.Table.{after_write, after_read, value_read, upd
 
 use crate::word::{mask, repeated, replaced};
 
-/// What a write and a read do to the bits of a field.
+/// What a bus write and a bus read do to the bits of a field: the field access policies of IEEE 1800.2.
+///
+/// A name begins with `R` or `W` for a read or a write. `W1` and `W0` before a letter act where a 1 or a 0
+/// is written. `C`, `S` and `T` clear, set and toggle. `O` is "only". The variants stand in the order in
+/// which the policies are numbered, from 0.
 #[derive(Debug, Clone, Copy, PartialEq, Eq)]
 pub enum Policy {
     Ro,
@@ -73,7 +80,7 @@ fn first_named(name: &[u8]) -> Option<Policy>
 }
 
 impl Policy {
-    /// The policy of this name.
+    /// The policy of this name, which is in capitals, as `W1SRC`.
     pub fn of_name(name: &[u8]) -> Option<Policy>
         ensures found { IfSome result (λ p. name.now ≡ name_of p) }
         ensures none { IsNone result → (p : Policy) → name.now ≢ name_of p }
@@ -81,7 +88,7 @@ impl Policy {
         first_named(name)
     }
 
-    /// The policy's name.
+    /// The policy's name, in capitals, as IEEE 1800.2 has it.
     pub fn name(self) -> &'static str
         ensures { result.now ≡ name_of self }
     {
@@ -114,8 +121,8 @@ impl Policy {
         }
     }
 
+    /// The bits after a write of `w`, with a spent mark for each bit.
     #[tactic(auto, using(crate::proofs::BitLemmas::word_bits))]
-    /// The bits after a write, with a spent mark for each bit.
     pub fn written(self, cur: u64, w: u64, spent: u64) -> u64
         ensures { (i : ℕ) → i < 64 → bit result i ≡ after_write self (bit cur i) (bit w i) (bit spent i) }
     {
@@ -154,7 +161,7 @@ impl Policy {
         if write_only(self) { 0 } else { cur }
     }
 
-    /// The bits to write so that those desired result.
+    /// The bits to write so that the desired ones result, as far as the policy can reach them.
     #[tactic(auto, using(crate::proofs::BitLemmas::word_bits))]
     pub fn updating(self, desired: u64, mirrored: u64) -> u64
         ensures { (i : ℕ) → i < 64 → bit result i ≡ update_bit self (bit desired i) (bit mirrored i) }
@@ -187,21 +194,21 @@ impl Policy {
     }
 }
 
-/// Whether a read of a field answers 0.
+/// Whether a read of a field of this policy answers 0 in place of what is stored.
 pub fn write_only(p: Policy) -> bool
     ensures { result ≡ is_write_only p }
 {
     matches!(p, Policy::Wo | Policy::Woc | Policy::Wos | Policy::Wo1)
 }
 
-/// Whether only the first write after a hard reset takes effect.
+/// Whether only the first write after a hard reset takes effect; a field that took it is spent.
 pub fn spends(p: Policy) -> bool
     ensures { result ≡ spends_mark p }
 {
     matches!(p, Policy::W1 | Policy::Wo1)
 }
 
-/// The field after a write of `w`.
+/// The value of a field of `width` bits after a write of `w`, where it held `cur`.
 pub fn write_effect(p: Policy, width: u32, cur: u64, w: u64, spent: bool) -> u64
     requires some { 1 ≤ width }
     requires most { width ≤ 64 }
@@ -210,7 +217,7 @@ pub fn write_effect(p: Policy, width: u32, cur: u64, w: u64, spent: bool) -> u64
     p.written(cur, w, repeated(spent)) & mask(width)
 }
 
-/// The field after a read.
+/// The value of a field of `width` bits after a read, where it held `cur`.
 pub fn read_effect(p: Policy, width: u32, cur: u64) -> u64
     requires some { 1 ≤ width }
     requires most { width ≤ 64 }
@@ -219,7 +226,9 @@ pub fn read_effect(p: Policy, width: u32, cur: u64) -> u64
     p.left_by_read(cur) & mask(width)
 }
 
-/// What a read of the field answers.
+/// What a read of a field of `width` bits answers, where it holds `cur`.
+///
+/// The read's own effect comes after the answer.
 pub fn read_value(p: Policy, width: u32, cur: u64) -> u64
     requires some { 1 ≤ width }
     requires most { width ≤ 64 }
@@ -228,7 +237,7 @@ pub fn read_value(p: Policy, width: u32, cur: u64) -> u64
     p.answered(cur) & mask(width)
 }
 
-/// The desired value after `v` was set.
+/// The desired value of a field after `v` was set: the value that a write of `v` over it would leave.
 pub fn set_value(p: Policy, width: u32, desired: u64, v: u64, spent: bool) -> u64
     requires some { 1 ≤ width }
     requires most { width ≤ 64 }
@@ -237,7 +246,7 @@ pub fn set_value(p: Policy, width: u32, desired: u64, v: u64, spent: bool) -> u6
     write_effect(p, width, desired, v, spent)
 }
 
-/// The word that turns the mirrored value into the desired one.
+/// The value to write to a field so that the desired value results, as far as the policy can reach it.
 pub fn update_word(p: Policy, width: u32, desired: u64, mirrored: u64) -> u64
     requires some { 1 ≤ width }
     requires most { width ≤ 64 }
@@ -246,7 +255,7 @@ pub fn update_word(p: Policy, width: u32, desired: u64, mirrored: u64) -> u64
     p.updating(desired, mirrored) & mask(width)
 }
 
-/// The word that leaves the field as it is.
+/// The value to write to a field along with its neighbours, so that it stays as it is where its policy allows that.
 pub fn neutral_word(p: Policy, width: u32, mirrored: u64) -> u64
     requires some { 1 ≤ width }
     requires most { width ≤ 64 }

@@ -1,8 +1,8 @@
-//! Words as bits.
+//! Words as bits. Bits are counted from 0, the lowest.
 ghost use Rattle.std.specs.Prelude.{◌≡◌, ℕ, ◌+◌, ◌-◌, ◌^◌, ◌<◌, ◌≤◌, if◌then◌else◌};
 ghost use Rattle.rl_policy.specs.Bits.{bit, from_bits, is_within, put_bit};
 
-/// The lowest `width` bits.
+/// The word with the lowest `width` bits set: the largest value of a field of this width.
 pub fn mask(width: u32) -> u64
     requires some { 1 ≤ width }
     requires most { width ≤ 64 }
@@ -27,7 +27,7 @@ pub fn replaced(word: u64, by: u64, places: u64) -> u64
     (word & !places) | (by & places)
 }
 
-/// The bits from `lsb` on, `width` of them.
+/// The value of the field of `width` bits that stands at `lsb` in a word.
 pub fn take(word: u64, lsb: u32, width: u32) -> u64
     requires some { 1 ≤ width }
     requires most { lsb + width ≤ 64 }
@@ -36,7 +36,7 @@ pub fn take(word: u64, lsb: u32, width: u32) -> u64
     (word >> lsb) & mask(width)
 }
 
-/// A word whose set bits are those from `lsb` on, `width` of them.
+/// The word whose set bits are those of the field of `width` bits at `lsb`.
 pub fn window(lsb: u32, width: u32) -> u64
     requires some { 1 ≤ width }
     requires most { lsb + width ≤ 64 }
@@ -45,7 +45,7 @@ pub fn window(lsb: u32, width: u32) -> u64
     mask(width) << lsb
 }
 
-/// The word with the bits from `lsb` on, `width` of them, replaced by those of `v`.
+/// The word with the value `v` in the field of `width` bits at `lsb`, and all its other bits as they were.
 pub fn put(word: u64, lsb: u32, width: u32, v: u64) -> u64
     requires some { 1 ≤ width }
     requires most { lsb + width ≤ 64 }
