@@ -80,5 +80,6 @@ fn numbers_at_their_edges(rt: HostRuntime) {
     assert_eq!(rt; buf, *b"0abc............");
     assert_eq!(rt; spell(&mut buf, u64::MAX), 16);
     assert_eq!(rt; buf, *b"ffffffffffffffff");
-    assert_eq!(rt; put(0x7700ff, 8, 8, take(0x7712ff, 8, 8)), 0x7712ff);
+    assert_eq!(rt; take(0x7712ff, 8, 8), 0x12);
+    assert_eq!(rt; put(0x7700ff, 8, 8, 0x12), 0x7712ff);
 }
