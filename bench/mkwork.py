@@ -1,0 +1,173 @@
+#!/usr/bin/env python3
+"""mkwork.py DIR: writes the sessions of bench.sh, the same bytes every time."""
+import os, sys
+
+TABLE = ("RO RW RC RS WRC WRS WC WS WSRC WCRS W1C W1S W1T W0C W0S W0T "
+         "W1SRC W1CRS W0SRC W0CRS WO WOC WOS W1 WO1").split()
+
+
+class Draw:
+    def __init__(self, seed):
+        self.x = seed
+
+    def __call__(self, m):
+        self.x = (self.x * 6364136223846793005 + 1442695040888963407) % 2**64
+        return (self.x >> 33) % m
+
+    def bits(self, width):
+        return (self(2**31) << 40 ^ self(2**31) << 20 ^ self(2**31)) % 2**width
+
+
+def table(kind, **keys):
+    text = f"[[{kind}]]\n"
+    for key, value in keys.items():
+        if value is True:
+            value = "true"
+        text += f'{key} = "{value}"\n' if isinstance(value, str) and value != "true" else f"{key} = {value}\n"
+    return text
+
+
+def fields(draw, size):
+    """Cuts a register of `size` bytes into fields; answers text and list."""
+    text, found, at = "", [], 0
+    while at < 8 * size:
+        width = min(1 + draw(16), 8 * size - at)
+        if draw(8) == 0:
+            at += width
+            continue
+        policy = TABLE[draw(25)]
+        name = f"f{at}"
+        extra = ""
+        if draw(2):
+            extra += f"reset = {draw.bits(width):#x}\n"
+        if draw(3) == 0:
+            extra += "alone = true\n"
+        text += (f'[[reg.field]]\nname = "{name}"\nlsb = {at}\nwidth = {width}\n'
+                 f'policy = "{policy}"\n{extra}')
+        found.append((name, width))
+        at += width
+    return text, found
+
+
+# Name, bytes, the other keys of the six maps of two trees of three levels.
+MAPS = [
+    ("apb0", 4, dict(adapter="apb", base=0x40000000)),
+    ("apbm", 8, dict(parent="apb0", offset=0x1000, endian="big")),
+    ("apbl", 2, dict(parent="apbm", offset=0x10000, addressing="word")),
+    ("bus0", 8, dict(base=0x10)),
+    ("busm", 4, dict(parent="bus0", offset=0x8000, endian="big")),
+    ("busl", 1, dict(parent="busm", offset=0x20000)),
+]
+
+
+def mixed():
+    draw = Draw(2017)
+    text = ""
+    for n in range(8):
+        text += table("block", name=f"blk{n}")
+    regs = []
+    for n in range(256):
+        size = (4, 4, 2, 8, 1, 3, 4, 6)[n % 8]
+        path = f"blk{n % 8}.reg{n}"
+        text += table("reg", name=f"reg{n}", of=f"blk{n % 8}", bytes=size)
+        more, found = fields(draw, size)
+        text += more
+        regs.append((path, size, found))
+    for name, size, keys in MAPS:
+        text += table("map", name=name, bytes=size, **keys)
+    placed = {}
+    for n, (path, _, _) in enumerate(regs):
+        where = [MAPS[n % 6][0]]
+        if n % 3 == 0:
+            where.append(MAPS[(n + 3) % 6][0])
+        placed[path] = where
+        for name in where:
+            # A word-addressed map counts in words of two bytes.
+            step = 8 if name == "apbl" else 16
+            text += table("place", map=name, item=path, offset=step * n)
+    text += "---\n"
+    out = []
+    for _ in range(100000):
+        path, size, found = regs[draw(256)]
+        at = f" @{placed[path][draw(len(placed[path]))]}" if draw(2) else ""
+        c = draw(16)
+        v = f"{draw.bits(8 * size):#x}"
+        field = found[draw(len(found))] if found else None
+        if c >= 12 and field is None:
+            c = 0
+        if c <= 3:
+            out.append(f"write {path} {v}{at}")
+        elif c <= 5:
+            out.append(f"read {path}{at}")
+        elif c <= 7:
+            out.append(f"check {path}{at}")
+        elif c == 8:
+            out.append(f"update {path}{at}")
+        elif c == 9:
+            out.append(f"mirror {path}{at}")
+        elif c == 10:
+            out.append(f"peek {path}")
+        elif c == 11:
+            out.append(f"back-write {path} {v}")
+        elif c == 12:
+            out.append(f"set {path}.{field[0]} {draw.bits(field[1]):#x}")
+        elif c == 13:
+            out.append(f"field-read {path}.{field[0]}{at}")
+        else:
+            out.append(f"field-write {path}.{field[0]} {draw.bits(field[1]):#x}{at}")
+    return text + "\n".join(out) + "\n"
+
+
+def memwalk():
+    text = ""
+    for n in range(64):
+        text += table("mem", name=f"ram{n}", bytes=(1, 2, 4, 8)[n % 4], size=1024)
+    text += table("map", name="bus", bytes=4)
+    for n in range(64):
+        text += table("place", map="bus", item=f"ram{n}", offset=n * 0x2000)
+    return text + "---\nseq mem-walk *\n"
+
+
+SMALLEST = ('[[reg]]\nname = "a"\nbytes = 4\n'
+        'field = [{name = "v", lsb = 0, width = 32, policy = "RW"}]\n'
+        '[[map]]\nname = "bus"\nbytes = 4\n[[place]]\nmap = "bus"\nitem = "a"\n---\n')
+
+
+def places():
+    text = ""
+    for n in range(1024):
+        text += table("reg", name=f"reg{n}", bytes=4)
+        text += (f'field = [{{name = "lo", lsb = 0, width = 16, policy = "RW", reset = {n}}}, '
+                 f'{{name = "hi", lsb = 16, width = 16, policy = "{TABLE[n % 25]}"}}]\n')
+    for name, size, keys in (("p", 4, {}), ("q", 2, dict(endian="big", base=0x1000)),
+                             ("r", 4, dict(adapter="apb")), ("s", 1, dict(parent="p", offset=0x100000))):
+        text += table("map", name=name, bytes=size, **keys)
+    for name in "pqrs":
+        for n in range(1024):
+            text += table("place", map=name, item=f"reg{n}", offset=4 * n)
+    return text + "---\n"
+
+
+def largest():
+    """As many words as a description may have: 65,536 locations of 8 bytes on two buses of one byte."""
+    text = ""
+    for n in range(64):
+        text += table("mem", name=f"ram{n}", bytes=8, size=1024)
+    for bus in "pq":
+        text += table("map", name=bus, bytes=1)
+    for bus in "pq":
+        for n in range(64):
+            text += table("place", map=bus, item=f"ram{n}", offset=n * 0x2000)
+    return text + "---\nmem-write ram63 1023 0x1122334455667788 @q\nmem-read ram63 1023 @p\n"
+
+
+def main():
+    where = sys.argv[1]
+    os.makedirs(where, exist_ok=True)
+    for name, text in (("mixed", mixed()), ("memwalk", memwalk()),
+                       ("blank", SMALLEST + "\n" * 1000000), ("places", places()), ("largest", largest())):
+        with open(os.path.join(where, name + ".session"), "w") as f:
+            f.write(text)
+
+
+main()

@@ -1,0 +1,73 @@
+#!/usr/bin/env bash
+# rows/check.sh BIN: runs a built regrun on every session of this folder, on the large ones made here, and on each
+# example, and compares the whole output and the status. The last line is 'N passed, M failed'.
+#
+# NAME.session is standard input and NAME.log the output that it must give; NAME.status has the exit status (absent: 0)
+# and NAME.words the command's words, one a line (absent: run). An example's log stands beside it as NAME.log.
+set -u
+bin=$(realpath "$1")
+here=$(dirname "$(realpath "$0")")
+tmp=$(mktemp -d)
+trap 'rm -rf "$tmp"' EXIT
+passed=0
+failed=0
+
+# check NAME INPUT LOG STATUS WORD..: one run over the file INPUT; its output must be LOG, and standard error stay empty.
+check() {
+    local name=$1 input=$2 log=$3 status=$4
+    shift 4
+    timeout 120 "$bin" "$@" < "$input" > "${output:-$tmp/out}" 2> "$tmp/err"
+    local code=$?
+    [ -z "${output:-}" ] || : > "$tmp/out"
+    if [ "$code" = "$status" ] && cmp -s "$log" "$tmp/out" && [ ! -s "$tmp/err" ]; then
+        passed=$((passed + 1))
+        return
+    fi
+    failed=$((failed + 1))
+    echo "$name: status $code, expected $status; the first difference:"
+    diff -a "$log" "$tmp/out" | head -4
+    head -2 "$tmp/err"
+}
+
+for session in "$here"/*.session "$here"/../examples/*.regrun; do
+    name=${session%.*}
+    words=(run)
+    [ -e "$name.words" ] && mapfile -t words < "$name.words"
+    status=0
+    [ -e "$name.status" ] && status=$(cat "$name.status")
+    check "$(basename "$name")" "$session" "$name.log" "$status" "${words[@]}"
+done
+
+# The limits of a session, met and passed by one.
+smallest=$here/smallest-session.session
+description=$(sed '/^---$/,$d' "$smallest"; echo .)
+description=${description%.}
+large() {
+    local name=$1 status=$2
+    cat > "$tmp/in"
+    check "$name" "$tmp/in" "$tmp/want" "$status" run
+}
+# padded SIZE: the description with a comment that makes it so many bytes long.
+padded() {
+    printf '%s' "$description"
+    head -c $(($1 - ${#description} - 1)) /dev/zero | tr '\0' '#'
+    printf '\n---\nread a\n'
+}
+read_zero='read a @bus: ok 0x00000000 mirror 0x00000000\n  bus r 0x0 0x00000000 1111 #0 ok\nend: 1 events, 0 differences, 0 bus errors\n'
+printf "$read_zero" > "$tmp/want"
+padded 1048576 | large longest-description 0
+{ printf '%s---\n' "$description"; yes '                              ' | head -n 900000; echo 'read a'; } | large blank-lines 0
+printf 'refused session: description too long\n' > "$tmp/want"
+padded 1048577 | large description-too-long 2
+printf 'end: 0 events, 0 differences, 0 bus errors\n' > "$tmp/want"
+{ printf '%s---\n' "$description"; yes '' | head -n 1000000; } | large most-lines 0
+printf 'refused line 1000001: too many lines\n' > "$tmp/want"
+{ printf '%s---\n' "$description"; yes '' | head -n 1000001; } | large too-many-lines 2
+
+# An input that can't be read, and an output that is full.
+: > "$tmp/want"
+check unreadable-input / "$tmp/want" 3 run
+output=/dev/full check full-output "$smallest" "$tmp/want" 4 run
+
+echo "$passed passed, $failed failed"
+[ "$failed" = 0 ]
