@@ -1,0 +1,52 @@
+// The adapter for APB: aligned words of at most 4 bytes at 32-bit addresses, with no enables in a read.
+ghost use Rattle.std.specs.Prelude.{true, false};
+ghost use Rattle.rl_bus.specs.Standing.{Standing};
+ghost use Rattle.rl_apb.specs.Kinds.{apb_kind};
+
+use rl_bus::{
+    Adapter, AdapterKind, Answer, ApbTransfer, BusOp, Response, ShortName, Transfer,
+    trail_of_answer, trail_of_operation,
+};
+
+/// The adapter of an APB bus (ARM IHI 0024): aligned words of at most 4 bytes at 32-bit addresses.
+/// A write carries byte enables as PSTRB; a read has none. PSLVERR is the failure of an answer.
+#[derive(Clone, Copy, Debug, PartialEq, Eq, Drop)]
+pub struct ApbAdapter {
+    pub next_serial: u64,
+    pub trail: u64,
+}
+
+impl Adapter for ApbAdapter {
+    ghost standing = { λ a. record { kind = apb_kind; tag = a.next_serial; trail = a.trail } };
+
+    fn kind(&self) -> AdapterKind {
+        AdapterKind {
+            name: ShortName::of(b"apb").unwrap(),
+            most_bytes: 4,
+            most_address: 0xffff_ffff,
+            aligned: true,
+            write_lanes: true,
+            read_lanes: false,
+        }
+    }
+
+    fn reg2bus(&mut self, op: &BusOp) -> Transfer {
+        let serial = self.next_serial;
+        self.next_serial = serial.wrapping_add(1);
+        self.trail = trail_of_operation(self.trail, op);
+        Transfer::Apb(ApbTransfer {
+            write: op.write,
+            paddr: op.address as u32,
+            pwdata: op.word as u32,
+            pstrb: op.lanes,
+            bytes: op.bytes,
+            serial,
+        })
+    }
+
+    fn bus2reg(&mut self, _transfer: &Transfer, response: &Response) -> Answer {
+        let answer = response.answer();
+        self.trail = trail_of_answer(self.trail, &answer);
+        answer
+    }
+}

@@ -1,0 +1,63 @@
+// The pins of an APB transfer, by cycle.
+ghost use Rattle.std.specs.Prelude.{
+  ◌≡◌,
+  ◌≤◌,
+  ◌+◌,
+  ◌==◌,
+  true,
+  false,
+  if◌then◌else◌,
+  nat_lt,
+  ◌&&◌,
+};
+
+use rl_bus::{ApbResponse, ApbTransfer};
+
+/// The signals of APB in one cycle, with the names of ARM IHI 0024. The values of the completer are
+/// `pready`, `prdata` and `pslverr`; all others are the requester's.
+#[derive(Clone, Copy, Debug, PartialEq, Eq)]
+pub struct Pins {
+    pub psel: bool,
+    pub penable: bool,
+    pub pwrite: bool,
+    pub pprot: u8,
+    pub paddr: u32,
+    pub pwdata: u32,
+    pub pstrb: u8,
+    pub pready: bool,
+    pub prdata: u32,
+    pub pslverr: bool,
+}
+
+/// The pins in cycle `k` of a transfer with its response, counted from 0. A transfer takes
+/// `waits + 2` cycles: the setup phase, and an access phase that ends where the completer is ready.
+///
+/// PPROT is always 0. That PWDATA is 0 in a read, and PRDATA and PSLVERR 0 before the last cycle, is
+/// this project's own: APB leaves them open there.
+pub fn cycles(transfer: &ApbTransfer, response: &ApbResponse, k: u32) -> Pins
+    requires in_range { k ≤ response.now.waits + 1 }
+    ensures selected { result.psel ≡ true }
+    ensures enabled_after_setup { result.penable ≡ nat_lt 0 k }
+    ensures direction { result.pwrite ≡ transfer.now.write }
+    ensures protection { result.pprot ≡ 0 }
+    ensures address { result.paddr ≡ transfer.now.paddr }
+    ensures write_data { result.pwdata ≡ (if transfer.now.write then transfer.now.pwdata else 0) }
+    ensures strobes { result.pstrb ≡ (if transfer.now.write then transfer.now.pstrb else 0) }
+    ensures ready_at_last { result.pready ≡ (k == response.now.waits + 1) }
+    ensures read_data { result.prdata ≡ (if k == response.now.waits + 1 then response.now.prdata else 0) }
+    ensures error { result.pslverr ≡ (k == response.now.waits + 1 && response.now.pslverr) }
+{
+    let last = k == u32::from(response.waits) + 1;
+    Pins {
+        psel: true,
+        penable: k > 0,
+        pwrite: transfer.write,
+        pprot: 0,
+        paddr: transfer.paddr,
+        pwdata: if transfer.write { transfer.pwdata } else { 0 },
+        pstrb: if transfer.write { transfer.pstrb } else { 0 },
+        pready: last,
+        prdata: if last { response.prdata } else { 0 },
+        pslverr: last && response.pslverr,
+    }
+}

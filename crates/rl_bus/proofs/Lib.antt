@@ -1,0 +1,4 @@
+mod Moves
+pub mod Reached
+mod Rows
+pub mod Words

@@ -1,0 +1,12 @@
+pub mod Bits
+pub mod Causes
+pub mod Device
+pub mod Kinds
+pub mod Lanes
+pub mod Name
+pub mod Reached
+pub mod Setup
+pub mod Spread
+pub mod Standing
+pub mod State
+pub mod Wire

@@ -1,0 +1,38 @@
+// An operation on the bus, its answer, and what an adapter can carry.
+
+use crate::ShortName;
+
+/// One word that is read or written at an address, as `uvm_reg_bus_op` of IEEE 1800.2.
+///
+/// `bytes` is the width of the bus in bytes. Bit `l` of `lanes` enables byte `l` of `word`, counted
+/// from the lowest.
+#[derive(Clone, Copy, Debug, PartialEq, Eq)]
+pub struct BusOp {
+    pub write: bool,
+    pub address: u64,
+    pub word: u64,
+    pub lanes: u8,
+    pub bytes: u8,
+}
+
+/// What came back for an operation: the word read, and whether the operation failed.
+#[derive(Clone, Copy, Debug, PartialEq, Eq)]
+pub struct Answer {
+    pub word: u64,
+    pub failed: bool,
+}
+
+/// Which operations an adapter carries.
+///
+/// `most_bytes` and `most_address` are the widest word and the last address. With `aligned` an
+/// address is a multiple of the word's bytes. `write_lanes` and `read_lanes` say whether a write and
+/// a read carry byte enables; without them all lanes are enabled.
+#[derive(Clone, Copy, Debug, PartialEq, Eq)]
+pub struct AdapterKind {
+    pub name: ShortName,
+    pub most_bytes: u8,
+    pub most_address: u64,
+    pub aligned: bool,
+    pub write_lanes: bool,
+    pub read_lanes: bool,
+}
