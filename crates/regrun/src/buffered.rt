@@ -1,0 +1,160 @@
+// A sink that keeps bytes back, until it is told to write them or has no more room.
+ghost use Rattle.std.specs.Prelude.{◌≡◌, ◌<◌, ◌≤◌, ◌-◌, ◌+◌, ◌++◌, IfOk, OnOk, slice_range, length, take, drop, min};
+ghost use Rattle.std.specs.Io.KnownBytes.{WriteAppends, Keeps, append_known};
+ghost use Rattle.rl_bus.specs.Causes.{HasCause};
+
+use rl_report::{Failed, Sink};
+
+const ROOM: usize = 4096;
+
+#[derive(Drop)]
+pub(crate) struct Buffered<'a, K> {
+    sink: &'a mut K,
+    bytes: [u8; ROOM],
+    start: usize,
+    end: usize,
+    ghost ordered: { start ≤ end },
+    ghost within: { end ≤ 4096 },
+}
+
+// Writes some of the bytes between two places.
+fn write_part<K: Sink>(
+    sink: &mut K,
+    bytes: &[u8],
+    start: usize,
+    end: usize,
+) -> Result<usize, Failed>
+    requires some { start < end }
+    requires within { end ≤ length bytes.now }
+    ensures some { IfOk result (λ n. 0 < n) }
+    ensures bound { IfOk result (λ n. n ≤ end - start) }
+    ensures bytes { WriteAppends (K.written sink.old) (K.written sink.new) result (slice_range bytes.now start end) }
+    ensures cause { HasCause (K.faults sink.old) (K.faults sink.new) result }
+    ensures ends_kept { K.ends sink.new ≡ K.ends sink.old }
+{
+    sink.write(&bytes[start..end])
+}
+
+// Copies as many bytes as both have. Answers how many.
+fn copy_front(to: &mut [u8], from: &[u8]) -> usize
+    ensures count { result ≡ min (length to.old) (length from.now) }
+    ensures copied { to.new ≡ take result from.now ++ drop result to.old }
+{
+    let count = to.len().min(from.len());
+    to[..count].copy_from_slice(&from[..count]);
+    count
+}
+
+// Copies as many bytes of a piece as there is room for, behind a place. Answers how many.
+fn copy_behind(bytes: &mut [u8], end: usize, piece: &[u8]) -> usize
+    requires room { end < length bytes.old }
+    requires some { 0 < length piece.now }
+    ensures some { 0 < result }
+    ensures within { result ≤ length piece.now }
+    ensures room { end + result ≤ length bytes.old }
+    ensures before { take end bytes.new ≡ take end bytes.old }
+    ensures copied { slice_range bytes.new end (end + result) ≡ take result piece.now }
+{
+    copy_front(&mut bytes[end..], piece)
+}
+
+impl<'a, K: Sink> Buffered<'a, K> {
+    ghost use Rattle.regrun.specs.Told.{kept_back};
+
+    // A sink before this one, with nothing kept back.
+    pub(crate) fn new(sink: &'a mut K) -> Buffered<'a, K>
+        ensures sink { result.sink.now ≡ sink.old }
+        ensures same_sink { result.sink.ghost_name ≡ sink.entry.ghost_name }
+        ensures empty { result.end ≡ 0 }
+    {
+        Buffered {
+            sink,
+            bytes: [0; ROOM],
+            start: 0,
+            end: 0,
+        }
+    }
+
+    // Writes some of what was kept back.
+    fn write_some(&mut self) -> Result<(), Failed>
+        requires { self.old.start < self.old.end }
+        ensures told { Keeps (append_known (K.written self.old.sink.now) (kept_back self.old)) (append_known (K.written self.new.sink.now) (kept_back self.new)) }
+        ensures less { OnOk result (self.new.end - self.new.start < self.old.end - self.old.start) }
+        ensures cause { HasCause (K.faults self.old.sink.now) (K.faults self.new.sink.now) result }
+        ensures ends_kept { K.ends self.new.sink.now ≡ K.ends self.old.sink.now }
+        ensures same_sink { self.new.sink.ghost_name ≡ self.old.sink.ghost_name }
+    {
+        let count = write_part(self.sink, &self.bytes, self.start, self.end)?;
+        self.start += count;
+        Ok(())
+    }
+
+    // Writes what was kept back. A fault loses nothing of it.
+    pub(crate) fn flush(&mut self) -> Result<(), Failed>
+        ensures told { Keeps (append_known (K.written self.old.sink.now) (kept_back self.old)) (append_known (K.written self.new.sink.now) (kept_back self.new)) }
+        ensures empty { OnOk result (self.new.end ≡ 0) }
+        ensures cause { HasCause (K.faults self.old.sink.now) (K.faults self.new.sink.now) result }
+        ensures ends_kept { K.ends self.new.sink.now ≡ K.ends self.old.sink.now }
+        ensures same_sink { self.new.sink.ghost_name ≡ self.old.sink.ghost_name }
+    {
+        while self.start < self.end {
+            self.write_some()?;
+        }
+        self.start = 0;
+        self.end = 0;
+        Ok(())
+    }
+
+    // Writes what was kept back, where there is no room behind it.
+    fn make_room(&mut self) -> Result<(), Failed>
+        ensures told { Keeps (append_known (K.written self.old.sink.now) (kept_back self.old)) (append_known (K.written self.new.sink.now) (kept_back self.new)) }
+        ensures room { OnOk result (self.new.end < 4096) }
+        ensures cause { HasCause (K.faults self.old.sink.now) (K.faults self.new.sink.now) result }
+        ensures ends_kept { K.ends self.new.sink.now ≡ K.ends self.old.sink.now }
+        ensures same_sink { self.new.sink.ghost_name ≡ self.old.sink.ghost_name }
+    {
+        if self.end < ROOM {
+            Ok(())
+        } else {
+            self.flush()
+        }
+    }
+
+    // Keeps as much of the piece back as there is room for. Answers how much.
+    fn keep(&mut self, piece: &[u8]) -> usize
+        requires room { self.old.end < 4096 }
+        requires some { 0 < length piece.now }
+        ensures some { 0 < result }
+        ensures within { result ≤ length piece.now }
+        ensures kept { kept_back self.new ≡ kept_back self.old ++ take result piece.now }
+        ensures sink { self.new.sink.now ≡ self.old.sink.now }
+        ensures same_sink { self.new.sink.ghost_name ≡ self.old.sink.ghost_name }
+    {
+        let count = copy_behind(&mut self.bytes, self.end, piece);
+        self.end += count;
+        count
+    }
+}
+
+impl<K: Sink> Sink for Buffered<'_, K> {
+    ghost use Rattle.std.specs.Io.KnownBytes.{append_known};
+    ghost use Rattle.regrun.specs.Told.{kept_back};
+
+    ghost written = { λ b. append_known (K.written b.sink.now) (kept_back b) };
+
+    ghost faults = { λ b. K.faults b.sink.now };
+
+    ghost ends = { λ b. K.ends b.sink.now };
+
+    ghost target = { λ b. b.sink.ghost_name };
+
+    fn write(&mut self, piece: &[u8]) -> Result<usize, Failed> {
+        self.make_room()?;
+        Ok(self.keep(piece))
+    }
+
+    fn finish(&mut self) -> Result<(), Failed> {
+        self.flush()?;
+        self.sink.finish()
+    }
+}

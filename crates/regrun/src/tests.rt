@@ -1,0 +1,87 @@
+use crate::{Status, regrun};
+use rl_bus::{Adapters, PlainAdapter};
+use rl_report::{MemSink, MemSource};
+use std::alloc::Global;
+use std::test::Fail;
+
+const SESSION: &[u8] =
+    b"[[reg]]\nname = \"a\"\nbytes = 4\nfield = [{name = \"v\", lsb = 0, width = 32, policy = \"RW\"}]\n[[map]]\nname = \"bus\"\nbytes = 4\n[[place]]\nmap = \"bus\"\nitem = \"a\"\n---\nwrite a 0x5\nread a\n";
+
+const LOG: &[u8] =
+    b"write a 0x5 @bus: ok mirror 0x00000005\n  bus w 0x0 0x00000005 1111 #0 ok\nread a @bus: ok 0x00000005 mirror 0x00000005\n  bus r 0x0 0x00000005 1111 #1 ok\nend: 2 events, 0 differences, 0 bus errors\n";
+
+// The status, and what was written.
+fn ran(
+    alloc: Global,
+    word: &str,
+    piece: usize,
+    source_fails: &[u64],
+    sink_fails: &[u64],
+) -> Result<(Status, Vec<u8>), Fail> {
+    let mut words = Vec::new(alloc);
+    words.push(String::from_str(alloc, word)?)?;
+    let mut source = MemSource::new(SESSION.to_vec(alloc)?, piece, source_fails.to_vec(alloc)?);
+    let mut sink = MemSink::new(alloc, 3, 4096, sink_fails.to_vec(alloc)?)?;
+    let status = try_regrun(alloc, &words, &mut source, &mut sink)?;
+    Ok((status, sink.written().to_vec(alloc)?))
+}
+
+fn try_regrun(
+    alloc: Global,
+    words: &[String],
+    source: &mut MemSource,
+    sink: &mut MemSink,
+) -> Result<Status, Fail> {
+    let plain = PlainAdapter {
+        next_tag: 0,
+        trail: 0,
+    };
+    let mut adapters: Adapters = Vec::new(alloc);
+    adapters.push(Box::new(alloc, plain)?)?;
+    Ok(regrun(alloc, words, source, sink, &mut adapters))
+}
+
+#[test]
+fn runs_in_any_pieces(rt: HostRuntime) -> Result<(), Fail> {
+    for piece in [0, 1, 7, 8192] {
+        let (status, log) = ran(rt.alloc(), "run", piece, &[], &[])?;
+        assert_eq!(rt; status, Status::Passed);
+        assert_eq!(rt; log.as_slice(), LOG, "at {piece}");
+    }
+    Ok(())
+}
+
+// The log of the lines whose end was read before the call that fails. One byte is read at a call.
+#[test]
+fn source_fails_at_each_call(rt: HostRuntime) -> Result<(), Fail> {
+    for call in 0..176u64 {
+        let (status, log) = ran(rt.alloc(), "run", 1, &[call], &[])?;
+        let want = match call {
+            0..168 => 0,
+            168..175 => 73,
+            _ => 152,
+        };
+        assert_eq!(rt; status, Status::SourceFault, "at {call}");
+        assert_eq!(rt; log.len(), want, "at {call}");
+        assert!(rt; LOG.starts_with(log.as_slice()));
+    }
+    Ok(())
+}
+
+#[test]
+fn sink_fails_at_each_call(rt: HostRuntime) -> Result<(), Fail> {
+    for call in 0..30u64 {
+        let (status, log) = ran(rt.alloc(), "run", 1, &[], &[call])?;
+        assert_eq!(rt; status, Status::SinkFault, "at {call}");
+        assert!(rt; LOG.starts_with(log.as_slice()), "at {call}");
+    }
+    Ok(())
+}
+
+#[test]
+fn other_words(rt: HostRuntime) -> Result<(), Fail> {
+    let (status, log) = ran(rt.alloc(), "x", 1, &[0], &[0])?;
+    assert_eq!(rt; status, Status::Words);
+    assert!(rt; log.is_empty());
+    Ok(())
+}

@@ -1,0 +1,103 @@
+// The last lines of a log.
+ghost use Rattle.std.specs.Prelude.{◌≡◌};
+ghost use Rattle.rl_bus.specs.Causes.{HasCause};
+ghost use Rattle.rl_report.specs.Pieces.{Puts};
+ghost use Rattle.regrun.specs.Texts.{reason_text, refused_text, end_text};
+
+use crate::Counts;
+use itoa::Buffer;
+use rl_report::{Failed, Sink, put_pieces};
+use rl_script::LineFault;
+
+// Why a line is refused.
+#[derive(Clone, Copy, Debug, PartialEq, Eq)]
+pub(crate) enum LineRefusal {
+    TooLong,
+    NotAscii,
+    NoSuchCommand,
+    WrongCount,
+    BadName,
+    BadNumber,
+    NumberTooLarge,
+    CountOutOfRange,
+    NoSuchName,
+    TooManyLines,
+    NotBuilt,
+}
+
+fn reason(refusal: LineRefusal) -> &'static [u8]
+    ensures { result.now ≡ reason_text refusal }
+{
+    match refusal {
+        LineRefusal::TooLong => b"too long",
+        LineRefusal::NotAscii => b"not ascii",
+        LineRefusal::NoSuchCommand => b"no such command",
+        LineRefusal::WrongCount => b"wrong count",
+        LineRefusal::BadName => b"bad name",
+        LineRefusal::BadNumber => b"bad number",
+        LineRefusal::NumberTooLarge => b"number too large",
+        LineRefusal::CountOutOfRange => b"count out of range",
+        LineRefusal::NoSuchName => b"no such name",
+        LineRefusal::TooManyLines => b"too many lines",
+        LineRefusal::NotBuilt => b"not built",
+    }
+}
+
+// Why a line that doesn't read is refused, or none where memory ran out.
+pub(crate) fn refusal_of(fault: LineFault) -> Option<LineRefusal> {
+    match fault {
+        LineFault::TooLong => Some(LineRefusal::TooLong),
+        LineFault::NotAscii => Some(LineRefusal::NotAscii),
+        LineFault::NoSuchCommand => Some(LineRefusal::NoSuchCommand),
+        LineFault::WrongCount => Some(LineRefusal::WrongCount),
+        LineFault::BadName => Some(LineRefusal::BadName),
+        LineFault::BadNumber => Some(LineRefusal::BadNumber),
+        LineFault::NumberTooLarge => Some(LineRefusal::NumberTooLarge),
+        LineFault::CountOutOfRange => Some(LineRefusal::CountOutOfRange),
+        LineFault::Memory => None,
+    }
+}
+
+// Writes that a line was refused.
+pub(crate) fn put_line_refused<K: Sink>(
+    sink: &mut K,
+    number: u64,
+    refusal: LineRefusal,
+) -> Result<(), Failed>
+    ensures bytes { Puts (K.written sink.old) (K.written sink.new) (refused_text number refusal) result }
+    ensures cause { HasCause (K.faults sink.old) (K.faults sink.new) result }
+    ensures ends_kept { K.ends sink.new ≡ K.ends sink.old }
+    ensures same_target { K.target sink.new ≡ K.target sink.old }
+{
+    let mut buffer = Buffer::new();
+    let pieces: [&[u8]; 5] = [
+        b"refused line ",
+        buffer.format(number).as_bytes(),
+        b": ",
+        reason(refusal),
+        b"\n",
+    ];
+    put_pieces(sink, &pieces)
+}
+
+// Writes the last line of a whole log.
+pub(crate) fn put_end<K: Sink>(sink: &mut K, counts: &Counts) -> Result<(), Failed>
+    ensures bytes { Puts (K.written sink.old) (K.written sink.new) (end_text counts.now) result }
+    ensures cause { HasCause (K.faults sink.old) (K.faults sink.new) result }
+    ensures ends_kept { K.ends sink.new ≡ K.ends sink.old }
+    ensures same_target { K.target sink.new ≡ K.target sink.old }
+{
+    let mut events = Buffer::new();
+    let mut differences = Buffer::new();
+    let mut errors = Buffer::new();
+    let pieces: [&[u8]; 7] = [
+        b"end: ",
+        events.format(counts.events).as_bytes(),
+        b" events, ",
+        differences.format(counts.differences).as_bytes(),
+        b" differences, ",
+        errors.format(counts.errors).as_bytes(),
+        b" bus errors\n",
+    ];
+    put_pieces(sink, &pieces)
+}

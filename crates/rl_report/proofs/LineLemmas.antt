@@ -1,0 +1,107 @@
+-- What a line reader hands out, by what it holds.
+use Rattle.std.proofs.Common.{◌≡◌, ℕ, ◌<◌, ◌≤◌, Bool, true, false, cond, eqb, List, [], ◌∷◌, ◌++◌, Some, None, IfSome, length, refl, sym, ap, ◌∙◌, append_assoc, append-nil, length-append, arith}
+use Rattle.std.specs.declared.option.Option.{Option}
+use Rattle.std.specs.Io.KnownBytes.{Consumes, IsAtEnd, Keeps, prepend_known}
+use Rattle.std.specs.Io.BufRead.{strip_last}
+use Rattle.std.proofs.lemmas.Bool.{true≢false}
+use Rattle.std.proofs.lemmas.Bool.Decides.{nat_tests}
+use Rattle.rl_report.specs.Lines.{first_line, after_line, lines_of, onto_first, whole_lines, onto_whole}
+use Rattle.rl_report.specs.Reading.{Reading, input_of, HandsLine}
+
+-- where the first line isn't all, a 10 ends it
+ends_by : (b : ℕ) (bs : List ℕ) (t : Bool) → eqb b 10 ≡ t → (length (first_line bs) < length bs → bs ≡ first_line bs ++ 10 ∷ after_line bs)
+    → length (cond t [] (b ∷ first_line bs)) < length (b ∷ bs) → b ∷ bs ≡ cond t [] (b ∷ first_line bs) ++ 10 ∷ cond t bs (after_line bs)
+ends_by b bs true e rest h = let same : b ≡ 10 = grind (arith, nat_tests) in ap (λ x. x ∷ bs) same
+ends_by b bs false e rest h = ap (λ l. b ∷ l) (rest (omega arith))
+
+pub ends_whole : (p : List ℕ) → length (first_line p) < length p → p ≡ first_line p ++ 10 ∷ after_line p
+ends_whole [] h = absurd (omega arith)
+ends_whole (b ∷ bs) h = ends_by b bs (eqb b 10) refl (ends_whole bs) h
+
+-- then more bytes behind it don't change the first line
+first_by : (b : ℕ) (bs more : List ℕ) (t : Bool) → (length (first_line bs) < length bs → first_line (bs ++ more) ≡ first_line bs)
+    → length (cond t [] (b ∷ first_line bs)) < length (b ∷ bs) → cond t [] (b ∷ first_line (bs ++ more)) ≡ cond t [] (b ∷ first_line bs)
+first_by b bs more true rest h = refl
+first_by b bs more false rest h = ap (λ l. b ∷ l) (rest (omega arith))
+
+pub first_of_more : (p more : List ℕ) → length (first_line p) < length p → first_line (p ++ more) ≡ first_line p
+first_of_more [] more h = absurd (omega arith)
+first_of_more (b ∷ bs) more h = first_by b bs more (eqb b 10) (first_of_more bs more) h
+
+after_by : (b : ℕ) (bs more : List ℕ) (t : Bool) → (length (first_line bs) < length bs → after_line (bs ++ more) ≡ after_line bs ++ more)
+    → length (cond t [] (b ∷ first_line bs)) < length (b ∷ bs) → cond t (bs ++ more) (after_line (bs ++ more)) ≡ cond t bs (after_line bs) ++ more
+after_by b bs more true rest h = refl
+after_by b bs more false rest h = rest (omega arith)
+
+pub after_of_more : (p more : List ℕ) → length (first_line p) < length p → after_line (p ++ more) ≡ after_line p ++ more
+after_of_more [] more h = absurd (omega arith)
+after_of_more (b ∷ bs) more h = after_by b bs more (eqb b 10) (after_of_more bs more) h
+
+-- the first line is no shorter with more bytes behind it
+longer_by : (b : ℕ) (bs more : List ℕ) (t : Bool) → length (first_line bs) ≤ length (first_line (bs ++ more))
+    → length (cond t [] (b ∷ first_line bs)) ≤ length (cond t [] (b ∷ first_line (bs ++ more)))
+longer_by b bs more true rest = omega arith
+longer_by b bs more false rest = omega (arith, rest)
+
+pub longer : (p more : List ℕ) → length (first_line p) ≤ length (first_line (p ++ more))
+longer [] more = omega arith
+longer (b ∷ bs) more = longer_by b bs more (eqb b 10) (longer bs more)
+
+-- a reader with a whole line hands it out
+hands_by : (e : Bool) (p : List ℕ) (a f r k : Bool) (left : Option (List ℕ)) → length (first_line p) < length p → length (first_line p) ≤ 4096
+    → IfSome (cond e (Some p) (prepend_known p left)) (λ bytes. HandsLine bytes (record { pending = after_line p; line = strip_last 13 (first_line p); asked = a; found = f; refused = r; ended = e; closed = k }) left)
+hands_by true p a f r k left h short = record { some = omega arith; short = short; line = refl; rest = refl; whole = λ _. ends_whole p h }
+hands_by false p a f r k None h short = tt
+hands_by false p a f r k (Some more) h short =
+    let first = first_of_more p more h in
+    let after = after_of_more p more h in
+    record {
+      some = omega (arith, length-append p more);
+      short = omega (arith, ap length first);
+      line = ap (strip_last 13) (sym first);
+      rest = ap Some (sym after);
+      whole = λ _. ap (λ l. l ++ more) (ends_whole p h) ∙ append_assoc (first_line p) (10 ∷ after_line p) more ∙ sym (ap (λ l. l ++ 10 ∷ after_line (p ++ more)) first ∙ ap (λ l. first_line p ++ 10 ∷ l) after);
+    }
+
+pub hands_whole : (old : Reading) (left : Option (List ℕ)) → length (first_line old.pending) < length old.pending → length (first_line old.pending) ≤ 4096
+    → IfSome (input_of old left) (λ bytes. HandsLine bytes (record old { pending = after_line old.pending; line = strip_last 13 (first_line old.pending) }) left)
+hands_whole old left h short = hands_by old.ended old.pending old.asked old.found old.refused old.closed left h short
+
+-- a line that is too long by what is held is too long
+too_long_by : (e : Bool) (p : List ℕ) (left : Option (List ℕ)) → 4096 < length (first_line p) → IfSome (cond e (Some p) (prepend_known p left)) (λ bytes. 4096 < length (first_line bytes))
+too_long_by true p left h = h
+too_long_by false p None h = tt
+too_long_by false p (Some more) h = omega (arith, longer p more)
+
+pub too_long : (old : Reading) (left : Option (List ℕ)) → 4096 < length (first_line old.pending) → IfSome (input_of old left) (λ bytes. 4096 < length (first_line bytes))
+too_long old left h = too_long_by old.ended old.pending left h
+
+-- the lines of an input are its first line, and those behind it
+lines_by : (b : ℕ) (bs : List ℕ) (t : Bool) → (0 < length bs → lines_of bs ≡ first_line bs ∷ lines_of (after_line bs))
+    → cond t ([] ∷ lines_of bs) (onto_first b (lines_of bs)) ≡ cond t [] (b ∷ first_line bs) ∷ lines_of (cond t bs (after_line bs))
+lines_by b bs true rest = refl
+lines_by b [] false rest = refl
+lines_by b (c ∷ cs) false rest = ap (onto_first b) (rest (omega arith))
+
+pub lines_first : (p : List ℕ) → 0 < length p → lines_of p ≡ first_line p ∷ lines_of (after_line p)
+lines_first [] h = absurd (omega arith)
+lines_first (b ∷ bs) h = lines_by b bs (eqb b 10) (lines_first bs)
+
+-- bytes with no 10 have no whole line
+none_by : (b : ℕ) (bs : List ℕ) (t : Bool) → (first_line bs ≡ bs → whole_lines bs ≡ []) → cond t [] (b ∷ first_line bs) ≡ b ∷ bs → cond t ([] ∷ whole_lines bs) (onto_whole b (whole_lines bs)) ≡ []
+none_by b bs true rest h = absurd (omega (arith, ap length h))
+none_by b bs false rest h = ap (onto_whole b) (rest (cc))
+
+pub whole_none : (p : List ℕ) → first_line p ≡ p → whole_lines p ≡ []
+whole_none [] h = refl
+whole_none (b ∷ bs) h = none_by b bs (eqb b 10) (whole_none bs) h
+
+-- a line and its 10 are a whole line
+whole_by : (b : ℕ) (bs more : List ℕ) (t : Bool) → eqb b 10 ≡ t → whole_lines (first_line bs ++ 10 ∷ more) ≡ first_line bs ∷ whole_lines more
+    → whole_lines (cond t [] (b ∷ first_line bs) ++ 10 ∷ more) ≡ cond t [] (b ∷ first_line bs) ∷ whole_lines more
+whole_by b bs more true e rest = refl
+whole_by b bs more false e rest = rw e (ap (onto_whole b) rest)
+
+pub whole_first : (p more : List ℕ) → whole_lines (first_line p ++ 10 ∷ more) ≡ first_line p ∷ whole_lines more
+whole_first [] more = refl
+whole_first (b ∷ bs) more = whole_by b bs more (eqb b 10) refl (whole_first bs more)

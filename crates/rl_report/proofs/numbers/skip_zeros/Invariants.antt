@@ -1,0 +1,10 @@
+-- The zeros that were passed don't count.
+use Rattle.std.proofs.Common.{◌≡◌, length}
+use Rattle.rl_report.specs.Numbers.{without_zeros}
+use Rattle.rl_report.proofs.numbers.skip_zeros.Given as goal
+
+abbrev pub invariant-loop-rest : goal.invariant-loop-rest
+invariant-loop-rest l = without_zeros l.rest ≡ without_zeros l.digits
+
+abbrev pub decreases-loop-rest : goal.decreases-loop-rest
+decreases-loop-rest l = length l.rest

@@ -1,0 +1,22 @@
+use Rattle.std.proofs.Common.{◌≡◌, ℕ, ◌-◌, List, ◌++◌, arith, length, take, drop, ap, ◌∙◌, append_assoc, take-append-drop}
+use Rattle.std.proofs.lemmas.List.{take_rest}
+use Rattle.std.proofs.KnownBytes.{Appends-trans}
+use Rattle.rl_report.proofs.pieces.put_all.Goals as goal
+
+-- n more bytes are done
+moves : (all done rest : List ℕ) (n : ℕ) → done ++ rest ≡ all → (done ++ take n rest) ++ take (length rest - n) (drop n rest) ≡ all
+moves all done rest n split =
+    ap (λ l. (done ++ take n rest) ++ l) (take_rest rest n) ∙ append_assoc done (take n rest) (drop n rest) ∙ ap (λ l. done ++ l) (take-append-drop n rest) ∙ split
+
+pub loop-rest-preserved : goal.loop-rest-preserved
+loop-rest-preserved g c =
+    let (done, split, appended) = c.loop-rest.invariant.put in
+    let e = c.in_ok-count.ensures in
+    let rest = c.loop-rest.rest.now in
+    let n = c.in_ok-count.count in
+    record {
+      put = (done ++ take n rest, moves _ done rest n split, Appends-trans _ _ _ _ _ appended e.bytes);
+      later = omega (arith, e.cause.later);
+      ends_kept = e.ends_kept ∙ c.loop-rest.invariant.ends_kept;
+      same_target = e.same_target ∙ c.loop-rest.invariant.same_target;
+    }

@@ -1,0 +1,24 @@
+//! Input and output of a report: sources and sinks that count their faults, and lines over a source.
+#![tactic(auto)]
+
+mod lines;
+mod memory;
+mod numbers;
+mod opening;
+mod pieces;
+mod sink;
+mod source;
+mod standard;
+
+pub use lines::{Got, LineReader};
+pub use memory::{MemSink, MemSource};
+pub use numbers::{all_digits, put_decimal, put_hex, put_spelled};
+pub use opening::{Head, HeadFault};
+pub use pieces::{put_all, put_pieces};
+pub use rl_bus::Failed;
+pub use sink::Sink;
+pub use source::Source;
+pub use standard::{StdSink, StdSource};
+
+#[cfg(test)]
+mod tests;

@@ -1,0 +1,402 @@
+// Lines over a source, however it is cut into reads.
+ghost use Rattle.std.specs.Prelude.{◌≡◌, ◌≢◌, ℕ, ◌+◌, ◌-◌, ◌<◌, ◌≤◌, List, [], ◌++◌, Bool, true, false, length, take, drop, slice_range, Option, Some, IfSome, IfNone, IfOk, OnOk, OnErr, Ok, MatchOption, MatchBool, Err, IsTrue, ◌↔◌};
+ghost use Rattle.std.specs.Io.KnownBytes.{Consumes, IsAtEnd, Keeps};
+ghost use Rattle.std.specs.Io.BufRead.{strip_last};
+ghost use Rattle.rl_bus.specs.Causes.{HasCause, Rose};
+ghost use Rattle.rl_report.specs.Lines.{first_line, after_line};
+ghost use Rattle.rl_report.specs.Reading.{input_of, HoldsLine, IsLaterPhase, SamePhase};
+ghost use Rattle.rl_report.specs.Got.{Hands};
+ghost use Rattle.rl_report.specs.Opening.{HeadIs, TakesNoHead};
+ghost use Rattle.rl_report.specs.Taken.{Takes};
+
+use crate::opening::{Part, next_part};
+use crate::{Failed, Head, HeadFault, Source};
+use std::alloc::{AllocError, Global};
+use std::marker::Model;
+
+const BUFFER: usize = 8192;
+
+const MAX_LINE: usize = 4096;
+
+const MAX_HEAD: usize = 1_048_576;
+
+/// What a call of `next_line` answers.
+#[derive(Clone, Copy, Debug, PartialEq, Eq)]
+pub enum Got {
+    /// `line` has the next line.
+    Line,
+    /// The next line has more than 4,096 bytes before its end.
+    TooLong,
+    /// There is no further line.
+    End,
+}
+
+// What was taken of the bytes before the separator.
+#[derive(Clone, Copy)]
+enum Taken {
+    Last(Head),
+    Text { ends: bool },
+    Nothing,
+}
+
+/// Reads a source line by line, over a buffer of 8,192 bytes.
+///
+/// It reads only when it holds no whole line, and never again once a read met the end.
+#[derive(Drop)]
+pub struct LineReader {
+    buffer: Vec<u8>,
+    start: usize,
+    end: usize,
+    line: Vec<u8>,
+    asked: bool,
+    found: bool,
+    refused: bool,
+    ended: bool,
+    closed: bool,
+}
+
+impl Model for LineReader {
+    ghost use Rattle.std.specs.Prelude.{◌≡◌, ◌≤◌, slice_range, vec_len, vec_capacity};
+    ghost use Rattle.rl_report.specs.Reading.{Reading};
+
+    ghost Value = { Reading };
+
+    ghost view = { λ r. record { pending = slice_range r.buffer.items r.start r.end; line = r.line.items; asked = r.asked; found = r.found; refused = r.refused; ended = r.ended; closed = r.closed } };
+
+    ghost invariant = { λ r. (r.start ≤ r.end) × (r.end ≤ 8192) × (vec_len r.buffer ≡ 8192) × (4096 ≤ vec_capacity r.line) };
+}
+
+// What is answered at the end of an input with no separator, where so many bytes are left and there is room for so many.
+fn missing(left: usize, room: usize) -> Head
+    ensures missing { left ≤ room → result ≡ Head.Missing }
+    ensures too_long { room < left → result ≡ Head.TooLong }
+{
+    if left > room {
+        Head::TooLong
+    } else {
+        Head::Missing
+    }
+}
+
+// How long the first line is.
+pub(crate) fn line_len(bytes: &[u8]) -> usize
+    ensures within { result ≤ length bytes.now }
+    ensures line { take result bytes.now ≡ first_line bytes.now }
+    ensures rest { drop (result + 1) bytes.now ≡ after_line bytes.now }
+{
+    for (at, byte) in bytes.iter().enumerate() {
+        if *byte == b'\n' {
+            return at;
+        }
+    }
+    bytes.len()
+}
+
+// A line without the carriage return at its end.
+pub(crate) fn without_return(line: &[u8]) -> &[u8]
+    ensures value { result.now ≡ strip_last 13 line.now }
+    ensures shorter { length result.now ≤ length line.now }
+{
+    match line {
+        [front @ .., b'\r'] => front,
+        _ => line,
+    }
+}
+
+// Reads once, behind what the buffer holds.
+fn read_behind<S: Source>(buffer: &mut [u8], end: usize, source: &mut S) -> Result<usize, Failed>
+    requires { end < length buffer.old }
+    ensures room { IfOk result (λ count. count ≤ length buffer.old - end) }
+    ensures before { take end buffer.new ≡ take end buffer.old }
+    ensures bytes { IfOk result (λ count. Consumes (S.left source.old) (S.left source.new) (slice_range buffer.new end (end + count))) }
+    ensures end { IfOk result (λ count. count ≡ 0 → IsAtEnd (S.left source.new)) }
+    ensures kept { OnErr result (Keeps (S.left source.old) (S.left source.new)) }
+    ensures cause { HasCause (S.faults source.old) (S.faults source.new) result }
+{
+    source.read(&mut buffer[end..])
+}
+
+impl LineReader {
+    /// A reader that has read nothing.
+    pub fn build(alloc: Global) -> Result<LineReader, AllocError>
+        ensures { IfOk result (λ r. r ≡ record { pending = []; line = []; asked = false; found = false; refused = false; ended = false; closed = false }) }
+    {
+        Ok(LineReader {
+            buffer: vec![in alloc; 0; BUFFER]?,
+            start: 0,
+            end: 0,
+            line: Vec::with_capacity(alloc, MAX_LINE)?,
+            asked: false,
+            found: false,
+            refused: false,
+            ended: false,
+            closed: false,
+        })
+    }
+
+    /// Hands out the next line. A fault loses no byte, and the next call goes on with the same line.
+    pub fn next_line<S: Source>(&mut self, source: &mut S) -> Result<Got, Failed>
+        requires found { self.old.found ≡ true }
+        requires going { self.old.refused ≡ false }
+
+        // However the source is cut into reads.
+        ensures got { IfOk result (λ got. IfSome (input_of self.old (S.left source.old))
+            (λ bytes. Hands bytes got self.new (S.left source.new))) }
+        ensures none_lost { OnErr result (Keeps (input_of self.old (S.left source.old)) (input_of self.new (S.left source.new))) }
+        ensures line { result ≢ Ok Got.Line → self.new.line ≡ self.old.line }
+
+        // It reads only where it holds no whole line.
+        ensures asks { OnErr result (HoldsLine self.old → ⊥) }
+        ensures none_whole { OnErr result ((first_line self.new.pending ≡ self.new.pending) × (self.new.ended ≡ false)) }
+        ensures held { length self.new.pending ≤ 8192 }
+
+        // After the end it answers the end again.
+        ensures end { result ≡ Ok Got.End → (self.new.ended ≡ true) × (self.new.pending ≡ []) }
+        ensures again { self.old.ended ≡ true → self.old.pending ≡ [] → result ≡ Ok Got.End }
+
+        ensures phase { IsLaterPhase self.old self.new }
+        ensures refused { self.new.refused ≡ true ↔ result ≡ Ok Got.TooLong }
+        ensures cause { HasCause (S.faults source.old) (S.faults source.new) result }
+    {
+        loop {
+            if let Some(got) = self.take_line() {
+                return Ok(got);
+            }
+            self.take_more(source)?;
+        }
+    }
+
+    /// Whether the next line is here already, so that no read is needed for it.
+    pub fn holds_line(&self) -> bool
+        ensures { IsTrue result ↔ HoldsLine self.now }
+    {
+        line_len(&self.buffer[self.start..self.end]) < self.end - self.start
+    }
+
+    /// Reads the bytes before the separator, the first line that is `---`.
+    pub fn read_head<S: Source>(
+        &mut self,
+        source: &mut S,
+        head: &mut Vec<u8>,
+    ) -> Result<Head, HeadFault>
+        requires empty { head.old.items ≡ [] }
+        requires first { self.old.asked ≡ false }
+
+        // However the source is cut into reads.
+        ensures head { IfOk result (λ answer. IfSome (input_of self.old (S.left source.old))
+            (λ bytes. HeadIs bytes answer head.new.items self.new (S.left source.new))) }
+        ensures at_fault { result ≡ Err HeadFault.Source → IfSome (input_of self.old (S.left source.old))
+            (λ bytes. TakesNoHead bytes (S.left source.new)) }
+        ensures held { result ≡ Ok Head.Found → length self.new.pending ≤ 8192 }
+
+        ensures asked { self.new.asked ≡ true }
+        ensures found { (self.new.found ≡ true) ↔ (result ≡ Ok Head.Found) }
+        ensures refused { self.new.refused ≡ self.old.refused }
+        ensures line { self.new.line ≡ self.old.line }
+        ensures later { S.faults source.old ≤ S.faults source.new }
+        ensures cause { result ≡ Err HeadFault.Source → Rose (S.faults source.old) (S.faults source.new) }
+    {
+        self.begin();
+        let mut starts = true;
+        loop {
+            let Ok(taken) = self.take_part(starts, head) else {
+                return Err(HeadFault::Memory);
+            };
+            match taken {
+                Taken::Last(answer) => return Ok(answer),
+                Taken::Text { ends } => starts = ends,
+                Taken::Nothing => {
+                    if self.take_more(source).is_err() {
+                        return Err(HeadFault::Source);
+                    }
+                }
+            }
+        }
+    }
+
+    // Takes what stands at the front of what is held, without a read.
+    fn take_part(&mut self, starts: bool, head: &mut Vec<u8>) -> Result<Taken, AllocError>
+        requires { length head.old.items ≤ 1048576 }
+        ensures took { IfOk result (λ taken. Takes self.old head.old.items starts taken self.new head.new.items) }
+        ensures phase { SamePhase self.old self.new }
+        ensures found { (result ≡ Ok (Taken.Last Head.Found) → self.new.found ≡ true) × (result ≢ Ok (Taken.Last Head.Found) → self.new.found ≡ self.old.found) }
+        ensures line { self.new.line ≡ self.old.line }
+        ensures held { length self.new.pending ≤ 8192 }
+    {
+        let room = MAX_HEAD - head.len();
+        match next_part(self.pending(), starts, self.has_ended()) {
+            Part::Separator { size } => {
+                self.pass_separator(size);
+                Ok(Taken::Last(Head::Found))
+            }
+            Part::End => Ok(Taken::Last(missing(self.pending().len(), room))),
+            Part::Unclear => Ok(Taken::Nothing),
+            Part::Text { size, .. } if size > room => Ok(Taken::Last(Head::TooLong)),
+            Part::Text { size, ends } => {
+                head.extend_from_slice(&self.pending()[..size])?;
+                self.pass(size);
+                Ok(Taken::Text { ends })
+            }
+        }
+    }
+
+    fn begin(&mut self)
+        ensures { self.new ≡ record self.old { asked = true; found = false } }
+    {
+        self.asked = true;
+        self.found = false;
+    }
+
+    // What it has taken and not handed out.
+    fn pending(&self) -> &[u8]
+        ensures bytes { result.now ≡ self.now.pending }
+        ensures held { length self.now.pending ≤ 8192 }
+    {
+        &self.buffer[self.start..self.end]
+    }
+
+    fn has_ended(&self) -> bool
+        ensures { result ≡ self.now.ended }
+    {
+        self.ended
+    }
+
+    // Drops so many bytes of what is pending.
+    fn pass(&mut self, size: usize)
+        requires { size ≤ length self.old.pending }
+        ensures { self.new ≡ record self.old { pending = drop size self.old.pending } }
+    {
+        self.start += size;
+    }
+
+    // Drops the separator's line, of so many bytes.
+    fn pass_separator(&mut self, size: usize)
+        requires { size ≤ length self.old.pending }
+        ensures { self.new ≡ record self.old { pending = drop size self.old.pending; found = true } }
+    {
+        self.start += size;
+        self.found = true;
+    }
+
+    // Hands out what it can without a read.
+    fn take_line(&mut self) -> Option<Got>
+        requires { self.old.refused ≡ false }
+        ensures got { IfSome result (λ got. (left : Option (List ℕ)) → IfSome (input_of self.old left)
+            (λ bytes. Hands bytes got self.new left)) }
+        ensures line { result ≢ Some Got.Line → self.new.line ≡ self.old.line }
+        ensures refused { (self.new.refused ≡ true) ↔ (result ≡ Some Got.TooLong) }
+        ensures held { length self.new.pending ≤ 8192 }
+        ensures end { result ≡ Some Got.End → (self.new.ended ≡ true) × (self.new.pending ≡ []) }
+        ensures again { self.old.ended ≡ true → self.old.pending ≡ [] → result ≡ Some Got.End }
+        ensures phase { IsLaterPhase self.old self.new }
+        ensures kept { IfNone result (self.new ≡ self.old) }
+        ensures short { IfNone result (length self.old.pending ≤ 4096) }
+        ensures none_whole { IfNone result (first_line self.old.pending ≡ self.old.pending) }
+        ensures going { IfNone result (self.old.ended ≡ false) }
+    {
+        let pending = &self.buffer[self.start..self.end];
+        let held = pending.len();
+        let size = line_len(pending);
+        if size > MAX_LINE {
+            self.refused = true;
+            return Some(Got::TooLong);
+        }
+        if size < held {
+            self.hand_out(size, size + 1);
+            return Some(Got::Line);
+        }
+        if !self.ended {
+            return None;
+        }
+        if held == 0 {
+            self.closed = true;
+            return Some(Got::End);
+        }
+        self.hand_out(size, size);
+        Some(Got::Line)
+    }
+
+    // Hands out a line of this size, and drops what was taken from what is pending.
+    fn hand_out(&mut self, size: usize, taken: usize)
+        requires short { size ≤ 4096 }
+        requires ordered { size ≤ taken }
+        requires within { taken ≤ length self.old.pending }
+        ensures { self.new ≡ record self.old { pending = drop taken self.old.pending; line = strip_last 13 (take size self.old.pending) } }
+    {
+        let line = without_return(&self.buffer[self.start..self.start + size]);
+        self.line.clear();
+        self.line.extend_from_slice(line).unwrap();
+        self.start += taken;
+    }
+
+    // Reads once. What is pending grows, or the end is met.
+    fn take_more<S: Source>(&mut self, source: &mut S) -> Result<(), Failed>
+        requires short { length self.old.pending ≤ 4096 }
+        requires going { self.old.ended ≡ false }
+        ensures input { Keeps (input_of self.old (S.left source.old)) (input_of self.new (S.left source.new)) }
+        ensures grows { OnOk result (self.new.ended ≡ false → length self.old.pending < length self.new.pending) }
+        ensures held { length self.new.pending ≤ 8192 }
+        ensures kept { OnErr result ((self.new.pending ≡ self.old.pending) × (self.new.ended ≡ false)) }
+        ensures line { self.new.line ≡ self.old.line }
+        ensures phase { SamePhase self.old self.new }
+        ensures found { self.new.found ≡ self.old.found }
+        ensures cause { HasCause (S.faults source.old) (S.faults source.new) result }
+    {
+        let count = refill(&mut self.buffer, &mut self.start, &mut self.end, source)?;
+        self.ended = count == 0;
+        Ok(())
+    }
+
+    /// The last line that was handed out, without its line end. It is empty before the first.
+    pub fn line(&self) -> &[u8]
+        ensures { result.now ≡ self.now.line }
+    {
+        &self.line
+    }
+}
+
+// Reads once, behind what stands between the two places.
+fn refill<S: Source>(
+    buffer: &mut [u8],
+    start: &mut usize,
+    end: &mut usize,
+    source: &mut S,
+) -> Result<usize, Failed>
+    requires ordered { start.old ≤ end.old }
+    requires within { end.old ≤ length buffer.old }
+    requires apart { end.old ≡ length buffer.old → (0 < start.old) × (end.old - start.old ≤ start.old) }
+    ensures ordered { start.new ≤ end.new }
+    ensures within { end.new ≤ length buffer.new }
+    ensures grown { IfOk result (λ count. (bytes : List ℕ) × (length bytes ≡ count)
+        × (slice_range buffer.new start.new end.new ≡ slice_range buffer.old start.old end.old ++ bytes)
+        × Consumes (S.left source.old) (S.left source.new) bytes) }
+    ensures ended { IfOk result (λ count. count ≡ 0 → IsAtEnd (S.left source.new)) }
+    ensures same { OnErr result (slice_range buffer.new start.new end.new ≡ slice_range buffer.old start.old end.old) }
+    ensures kept { OnErr result (Keeps (S.left source.old) (S.left source.new)) }
+    ensures cause { HasCause (S.faults source.old) (S.faults source.new) result }
+{
+    let (from, to) = make_room(buffer, *start, *end);
+    *start = from;
+    *end = to;
+    let count = read_behind(buffer, to, source)?;
+    *end = to + count;
+    Ok(count)
+}
+
+// Moves what stands between two places to the front, where there is no room behind it. Answers where it stands now.
+fn make_room(buffer: &mut [u8], start: usize, end: usize) -> (usize, usize)
+    requires ordered { start ≤ end }
+    requires within { end ≤ length buffer.old }
+    requires apart { end ≡ length buffer.old → (0 < start) × (end - start ≤ start) }
+    ensures ordered { result.0 ≤ result.1 }
+    ensures room { result.1 < length buffer.new }
+    ensures same { slice_range buffer.new result.0 result.1 ≡ slice_range buffer.old start end }
+{
+    if end < buffer.len() {
+        return (start, end);
+    }
+    let count = end - start;
+    let (front, back) = buffer.split_at_mut(start);
+    front[..count].copy_from_slice(&back[..count]);
+    (0, count)
+}

@@ -1,0 +1,28 @@
+//! The lines of a register script: read into what they say, and written in their canonical spelling.
+//!
+//! A line is a command and its operands, separated by spaces or tabs; a word that begins with `#`
+//! and all behind it is a comment. The commands are those of a register model (IEEE 1800.2), their
+//! spelling is this project's own.
+#![tactic(auto)]
+
+mod command;
+mod fault;
+mod law;
+mod line;
+mod names;
+mod operands;
+mod read;
+mod values;
+mod words;
+mod write;
+
+pub use fault::LineFault;
+pub use law::spelling_reads;
+pub use line::{Line, Sequence};
+pub use names::{Ident, Path};
+pub use read::read_line;
+pub use values::Values;
+pub use write::write_line;
+
+#[cfg(test)]
+mod tests;

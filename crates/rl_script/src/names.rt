@@ -1,0 +1,132 @@
+//! Names, and paths of names.
+ghost use Rattle.std.specs.Prelude.{◌≡◌, count_by};
+ghost use Rattle.std.specs.List.{list_all, slice_split};
+ghost use Rattle.rl_script.specs.Names as spec;
+
+use std::marker::Model;
+
+/// A path of 1 to 9 names, joined by `.`, as of a block, register, field or memory.
+///
+/// A name is a letter or `_`, then letters, digits and `_`, 1 to 32 bytes of ASCII.
+#[derive(Debug, Drop)]
+pub struct Path {
+    text: Vec<u8>,
+}
+
+impl Model for Path {
+    ghost use Rattle.std.specs.Prelude.{List, ℕ, IsTrue};
+    ghost use Rattle.rl_script.specs.Names.{is_path};
+
+    ghost Value = { List ℕ };
+
+    ghost view = { λ p. p.text.items };
+
+    ghost invariant = { λ p. IsTrue (is_path p.text.items) };
+}
+
+impl Path {
+    ghost use Rattle.std.specs.Prelude.{◌≡◌, if◌then◌else◌, Some, None, IsTrue};
+    ghost use Rattle.rl_script.specs.Names.{is_path};
+
+    /// The path that a text is, where it is one.
+    pub fn of(text: Vec<u8>) -> Option<Path>
+        ensures { result ≡ (if is_path text.items then Some text.items else None) }
+    {
+        if is_path(&text) {
+            Some(Path { text })
+        } else {
+            None
+        }
+    }
+
+    /// The bytes of the path.
+    pub fn text(&self) -> &[u8]
+        ensures text { result.now ≡ self.now }
+        ensures path { IsTrue (is_path result.now) }
+    {
+        self.text.as_slice()
+    }
+}
+
+/// One name, as of a map or a reset kind: a letter or `_`, then letters, digits and `_`, 1 to 32 bytes.
+#[derive(Debug, Drop)]
+pub struct Ident {
+    text: Vec<u8>,
+}
+
+impl Model for Ident {
+    ghost use Rattle.std.specs.Prelude.{List, ℕ, IsTrue};
+    ghost use Rattle.rl_script.specs.Names.{is_name};
+
+    ghost Value = { List ℕ };
+
+    ghost view = { λ n. n.text.items };
+
+    ghost invariant = { λ n. IsTrue (is_name n.text.items) };
+}
+
+impl Ident {
+    ghost use Rattle.std.specs.Prelude.{◌≡◌, if◌then◌else◌, Some, None, IsTrue};
+    ghost use Rattle.rl_script.specs.Names.{is_name};
+
+    /// The name that a text is, where it is one.
+    pub fn of(text: Vec<u8>) -> Option<Ident>
+        ensures { result ≡ (if is_name text.items then Some text.items else None) }
+    {
+        if is_name(&text) {
+            Some(Ident { text })
+        } else {
+            None
+        }
+    }
+
+    /// The bytes of the name.
+    pub fn text(&self) -> &[u8]
+        ensures text { result.now ≡ self.now }
+        ensures name { IsTrue (is_name result.now) }
+    {
+        self.text.as_slice()
+    }
+}
+
+#[tactic(auto, unfolding(crate::specs::Names::is_name))]
+pub(crate) fn is_name(text: &[u8]) -> bool
+    ensures { result ≡ spec.is_name text.now }
+{
+    match text {
+        [first, rest @ ..] => begins_name(*first) && are_in_name(rest) && rest.len() < 32,
+        [] => false,
+    }
+}
+
+fn begins_name(byte: u8) -> bool
+    ensures { result ≡ spec.begins_name byte }
+{
+    byte.is_ascii_alphabetic() || byte == b'_'
+}
+
+fn are_in_name(text: &[u8]) -> bool
+    ensures { result ≡ list_all spec.is_in_name text.now }
+{
+    text.iter()
+        .all(|byte| byte.is_ascii_alphanumeric() || *byte == b'_')
+}
+
+#[tactic(auto, unfolding(crate::specs::Names::is_path))]
+pub(crate) fn is_path(text: &[u8]) -> bool
+    ensures { result ≡ spec.is_path text.now }
+{
+    dots(text) < 9 && are_names(text)
+}
+
+fn dots(text: &[u8]) -> usize
+    ensures { result ≡ count_by spec.is_dot text.now }
+{
+    text.iter().filter(|byte| **byte == b'.').count()
+}
+
+fn are_names(text: &[u8]) -> bool
+    ensures { result ≡ list_all spec.is_name (slice_split spec.is_dot text.now) }
+{
+    text.split(|byte| *byte == b'.').all(is_name)
+}

@@ -1,0 +1,143 @@
+//! What a line says.
+ghost use Rattle.std.specs.Prelude.{◌≡◌, ◌≢◌, Ok, Err, IfOk, MatchResult};
+ghost use Rattle.rl_script.specs.declared.fault.LineFault.TheVariants.{Memory};
+ghost use Rattle.std.specs.List.{list_all};
+ghost use Rattle.rl_script.specs.Words.{words_of};
+ghost use Rattle.rl_script.specs.Reading.{Gives, read_of, item_of, burst_of, reset_of, seq_of};
+ghost use Rattle.rl_script.specs.Spelling.{IsLine, HasGoodCount};
+ghost use Rattle.rl_script.specs.Kept.{kept_burst_at};
+ghost use Rattle.rl_script.specs.Reading as spec;
+
+use crate::command::{Command, Item};
+use crate::fault::LineFault;
+use crate::line::{Line, Sequence};
+use crate::operands::{
+    block_of, map_if, name_of, number_at, number_if, numbers_at, path_at, word_at,
+};
+use crate::values::Values;
+use crate::words::{count_words, next_word};
+use std::alloc::Global;
+
+const MOST_BYTES: usize = 4096;
+
+/// Reads a line, without its line end: what it says, or the first condition that it fails.
+///
+/// Memory is taken for the paths, names and values of the answer alone.
+pub fn read_line(alloc: Global, bytes: &[u8]) -> Result<Line, LineFault>
+    // Which line or which fault it is, unless memory runs out.
+    ensures read { MatchResult result (λ line. read_of bytes.now ≡ Ok line)
+        (λ fault. fault ≢ Memory → read_of bytes.now ≡ Err fault) }
+    // Paths are paths, names are names, and counts are in range.
+    ensures line { IfOk result (λ line. IsLine line × HasGoodCount line) }
+{
+    read_bytes(alloc, bytes)
+}
+
+#[tactic(auto, unfolding(crate::specs::Reading::read_of, crate::specs::Reading::by_words))]
+fn read_bytes(alloc: Global, bytes: &[u8]) -> Result<Line, LineFault>
+    ensures { Gives (λ line. line) result (read_of bytes.now) }
+{
+    if bytes.len() > MOST_BYTES {
+        return Err(LineFault::TooLong);
+    }
+    if !are_ascii(bytes) {
+        return Err(LineFault::NotAscii);
+    }
+    let Some((word, rest)) = next_word(bytes) else {
+        return Ok(Line::Blank);
+    };
+    match Command::named(word) {
+        Some(Command::OnItem(item)) => read_item(alloc, item, rest),
+        Some(Command::BurstWrite) => read_burst_write(alloc, rest),
+        Some(Command::Reset) => read_reset(alloc, rest),
+        Some(Command::Seq) => read_seq(alloc, rest),
+        None => Err(LineFault::NoSuchCommand),
+    }
+}
+
+fn are_ascii(bytes: &[u8]) -> bool
+    ensures { result ≡ list_all spec.is_ascii bytes.now }
+{
+    bytes
+        .iter()
+        .all(|byte| matches!(*byte, b'\t' | b' '..=b'~'))
+}
+
+#[tactic(auto, unfolding(crate::specs::Reading::item_of, crate::specs::Reading::item_at))]
+fn read_item(alloc: Global, item: Item, text: &[u8]) -> Result<Line, LineFault>
+    ensures { Gives (λ line. line) result (item_of item (words_of text.now)) }
+{
+    let row = item.row();
+    let words = count_words(text);
+    let named = row.map && words.has_map;
+    if words.count != 1 + row.numbers + usize::from(named) {
+        return Err(LineFault::WrongCount);
+    }
+    let (path, rest) = path_at(alloc, text)?;
+    let (first, rest) = number_if(row.numbers >= 1, rest)?;
+    let (second, rest) = number_if(row.numbers >= 2, rest)?;
+    let map = map_if(alloc, named, rest)?;
+    if item.may_count(second) {
+        Ok(item.line(path, first, second, map))
+    } else {
+        Err(LineFault::CountOutOfRange)
+    }
+}
+
+fn read_burst_write(alloc: Global, text: &[u8]) -> Result<Line, LineFault>
+    ensures { Gives (λ line. line) result (burst_of (words_of text.now)) }
+{
+    let words = count_words(text);
+    let fixed = 2 + usize::from(words.has_map);
+    if words.count <= fixed {
+        return Err(LineFault::WrongCount);
+    }
+    read_burst(alloc, words.count - fixed, words.has_map, text)
+}
+
+#[tactic(auto, unfolding(crate::specs::Kept::kept_burst_at))]
+fn read_burst(alloc: Global, count: usize, named: bool, text: &[u8]) -> Result<Line, LineFault>
+    ensures { Gives (λ line. line) result (kept_burst_at count named (words_of text.now)) }
+{
+    let (mem, rest) = path_at(alloc, text)?;
+    let (first, rest) = number_at(rest)?;
+    let (values, rest) = numbers_at(alloc, count, rest)?;
+    let map = map_if(alloc, named, rest)?;
+    let values = Values::of(values).ok_or(LineFault::CountOutOfRange)?;
+    Ok(Line::BurstWrite {
+        mem,
+        first,
+        values,
+        map,
+    })
+}
+
+#[tactic(auto, unfolding(crate::specs::Reading::reset_of))]
+fn read_reset(alloc: Global, text: &[u8]) -> Result<Line, LineFault>
+    ensures { Gives (λ line. line) result (reset_of (words_of text.now)) }
+{
+    if count_words(text).count != 1 {
+        return Err(LineFault::WrongCount);
+    }
+    let (word, _) = word_at(text)?;
+    let kind = name_of(alloc, word)?;
+    Ok(Line::Reset { kind })
+}
+
+#[tactic(auto, unfolding(crate::specs::Reading::seq_of))]
+fn read_seq(alloc: Global, text: &[u8]) -> Result<Line, LineFault>
+    ensures { Gives (λ line. line) result (seq_of (words_of text.now)) }
+{
+    let Some((word, rest)) = next_word(text) else {
+        return Err(LineFault::NoSuchCommand);
+    };
+    let Some(which) = Sequence::named(word) else {
+        return Err(LineFault::NoSuchCommand);
+    };
+    if count_words(rest).count != 1 {
+        return Err(LineFault::WrongCount);
+    }
+    let (word, _) = word_at(rest)?;
+    let block = block_of(alloc, word)?;
+    Ok(Line::Seq { which, block })
+}
