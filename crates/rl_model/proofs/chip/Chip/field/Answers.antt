@@ -1,0 +1,18 @@
+use Rattle.std.proofs.Common.{length, refl, sym, ap, subst}
+use Rattle.std.proofs.lemmas.Option.{slice_get_read}
+use Rattle.rl_model.specs.declared.rows.Field.{Field}
+use Rattle.rl_model.specs.Rows.{FieldSeen, ChipData}
+use Rattle.rl_model.specs.Chip.{IsSound, HasBits}
+use Rattle.rl_model.proofs.ChipLaws.{field_has_bits}
+use Rattle.rl_model.proofs.chip.Chip.field.Goals as goal
+
+pub returns-clause-fits : goal.returns-clause-fits
+returns-clause-fits c =
+    let P : ChipData → Type 0 = IsSound in
+    let chip = c.args.self.now in
+    let sound = subst P c.self.view_is c.self.invariant in
+    let row = c.index-row.result.now in
+    let at = slice_get_read chip.fields (length chip.fields) c.args.field row refl c.requires (rw (← c.self.view_is) c.index-row.ensures) in
+    let has = field_has_bits chip sound c.args.field row at in
+    let Q : Field → Type 0 = HasBits chip in
+    subst Q (ap (λ (g : FieldSeen). g.shape) (sym c.row.view_is)) has

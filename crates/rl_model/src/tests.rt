@@ -1,0 +1,352 @@
+use crate::Array::{Block, File, Mem, Reg};
+use crate::ModelCause::{
+    BadName, BadSize, BadWidth, DuplicateName, FieldOutside, FieldsOverlap, NoSuchParent,
+    ResetTooWide, TooDeep, TooMany,
+};
+use crate::{
+    Array, Chip, FieldPart, Item, MemPart, ModelCause, ModelFault, Name, Parts, RegPart, ResetPart,
+    ScopePart, Skip, Spot,
+};
+use bitflags::Flags;
+use rl_policy::Policy;
+use std::alloc::{AllocError, AllocGlobal, Global};
+use std::process::Abort;
+use std::str::SplitWhitespace;
+use std::test::Fail;
+
+// Parts are written as text, one item after another with `;` between: `block OF NAME`, `file OF NAME`,
+// `mem OF NAME BYTES SIZE`, and `reg OF NAME BYTES` with a word `NAME/LSB/WIDTH/KIND=VALUE/..` for each
+// field. OF is `-` at the top.
+
+fn name(alloc: Global, text: &str) -> Result<Name, AllocError> {
+    Ok(Name::of(Vec::from_slice(alloc, text.as_bytes())?))
+}
+
+fn word<'a>(words: &mut SplitWhitespace<'a>) -> &'a str {
+    words.next().unwrap_or("")
+}
+
+fn number(text: &str) -> u64 {
+    text.parse::<u64>().unwrap_or(0)
+}
+
+fn parent(alloc: Global, text: &str) -> Result<Option<Name>, AllocError> {
+    if text == "-" {
+        return Ok(None);
+    }
+    Ok(Some(name(alloc, text)?))
+}
+
+fn scope(alloc: Global, words: &mut SplitWhitespace) -> Result<ScopePart, AllocError> {
+    let of = parent(alloc, word(words))?;
+    Ok(ScopePart {
+        name: name(alloc, word(words))?,
+        of,
+    })
+}
+
+fn reset(alloc: Global, text: &str) -> Result<ResetPart, AllocError> {
+    let (kind, value) = text.split_once('=').unwrap_or((text, ""));
+    Ok(ResetPart {
+        kind: name(alloc, kind)?,
+        value: number(value),
+    })
+}
+
+fn field(alloc: Global, text: &str) -> Result<FieldPart, AllocError> {
+    let mut pieces = text.split('/');
+    let own = name(alloc, pieces.next().unwrap_or(""))?;
+    let lsb = number(pieces.next().unwrap_or(""));
+    let width = number(pieces.next().unwrap_or(""));
+    let mut resets = Vec::new(alloc);
+    for piece in pieces {
+        resets.push(reset(alloc, piece)?)?;
+    }
+    Ok(FieldPart {
+        name: own,
+        lsb,
+        width,
+        policy: Policy::W1c,
+        volatile: false,
+        compare: true,
+        alone: false,
+        resets,
+    })
+}
+
+fn reg(alloc: Global, words: &mut SplitWhitespace) -> Result<RegPart, AllocError> {
+    let of = parent(alloc, word(words))?;
+    let own = name(alloc, word(words))?;
+    let bytes = number(word(words));
+    let mut fields = Vec::new(alloc);
+    for text in words {
+        fields.push(field(alloc, text)?)?;
+    }
+    Ok(RegPart {
+        name: own,
+        of,
+        bytes,
+        backdoor: true,
+        skip: Skip::NO_REG_TESTS,
+        fields,
+    })
+}
+
+fn mem(alloc: Global, words: &mut SplitWhitespace) -> Result<MemPart, AllocError> {
+    let of = parent(alloc, word(words))?;
+    let own = name(alloc, word(words))?;
+    let bytes = number(word(words));
+    Ok(MemPart {
+        name: own,
+        of,
+        bytes,
+        size: number(word(words)),
+        writable: false,
+        backdoor: false,
+        skip: Skip::NO_MEM_WALK_TEST,
+    })
+}
+
+fn parts(alloc: Global, text: &str) -> Result<Parts, AllocError> {
+    let mut blocks = Vec::new(alloc);
+    let mut files = Vec::new(alloc);
+    let mut regs = Vec::new(alloc);
+    let mut mems = Vec::new(alloc);
+    for item in text.split(';') {
+        let mut words = item.split_whitespace();
+        match word(&mut words) {
+            "block" => blocks.push(scope(alloc, &mut words)?)?,
+            "file" => files.push(scope(alloc, &mut words)?)?,
+            "reg" => regs.push(reg(alloc, &mut words)?)?,
+            _ => mems.push(mem(alloc, &mut words)?)?,
+        }
+    }
+    Ok(Parts {
+        blocks,
+        files,
+        regs,
+        mems,
+    })
+}
+
+const WHOLE: &str = "block - top; block top low; file top.low bank; mem top m 2 16;
+    reg top.low.bank r 1 b/4/4/warm=3 a/0/4/HARD=15/cold=1;
+    reg - top_r 8 all/0/64/HARD=18446744073709551615";
+
+#[test]
+fn looks_up_what_is_there(rt: HostRuntime) -> Result<(), Fail> {
+    let chip = Chip::build(rt.alloc(), &parts(rt.alloc(), WHOLE)?)?;
+    assert_eq!(rt; chip.reg_by_path(b"top.low.bank.r"), Some(0));
+    assert_eq!(rt; chip.reg_by_path(b"top.m"), None);
+    assert_eq!(rt; chip.mem_by_path(b"top.m"), Some(0));
+    assert_eq!(rt; chip.block_by_path(b"top.low.bank"), None);
+    assert_eq!(rt; chip.field_by_path(b"top.low.bank.r.a"), Some(1));
+    assert_eq!(rt; chip.field_by_path(b"top_r"), None);
+    assert_eq!(rt; chip.kind_by_name(b"SOFT"), Some(1));
+    assert_eq!(rt; chip.kind_by_name(b"cold"), Some(3));
+    Ok(())
+}
+
+#[test]
+fn numbers_fields_through_all_registers(rt: HostRuntime) -> Result<(), Fail> {
+    let chip = Chip::build(rt.alloc(), &parts(rt.alloc(), WHOLE)?)?;
+    assert_eq!(rt; chip.fields(), 3);
+    assert_eq!(rt; chip.regs(), 2);
+    assert_eq!(rt; chip.first_field(1), 2);
+    assert_eq!(rt; chip.field_count(0), 2);
+    assert_eq!(rt; chip.field(2).width, 64);
+    Ok(())
+}
+
+#[test]
+fn holds_what_is_inside(rt: HostRuntime) -> Result<(), Fail> {
+    let chip = Chip::build(rt.alloc(), &parts(rt.alloc(), WHOLE)?)?;
+    assert_eq!(rt; chip.regs(), 2);
+    let Some(low) = chip.block_by_path(b"top.low") else {
+        return Ok(());
+    };
+    assert_eq!(rt; chip.path(Item::Reg(0)), b"top.low.bank.r".as_slice());
+    assert!(rt; chip.skips(Item::Reg(0)).contains(Skip::NO_REG_TESTS));
+    assert!(rt; chip.within(Item::Reg(0), low));
+    assert!(rt; !chip.within(Item::Reg(1), low));
+    Ok(())
+}
+
+/// What refuses parts: a cause, an array, a row and a field of it.
+#[derive(Clone, Copy)]
+struct Refusal(ModelCause, Array, u32, Option<u32>);
+
+const DEEP: &str = "block - a; block a a; block a.a a; block a.a.a a; block a.a.a.a a;
+    block a.a.a.a.a a; block a.a.a.a.a.a a; block a.a.a.a.a.a.a a; block a.a.a.a.a.a.a.a a";
+
+const BAD_PATHS: &[(&str, Refusal)] = &[
+    ("block - 9a", Refusal(BadName, Block, 0, None)),
+    ("block no a.b", Refusal(BadName, Block, 0, None)),
+    (
+        "block - aaaaaaaabbbbbbbbccccccccdddddddde",
+        Refusal(BadName, Block, 0, None),
+    ),
+    (
+        "block later a; block - later",
+        Refusal(NoSuchParent, Block, 0, None),
+    ),
+    (DEEP, Refusal(TooDeep, Block, 8, None)),
+    (
+        "block - a; block - a",
+        Refusal(DuplicateName, Block, 1, None),
+    ),
+    (
+        "block - a; block - +; reg - + 0",
+        Refusal(BadName, Block, 1, None),
+    ),
+    (
+        "block - a; file a.later f; file a later",
+        Refusal(NoSuchParent, File, 0, None),
+    ),
+    ("block - a; file - a", Refusal(DuplicateName, File, 0, None)),
+    ("reg - r 1; reg r s 0", Refusal(NoSuchParent, Reg, 1, None)),
+    ("block - a; reg - a 9", Refusal(DuplicateName, Reg, 0, None)),
+    ("file - f; mem f m 1 1", Refusal(NoSuchParent, Mem, 0, None)),
+    (
+        "reg - r 1; mem - r 0 0",
+        Refusal(DuplicateName, Mem, 0, None),
+    ),
+    ("reg - r 0 /0/1", Refusal(BadWidth, Reg, 0, None)),
+    ("reg - r 8; reg - s 9", Refusal(BadWidth, Reg, 1, None)),
+    ("mem - m 9 0", Refusal(BadWidth, Mem, 0, None)),
+    ("mem - m 8 0", Refusal(BadSize, Mem, 0, None)),
+    (
+        "mem - m 1 65536; mem - n 1 65537",
+        Refusal(BadSize, Mem, 1, None),
+    ),
+    (
+        "mem - m 1 65536; mem - n 1 1",
+        Refusal(TooMany, Mem, 1, None),
+    ),
+];
+
+const BAD_FIELDS: &[(&str, Refusal)] = &[
+    ("reg - r 1 a/0/1 a-b/0/1", Refusal(BadName, Reg, 0, Some(1))),
+    (
+        "reg - r 1 a/0/1 a/0/1/=0; reg - r 1",
+        Refusal(BadName, Reg, 0, Some(1)),
+    ),
+    (
+        "reg - r 1 a/0/1 a/1/65",
+        Refusal(DuplicateName, Reg, 0, Some(1)),
+    ),
+    (
+        "reg - r 1 a/0/0/HARD=0/SOFT=0/HARD=1",
+        Refusal(DuplicateName, Reg, 0, Some(0)),
+    ),
+    (
+        "reg - r 1 a/0/0/a/b/c/d/e/f/g/h/i/j/k/l/m/n/o/p/q/a",
+        Refusal(DuplicateName, Reg, 0, Some(0)),
+    ),
+    ("reg - r 1 a/9/0", Refusal(BadWidth, Reg, 0, Some(0))),
+    ("reg - r 8 a/0/65", Refusal(BadWidth, Reg, 0, Some(0))),
+    ("reg - r 8 a/1/64", Refusal(FieldOutside, Reg, 0, Some(0))),
+    (
+        "reg - r 1 a/0/8 b/7/2/HARD=9",
+        Refusal(FieldOutside, Reg, 0, Some(1)),
+    ),
+    (
+        "reg - r 8 a/18446744073709551615/2",
+        Refusal(FieldOutside, Reg, 0, Some(0)),
+    ),
+    (
+        "reg - q 1 a/0/8; reg - r 1 a/3/2 b/0/4/HARD=16",
+        Refusal(FieldsOverlap, Reg, 1, Some(1)),
+    ),
+    (
+        "reg - r 1 a/0/4/HARD=15/SOFT=16",
+        Refusal(ResetTooWide, Reg, 0, Some(0)),
+    ),
+    (
+        "reg - r 1 a/0/1/a=2/b/c/d/e/f/g/h/i/j/k/l/m/n/o",
+        Refusal(ResetTooWide, Reg, 0, Some(0)),
+    ),
+    (
+        "reg - r 1 a/0/1/a/b/c/d/e/f/g/h/i/j/k/l/m/n b/1/1/o",
+        Refusal(TooMany, Reg, 0, Some(1)),
+    ),
+];
+
+fn refuse<R: Abort + AllocGlobal>(rt: &R, rows: &[(&str, Refusal)]) -> Result<(), AllocError> {
+    for (text, refusal) in rows {
+        let Refusal(cause, array, row, field) = *refusal;
+        let spot = Spot { array, row, field };
+        let answer = Chip::build(rt.alloc(), &parts(rt.alloc(), text)?);
+        assert_eq!(rt;
+            answer.err(),
+            Some(ModelFault::Bad { cause, spot }),
+            "{text}"
+        );
+    }
+    Ok(())
+}
+
+#[test]
+fn refuses_the_first_fault(rt: HostRuntime) -> Result<(), Fail> {
+    refuse(&rt, BAD_PATHS)?;
+    refuse(&rt, BAD_FIELDS)?;
+    Ok(())
+}
+
+/// Paths of 8 names, names of 32 bytes, fields that touch, all reset kinds, values of all bits and all
+/// locations.
+const AT_LIMITS: &[&str] = &[
+    "block - a; block a a; block a.a a; block a.a.a a; block a.a.a.a a; block a.a.a.a.a a;
+        block a.a.a.a.a.a a; reg a.a.a.a.a.a.a r 1",
+    "reg - N0_aaaaabbbbbbbbccccccccdddddddd 8 b/32/32 a/0/32/HARD=4294967295",
+    "reg - r 1 a/0/1/a/b/c/d/e/f/g/h/i/j/k/l/m/n b/1/1/HARD=1/SOFT=1/a=1",
+    "mem - m 8 65535; mem - n 1 1",
+];
+
+#[test]
+fn builds_at_the_limits(rt: HostRuntime) -> Result<(), Fail> {
+    for text in AT_LIMITS {
+        Chip::build(rt.alloc(), &parts(rt.alloc(), text)?)?;
+    }
+    Ok(())
+}
+
+/// As many items of a sort, each with a name of its own.
+fn crowd(alloc: Global, sort: &str, count: u32, rest: &str) -> Result<String, AllocError> {
+    let mut text = String::new(alloc);
+    for i in 0..count {
+        let end = if i + 1 < count { ";" } else { "" };
+        let item = format!(in alloc; "{sort} - {sort}{i} {rest}{end}")?;
+        text.push_str(item.as_str())?;
+    }
+    Ok(text)
+}
+
+#[test]
+fn counts_rows(rt: HostRuntime) -> Result<(), Fail> {
+    for (array, sort, rest, most) in [
+        (Block, "block", "", 256),
+        (File, "file", "", 256),
+        (Reg, "reg", "1", 1024),
+        (Mem, "mem", "1 1024", 64),
+    ] {
+        let text = crowd(rt.alloc(), sort, most, rest)?;
+        Chip::build(rt.alloc(), &parts(rt.alloc(), text.as_str())?)?;
+        let text = crowd(rt.alloc(), sort, most + 1, rest)?;
+        let answer = Chip::build(rt.alloc(), &parts(rt.alloc(), text.as_str())?);
+        let spot = Spot {
+            array,
+            row: most,
+            field: None,
+        };
+        assert_eq!(rt;
+            answer.err(),
+            Some(ModelFault::Bad {
+                cause: TooMany,
+                spot
+            }),
+            "{sort}"
+        );
+    }
+    Ok(())
+}
