@@ -1,0 +1,50 @@
+use Rattle.std.proofs.Common.{◌≡◌, ℕ, ◌<◌, ◌≤◌, ◌^◌, Bool, true, false, length, sym, ap, subst, ◌∙◌, arith}
+use Rattle.std.proofs.lemmas.Nat.{or_lt}
+use Rattle.rl_policy.specs.Bits.{bit}
+use Rattle.rl_policy.proofs.BitLemmas.{bit-zero, bit-or, is_from_bits}
+use Rattle.rl_model.specs.declared.rows.Field.{Field}
+use Rattle.rl_mirror.specs.Compared.{differs, differing}
+use Rattle.rl_mirror.specs.Fields.{fields_of, count_of, field_in}
+use Rattle.rl_mirror.proofs.FieldLemmas.{length-fields_of}
+use Rattle.rl_mirror.proofs.SetLemmas.{among, among-zero, among-added, among-passed, among-all, among-none}
+use Rattle.rl_mirror.proofs.WordLemmas.{small_from_bits}
+use Rattle.rl_mirror.proofs.fields.differing.Goals as goal
+
+pub loop-k-init : goal.loop-k-init
+loop-k-init c = record {
+  fits = omega arith;
+  bits = λ k l. bit-zero k ∙ among-zero (λ k. differs (field_in (fields_of c.args.chip.now c.args.reg) k).shape c.args.read c.args.mirrored) k;
+}
+
+pub loop-k-preserved-then-not-differs : goal.loop-k-preserved-then-not-differs
+loop-k-preserved-then-not-differs c =
+    let d : ℕ → Bool = λ k. differs (field_in (fields_of c.args.chip.now c.args.reg) k).shape c.args.read c.args.mirrored in
+    let here : d c.loop-k.k ≡ false = ap (λ (f : Field). differs f c.args.read c.args.mirrored) (sym c.field_at.ensures.field) ∙ sym c.differs.ensures ∙ c.if-not-differs.true in
+    record {
+      fits = omega arith;
+      bits = λ k l. c.loop-k.invariant.bits k l ∙ among-passed c.loop-k.k k d here;
+    }
+
+pub loop-k-preserved : goal.loop-k-preserved
+loop-k-preserved c =
+    let d : ℕ → Bool = λ k. differs (field_in (fields_of c.args.chip.now c.args.reg) k).shape c.args.read c.args.mirrored in
+    let here : d c.loop-k.k ≡ true = ap (λ (f : Field). differs f c.args.read c.args.mirrored) (sym c.field_at.ensures.field) ∙ sym c.differs.ensures ∙ c.if-not-differs.false in
+    record {
+      fits = or_lt 64 c.loop-k.places c.window-places.result (omega arith) (omega arith);
+      bits = λ k l. bit-or c.loop-k.places c.window-places.result k ∙ rw (c.loop-k.invariant.bits k l, c.window-places.ensures k l) (among-added c.loop-k.k k d here);
+    }
+
+pub returns : goal.returns
+unfolding differing
+returns c =
+    let fs = fields_of c.args.chip.now c.args.reg in
+    let d : ℕ → Bool = λ k. differs (field_in fs k).shape c.args.read c.args.mirrored in
+    let count : length fs ≡ count_of c.args.chip.now c.args.reg = length-fields_of c.args.chip.now c.args.reg c.field_count-k-end.ensures.sound c.requires in
+    let end : c.loop-k.k ≡ length fs = omega (arith, c.field_count-k-end.ensures.count, c.loop-k-test.false, c.loop-k.auto.k-end) in
+    let few : length fs ≤ 64 = omega (arith, c.field_count-k-end.ensures.count, c.field_count-k-end.ensures.few) in
+    let bits : (k : ℕ) → k < 64 → bit c.loop-k.places k ≡ among (length fs) d k = λ k l. subst (λ (n : ℕ). bit c.loop-k.places k ≡ among n d k) end (c.loop-k.invariant.bits k l) in
+    let small : c.loop-k.places < 2 ^ length fs = small_from_bits c.loop-k.places (length fs) c.loop-k.invariant.fits few (λ k past l. bits k l ∙ among-none (length fs) k d past) in
+    record {
+      value = is_from_bits (length fs) c.loop-k.places d small (λ k l. bits k (omega arith) ∙ among-all (length fs) k d l);
+      fits = subst (λ (n : ℕ). c.loop-k.places < 2 ^ n) count small;
+    }

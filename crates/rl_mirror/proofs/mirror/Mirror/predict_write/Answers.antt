@@ -1,0 +1,27 @@
+use Rattle.std.proofs.Common.{◌≡◌, ℕ, ◌<◌, Bool, List, length, refl, sym, ap, subst, ◌∙◌, arith}
+use Rattle.std.proofs.lemmas.List.{get_or_read_under, with_items_is}
+use Rattle.std.specs.Vec.{with_items}
+use Rattle.rl_mirror.specs.Mirror.{MirrorData, IsMirrorOf, mirrored_of, desired_of}
+use Rattle.rl_mirror.specs.Prediction.{predict_write}
+use Rattle.rl_mirror.proofs.MirrorLemmas.{write_is}
+use Rattle.rl_mirror.proofs.SpentLemmas.{length-spent_after}
+use Rattle.rl_mirror.proofs.mirror.Mirror.predict_write.Goals as goal
+
+pub returns-clause-value : goal.returns-clause-value
+returns-clause-value c =
+    let chip = c.args.chip.now in
+    let reg = c.args.reg in
+    let m : MirrorData = record { mirrored = c.self.inside.mirrored.items; desired = c.self.inside.desired.items; spent = c.self.inside.spent.items } in
+    let is : m ≡ c.args.self.now = c.self.view_is in
+    let built : IsMirrorOf chip m = subst (λ (m : MirrorData). IsMirrorOf chip m) (sym is) c.requires.built in
+    let in_mirrored : reg < length m.mirrored = omega (arith, built.registers, c.requires.reg) in
+    let in_desired : reg < length m.desired = omega (arith, built.wishes, c.requires.reg) in
+    let mirrored : c.index-mirrored.result.now ≡ mirrored_of m reg = get_or_read_under m.mirrored reg (length m.mirrored) c.index-mirrored.result.now 0 c.index-mirrored.ensures in_mirrored refl in
+    let desired : c.index-desired.result.now ≡ desired_of m reg = get_or_read_under m.desired reg (length m.desired) c.index-desired.result.now 0 c.index-desired.ensures in_desired refl in
+    let long : length c.spend.new.spent ≡ c.self.inside.spent.len =
+        omega (arith, ap (λ (xs : List Bool). length xs) c.spend.ensures, length-spent_after chip reg c.args.fields c.deref_mut.result.now, ap (λ (xs : List Bool). length xs) c.deref_mut.ensures.value, c.self.inside.spent.ok.0) in
+    write_is chip reg c.args.value c.args.fields m c.index-mirrored.result.now c.index-desired.result.now c.overlaid.result c.overlaid-2.result
+    c.deref.result.now c.deref-2.result.now c.deref_mut.result.now (with_items c.self.inside.spent c.spend.new.spent).items
+    mirrored desired c.deref.ensures.value c.deref-2.ensures.value c.deref_mut.ensures.value c.overlaid.ensures.value c.overlaid-2.ensures.value
+    (with_items_is c.self.inside.spent c.spend.new.spent long ∙ c.spend.ensures)
+    ∙ ap (predict_write chip reg c.args.value c.args.fields) is

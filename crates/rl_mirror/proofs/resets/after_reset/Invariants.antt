@@ -1,0 +1,13 @@
+use Rattle.std.proofs.Common.{◌≡◌, ℕ, ◌<◌, ◌^◌}
+use Rattle.rl_policy.specs.Bits.{bit}
+use Rattle.rl_mirror.specs.Fields.{fields_of, field_in, place_at}
+use Rattle.rl_mirror.specs.Prediction.{reset_bit}
+use Rattle.rl_mirror.proofs.PlaceLemmas.{so_far}
+use Rattle.rl_mirror.proofs.resets.after_reset.Given as goal
+
+abbrev pub invariant-loop-k : goal.invariant-loop-k
+invariant-loop-k l = record {
+  fits : l.word < 2 ^ 64;
+  bits : (b : ℕ) → b < 64
+      → bit l.word b ≡ so_far l.k (λ k. reset_bit (field_in (fields_of l.chip l.reg) k) l.kind b (bit l.value b)) (place_at (fields_of l.chip l.reg) b) (bit l.value b);
+}

@@ -1,0 +1,36 @@
+-- What is believed of a chip.
+use Rattle.std.specs.Prelude.{◌≡◌, ℕ, ◌+◌, ◌^◌, ◌<◌, Bool, false, List, length, get_or}
+use Rattle.rl_model.specs.Rows.{ChipData}
+use Rattle.rl_mirror.specs.Fields.{first_of, size_of, fields_of, owned}
+
+-- A mirrored and a desired value for each register, and a spent mark for each field, counted through all registers.
+pub record MirrorData : Type 0 where
+  pub mirrored : List ℕ
+  pub desired : List ℕ
+  pub spent : List Bool
+
+abbrev pub mirrored_of : MirrorData → ℕ → ℕ
+mirrored_of m reg = get_or m.mirrored reg 0
+
+abbrev pub desired_of : MirrorData → ℕ → ℕ
+desired_of m reg = get_or m.desired reg 0
+
+abbrev pub is_spent : MirrorData → ℕ → Bool
+is_spent m field = get_or m.spent field false
+
+-- the marks of a register's fields, by their places
+abbrev pub marks_in : ChipData → List Bool → (reg : ℕ) → ℕ → Bool
+marks_in c spent reg k = get_or spent (first_of c reg + k) false
+
+-- a value of the register: it has the register's bytes, and 0 in the bits without a field
+pub record IsValueOf (c : ChipData) (reg value : ℕ) : Type 0 where
+  pub fits : value < 256 ^ size_of c reg
+  pub owned : value ≡ owned (fields_of c reg) value
+
+-- the mirror was built with the chip: it has a mirrored and a desired value for each register, and a mark for each field
+pub record IsMirrorOf (c : ChipData) (m : MirrorData) : Type 0 where
+  pub registers : length m.mirrored ≡ length c.regs
+  pub wishes : length m.desired ≡ length c.regs
+  pub marks : length m.spent ≡ length c.fields
+  pub mirrored : (reg : ℕ) → reg < length c.regs → IsValueOf c reg (mirrored_of m reg)
+  pub desired : (reg : ℕ) → reg < length c.regs → IsValueOf c reg (desired_of m reg)

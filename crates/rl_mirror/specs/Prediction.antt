@@ -1,0 +1,130 @@
+-- What accesses, resets and `set` do to what is believed of a register.
+use Rattle.std.specs.Prelude.{ℕ, ◌+◌, ◌-◌, Bool, true, false, not, ◌&&◌, ◌||◌, ◌==◌, if◌then◌else◌, List, length, map, replicate, slice_set, get_or, Option}
+use Rattle.std.specs.List.{range_with_len}
+use Rattle.std.specs.Option.{option_map_or}
+use Rattle.rl_policy.specs.Bits.{bit, put_bit, from_bits}
+use Rattle.rl_policy.specs.Table.{after_write, after_read, value_read, update_bit, neutral_bit, is_write_only, spends_mark}
+use Rattle.rl_policy.specs.declared.policy.Policy.{Policy}
+use Rattle.rl_model.specs.Chip.{value_for}
+use Rattle.rl_model.specs.Rows.{FieldSeen, ChipData}
+use Rattle.rl_mirror.specs.Fields.{field_of, first_of, fields_of, field_in, policy_in, word_by_field, owned}
+use Rattle.rl_mirror.specs.Mirror.{MirrorData, mirrored_of, desired_of, marks_in, is_spent}
+
+-- ---- words of a register, by its fields; `marks k` is the spent mark of the field at place k
+
+-- the bits after a write of a word
+unfoldable pub written : List FieldSeen → (marks : ℕ → Bool) → (bits word : ℕ) → ℕ
+written fields marks bits word = word_by_field fields (λ k b. after_write (policy_in fields k) (bit bits b) (bit word b) (marks k))
+
+-- what a read answers, and the bits after it
+unfoldable pub shown : List FieldSeen → ℕ → ℕ
+shown fields bits = word_by_field fields (λ k b. value_read (policy_in fields k) (bit bits b))
+
+unfoldable pub left_by_read : List FieldSeen → ℕ → ℕ
+left_by_read fields bits = word_by_field fields (λ k b. after_read (policy_in fields k) (bit bits b))
+
+-- the word that brings the mirrored bits to the desired ones
+unfoldable pub update_word : List FieldSeen → (desired mirrored : ℕ) → ℕ
+update_word fields desired mirrored = word_by_field fields (λ k b. update_bit (policy_in fields k) (bit desired b) (bit mirrored b))
+
+-- the word that leaves the fields as they are, where their policies allow that
+unfoldable pub neutral_word : List FieldSeen → ℕ → ℕ
+neutral_word fields mirrored = word_by_field fields (λ k b. neutral_bit (policy_in fields k) (bit mirrored b))
+
+-- ---- values that an access to the chosen fields brings; those of other fields are kept
+
+unfoldable pub learned_by_write : List FieldSeen → (chosen marks : ℕ → Bool) → (mirrored word kept : ℕ) → ℕ
+learned_by_write fields chosen marks mirrored word kept =
+    word_by_field fields (λ k b. if chosen k then after_write (policy_in fields k) (bit mirrored b) (bit word b) (marks k) else bit kept b)
+
+-- a read tells nothing of a write-only field
+abbrev pub learned_bit : Policy → (read kept : Bool) → Bool
+learned_bit p read kept = if is_write_only p then kept else after_read p read
+
+unfoldable pub learned_by_read : List FieldSeen → (chosen : ℕ → Bool) → (read kept : ℕ) → ℕ
+learned_by_read fields chosen read kept =
+    word_by_field fields (λ k b. if chosen k then learned_bit (policy_in fields k) (bit read b) (bit kept b) else bit kept b)
+
+-- ---- a reset
+
+abbrev pub reset_bit : FieldSeen → (kind b : ℕ) → Bool → Bool
+reset_bit f kind b kept = option_map_or (λ v. bit v (b - f.shape.lsb)) (value_for kind f.resets) kept
+
+-- each field with a value for the kind takes it
+unfoldable pub after_reset : List FieldSeen → (kind kept : ℕ) → ℕ
+after_reset fields kind kept = word_by_field fields (λ k b. reset_bit (field_in fields k) kind b (bit kept b))
+
+-- ---- the mirror of the whole chip
+
+-- a register gets a mirrored and a desired value
+abbrev pub with_values : MirrorData → (reg mirrored desired : ℕ) → MirrorData
+with_values m reg mirrored desired =
+    record m { mirrored = slice_set m.mirrored reg mirrored; desired = slice_set m.desired reg desired }
+
+-- a write of the chosen fields spends this field
+abbrev pub is_spent_by : ChipData → (reg fields : ℕ) → ℕ → Bool
+is_spent_by c reg fields n =
+    (field_of c n).shape.reg == reg && (bit fields (n - first_of c reg) && spends_mark (field_of c n).shape.policy)
+
+unfoldable pub spent_after : ChipData → (reg fields : ℕ) → List Bool → List Bool
+spent_after c reg fields spent = map (λ n. get_or spent n false || is_spent_by c reg fields n) (range_with_len 0 (length spent))
+
+-- a write of a word to the chosen fields went through; bit k of `fields` stands for the k-th field of the register
+unfoldable pub predict_write : ChipData → (reg word fields : ℕ) → MirrorData → MirrorData
+predict_write c reg word fields m =
+    let after = λ (kept : ℕ). learned_by_write (fields_of c reg) (bit fields) (marks_in c m.spent reg) (mirrored_of m reg) word kept in
+    record (with_values m reg (after (mirrored_of m reg)) (after (desired_of m reg))) { spent = spent_after c reg fields m.spent }
+
+-- a read of the chosen fields answered this
+unfoldable pub predict_read : ChipData → (reg read fields : ℕ) → MirrorData → MirrorData
+predict_read c reg read fields m =
+    let after = λ (kept : ℕ). learned_by_read (fields_of c reg) (bit fields) read kept in
+    with_values m reg (after (mirrored_of m reg)) (after (desired_of m reg))
+
+-- the bits of the register are these
+unfoldable pub predict_raw : ChipData → (reg value : ℕ) → MirrorData → MirrorData
+predict_raw c reg value m = with_values m reg (owned (fields_of c reg) value) (owned (fields_of c reg) value)
+
+-- a reset, which clears all marks where it is the hard one
+unfoldable pub reset : ChipData → (kind : ℕ) → MirrorData → MirrorData
+reset c kind m =
+    let after = λ (values : List ℕ). map (λ reg. after_reset (fields_of c reg) kind (get_or values reg 0)) (range_with_len 0 (length values)) in
+    record {
+      mirrored = after m.mirrored;
+      desired = after m.desired;
+      spent = if kind == 0 then replicate (length m.spent) false else m.spent;
+    }
+
+-- no field has a value yet
+abbrev pub blank : ChipData → MirrorData
+blank c = record {
+  mirrored = replicate (length c.regs) 0;
+  desired = replicate (length c.regs) 0;
+  spent = replicate (length c.fields) false;
+}
+
+-- the first state: that after a hard reset, with 0 in each field without a value for it
+unfoldable pub fresh : ChipData → MirrorData
+fresh c = reset c 0 (blank c)
+
+-- the field is to become v
+unfoldable pub set : ChipData → (field v : ℕ) → MirrorData → MirrorData
+set c field v m =
+    let f = field_of c field in
+    let wish = λ (b : ℕ). after_write f.shape.policy (bit (desired_of m f.shape.reg) (f.shape.lsb + b)) (bit v b) (is_spent m field) in
+    record m { desired = slice_set m.desired f.shape.reg (from_bits 64 (put_bit f.shape.lsb f.shape.width wish (bit (desired_of m f.shape.reg)))) }
+
+-- ---- words to send
+
+-- some field of the register has another desired value than its mirrored one
+abbrev pub needs_update : MirrorData → (reg : ℕ) → Bool
+needs_update m reg = not (desired_of m reg == mirrored_of m reg)
+
+unfoldable pub update_word_of : ChipData → (reg : ℕ) → MirrorData → ℕ
+update_word_of c reg m = update_word (fields_of c reg) (desired_of m reg) (mirrored_of m reg)
+
+-- the word with v in the field, and the neutral word in each other field of its register
+unfoldable pub neutral_around : ChipData → (field v : ℕ) → MirrorData → ℕ
+neutral_around c field v m =
+    let f = field_of c field in
+    from_bits 64 (put_bit f.shape.lsb f.shape.width (bit v) (bit (neutral_word (fields_of c f.shape.reg) (mirrored_of m f.shape.reg))))
