@@ -159,16 +159,11 @@ fn numbers_fields_through_all_registers(rt: HostRuntime) -> Result<(), Fail> {
 }
 
 #[test]
-fn holds_what_is_inside(rt: HostRuntime) -> Result<(), Fail> {
+fn tells_an_item_by_its_number(rt: HostRuntime) -> Result<(), Fail> {
     let chip = Chip::build(rt.alloc(), &parts(rt.alloc(), WHOLE)?)?;
     assert_eq!(rt; chip.regs(), 2);
-    let Some(low) = chip.block_by_path(b"top.low") else {
-        return Ok(());
-    };
     assert_eq!(rt; chip.path(Item::Reg(0)), b"top.low.bank.r".as_slice());
     assert!(rt; chip.skips(Item::Reg(0)).contains(Skip::NO_REG_TESTS));
-    assert!(rt; chip.within(Item::Reg(0), low));
-    assert!(rt; !chip.within(Item::Reg(1), low));
     Ok(())
 }
 
