@@ -1,0 +1,28 @@
+use Rattle.std.proofs.Common.{◌≡◌, ℕ, ◌+◌, ◌*◌, ◌^◌, ◌<◌, ◌≤◌, arith, add-one}
+use Rattle.std.proofs.Math.Nat.{pow-le-pow_right, pow-succ'}
+use Rattle.rl_map.specs.declared.path.Level.{Level}
+use Rattle.rl_map.specs.declared.seat.Access.{Access}
+use Rattle.rl_bus.specs.Lanes.{IsWidth}
+use Rattle.rl_map.specs.Access.{IsAccess, through}
+use Rattle.rl_map.proofs.Chunks.{through_access, order_lt, address_lt}
+
+-- after `i` maps the numbers of an access are this small
+pub record HasRoom (i : ℕ) (access : Access) : Type 0 where
+  pub is_access : IsAccess access
+  pub offset : access.offset < 2 ^ 64
+  pub address : access.address < 2 ^ 68 * 16 ^ i
+  pub order : access.order < 16 ^ i
+
+pub through_room : (i : ℕ) (a : Access) (m : Level) → HasRoom i a → IsWidth m.bytes → m.offset < 2 ^ 64 → HasRoom (i + 1) (through a m)
+through_room i a m room w fits =
+    let more : 16 ^ (i + 1) ≡ 16 * 16 ^ i = rw add-one (pow-succ' 16 i) in
+    record {
+      is_access = through_access a m w;
+      offset = fits;
+      address = rw more (address_lt a m (16 ^ i) room.is_access w room.offset room.address);
+      order = rw more (omega (arith, order_lt a m (16 ^ i) room.is_access w room.order));
+    }
+
+-- a path has at most four maps
+pub room_in_four : (i : ℕ) → i ≤ 4 → 16 ^ i ≤ 2 ^ 16
+room_in_four i short = pow-le-pow_right {n = 16} (omega arith) short

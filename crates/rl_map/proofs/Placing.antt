@@ -1,0 +1,124 @@
+-- One place more.
+use Rattle.std.proofs.Common.{◌≡◌, ◌≢◌, ℕ, zero, suc, ◌+◌, ◌-◌, ◌*◌, ◌%◌, ◌^◌, ◌<◌, ◌≤◌, ◌⊎◌, inl, inr, ◌||◌, ◌&&◌, ◌==◌, not, Bool, true, false, cond, List, [], ◌∷◌, ◌++◌, length, get_or, take, drop, map, Option, Some, None, refl, sym, ap, ◌∙◌, subst, arith, rules, eq-eqb, eqb-true}
+use Rattle.std.specs.Prelude.{All, flat_map, IsPermutation}
+use Rattle.std.specs.List.{list_any, range_with_len, AllByRecursion}
+use Rattle.std.proofs.Common.{length-append}
+use Rattle.std.proofs.lemmas.List.Elements.{All-push, All-from_recursion}
+use Rattle.std.proofs.lemmas.List.Sorted.{All-permutation}
+use Rattle.rl_model.specs.Rows.{ChipData}
+use Rattle.rl_bus.specs.declared.table.WordRow.{WordRow}
+use Rattle.rl_map.specs.declared.path.Level.{Level}
+use Rattle.rl_map.specs.declared.word.Word.{Word}
+use Rattle.rl_map.specs.declared.rows.MapRow.{MapRow}
+use Rattle.rl_map.specs.declared.rows.PortRow.{PortRow}
+use Rattle.rl_map.specs.declared.rows.PlaceRow.{PlaceRow}
+use Rattle.rl_map.specs.Seat.{AddressesFit}
+use Rattle.rl_map.specs.Words.{item_words}
+use Rattle.rl_map.specs.Layout.{no_map, no_port, no_place, location_of, word_row}
+use Rattle.rl_map.specs.Faults.{is_above}
+use Rattle.rl_map.specs.Building.{path_in, port_for, placed_in, placed_at, IsPlaceRow, IsSeated, HasRoom, ArePlaces, AreRowsOf, location_rows_of, rows_of, rows_of_all}
+use Rattle.rl_map.proofs.Fitting.{as_many}
+use Rattle.rl_map.proofs.Lookups.{read_is}
+use Rattle.rl_map.proofs.Sorting.{ge_from}
+use Rattle.rl_map.proofs.Growing.{none_of, rows_more, flat_more}
+use Rattle.std.proofs.Common.{map as mapped}
+
+pub room_is : (maps : List MapRow) (ports : List PortRow) (words : ℕ) (p : PlaceRow) (map : MapRow) (port : PortRow) (path : List Level)
+    → p.map < length maps → p.port < length ports → map ≡ get_or maps p.map map → port ≡ get_or ports p.port port → path ≡ map.path
+    → words + p.size * length (item_words path port.base (location_of p 0)) ≤ 1048576 → IsSeated (placed_at p path port) → HasRoom maps ports words p
+room_is maps ports words p map port path low_m low_p a b e room seated =
+    let path_is : path ≡ path_in maps p = e ∙ ap (λ (m : MapRow). m.path) (read_is maps p.map map no_map low_m a) in
+    let port_is : port ≡ port_for ports p = read_is ports p.port port no_port low_p b in
+    record {
+      room = subst (λ x. words + p.size * length (item_words (path_in maps p) x.base (location_of p 0)) ≤ 1048576) port_is
+          (subst (λ x. words + p.size * length (item_words x port.base (location_of p 0)) ≤ 1048576) path_is room);
+      seated = subst (λ x. IsSeated (placed_at p (path_in maps p) x)) port_is (subst (λ x. IsSeated (placed_at p x port)) path_is seated);
+    }
+
+pub fits_of : (maps : List MapRow) (ports : List PortRow) (p : PlaceRow) → IsSeated (placed_in maps ports p) → (port_for ports p).kind.most_address < 2 ^ 64
+    → (index : ℕ) → index < p.size → AddressesFit (path_in maps p) (port_for ports p).base (location_of p index)
+fits_of maps ports p seated most index low byte in_byte =
+    let test = is_above (placed_in maps ports p) in
+    let under = none_of (test index) p.bytes (none_of (λ i. list_any (test i) (range_with_len 0 p.bytes)) p.size seated.low index low) byte in_byte in
+    omega (arith, ge_from _ _ under, most)
+
+-- ---- rows
+
+flat_length : {Y : Type 0} (f : ℕ → List Y) (first n c : ℕ) → ((j : ℕ) → length (f j) ≡ c) → length (flat_map f (range_with_len first n)) ≡ n * c
+flat_length f first zero c h = omega arith
+flat_length f first (suc n) c h = omega (arith, length-append (f first) (flat_map f (range_with_len (first + 1) n)), h first, flat_length f (first + 1) n c h)
+
+mapped_length : {X Y : Type 0} (f : X → Y) (xs : List X) → length (map f xs) ≡ length xs
+mapped_length f [] = refl
+mapped_length f (x ∷ xs) = ap suc (mapped_length f xs)
+
+length-rows_of : (maps : List MapRow) (ports : List PortRow) (number : ℕ) (p : PlaceRow)
+    → length (rows_of maps ports number p) ≡ p.size * length (item_words (path_in maps p) (port_for ports p).base (location_of p 0))
+length-rows_of maps ports number p =
+    let path = path_in maps p in
+    let base = (port_for ports p).base in
+    flat_length (location_rows_of maps ports number p) 0 p.size (length (item_words path base (location_of p 0)))
+    (λ j. mapped_length (word_row p number j) (item_words path base (location_of p j)) ∙ as_many path base base (location_of p 0) j 0)
+
+pub places_more : (chip : ChipData) (maps : List MapRow) (ports : List PortRow) (places : List PlaceRow) (rows : List WordRow) (p : PlaceRow) (number words : ℕ)
+    (seen places' : List PlaceRow) (rows' : List WordRow)
+    → ArePlaces chip maps ports places rows → IsPlaceRow chip maps ports p → HasRoom maps ports words p → seen ≡ places → length seen < 4096
+    → number ≡ length places → words ≡ length rows → places' ≡ places ++ p ∷ [] → rows' ≡ rows ++ rows_of maps ports number p
+    → ArePlaces chip maps ports places' rows'
+places_more chip maps ports places rows p number words seen places' rows' t fits room see few a b e f =
+    let all : rows' ≡ rows_of_all maps ports (places ++ p ∷ []) =
+    f ∙ ap (λ n. rows ++ rows_of maps ports n p) a ∙ ap (λ x. x ++ rows_of maps ports (length places) p) t.words_are ∙ sym (rows_more maps ports places p) in
+    let long : length rows' ≡ length rows + length (rows_of maps ports number p) = ap length f ∙ length-append rows (rows_of maps ports number p) in
+    subst (λ x. ArePlaces chip maps ports x rows') (sym e) (record {
+      few = omega (arith, length-append places (p ∷ []), ap length see);
+      each = All-push (IsPlaceRow chip maps ports) places p t.each fits;
+      seated = All-push (λ q. IsSeated (placed_in maps ports q)) places p t.seated room.seated;
+      words_are = all;
+      few_words = omega (arith, long, length-rows_of maps ports number p, room.room, b);
+    })
+
+append_twice : {Y : Type 0} (xs ys zs : List Y) → (xs ++ ys) ++ zs ≡ xs ++ (ys ++ zs)
+append_twice [] ys zs = refl
+append_twice (x ∷ xs) ys zs = ap (λ us. x ∷ us) (append_twice xs ys zs)
+
+-- the rows of one location more
+pub location_more : (maps : List MapRow) (ports : List PortRow) (number : ℕ) (p : PlaceRow) (i : ℕ) (old rows rows' : List WordRow) (map : MapRow) (port : PortRow) (path : List Level)
+    → p.map < length maps → p.port < length ports → map ≡ get_or maps p.map map → port ≡ get_or ports p.port port → path ≡ map.path
+    → rows ≡ old ++ flat_map (location_rows_of maps ports number p) (range_with_len 0 i)
+    → rows' ≡ rows ++ mapped (word_row p number i) (item_words path port.base (location_of p i))
+    → rows' ≡ old ++ flat_map (location_rows_of maps ports number p) (range_with_len 0 (i + 1))
+location_more maps ports number p i old rows rows' map port path low_m low_p a b e was now =
+    let f = location_rows_of maps ports number p in
+    let path_is : path ≡ path_in maps p = e ∙ ap (λ (m : MapRow). m.path) (read_is maps p.map map no_map low_m a) in
+    let port_is : port ≡ port_for ports p = read_is ports p.port port no_port low_p b in
+    now ∙ ap (λ x. rows ++ mapped (word_row p number i) (item_words x port.base (location_of p i))) path_is
+    ∙ ap (λ x. rows ++ mapped (word_row p number i) (item_words (path_in maps p) x.base (location_of p i))) port_is
+    ∙ ap (λ x. x ++ f i) was
+    ∙ append_twice old (flat_map f (range_with_len 0 i)) (f i)
+    ∙ ap (λ x. old ++ x) (sym (flat_more f i))
+
+-- ---- the places of rows
+
+all_mapped : {X Y : Type 0} (f : X → Y) (P : Y → Type 0) (xs : List X) → ((x : X) → P (f x)) → AllByRecursion P (map f xs)
+all_mapped f P [] h = tt
+all_mapped f P (x ∷ xs) h = (h x, all_mapped f P xs h)
+
+all_appended : {X : Type 0} (P : X → Type 0) (xs ys : List X) → AllByRecursion P xs → AllByRecursion P ys → AllByRecursion P (xs ++ ys)
+all_appended P [] ys a b = b
+all_appended P (x ∷ xs) ys a b = (a.0, all_appended P xs ys a.1 b)
+
+all_flat : {Y : Type 0} (f : ℕ → List Y) (P : Y → Type 0) (first n : ℕ) → ((j : ℕ) → first ≤ j → j < first + n → AllByRecursion P (f j)) → AllByRecursion P (flat_map f (range_with_len first n))
+all_flat f P first zero h = tt
+all_flat f P first (suc n) h =
+    all_appended P (f first) (flat_map f (range_with_len (first + 1) n)) (h first (omega arith) (omega arith))
+    (all_flat f P (first + 1) n (λ j low high. h j (omega arith) (omega arith)))
+
+pub rows_in : (chip : ChipData) (maps : List MapRow) (ports : List PortRow) (places : List PlaceRow) (first rows : List WordRow)
+    → ArePlaces chip maps ports places first → IsPermutation first rows → AreRowsOf places rows
+rows_in chip maps ports places first rows t moved =
+    let P : WordRow → Type 0 = λ r. r.place < length places in
+    let all : AllByRecursion P (rows_of_all maps ports places) =
+    all_flat (λ q. rows_of maps ports q (get_or places q no_place)) P 0 (length places) (λ q low high.
+    all_flat (location_rows_of maps ports q (get_or places q no_place)) P 0 (get_or places q no_place).size (λ i low_i high_i.
+    all_mapped (word_row (get_or places q no_place) q i) P (item_words (path_in maps (get_or places q no_place)) (port_for ports (get_or places q no_place)).base (location_of (get_or places q no_place) i)) (λ w. omega arith))) in
+    All-permutation P first rows moved (All-from_recursion P first (subst (AllByRecursion P) (sym t.words_are) all))

@@ -1,0 +1,7 @@
+use Rattle.std.proofs.Common.{◌≡◌, ℕ, ◌<◌, false}
+use Rattle.rl_map.specs.Faults.{is_unaligned}
+use Rattle.rl_map.specs.Building.{placed_at}
+use Rattle.rl_map.proofs.address.is_location_unaligned.Given as goal
+
+abbrev pub invariant-loop-byte : goal.invariant-loop-byte
+invariant-loop-byte l = (j : ℕ) → j < l.byte → is_unaligned (placed_at l.row l.path l.port) l.index j ≡ false

@@ -1,0 +1,16 @@
+use Rattle.std.proofs.Common.{◌≡◌, ℕ, zero, suc, ◌+◌, ◌-◌, ◌*◌, ◌%◌, ◌^◌, ◌<◌, ◌≤◌, ◌||◌, Bool, true, false, cond, List, [], ◌∷◌, ◌++◌, length, get_or, map, Some, None, refl, sym, ap, ◌∙◌, subst, arith, rules}
+use Rattle.std.specs.List.{list_any, range_with_len}
+use Rattle.rl_map.specs.Faults.{is_unaligned}
+use Rattle.rl_map.specs.Building.{placed_at}
+use Rattle.rl_map.proofs.Growing.{is_none_of, is_some_of}
+use Rattle.rl_map.proofs.address.is_place_unaligned.Goals as goal
+
+pub returns-then-is_location_unaligned : goal.returns-then-is_location_unaligned
+returns-then-is_location_unaligned c =
+    let p = placed_at c.args.row.now c.args.path.now c.args.port.now in
+    sym (is_some_of (λ i. list_any (is_unaligned p i) (range_with_len 0 c.args.row.now.bytes)) c.args.row.now.size c.loop-index.index (omega arith) (sym c.is_location_unaligned.ensures ∙ c.if-is_location_unaligned.true))
+
+pub returns : goal.returns
+returns c =
+    let p = placed_at c.args.row.now c.args.path.now c.args.port.now in
+    sym (is_none_of (λ i. list_any (is_unaligned p i) (range_with_len 0 c.args.row.now.bytes)) c.args.row.now.size (λ i low. c.loop-index.invariant i (omega arith)))

@@ -1,0 +1,11 @@
+use Rattle.std.proofs.Common.{◌≡◌, take}
+use Rattle.rl_map.specs.Maps.{tables_of}
+use Rattle.rl_map.specs.Building.{AreTables}
+use Rattle.rl_map.proofs.maps.add_maps.Given as goal
+
+abbrev pub invariant-loop-part : goal.invariant-loop-part
+invariant-loop-part l = record {
+  maps : l.maps.items ≡ (tables_of l.kinds (take l.part-index l.parts)).maps;
+  ports : l.ports.items ≡ (tables_of l.kinds (take l.part-index l.parts)).ports;
+  tables : AreTables l.kinds l.maps.items l.ports.items;
+}

@@ -1,0 +1,11 @@
+use Rattle.std.proofs.Common.{◌*◌, ◌≤◌, arith}
+use Rattle.std.proofs.Math.Nat.{mul-le-mul_left}
+use Rattle.rl_map.proofs.Chunks.{reach_le}
+use Rattle.rl_map.proofs.seat.Access.carried.Goals as goal
+
+pub overflow_mul-result-then-self : goal.overflow_mul-result-then-self
+overflow_mul-result-then-self c =
+    let near : c.from-count.result * c.from.result ≤ 8 =
+    rw (c.from-count.ensures, c.div_ceil.ensures, c.from.ensures, c.stride.ensures)
+    (reach_le c.args.self c.args.level.now c.requires.access c.requires.width) in
+    omega (arith, mul-le-mul_left c.args.self.address near)

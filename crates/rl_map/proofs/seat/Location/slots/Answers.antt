@@ -1,0 +1,13 @@
+use Rattle.std.proofs.Common.{◌^◌, ◌≤◌, arith}
+use Rattle.std.proofs.Math.Nat.{pow-le-pow_right, le_trans}
+use Rattle.std.proofs.lemmas.Nat.{mul-le}
+use Rattle.rl_map.proofs.Chunks.{count_le}
+use Rattle.rl_map.proofs.seat.Location.slots.Goals as goal
+
+pub overflow_mul-slots : goal.overflow_mul-slots
+overflow_mul-slots c =
+    let early : c.loop-map.map-index ≤ 4 = omega (arith, c.requires.path.short) in
+    let few : c.loop-map.slots ≤ 8 ^ 4 = le_trans c.loop-map.invariant.few (pow-le-pow_right {n = 8} (omega arith) early) in
+    let w = c.requires.path.widths c.loop-map.map-index _ c.loop-map-test.true in
+    let count : c.div_ceil.result ≤ 8 = rw c.div_ceil.ensures (count_le _ _ c.loop-map.invariant.size w) in
+    omega (arith, mul-le _ _ _ _ few count)

@@ -1,0 +1,12 @@
+pub mod Level
+pub mod Access
+pub mod Seat
+pub mod Words
+pub mod Partition
+pub mod Layout
+pub mod Maps
+pub mod Faults
+pub mod Tables
+pub mod LayoutText
+pub mod Building
+pub mod Laws

@@ -1,0 +1,61 @@
+//! Building a layout of its parts.
+ghost use Rattle.std.specs.Prelude.{◌≡◌, ◌<◌, ◌^◌, length, IfOk};
+ghost use Rattle.rl_map.specs.Layout.{IsSound};
+ghost use Rattle.rl_map.specs.Maps.{IsBuiltWith};
+
+use crate::fault::{MapCause, MapFault, refusal, row_at};
+use crate::layout::Layout;
+use crate::maps::add_maps;
+use crate::parts::{MapNode, PlacePart};
+use crate::places::add_places;
+use crate::shared::{first_shared, sort_rows};
+use rl_bus::AdapterKind;
+use rl_model::{Array, Chip};
+use std::alloc::Global;
+
+impl Layout {
+    /// Builds the layout of these maps and places, in description order, over a chip.
+    ///
+    /// `kinds` are those of the adapters at hand; a root's adapter is the first kind of its name.
+    ///
+    /// # Errors
+    ///
+    /// The first condition that fails, maps before places, with its row. Or want of memory.
+    pub fn build(
+        alloc: Global,
+        chip: &Chip,
+        maps: &[MapNode],
+        places: &[PlacePart],
+        kinds: &[AdapterKind],
+    ) -> Result<Layout, MapFault>
+        requires { length kinds.now < 2 ^ 32 }
+        ensures sound { IfOk result IsSound }
+        ensures built_with { IfOk result (λ l. IsBuiltWith l chip.now) }
+    {
+        let tables = add_maps(alloc, maps, kinds)?;
+        let (map_rows, ports) = tables;
+        let mut place_rows = Vec::new(alloc);
+        let mut rows = Vec::new(alloc);
+        let refused = add_places(chip, &map_rows, &ports, &mut place_rows, &mut rows, places)?;
+        sort_rows(&mut rows)?;
+        if let Some(shared) = first_shared(&place_rows, &rows) {
+            return Err(refusal(
+                row_at(Array::Place, shared.place),
+                MapCause::SharedAddress {
+                    address: shared.address,
+                    other: shared.other,
+                },
+            ));
+        }
+        if let Some(fault) = refused {
+            return Err(fault);
+        }
+        Ok(Layout {
+            maps: map_rows,
+            places: place_rows,
+            ports,
+            kinds: Vec::from_slice(alloc, kinds)?,
+            rows,
+        })
+    }
+}

@@ -1,0 +1,102 @@
+//! Words by address.
+ghost use Rattle.std.specs.Prelude.{◌≡◌, ◌<◌, ◌≤◌, ◌*◌, ◌+◌, ◌^◌, ℕ, List, length, filter, find, position, bytes_eq, ◌&&◌, All, if◌then◌else◌};
+ghost use Rattle.rl_bus.specs.Setup.{stands_at};
+ghost use Rattle.rl_map.specs.Layout.{key_of, index_of, is_in, same_item, lets_through, IsAscending};
+
+use crate::rows::{MapRow, PlaceRow};
+use rl_bus::{Cell, WordRow};
+use rl_model::Item;
+
+/// The place of a row in the order by port and address.
+pub(crate) fn key(row: &WordRow) -> u128
+    ensures { result ≡ key_of row.now }
+{
+    u128::from(row.port) * (u128::from(u64::MAX) + 1) + u128::from(row.address)
+}
+
+/// Whether a row has the right of a direction.
+fn lets_through(row: &WordRow, write: bool) -> bool
+    ensures { result ≡ lets_through write row.now }
+{
+    if write { row.writes } else { row.reads }
+}
+
+/// The rows at an address of a port, by halves.
+pub(crate) fn rows_at(rows: &[WordRow], port: u32, address: u64) -> &[WordRow]
+    requires ascending { IsAscending rows.now }
+    requires low { All (λ r. r.address < 2 ^ 64) rows.now }
+    ensures { result.now ≡ filter (stands_at port address) rows.now }
+{
+    let sought = u128::from(port) * (u128::from(u64::MAX) + 1) + u128::from(address);
+    let start = rows.partition_point(|row| key(row) < sought);
+    let end = rows.partition_point(|row| key(row) <= sought);
+    &rows[start..end]
+}
+
+/// The first row that has the right of a direction.
+pub(crate) fn first_through(rows: &[WordRow], write: bool) -> Option<WordRow>
+    ensures { result ≡ find (lets_through write) rows.now }
+{
+    rows.iter().copied().find(|row| lets_through(row, write))
+}
+
+fn one_if(test: bool) -> u32
+    ensures { result ≡ (if test then 1 else 0) }
+{
+    if test { 1 } else { 0 }
+}
+
+/// How many rows have the right of a direction.
+pub(crate) fn count_through(rows: &[WordRow], write: bool) -> u32
+    requires { length rows.now < 2 ^ 32 }
+    ensures { result ≡ length (filter (lets_through write) rows.now) }
+{
+    let mut count = 0;
+    for row in rows {
+        count += one_if(lets_through(row, write));
+    }
+    count
+}
+
+/// The location of a cell, which for a register is 0.
+pub(crate) fn index_of(cell: Cell) -> u32
+    ensures { result ≡ index_of cell }
+{
+    match cell {
+        Cell::Reg { .. } => 0,
+        Cell::Loc { index, .. } => index,
+    }
+}
+
+/// Whether a map is the wanted one, where one is wanted.
+pub(crate) fn is_in(wanted: Option<u32>, map: u32) -> bool
+    ensures { result ≡ is_in wanted map }
+{
+    match wanted {
+        None => true,
+        Some(wanted) => map == wanted,
+    }
+}
+
+pub(crate) fn same_item(a: Item, b: Item) -> bool
+    ensures { result ≡ same_item a b }
+{
+    match (a, b) {
+        (Item::Reg(a), Item::Reg(b)) | (Item::Mem(a), Item::Mem(b)) => a == b,
+        (Item::Reg(_), Item::Mem(_)) | (Item::Mem(_), Item::Reg(_)) => false,
+    }
+}
+
+/// The number of the first place of an item, or of its place in the given map.
+pub(crate) fn place_number(places: &[PlaceRow], item: Item, map: Option<u32>) -> Option<usize>
+    ensures { result ≡ position (λ p. same_item p.item item && is_in map p.map) places.now }
+{
+    places.iter().position(|place| same_item(place.item, item) && is_in(map, place.map))
+}
+
+/// The number of the map with a name.
+pub(crate) fn map_number(maps: &[MapRow], name: &[u8]) -> Option<usize>
+    ensures { result ≡ position (λ m. bytes_eq m.name name.now) maps.now }
+{
+    maps.iter().position(|map| map.name.text() == name)
+}

@@ -1,0 +1,22 @@
+//! What holds of every path of maps and every item.
+ghost use Rattle.rl_map.specs.Laws.{EverySeatApart, EveryAddressApart, EveryItemPartitioned, ByteAddressedAlike};
+
+/// No two bytes of an item have one lane of one word; the bytes of one word have one address.
+pub fn seats_stand_apart()
+    ensures { EverySeatApart }
+{}
+
+/// Outside the FIFO kinds an address is that of one word of one location.
+pub fn addresses_stand_apart()
+    ensures { EveryAddressApart }
+{}
+
+/// Each byte of an item is at exactly one lane of one word.
+pub fn words_are_a_partition()
+    ensures { EveryItemPartitioned }
+{}
+
+/// Where no map counts words, the seats are those by byte addresses.
+pub fn byte_addressed_paths_are_alike()
+    ensures { ByteAddressedAlike }
+{}

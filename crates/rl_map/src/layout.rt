@@ -1,0 +1,257 @@
+//! A layout, and what it answers.
+ghost use Rattle.std.specs.Prelude.{◌≡◌, ◌+◌, ◌^◌, ◌<◌, ◌≤◌, ◌↔◌, ℕ, Some, None, IfSome, IfOk, position, length, slice_get, All};
+ghost use Rattle.rl_map.specs.Layout.{map_at, port_at, place_at, seat_at, words_of, has_right, found, words_found, standing, place_of, map_named, IsLocation, IsHere, IsSound};
+ghost use Rattle.rl_map.specs.Partition.{IsWordOn};
+
+use crate::find::{count_through, first_through, index_of, map_number, place_number, rows_at};
+use crate::rows::{Here, MapRow, PlaceRow, PortRow, location};
+use crate::seat::Seat;
+use crate::word::{Word, Words};
+use rl_bus::{AdapterKind, WordRow};
+use rl_model::{Item, Rights};
+use std::marker::Model;
+
+/// The address maps of a chip, and where its registers and memories stand in them.
+///
+/// Maps, places and ports are numbered in description order. A port is a root map. A layout keeps the
+/// kinds of adapters that it was built with, and the bytes and sizes of its items.
+#[derive(Drop)]
+pub struct Layout {
+    pub(crate) maps: Vec<MapRow>,
+    pub(crate) places: Vec<PlaceRow>,
+    pub(crate) ports: Vec<PortRow>,
+    pub(crate) kinds: Vec<AdapterKind>,
+    pub(crate) rows: Vec<WordRow>,
+}
+
+impl Model for Layout {
+    ghost use Rattle.rl_map.specs.Layout.{LayoutData};
+
+    ghost Value = { LayoutData };
+
+    ghost view = { λ l. record { maps = l.maps.items; places = l.places.items; ports = l.ports.items; kinds = l.kinds.items; rows = l.rows.items } };
+
+    ghost use Rattle.rl_map.specs.Layout.{IsSound};
+
+    ghost invariant = { λ l. IsSound (record { maps = l.maps.items; places = l.places.items; ports = l.ports.items; kinds = l.kinds.items; rows = l.rows.items }) };
+}
+
+impl Layout {
+    /// Where byte `byte` of location `index` of a place's item stands; `index` is 0 for a register.
+    pub fn seat(&self, place: u32, index: u32, byte: u32) -> Seat
+        requires location { IsLocation self.now place index }
+        requires byte { byte < (place_at self.now place).bytes }
+        ensures { result ≡ seat_at self.now place index byte }
+    {
+        let row = &self.places[place as usize];
+        let map = &self.maps[row.map as usize];
+        let port = &self.ports[row.port as usize];
+        location(row, index).seat(map.path.levels(), port.base, u64::from(byte))
+    }
+
+    /// How many words an access to a register or a location of the place has: 1 to 8.
+    pub fn words(&self, place: u32) -> u32
+        requires { place < length self.now.places }
+        ensures count { (index : ℕ) → IsLocation self.now place index → result ≡ length (words_of self.now place index) }
+        ensures some { 0 < result }
+        ensures few { result ≤ 8 }
+    {
+        let row = &self.places[place as usize];
+        let map = &self.maps[row.map as usize];
+        location(row, 0).count(map.path.levels())
+    }
+
+    /// The `k`-th word of a location in the order in which they are sent.
+    pub fn word(&self, place: u32, index: u32, k: u32) -> Word
+        requires location { IsLocation self.now place index }
+        requires number { k < length (words_of self.now place index) }
+        ensures word { slice_get (words_of self.now place index) k ≡ Some result }
+        ensures on { IsWordOn (port_at self.now (place_at self.now place).port).kind (port_at self.now (place_at self.now place).port).bytes result }
+    {
+        self.location_words(place, index).get(k as usize)
+    }
+
+    /// What stands at an address of a port for reads, or for writes.
+    ///
+    /// A read-only and a write-only place may share an address: an item is then of the place that has the
+    /// right of its direction.
+    pub fn find(&self, port: u32, address: u64, write: bool) -> Option<Here>
+        requires { port < length self.now.ports }
+        ensures found { result ≡ found self.now port address write }
+        ensures here { IfSome result (IsHere self.now port address write) }
+    {
+        let group = rows_at(&self.rows, port, address);
+        match first_through(group, write) {
+            None => None,
+            Some(row) => Some(Here {
+                place: row.place,
+                index: index_of(row.cell),
+                count: count_through(group, write),
+            }),
+        }
+    }
+
+    /// The word that a beat of an address names, by ascending order.
+    pub fn word_at(&self, port: u32, address: u64, beat: u32, write: bool) -> Word
+        requires port { port < length self.now.ports }
+        requires beat { beat < length (standing self.now port address write) }
+        ensures word { slice_get (words_found self.now port address write) beat ≡ Some result }
+    {
+        match self.find(port, address, write) {
+            Some(here) => self
+                .location_words(here.place, here.index)
+                .nth_at(address, beat),
+            None => unreachable!(),
+        }
+    }
+
+    pub fn places(&self) -> u32
+        ensures count { result ≡ length self.now.places }
+        ensures sound { IsSound self.now }
+    {
+        self.places.len() as u32
+    }
+
+    /// The first place of an item, or its place in the given map.
+    pub fn place_of(&self, item: Item, map: Option<u32>) -> Option<u32>
+        ensures place { result ≡ place_of self.now item map }
+        ensures there { IfSome result (λ p. (p < length self.now.places) × ((place_at self.now p).item ≡ item)) }
+    {
+        match place_number(&self.places, item, map) {
+            None => None,
+            Some(number) => Some(number as u32),
+        }
+    }
+
+    /// The register or memory that stands at a place.
+    pub fn item(&self, place: u32) -> Item
+        requires { place < length self.now.places }
+        ensures { result ≡ (place_at self.now place).item }
+    {
+        self.places[place as usize].item
+    }
+
+    /// The map that a place stands in.
+    pub fn map_of(&self, place: u32) -> u32
+        requires { place < length self.now.places }
+        ensures map { result ≡ (place_at self.now place).map }
+        ensures in_range { result < length self.now.maps }
+    {
+        self.places[place as usize].map
+    }
+
+    /// The rights of a place.
+    pub fn rights(&self, place: u32) -> Rights
+        requires { place < length self.now.places }
+        ensures { result ≡ (place_at self.now place).rights }
+    {
+        self.places[place as usize].rights
+    }
+
+    /// Whether a FIFO kind is on the path from the place's map up to the root.
+    pub fn fifo(&self, place: u32) -> bool
+        requires { place < length self.now.places }
+        ensures { result ≡ (place_at self.now place).fifo }
+    {
+        self.places[place as usize].fifo
+    }
+
+    /// The port of a place: its root map.
+    pub fn port_of(&self, place: u32) -> u32
+        requires { place < length self.now.places }
+        ensures port { result ≡ (place_at self.now place).port }
+        ensures in_range { result < length self.now.ports }
+    {
+        self.places[place as usize].port
+    }
+
+    pub fn ports(&self) -> u32
+        ensures count { result ≡ length self.now.ports }
+        ensures sound { IsSound self.now }
+    {
+        self.ports.len() as u32
+    }
+
+    /// The width of a port: 1, 2, 4 or 8.
+    pub fn port_bytes(&self, port: u32) -> u32
+        requires { port < length self.now.ports }
+        ensures { result ≡ (port_at self.now port).bytes }
+    {
+        self.ports[port as usize].bytes
+    }
+
+    /// The root map of a port.
+    pub fn port_map(&self, port: u32) -> u32
+        requires { port < length self.now.ports }
+        ensures map { result ≡ (port_at self.now port).map }
+        ensures in_range { result < length self.now.maps }
+    {
+        self.ports[port as usize].map
+    }
+
+    /// Whether a predictor watches the port, in place of implicit prediction.
+    pub fn explicit(&self, port: u32) -> bool
+        requires { port < length self.now.ports }
+        ensures { result ≡ (port_at self.now port).explicit }
+    {
+        self.ports[port as usize].explicit
+    }
+
+    /// The place of the port's adapter kind among those that the layout was built with.
+    pub fn adapter(&self, port: u32) -> u32
+        requires { port < length self.now.ports }
+        ensures adapter { result ≡ (port_at self.now port).adapter }
+        ensures in_range { result < length self.now.kinds }
+    {
+        self.ports[port as usize].adapter
+    }
+
+    /// The kind of the port's adapter.
+    pub fn port_kind(&self, port: u32) -> AdapterKind
+        requires { port < length self.now.ports }
+        ensures kind { result ≡ (port_at self.now port).kind }
+        ensures among { slice_get self.now.kinds (port_at self.now port).adapter ≡ Some result }
+    {
+        self.ports[port as usize].kind
+    }
+
+    /// The map with a name.
+    pub fn map_by_name(&self, name: &[u8]) -> Option<u32>
+        ensures map { result ≡ map_named self.now name.now }
+        ensures in_range { IfSome result (λ m. m < length self.now.maps) }
+    {
+        match map_number(&self.maps, name) {
+            None => None,
+            Some(number) => Some(number as u32),
+        }
+    }
+
+    /// The name of a map.
+    pub fn map_name(&self, map: u32) -> &[u8]
+        requires { map < length self.now.maps }
+        ensures { result.now ≡ (map_at self.now map).name }
+    {
+        let row = &self.maps[map as usize];
+        row.name.text()
+    }
+
+    /// The words of a location.
+    fn location_words(&self, place: u32, index: u32) -> Words
+        requires { IsLocation self.now place index }
+        ensures words { result ≡ words_of self.now place index }
+        ensures on { All (IsWordOn (port_at self.now (place_at self.now place).port).kind (port_at self.now (place_at self.now place).port).bytes) result }
+    {
+        let row = &self.places[place as usize];
+        let map = &self.maps[row.map as usize];
+        let port = &self.ports[row.port as usize];
+        location(row, index).words(map.path.levels(), port.base)
+    }
+
+    /// The words of all locations of all places by port and address, those of one address by place,
+    /// location and order.
+    pub fn rows(&self) -> &[WordRow]
+        ensures { result.now ≡ self.now.rows }
+    {
+        self.rows.as_slice()
+    }
+}

@@ -1,0 +1,30 @@
+//! Address maps: where each byte of each register and memory stands on the bus.
+//!
+//! A layout is a tree of maps with the places of registers and memories in them. The endian kinds,
+//! submaps with an offset and rights per map follow IEEE 1800.2; the time order of words, the lanes of
+//! a narrower child map and word addressing are this project's own.
+#![tactic(auto)]
+
+mod address;
+mod build;
+mod fault;
+mod find;
+pub mod laws;
+mod layout;
+mod maps;
+mod name;
+mod parts;
+mod path;
+mod places;
+mod rows;
+mod seat;
+mod shared;
+mod word;
+
+pub use fault::{MapCause, MapFault};
+pub use layout::Layout;
+pub use parts::{MapNode, PlacePart};
+pub use path::Kind;
+pub use rows::Here;
+pub use seat::Seat;
+pub use word::Word;

@@ -1,0 +1,61 @@
+//! What a layout keeps of its maps, ports and places.
+ghost use Rattle.std.specs.Prelude.{◌≡◌};
+ghost use Rattle.rl_map.specs.Layout.{location_of};
+
+use crate::path::Path;
+use crate::seat::Location;
+use rl_bus::AdapterKind;
+use rl_model::{Item, Name, Rights};
+
+/// A map: its path, from the map itself up to the root, and its port.
+#[derive(Debug, Drop)]
+pub(crate) struct MapRow {
+    pub(crate) name: Name,
+    pub(crate) path: Path,
+    pub(crate) port: u32,
+}
+
+/// A port: the root map, where its addresses begin, its width, and the adapter kind.
+#[derive(Clone, Copy, Debug)]
+pub(crate) struct PortRow {
+    pub(crate) map: u32,
+    pub(crate) base: u64,
+    pub(crate) bytes: u32,
+    /// The place of the kind among those that the layout was built with.
+    pub(crate) adapter: u32,
+    pub(crate) kind: AdapterKind,
+    pub(crate) explicit: bool,
+}
+
+/// A place: where an item stands, its bytes and, for a memory, its number of locations.
+#[derive(Clone, Copy, Debug)]
+pub(crate) struct PlaceRow {
+    pub(crate) map: u32,
+    pub(crate) item: Item,
+    pub(crate) offset: u64,
+    pub(crate) rights: Rights,
+    pub(crate) bytes: u64,
+    pub(crate) size: u32,
+    pub(crate) port: u32,
+    pub(crate) fifo: bool,
+}
+
+/// What stands at an address of a port: a place, the location of its item, and how many of its words
+/// stand there.
+#[derive(Clone, Copy, Debug, PartialEq, Eq)]
+pub struct Here {
+    pub place: u32,
+    pub index: u32,
+    pub count: u32,
+}
+
+/// A location of a place's item, in the place's map.
+pub(crate) fn location(row: &PlaceRow, index: u32) -> Location
+    ensures { result ≡ location_of row.now index }
+{
+    Location {
+        bytes: row.bytes,
+        offset: row.offset,
+        index,
+    }
+}
