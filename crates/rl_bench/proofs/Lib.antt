@@ -1,0 +1,14 @@
+pub mod BeatLemmas
+pub mod BuildLemmas
+pub mod CellLemmas
+pub mod DepositLemmas
+pub mod HeldLemmas
+pub mod LaneLemmas
+pub mod ListLemmas
+pub mod MaskLemmas
+pub mod ResetLemmas
+pub mod StepLemmas
+pub mod RowLemmas
+pub mod SetupLemmas
+pub mod StretchLemmas
+pub mod QueueLemmas

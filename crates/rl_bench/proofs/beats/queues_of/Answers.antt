@@ -1,0 +1,24 @@
+use Rattle.std.proofs.Common.{◌+◌, List, ap, sym, ◌∙◌, subst, arith}
+use Rattle.rl_bench.specs.declared.beats.Queue.{Queue}
+use Rattle.rl_bench.proofs.QueueLemmas.{AreQueuesSoFar, no_queues, few_at, many_at}
+use Rattle.rl_bench.proofs.beats.queues_of.Goals as goal
+use Rattle.rl_bench.proofs.beats.queues_of.Goals.{then-at-gt1+in_ok-push, else-at-gt1}
+
+pub loop-k-init : goal.loop-k-init
+loop-k-init c = subst (AreQueuesSoFar c.args.words.now 0) (sym c.new-queues.ensures.items) (no_queues c.args.words.now)
+
+pub loop-k-preserved : goal.loop-k-preserved
+loop-k-preserved c =
+    let words = c.args.words.now in
+    let k = c.loop-k.k in
+    let queues = c.loop-k.queues.items in
+    let at = c.words_at-at.result in
+    let P : List Queue → Type 0 = AreQueuesSoFar words (k + 1) in
+    elim c.if-at-gt1.branch [
+      | then-at-gt1+in_ok-push w ↦
+          subst P (sym (ap (λ v. v.items) w.queues-is ∙ w.in_ok-push.ensures.items))
+          (many_at words k queues _ at.first at.end c.loop-k-test.true c.words_at-at.ensures (omega (arith, w.if-at-gt1.true)) c.loop-k.invariant)
+      | else-at-gt1 w ↦
+          subst P (sym (ap (λ v. v.items) w.queues-is))
+          (few_at words k queues _ at.first at.end c.loop-k-test.true c.words_at-at.ensures (omega (arith, w.if-at-gt1.false)) c.loop-k.invariant)
+    ]

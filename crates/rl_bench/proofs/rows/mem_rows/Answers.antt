@@ -1,0 +1,16 @@
+use Rattle.std.proofs.Common.{◌+◌, ◌++◌, ◌∷◌, [], ap, ◌∙◌}
+use Rattle.rl_bench.proofs.RowLemmas.{mem_more, sizes_more}
+use Rattle.rl_bench.proofs.rows.mem_rows.Goals as goal
+
+pub loop-mem-preserved : goal.loop-mem-preserved
+loop-mem-preserved c =
+    let was = c.loop-mem.invariant in
+    let mems = c.args.chip.now.mems in
+    let k = c.loop-mem.mem in
+    let size = c.size-size.result in
+    record {
+      rows = c.in_ok-push.ensures.items
+          ∙ ap (λ rows. rows ++ record { first = c.loop-mem.first; bytes = c.bytes.result; size = size; writable = c.writable.result } ∷ []) was.rows
+          ∙ mem_more mems k c.loop-mem.first c.bytes.result size c.writable.result c.size-size.ensures.value c.bytes.ensures.value c.writable.ensures was.first;
+      first = ap (λ n. n + size) was.first ∙ sizes_more mems k size c.size-size.ensures.value;
+    }

@@ -1,0 +1,9 @@
+use Rattle.std.proofs.Common.{◌++◌, ◌∷◌, [], ap, ◌∙◌}
+use Rattle.rl_bench.proofs.RowLemmas.{regs_more}
+use Rattle.rl_bench.proofs.rows.reg_bytes.Goals as goal
+
+pub loop-reg-preserved : goal.loop-reg-preserved
+loop-reg-preserved c =
+    c.in_ok-push.ensures.items
+    ∙ ap (λ rows. rows ++ c.bytes.result ∷ []) c.loop-reg.invariant
+    ∙ regs_more c.args.chip.now.regs c.loop-reg.reg c.bytes.result c.bytes.ensures.value

@@ -1,0 +1,9 @@
+pub mod Beats
+pub mod Board
+pub mod Flaws
+pub mod Masks
+pub mod Rows
+pub mod Shape
+pub mod State
+pub mod Stretch
+pub mod Tables

@@ -1,0 +1,34 @@
+-- The masks of a register by effect.
+use Rattle.std.specs.Prelude.{◌≡◌, ℕ, ◌<◌, Bool, true, false, Option, Some, None, if◌then◌else◌}
+use Rattle.rl_policy.specs.Bits.{bit}
+use Rattle.rl_policy.specs.Table.{after_write, after_read, value_read, spends_mark}
+use Rattle.rl_policy.specs.declared.policy.Policy.{Policy}
+use Rattle.rl_bench.specs.declared.effects.Effects.{Effects}
+
+-- a test of the policy that a bit has
+abbrev pub owned_test : (Policy → Bool) → Option Policy → Bool
+owned_test test None = false
+owned_test test (Some p) = test p
+
+-- the mask has the bits whose policy passes
+abbrev pub IsMaskOf : (ℕ → Option Policy) → (Policy → Bool) → ℕ → Type 0
+IsMaskOf own test mask = (b : ℕ) → b < 64 → bit mask b ≡ owned_test test (own b)
+
+pub record AreEffectsOf (own : ℕ → Option Policy) (e : Effects) : Type 0 where
+  pub owned : IsMaskOf own (λ p. true) e.owned
+  pub spending : IsMaskOf own spends_mark e.spending
+  pub zero_by_zero : IsMaskOf own (λ p. after_write p false false false) e.zero_by_zero
+  pub one_by_zero : IsMaskOf own (λ p. after_write p true false false) e.one_by_zero
+  pub zero_by_one : IsMaskOf own (λ p. after_write p false true false) e.zero_by_one
+  pub one_by_one : IsMaskOf own (λ p. after_write p true true false) e.one_by_one
+  pub zero_by_read : IsMaskOf own (λ p. after_read p false) e.zero_by_read
+  pub one_by_read : IsMaskOf own (λ p. after_read p true) e.one_by_read
+  pub shown : IsMaskOf own (λ p. value_read p true) e.shown
+
+-- a bit that belongs to no field so far gets the policy of one more, where it lies there
+abbrev pub more_owned_bit : Option Policy → Bool → Policy → Option Policy
+more_owned_bit None seat p = if seat then Some p else None
+more_owned_bit (Some q) seat p = Some q
+
+abbrev pub more_owned : (ℕ → Option Policy) → (ℕ → Bool) → Policy → ℕ → Option Policy
+more_owned own seat p b = more_owned_bit (own b) (seat b) p

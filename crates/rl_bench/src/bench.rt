@@ -1,0 +1,224 @@
+//! The device.
+ghost use Rattle.std.specs.Prelude.{◌≡◌, ℕ, ◌+◌, ◌<◌, ◌≤◌, ◌^◌, length, if◌then◌else◌, nat_lt, not, IfOk, replicate, ◌||◌, ◌==◌, slice_index};
+ghost use Rattle.rl_bus.specs.Setup.{is_named};
+ghost use Rattle.rl_bench.specs.Beats.{IsQuiet};
+ghost use Rattle.rl_bench.specs.Board.{FitCells, IsSetup, HasRoom};
+ghost use Rattle.rl_bench.specs.Tables.{setup_held};
+
+use crate::access::touch;
+use crate::backdoor::{peek_cell, poke_cell, set_field};
+use crate::beats::{beat_at, clear_beats, queues_of, send_back, set_beat};
+use crate::board::Board;
+use crate::build::shapes_of;
+use crate::cells::Cells;
+use crate::find::{Stretch, find_word, words_at};
+use crate::flaw::Flaw;
+use crate::reset::reset_cells;
+use crate::rows::count_locations;
+use crate::tables::Tables;
+use rl_bus::{Answer, BusOp, Cell, Device, Response, Transfer, WordRow, carried, response_to};
+use rl_map::Layout;
+use rl_model::Chip;
+use std::alloc::{AllocError, Global};
+
+/// A device that does what its tables say, with each register in two words.
+#[derive(Drop)]
+pub struct Bench {
+    board: Board,
+    cells: Cells,
+    beats: Vec<u32>,
+    items: u64,
+    failures: u64,
+    ghost quiet: { IsQuiet board.tables.words.items beats.items },
+    ghost fit: { FitCells (setup_held board.tables) cells },
+    ghost beaten: { length beats.items ≡ length board.tables.words.items },
+}
+
+// The words at an address, its beat, the word of a direction at the beat, and how many there are.
+#[derive(Debug, Clone, Copy)]
+struct Found {
+    at: Stretch,
+    beat: u32,
+    word: Option<WordRow>,
+    count: usize,
+}
+
+fn is_faulty(tables: &Tables, port: u32, op: &BusOp, count: u64) -> bool
+    requires { port < length (setup_held tables.now).ports }
+    ensures { result ≡ (not (op.now.bytes == slice_index (setup_held tables.now).ports port) || is_named (setup_held tables.now) port op.now.address count) }
+{
+    u32::from(op.bytes) != tables.ports[port as usize] || tables.is_named(port, op.address, count)
+}
+
+fn next_beat(beat: u32, count: usize) -> u32
+    requires { count < 2 ^ 32 }
+    ensures { result ≡ (if nat_lt (beat + 1) count then beat + 1 else 0) }
+{
+    if (beat as usize) + 1 < count {
+        beat + 1
+    } else {
+        0
+    }
+}
+
+fn zeros(alloc: Global, count: usize) -> Result<Vec<u64>, AllocError>
+    ensures { IfOk result (λ v. v.items ≡ replicate count 0) }
+{
+    vec![in alloc; 0; count]
+}
+
+fn first_beats(alloc: Global, count: usize) -> Result<Vec<u32>, AllocError>
+    ensures { IfOk result (λ v. v.items ≡ replicate count 0) }
+{
+    vec![in alloc; 0; count]
+}
+
+impl Bench {
+    ghost use Rattle.rl_bus.specs.Causes.{AnswerHasCause};
+    ghost use Rattle.rl_bus.specs.Lanes.{IsWidth};
+    ghost use Rattle.rl_bus.specs.State.{state_after, answer_of, word_at, first_state};
+    ghost use Rattle.rl_bus.specs.Setup.{words_at, stands_at};
+    ghost use Rattle.rl_bench.specs.Stretch.{IsStretch};
+    ghost use Rattle.rl_map.specs.Maps.{IsBuiltWith};
+    ghost use Rattle.rl_bench.specs.Flaws.{AreFlawsOf, first_of};
+    ghost use Rattle.rl_bench.specs.State.{bench_state};
+
+    /// The device of a chip and a layout with these flaws, after a hard reset and with no item so far.
+    ///
+    /// # Errors
+    ///
+    /// Want of memory.
+    pub fn build(
+        alloc: Global,
+        chip: &Chip,
+        layout: &Layout,
+        flaws: &[Flaw],
+    ) -> Result<Bench, AllocError>
+        requires built_with { IsBuiltWith layout.now chip.now }
+        requires flaws { AreFlawsOf chip.now layout.now flaws.now }
+        ensures { IfOk result (λ b. bench_state b ≡ first_of chip.now layout.now flaws.now) }
+    {
+        let tables = Tables::build(alloc, chip, layout, flaws)?;
+        let locations = count_locations(chip);
+        Bench::new(alloc, tables, locations)
+    }
+
+    /// A device in its first state, with room for so many locations of memories.
+    fn new(alloc: Global, tables: Tables, locations: usize) -> Result<Bench, AllocError>
+        requires setup { IsSetup (setup_held tables) }
+        requires room { HasRoom (setup_held tables) locations }
+        ensures { IfOk result (λ b. bench_state b ≡ first_state (setup_held tables) locations) }
+    {
+        let regs = tables.regs.len();
+        let words = tables.words.len();
+        let shapes = shapes_of(alloc, &tables)?;
+        let mut cells = Cells {
+            bits: zeros(alloc, regs)?,
+            marks: zeros(alloc, regs)?,
+            locations: zeros(alloc, locations)?,
+        };
+        let beats = first_beats(alloc, words)?;
+        let queues = queues_of(alloc, &tables.words)?;
+        let board = Board {
+            tables,
+            shapes,
+            queues,
+        };
+        reset_cells(&board, &mut cells, 0);
+        Ok(Bench {
+            board,
+            cells,
+            beats,
+            items: 0,
+            failures: 0,
+        })
+    }
+
+    // The words at an item's address, and the one at the beat.
+    fn find(&self, port: u32, op: &BusOp) -> Found
+        ensures at { IsStretch (stands_at port op.now.address) self.now.board.tables.words.items result.at.first result.at.end }
+        ensures beat { result.beat ≡ (bench_state self.now).beats port op.now.address }
+        ensures word { result.word ≡ word_at (bench_state self.now) port op.now }
+        ensures count { result.count ≡ length (words_at (bench_state self.now).setup port op.now.address op.now.write) }
+    {
+        let words = &self.board.tables.words;
+        let at = words_at(words, port, op.address);
+        let beat = beat_at(&self.beats, at);
+        let here = find_word(words, at, port, op.address, op.write, beat);
+        Found {
+            at,
+            beat,
+            word: here.word,
+            count: here.count,
+        }
+    }
+
+    // One item.
+    fn item(&mut self, port: u32, op: &BusOp) -> Answer
+        requires port { port < length (bench_state self.old).setup.ports }
+        requires width { IsWidth op.now.bytes }
+        requires lanes { op.now.lanes < 2 ^ op.now.bytes }
+        ensures state { bench_state self.new ≡ state_after (bench_state self.old) port op.now }
+        ensures answer { result ≡ answer_of (bench_state self.old) port op.now }
+        ensures cause { AnswerHasCause self.old.failures self.new.failures result }
+        ensures small { result.word < 256 ^ op.now.bytes }
+    {
+        self.items = self.items.saturating_add(1);
+        let found = self.find(port, op);
+        let Some(word) = found.word else {
+            self.failures = self.failures.saturating_add(1);
+            return Answer {
+                word: 0,
+                failed: true,
+            };
+        };
+        if is_faulty(&self.board.tables, port, op, self.items) {
+            let board = &self.board;
+            send_back(&board.queues, &mut self.beats, word.place);
+            self.failures = self.failures.saturating_add(1);
+            return Answer {
+                word: 0,
+                failed: true,
+            };
+        }
+        let answer = touch(&self.board, &mut self.cells, op, &word);
+        let next = next_beat(found.beat, found.count);
+        set_beat(&mut self.beats, found.at, next);
+        Answer {
+            word: answer,
+            failed: false,
+        }
+    }
+}
+
+impl Device for Bench {
+    ghost use Rattle.std.specs.Prelude.{Some};
+    ghost use Rattle.rl_bench.specs.State.{bench_state};
+
+    ghost state = { λ b. Some (bench_state b) };
+
+    ghost errors = { λ b. b.failures };
+
+    fn transfer(&mut self, port: u32, transfer: &Transfer) -> Response {
+        let op = carried(transfer);
+        let answer = self.item(port, &op);
+        response_to(transfer, answer)
+    }
+
+    fn peek(&self, cell: Cell) -> u64 {
+        peek_cell(&self.board, &self.cells, cell)
+    }
+
+    fn poke(&mut self, cell: Cell, value: u64) {
+        poke_cell(&self.board, &mut self.cells, cell, value);
+    }
+
+    fn reset(&mut self, kind: u32) {
+        reset_cells(&self.board, &mut self.cells, kind);
+        clear_beats(&mut self.beats);
+    }
+
+    fn hw(&mut self, field: u32, value: u64) {
+        set_field(&self.board, &mut self.cells, field, value);
+    }
+}

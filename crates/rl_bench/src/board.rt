@@ -1,0 +1,20 @@
+//! The tables of a device with the masks of its registers.
+ghost use Rattle.rl_bench.specs.Beats.{AreQueuesOf};
+ghost use Rattle.rl_bench.specs.Board.{IsSetup, AreShapesOf};
+ghost use Rattle.rl_bench.specs.Tables.{setup_held};
+
+use crate::beats::Queue;
+use crate::shape::Shape;
+use crate::tables::Tables;
+
+/// Tables that name what is there, and the masks of each register and the addresses with more than
+/// one word.
+#[derive(Drop)]
+pub struct Board {
+    pub tables: Tables,
+    pub shapes: Vec<Shape>,
+    pub queues: Vec<Queue>,
+    ghost sound: { IsSetup (setup_held tables) },
+    ghost queued: { AreQueuesOf tables.words.items queues.items },
+    ghost shaped: { AreShapesOf (setup_held tables) shapes.items },
+}

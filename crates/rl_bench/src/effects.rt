@@ -1,0 +1,92 @@
+//! The bits of a register by what accesses do to them.
+ghost use Rattle.std.specs.Prelude.{◌≡◌, ℕ, ◌+◌, ◌<◌, ◌≤◌, Option, None};
+ghost use Rattle.rl_policy.specs.Bits.{bit, from_bits};
+ghost use Rattle.rl_policy.specs.declared.policy.Policy.{Policy as Held};
+
+use rl_policy::word::{repeated, replaced};
+use rl_policy::{Policy, spends};
+
+/// Masks of the bits on which an access has one effect.
+#[derive(Debug, Clone, Copy)]
+pub struct Effects {
+    /// The bits that belong to a field.
+    pub owned: u64,
+    /// Those that take the first write alone.
+    pub spending: u64,
+    /// Those that a write of 0 sets where they are 0, and where they are 1.
+    pub zero_by_zero: u64,
+    pub one_by_zero: u64,
+    /// Those that a write of 1 sets where they are 0, and where they are 1.
+    pub zero_by_one: u64,
+    pub one_by_one: u64,
+    /// Those that a read sets where they are 0, and where they are 1.
+    pub zero_by_read: u64,
+    pub one_by_read: u64,
+    /// Those that a read answers.
+    pub shown: u64,
+}
+
+impl Effects {
+    ghost use Rattle.rl_bus.specs.Bits.{bit_written, mark_written, bit_answered, bit_left};
+    ghost use Rattle.rl_bench.specs.Masks.{AreEffectsOf, more_owned};
+
+    /// The effects of a register with no field.
+    pub fn none() -> Effects
+        ensures { AreEffectsOf (λ b. None) result }
+    {
+        Effects {
+            owned: 0,
+            spending: 0,
+            zero_by_zero: 0,
+            one_by_zero: 0,
+            zero_by_one: 0,
+            one_by_one: 0,
+            zero_by_read: 0,
+            one_by_read: 0,
+            shown: 0,
+        }
+    }
+
+    /// The effects with a field more: its bits that belong to no field so far get this policy.
+    pub fn with_field(&self, seat: u64, policy: Policy) -> Effects
+        ensures { (own : ℕ → Option Held) → AreEffectsOf own self.now → AreEffectsOf (more_owned own (bit seat) policy) result }
+    {
+        let new = seat & !self.owned;
+        Effects {
+            owned: self.owned | new & repeated(true),
+            spending: self.spending | new & repeated(spends(policy)),
+            zero_by_zero: self.zero_by_zero | new & policy.written(0, 0, 0),
+            one_by_zero: self.one_by_zero | new & policy.written(u64::MAX, 0, 0),
+            zero_by_one: self.zero_by_one | new & policy.written(0, u64::MAX, 0),
+            one_by_one: self.one_by_one | new & policy.written(u64::MAX, u64::MAX, 0),
+            zero_by_read: self.zero_by_read | new & policy.left_by_read(0),
+            one_by_read: self.one_by_read | new & policy.left_by_read(u64::MAX),
+            shown: self.shown | new & policy.answered(u64::MAX),
+        }
+    }
+
+    /// The bits and the spent marks of the register after a bus write of `word` with these lanes.
+    pub fn write(&self, bits: u64, marks: u64, word: u64, lanes: u64) -> (u64, u64)
+        ensures bits { (own : ℕ → Option Held) → AreEffectsOf own self.now → result.0 ≡ from_bits 64 (λ b. bit_written (own b) (bit bits b) (bit marks b) (bit word b) (bit lanes b)) }
+        ensures marks { (own : ℕ → Option Held) → AreEffectsOf own self.now → result.1 ≡ from_bits 64 (λ b. mark_written (own b) (bit marks b) (bit lanes b)) }
+    {
+        let by_zero = replaced(self.zero_by_zero, self.one_by_zero, bits);
+        let by_one = replaced(self.zero_by_one, self.one_by_one, bits);
+        let written = replaced(by_zero, by_one, word);
+        let touched = self.owned & lanes;
+        let free = touched & !(self.spending & marks);
+        (
+            replaced(bits, written, free),
+            marks | (self.spending & lanes),
+        )
+    }
+
+    /// What a bus read answers, and the bits of the register after one with these lanes.
+    pub fn read(&self, bits: u64, lanes: u64) -> (u64, u64)
+        ensures answer { (own : ℕ → Option Held) → AreEffectsOf own self.now → result.0 ≡ from_bits 64 (λ b. bit_answered (own b) (bit bits b)) }
+        ensures bits { (own : ℕ → Option Held) → AreEffectsOf own self.now → result.1 ≡ from_bits 64 (λ b. bit_left (own b) (bit bits b) (bit lanes b)) }
+    {
+        let left = replaced(self.zero_by_read, self.one_by_read, bits);
+        (self.shown & bits, replaced(bits, left, self.owned & lanes))
+    }
+}

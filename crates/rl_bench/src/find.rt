@@ -1,0 +1,126 @@
+//! The rows at an address, of a register and of a field, found by halves.
+ghost use Rattle.std.specs.Prelude.{◌≡◌, ◌≢◌, ℕ, ◌+◌, ◌*◌, ◌^◌, ◌<◌, ◌≤◌, ◌==◌, ◌&&◌, length, false, nat_lt, slice_get, slice_index_or, filter, if◌then◌else◌, Some};
+ghost use Rattle.std.specs.List.Sorted.{IsNonDecreasingBy};
+ghost use Rattle.rl_bus.specs.Setup.{stands_at, stands_for};
+ghost use Rattle.rl_bus.specs.declared.table.WordRow.{WordRow as Words};
+ghost use Rattle.rl_map.specs.Layout.{key_of};
+ghost use Rattle.rl_bench.specs.Stretch.{IsStretch};
+
+use rl_bus::{FieldRow, ResetRow, WordRow};
+
+/// The rows from `first` to before `end`.
+#[derive(Debug, Clone, Copy)]
+pub struct Stretch {
+    pub first: usize,
+    pub end: usize,
+}
+
+/// A word at an address, and how many words of its direction stand there.
+#[derive(Debug, Clone, Copy)]
+pub struct Here {
+    pub word: Option<WordRow>,
+    pub count: usize,
+}
+
+fn is_before(word: &WordRow, port: u32, address: u64) -> bool
+    ensures { result ≡ nat_lt (key_of word.now) (port * 2 ^ 64 + address) }
+{
+    let at = word.address;
+    word.port < port || word.port == port && at < address
+}
+
+fn stands_at(word: &WordRow, port: u32, address: u64) -> bool
+    ensures test { result ≡ stands_at port address word.now }
+    ensures key { stands_at port address word.now ≡ false → key_of word.now ≢ port * 2 ^ 64 + address }
+{
+    let at = word.address;
+    word.port == port && at == address
+}
+
+// The first word that doesn't stand before an address.
+fn first_from(words: &[WordRow], port: u32, address: u64) -> usize
+    requires { IsNonDecreasingBy key_of words.now }
+    ensures within { result ≤ length words.now }
+    ensures before { (k : ℕ) (d : Words) → k < result → key_of (slice_index_or words.now k d) < port * 2 ^ 64 + address }
+    ensures behind { (k : ℕ) (d : Words) → result ≤ k → k < length words.now → port * 2 ^ 64 + address ≤ key_of (slice_index_or words.now k d) }
+{
+    words.partition_point(|word| is_before(word, port, address))
+}
+
+/// The words at an address of a port.
+pub fn words_at(words: &[WordRow], port: u32, address: u64) -> Stretch
+    requires { IsNonDecreasingBy key_of words.now }
+    ensures { IsStretch (stands_at port address) words.now result.first result.end }
+{
+    let first = first_from(words, port, address);
+    for end in first..words.len() {
+        if !stands_at(&words[end], port, address) {
+            return Stretch { first, end };
+        }
+    }
+    Stretch {
+        first,
+        end: words.len(),
+    }
+}
+
+/// The fields of a register.
+pub fn fields_of(fields: &[FieldRow], reg: u32) -> Stretch
+    requires { IsNonDecreasingBy (λ f. f.reg) fields.now }
+    ensures { IsStretch (λ f. f.reg == reg) fields.now result.first result.end }
+{
+    let first = fields.partition_point(|row| row.reg < reg);
+    let end = fields.partition_point(|row| row.reg <= reg);
+    Stretch { first, end }
+}
+
+/// The reset values of a field.
+pub fn resets_of(resets: &[ResetRow], field: u32) -> Stretch
+    requires { IsNonDecreasingBy (λ r. r.field) resets.now }
+    ensures { IsStretch (λ r. r.field == field) resets.now result.first result.end }
+{
+    let first = resets.partition_point(|row| row.field < field);
+    let end = resets.partition_point(|row| row.field <= field);
+    Stretch { first, end }
+}
+
+fn one_of(found: Option<WordRow>, word: &WordRow, stands: bool, is_it: bool) -> Option<WordRow>
+    ensures { result ≡ (if stands && is_it then Some word.now else found) }
+{
+    if stands && is_it { Some(*word) } else { found }
+}
+
+fn one_if(stands: bool) -> usize
+    ensures { result ≡ (if stands then 1 else 0) }
+{
+    if stands { 1 } else { 0 }
+}
+
+fn stands_for(word: &WordRow, port: u32, address: u64, write: bool) -> bool
+    ensures { result ≡ stands_for port address write word.now }
+{
+    word.port == port && word.address == address && if write { word.writes } else { word.reads }
+}
+
+/// The word at the beat among those of the direction at an address.
+pub fn find_word(
+    words: &[WordRow],
+    at: Stretch,
+    port: u32,
+    address: u64,
+    write: bool,
+    beat: u32,
+) -> Here
+    requires { IsStretch (stands_at port address) words.now at.first at.end }
+    ensures word { result.word ≡ slice_get (filter (stands_for port address write) words.now) beat }
+    ensures count { result.count ≡ length (filter (stands_for port address write) words.now) }
+{
+    let mut found = None;
+    let mut count = 0;
+    for k in at.first..at.end {
+        let stands = stands_for(&words[k], port, address, write);
+        found = one_of(found, &words[k], stands, beat as usize == count);
+        count += one_if(stands);
+    }
+    Here { word: found, count }
+}

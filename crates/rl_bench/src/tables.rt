@@ -1,0 +1,150 @@
+//! The tables of a device, and what they say of a field, a cell and an address.
+ghost use Rattle.std.specs.Prelude.{◌≡◌, ℕ, ◌+◌, ◌<◌, ◌≤◌, length, slice_get, slice_index, not, ◌||◌, ◌&&◌, ◌==◌, nat_le, find};
+ghost use Rattle.std.specs.List.{list_any};
+ghost use Rattle.rl_bus.specs.Setup.{policy_of, is_deaf, is_named, reset_of, value_in, is_of};
+
+use crate::find::resets_of;
+use crate::flaw::Flaw;
+use crate::rows::{
+    deaf_rows, failing_items, field_rows, mem_rows, other_resets, policy_rows, port_bytes,
+    range_rows, reg_bytes, reset_rows, stuck_rows, word_rows,
+};
+use rl_bus::{Cell, FieldRow, ItemRow, MemRow, PolicyRow, RangeRow, ResetRow, StuckRow, WordRow};
+use rl_map::Layout;
+use rl_model::Chip;
+use rl_policy::Policy;
+use std::alloc::{AllocError, Global};
+
+/// What the device has, and its flaws.
+#[derive(Drop)]
+pub struct Tables {
+    pub regs: Vec<u32>,
+    pub fields: Vec<FieldRow>,
+    pub resets: Vec<ResetRow>,
+    pub mems: Vec<MemRow>,
+    pub ports: Vec<u32>,
+    pub words: Vec<WordRow>,
+    pub other_policies: Vec<PolicyRow>,
+    pub other_resets: Vec<ResetRow>,
+    pub stuck: Vec<StuckRow>,
+    pub ranges: Vec<RangeRow>,
+    pub nths: Vec<u64>,
+    pub deaf: Vec<ItemRow>,
+}
+
+fn other_policy(rows: &[PolicyRow], field: u32) -> Option<PolicyRow>
+    ensures { result ≡ find (λ f. f.field == field) rows.now }
+{
+    rows.iter().copied().find(|row| row.field == field)
+}
+
+fn reset_in(rows: &[ResetRow], field: u32, kind: u32) -> Option<ResetRow>
+    ensures { result ≡ find (λ r. r.field == field && r.kind == kind) rows.now }
+{
+    rows.iter()
+        .copied()
+        .find(|row| row.field == field && row.kind == kind)
+}
+
+impl Tables {
+    ghost use Rattle.std.specs.Prelude.{IfOk};
+    ghost use Rattle.std.specs.List.Sorted.{IsNonDecreasingBy};
+    ghost use Rattle.rl_map.specs.Layout.{IsSound};
+    ghost use Rattle.rl_map.specs.Tables.{setup_of};
+    ghost use Rattle.rl_bench.specs.Flaws.{flaws_of};
+    ghost use Rattle.rl_bench.specs.Tables.{setup_held};
+
+    /// The tables of a chip and a layout, with these flaws.
+    #[tactic(auto, unfolding(rl_map::specs::Tables::setup_of))]
+    pub fn build(
+        alloc: Global,
+        chip: &Chip,
+        layout: &Layout,
+        flaws: &[Flaw],
+    ) -> Result<Tables, AllocError>
+        ensures held { IfOk result (λ t. setup_held t ≡ setup_of chip.now layout.now (flaws_of flaws.now)) }
+        ensures layout { IfOk result (λ _. IsSound layout.now) }
+    {
+        Ok(Tables {
+            regs: reg_bytes(alloc, chip)?,
+            fields: field_rows(alloc, chip)?,
+            resets: reset_rows(alloc, chip)?,
+            mems: mem_rows(alloc, chip)?,
+            ports: port_bytes(alloc, layout)?,
+            words: word_rows(alloc, layout)?,
+            other_policies: policy_rows(alloc, flaws)?,
+            other_resets: other_resets(alloc, flaws)?,
+            stuck: stuck_rows(alloc, flaws)?,
+            ranges: range_rows(alloc, flaws)?,
+            nths: failing_items(alloc, flaws)?,
+            deaf: deaf_rows(alloc, flaws)?,
+        })
+    }
+
+    /// The policy that a field has in the device.
+    pub fn policy_of(&self, field: u32) -> Policy
+        requires { field < length (setup_held self.now).fields }
+        ensures { result ≡ policy_of (setup_held self.now) field }
+    {
+        match other_policy(&self.other_policies, field) {
+            Some(row) => row.policy,
+            None => self.fields[field as usize].policy,
+        }
+    }
+
+    /// The value that a field takes in the device at a reset of this kind.
+    pub fn reset_of(&self, field: u32, kind: u32) -> Option<u64>
+        requires { IsNonDecreasingBy (λ r. r.field) (setup_held self.now).resets }
+        ensures { result ≡ reset_of (setup_held self.now) field kind }
+    {
+        match reset_in(&self.other_resets, field, kind) {
+            Some(row) => Some(row.value),
+            None => self.declared_reset(field, kind).map(|row| row.value),
+        }
+    }
+
+    // The declared reset value.
+    fn declared_reset(&self, field: u32, kind: u32) -> Option<ResetRow>
+        requires { IsNonDecreasingBy (λ r. r.field) (setup_held self.now).resets }
+        ensures { result ≡ find (λ r. r.field == field && r.kind == kind) (setup_held self.now).resets }
+    {
+        let own = resets_of(&self.resets, field);
+        reset_in(&self.resets[own.first..own.end], field, kind)
+    }
+
+    /// Whether bus writes don't reach the cell.
+    pub fn is_deaf(&self, cell: Cell) -> bool
+        ensures { result ≡ is_deaf (setup_held self.now) cell }
+    {
+        self.deaf.iter().any(|row| is_of(cell, *row))
+    }
+
+    /// Whether a flaw makes an item fail by its address or by its number.
+    pub fn is_named(&self, port: u32, address: u64, count: u64) -> bool
+        ensures { result ≡ is_named (setup_held self.now) port address count }
+    {
+        is_in_range(&self.ranges, port, address) || is_counted(&self.nths, count)
+    }
+}
+
+fn is_of(cell: Cell, row: ItemRow) -> bool
+    ensures { result ≡ is_of cell row }
+{
+    match (cell, row) {
+        (Cell::Reg { reg }, ItemRow::Reg { reg: named }) => reg == named,
+        (Cell::Loc { mem, .. }, ItemRow::Mem { mem: named }) => mem == named,
+        _ => false,
+    }
+}
+
+fn is_in_range(ranges: &[RangeRow], port: u32, address: u64) -> bool
+    ensures { result ≡ list_any (λ r. r.port == port && nat_le r.from address && nat_le address r.to) ranges.now }
+{
+    ranges.iter().any(|range| range.port == port && range.from <= address && address <= range.to)
+}
+
+fn is_counted(nths: &[u64], count: u64) -> bool
+    ensures { result ≡ list_any (λ nth. nth == count) nths.now }
+{
+    nths.iter().any(|nth| *nth == count)
+}
