@@ -1,17 +1,15 @@
 -- The fields of a register of a chip.
-use Rattle.std.proofs.Common.{◌≡◌, ◌⊎◌, ℕ, ◌+◌, ◌*◌, ◌<◌, ◌≤◌, ◌-◌, ◌^◌, Bool, true, false, List, [], ◌∷◌, zero, suc, length, map, get_or, take, drop, eqb, slice_get, Option, Some, None, option_map, IsSomeAnd, refl, sym, ap, subst, ◌∙◌, inl, inr, ne_eqb, lt-ltb, arith, length-take-le, length-drop}
-use Rattle.std.specs.Prelude.{nat_le, nat_lt, ◌&&◌}
-use Rattle.std.specs.List.{list_any, IsDistinct}
+use Rattle.std.proofs.Common.{◌≡◌, ◌⊎◌, ℕ, ◌+◌, ◌*◌, ◌<◌, ◌≤◌, ◌-◌, ◌^◌, true, false, length, drop, slice_get, Option, Some, None, option_map, IsSomeAnd, refl, sym, ap, ◌∙◌, inl, inr, arith, length-take-le, length-drop}
+use Rattle.std.specs.Prelude.{nat_le, nat_lt}
+use Rattle.std.specs.List.{list_any}
 use Rattle.std.specs.Option.{option_map_or}
-use Rattle.std.proofs.lemmas.Bool.{leb-true, ltb-true, le-leb, and_parts, and_from, or_cases, eqb-true, cases_order, false≢true}
-use Rattle.std.proofs.lemmas.List.{length-map, get_or-take, get_or-drop, get_or-map}
-use Rattle.std.proofs.lemmas.Map.Steps.{length-le_from_distinct_below}
-use Rattle.std.proofs.lemmas.Map.Keys.{IsDistinct-from_apart}
-use Rattle.std.proofs.lemmas.Option.{slice_get_cases, get_or_from_slice_get, slice_get-get_or, slice_get_within, same_Some}
+use Rattle.std.proofs.lemmas.Bool.{leb-true, ltb-true, and_parts, cases_order}
+use Rattle.std.proofs.lemmas.List.{get_or-take, get_or-drop}
+use Rattle.std.proofs.lemmas.Option.{slice_get_cases, slice_get-get_or, slice_get_within}
 use Rattle.rl_model.specs.declared.rows.Field.{Field}
 use Rattle.rl_model.specs.declared.rows.RegRow.{RegRow}
 use Rattle.rl_model.specs.Rows.{FieldSeen, ChipData}
-use Rattle.rl_model.specs.Chip.{IsSound, IsFieldOf, AreApart}
+use Rattle.rl_model.specs.Chip.{IsSound, IsFieldOf}
 use Rattle.rl_mirror.specs.Fields.{no_field, field_of, first_of, count_of, size_of, fields_of, field_in, covers}
 use Rattle.rl_mirror.proofs.PlaceLemmas.{IsFieldList}
 
@@ -131,7 +129,7 @@ apart_numbers : (c : ChipData) (i j : ℕ) → IsSound c → i < length c.fields
 apart_numbers c i j sound li lj before same =
     (sound.apart i j (field_of c i) (field_of c j) (slice_get-get_or c.fields i no_field li) (slice_get-get_or c.fields j no_field lj) before same).1
 
-apart_fields : (c : ChipData) (i j b : ℕ) → IsSound c → i < length c.fields → j < length c.fields → (field_of c i).shape.reg ≡ (field_of c j).shape.reg
+pub apart_fields : (c : ChipData) (i j b : ℕ) → IsSound c → i < length c.fields → j < length c.fields → (field_of c i).shape.reg ≡ (field_of c j).shape.reg
     → covers (field_of c i).shape b ≡ true → covers (field_of c j).shape b ≡ true → i ≡ j
 apart_fields c i j b sound li lj same in_i in_j =
     elim (cases_order i j) [
@@ -140,48 +138,10 @@ apart_fields c i j b sound li lj same in_i in_j =
       | inr (inr after) ↦ absurd (shares_none (field_of c j).shape (field_of c i).shape b in_j in_i (apart_numbers c j i sound lj li after (sym same)))
     ]
 
--- ---- a register has at most 64 fields, since each has a lowest bit of its own
-
-any_below : (xs : List ℕ) (q n : ℕ) → ((k : ℕ) → k < length xs → get_or xs k 0 < n) → list_any (eqb q) xs ≡ true → q < n
-any_below [] q n below any = absurd (false≢true any)
-any_below (x ∷ xs) q n below any =
-    elim (or_cases (eqb q x) (list_any (eqb q) xs) any) [
-      | inl here ↦ let e : q ≡ x = eqb-true q x here in let small : x < n = below 0 (omega arith) in omega arith
-      | inr later ↦ any_below xs q n (λ k l. below (suc k) (omega arith)) later
-    ]
-
-covers_lowest : (f : Field) → 1 ≤ f.width → covers f f.lsb ≡ true
-covers_lowest f some = and_from (nat_le f.lsb f.lsb) (nat_lt f.lsb (f.lsb + f.width)) (le-leb f.lsb f.lsb (omega arith)) (lt-ltb f.lsb (f.lsb + f.width) (omega arith))
-
-abbrev lowest_of : FieldSeen → ℕ
-lowest_of f = f.shape.lsb
-
-at_most_64 : (fs : List FieldSeen) → ((k : ℕ) → k < length fs → 1 ≤ (field_in fs k).shape.width) → ((k : ℕ) → k < length fs → (field_in fs k).shape.lsb + (field_in fs k).shape.width ≤ 64)
-    → ((i j b : ℕ) → i < length fs → j < length fs → covers (field_in fs i).shape b ≡ true → covers (field_in fs j).shape b ≡ true → i ≡ j)
-    → length fs ≤ 64
-at_most_64 fs some inside apart =
-    let long : length (map lowest_of fs) ≡ length fs = length-map fs lowest_of in
-    let at : (k d : ℕ) → k < length fs → get_or (map lowest_of fs) k d ≡ (field_in fs k).shape.lsb = λ k d l. get_or-map lowest_of fs k no_field d l in
-    let different : IsDistinct eqb (map lowest_of fs) = IsDistinct-from_apart eqb (map lowest_of fs) (λ i j d before l.
-        let li : i < length fs = omega arith in
-        let lj : j < length fs = omega arith in
-        ne_eqb (get_or (map lowest_of fs) i d) (get_or (map lowest_of fs) j d) (λ same.
-            let low : (field_in fs i).shape.lsb ≡ (field_in fs j).shape.lsb = sym (at i d li) ∙ same ∙ at j d lj in
-            let in_j : covers (field_in fs j).shape (field_in fs j).shape.lsb ≡ true = covers_lowest (field_in fs j).shape (some j lj) in
-            let in_i : covers (field_in fs i).shape (field_in fs j).shape.lsb ≡ true =
-                subst (λ (b : ℕ). covers (field_in fs i).shape b ≡ true) low (covers_lowest (field_in fs i).shape (some i li)) in
-            let e : i ≡ j = apart i j (field_in fs j).shape.lsb li lj in_i in_j in
-            absurd (omega (arith, e, before)))) in
-    let below : (q : ℕ) → list_any (eqb q) (map lowest_of fs) ≡ true → q < 64 = λ q any. any_below (map lowest_of fs) q 64 (λ k l.
-        let lk : k < length fs = omega arith in
-        rw (at k 0 lk) (omega (arith, some k lk, inside k lk))) any in
-    let few : length (map lowest_of fs) ≤ 64 = length-le_from_distinct_below (map lowest_of fs) 64 different below in
-    omega arith
-
 -- the fields of a register are a list of fields that share no bit
 pub field_list : (c : ChipData) (reg : ℕ) → IsSound c → reg < length c.regs → IsFieldList (8 * size_of c reg) (fields_of c reg)
 field_list c reg sound l = record {
-  few = at_most_64 (fields_of c reg) some (λ k place. omega (arith, inside k place, most)) apart;
+  few = few;
   most = most;
   some = some;
   inside = inside;
@@ -190,21 +150,34 @@ field_list c reg sound l = record {
   where
     long : length (fields_of c reg) ≡ count_of c reg
     long = length-fields_of c reg sound l
+
     within : (k : ℕ) → k < length (fields_of c reg) → first_of c reg + k < length c.fields
     within k place = number_within c reg k sound l place
+
     seat : (k : ℕ) → k < length (fields_of c reg) → IsSeatedIn c (first_of c reg + k)
     seat k place = seated c (first_of c reg + k) sound (within k place)
+
     own : (k : ℕ) → k < length (fields_of c reg) → (field_of c (first_of c reg + k)).shape.reg ≡ reg
     own k place = owner_is c reg (first_of c reg + k) sound l (omega arith) (omega (arith, long, place))
+
     some : (k : ℕ) → k < length (fields_of c reg) → 1 ≤ (field_in (fields_of c reg) k).shape.width
     some k place = rw (field_in-fields_of c reg k sound l place) (seat k place).some
+
     inside : (k : ℕ) → k < length (fields_of c reg) → (field_in (fields_of c reg) k).shape.lsb + (field_in (fields_of c reg) k).shape.width ≤ 8 * size_of c reg
     inside k place = rw (field_in-fields_of c reg k sound l place) (rw (own k place) at ((seat k place).inside))
+
     apart : (i j b : ℕ) → i < length (fields_of c reg) → j < length (fields_of c reg) → covers (field_in (fields_of c reg) i).shape b ≡ true → covers (field_in (fields_of c reg) j).shape b ≡ true → i ≡ j
     apart i j b li lj in_i in_j =
         let e : first_of c reg + i ≡ first_of c reg + j = apart_fields c (first_of c reg + i) (first_of c reg + j) b sound (within i li) (within j lj) (own i li ∙ sym (own j lj))
-            (rw (field_in-fields_of c reg i sound l li) at in_i) (rw (field_in-fields_of c reg j sound l lj) at in_j) in
+        (rw (field_in-fields_of c reg i sound l li) at in_i) (rw (field_in-fields_of c reg j sound l lj) at in_j) in
         omega (arith, e)
+
+    few : length (fields_of c reg) ≤ 64
+    few =
+        let (r, row) = row_of c reg l in
+        let count : count_of c reg ≡ r.count = row.count in
+        omega (arith, long, sound.few_fields reg r row.at)
+
     most : 8 * size_of c reg ≤ 64
     most =
         let (r, row) = row_of c reg l in

@@ -5,3 +5,5 @@ pub mod SetLemmas
 pub mod SpentLemmas
 pub mod ResetLemmas
 pub mod MirrorLemmas
+pub mod ReachLemmas
+pub mod WishLemmas

@@ -22,7 +22,7 @@ use Rattle.rl_model.specs.Rows.{FieldSeen, ChipData}
 use Rattle.rl_mirror.specs.declared.effect.Effect.{Effect}
 use Rattle.rl_mirror.specs.declared.effect.Effect.TheVariants.{Written, Learned, Updating, Neutral}
 use Rattle.rl_mirror.specs.Effect.{effect_bit}
-use Rattle.rl_mirror.specs.Fields.{field_of, first_of, count_of, size_of, fields_of, field_in, policy_in, covers, place_at, word_by_field, owned}
+use Rattle.rl_mirror.specs.Fields.{field_of, first_of, count_of, size_of, fields_of, field_in, policy_in, place_at, word_by_field, owned}
 use Rattle.rl_mirror.specs.Mirror.{MirrorData, mirrored_of, desired_of, is_spent, marks_in, IsValueOf, IsMirrorOf}
 use Rattle.rl_mirror.specs.Prediction.{written, predict_write, predict_read, predict_raw, learned_by_write, learned_by_read, spent_after, after_reset, reset, blank, set as set_field, update_word, update_word_of, neutral_word, neutral_around}
 
@@ -79,7 +79,7 @@ reset_is_value c kind reg kept sound l = word_is_value c reg _ sound l
 values_are : (c : ChipData) (kind : ℕ) (values : List ℕ) → IsSound c → length values ≡ length c.regs → (reg : ℕ) → reg < length c.regs → IsValueOf c reg (get_or (values_after c kind values) reg 0)
 values_are c kind values sound long reg l =
     let at : get_or (values_after c kind values) reg 0 ≡ after_reset (fields_of c reg) kind (get_or values reg 0) =
-        get_or-map-range_with_len (λ reg. after_reset (fields_of c reg) kind (get_or values reg 0)) 0 (length values) reg reg 0 (omega arith) (omega arith) in
+    get_or-map-range_with_len (λ reg. after_reset (fields_of c reg) kind (get_or values reg 0)) 0 (length values) reg reg 0 (omega arith) (omega arith) in
     subst (λ (v : ℕ). IsValueOf c reg v) (sym at) (reset_is_value c kind reg (get_or values reg 0) sound l)
 
 pub length-values_after : (c : ChipData) (kind : ℕ) (values : List ℕ) → length (values_after c kind values) ≡ length values
@@ -152,6 +152,7 @@ put_is_word bits fs at wish word list l held =
   where
     f : Field
     f = (field_in fs at).shape
+
     by : (b : ℕ) (o : Option ℕ) → bit word b ≡ option_map_or (λ k. bit word b) o false
         → cond (is_place o at) (wish (b - f.lsb)) (bit word b) ≡ option_map_or (λ k. cond (eqb k at) (wish (b - f.lsb)) (bit word b)) o false
     by b None e = e
@@ -187,9 +188,9 @@ put_is_value c n wish word sound l held =
     let list = field_list c reg sound s.reg in
     let f = (field_in (fields_of c reg) at).shape in
     let e : from_bits 64 (put_bit f.lsb f.width wish (bit word)) ≡ word_by_field (fields_of c reg) (λ k b. cond (eqb k at) (wish (b - f.lsb)) (bit word b)) =
-        put_is_word (8 * size_of c reg) (fields_of c reg) at wish word list p.place held.owned in
+    put_is_word (8 * size_of c reg) (fields_of c reg) at wish word list p.place held.owned in
     let same : from_bits 64 (put_bit f.lsb f.width wish (bit word)) ≡ from_bits 64 (put_bit (field_of c n).shape.lsb (field_of c n).shape.width wish (bit word)) =
-        ap (λ (g : FieldSeen). from_bits 64 (put_bit g.shape.lsb g.shape.width wish (bit word))) p.field in
+    ap (λ (g : FieldSeen). from_bits 64 (put_bit g.shape.lsb g.shape.width wish (bit word))) p.field in
     subst (λ (v : ℕ). IsValueOf c reg v) (sym e ∙ same) (word_is_value c reg (λ k b. cond (eqb k at) (wish (b - f.lsb)) (bit word b)) sound s.reg)
 
 -- a field is read and put back changed
@@ -205,6 +206,7 @@ changed_word p lsb width desired v wish new mark inside e f =
     bits i l =
         ap (λ n. bit n i) e ∙ bit-from_bits width (λ i. after_write p (bit (from_bits width (λ i. bit desired (lsb + i))) i) (bit v i) mark) i l
         ∙ ap (λ t. after_write p t (bit v i) mark) (bit-from_bits width (λ i. bit desired (lsb + i)) i l)
+
     by : (b : ℕ) (t : Bool) → is_within lsb width b ≡ t → cond t (bit wish (b - lsb)) (bit desired b) ≡ cond t (after_write p (bit desired (lsb + (b - lsb))) (bit v (b - lsb)) mark) (bit desired b)
     by b true at =
         let (from, to) = and_parts (nat_le lsb b) (nat_lt b (lsb + width)) at in
@@ -238,8 +240,10 @@ set_built c n v m sound l built = record {
   where
     wish : ℕ → Bool
     wish b = after_write (field_of c n).shape.policy (bit (desired_of m (field_of c n).shape.reg) ((field_of c n).shape.lsb + b)) (bit v b) (is_spent m n)
+
     new : ℕ
     new = from_bits 64 (put_bit (field_of c n).shape.lsb (field_of c n).shape.width wish (bit (desired_of m (field_of c n).shape.reg)))
+
     value : IsValueOf c (field_of c n).shape.reg new
     value = put_is_value c n wish (desired_of m (field_of c n).shape.reg) sound l (built.desired (field_of c n).shape.reg (seated c n sound l).reg)
 
@@ -269,7 +273,7 @@ pub around_fits : (c : ChipData) (n v word result : ℕ) (f : Field) → IsSound
     → result ≡ from_bits 64 (put_bit f.lsb f.width (bit v) (bit word)) → result < 256 ^ size_of c (field_of c n).shape.reg
 around_fits c n v word result f sound l is held e =
     let at : result ≡ from_bits 64 (put_bit (field_of c n).shape.lsb (field_of c n).shape.width (bit v) (bit word)) =
-        subst (λ (g : Field). result ≡ from_bits 64 (put_bit g.lsb g.width (bit v) (bit word))) is e in
+    subst (λ (g : Field). result ≡ from_bits 64 (put_bit g.lsb g.width (bit v) (bit word))) is e in
     rw at (put_is_value c n (bit v) word sound l (subst (λ (g : Field). IsValueOf c g.reg word) is held)).fits
 
 pub set_by : (c : ChipData) (n v : ℕ) (m x : MirrorData) (f : Field) (desired part wish new : ℕ) (mark : Bool) → x ≡ m → f ≡ (field_of c n).shape → f.lsb + f.width ≤ 64

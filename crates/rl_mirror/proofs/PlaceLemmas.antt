@@ -1,8 +1,8 @@
 -- The field that a bit belongs to.
-use Rattle.std.proofs.Common.{◌≡◌, ℕ, zero, suc, ◌+◌, ◌*◌, ◌<◌, ◌≤◌, Bool, true, false, cond, eqb, ltb, List, [], ◌∷◌, length, get_or, Option, Some, None, position, refl, sym, ap, ◌∙◌, inl, inr, lt-ltb, le-ltb, ne_eqb, arith}
+use Rattle.std.proofs.Common.{◌≡◌, ℕ, zero, suc, ◌+◌, ◌<◌, ◌≤◌, Bool, true, false, cond, eqb, ltb, List, [], ◌∷◌, length, get_or, Option, Some, None, refl, sym, ap, ◌∙◌, inl, inr, lt-ltb, le-ltb, ne_eqb, arith}
 use Rattle.std.specs.List.{position_from}
 use Rattle.std.specs.Option.{option_map_or}
-use Rattle.std.proofs.lemmas.Bool.{cases_Bool, cases_eq, cases_lt, eq-eqb, eqb-true}
+use Rattle.std.proofs.lemmas.Bool.{cases_eq, cases_lt, eq-eqb}
 use Rattle.std.proofs.lemmas.Iterator.Adapters.{position_from-zero}
 use Rattle.std.proofs.lemmas.List.Quantifiers.{position-Some}
 use Rattle.rl_model.specs.declared.rows.Field.{Field}
@@ -49,6 +49,7 @@ covers_is bits fs i b list l = by (place_at fs b) refl
     other : (k : ℕ) → place_at fs b ≡ Some k → (k ≡ i → ⊥) → (t : Bool) → covers (field_in fs i).shape b ≡ t → t ≡ false
     other k at ne true is = let found = place_is fs b k at in absurd (ne (list.apart k i b found.0 l found.1 is))
     other k at ne false is = refl
+
     by : (o : Option ℕ) → place_at fs b ≡ o → covers (field_in fs i).shape b ≡ is_place o i
     by None at = no_place fs b i at l
     by (Some k) at =

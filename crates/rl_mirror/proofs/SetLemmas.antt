@@ -1,18 +1,7 @@
 -- Sets of the fields of a register that are made place by place.
-use Rattle.std.proofs.Common.{◌≡◌, ℕ, zero, suc, ◌+◌, ◌-◌, ◌<◌, ◌≤◌, Bool, true, false, ◌&&◌, ◌||◌, eqb, leb, ltb, List, [], ◌∷◌, length, map, get_or, refl, sym, ap, ◌∙◌, inl, inr, lt-ltb, le-ltb, arith}
-use Rattle.std.specs.Prelude.{nat_le, nat_lt}
-use Rattle.std.specs.List.{range_with_len}
-use Rattle.std.proofs.lemmas.Bool.{cases_eq, cases_lt, cases_Bool, le-leb, lt-leb, eq-eqb}
-use Rattle.std.proofs.lemmas.Bool.Decides.{nat_tests}
-use Rattle.std.proofs.lemmas.List.{same_lists, get_or-set_same, get_or-set_other}
-use Rattle.std.proofs.lemmas.List.FromFn.{get_or-map-range_with_len, length-map-range_with_len}
-use Rattle.rl_policy.specs.Bits.{bit, is_within}
-use Rattle.rl_policy.specs.Table.{spends_mark}
-use Rattle.rl_model.specs.Rows.{ChipData}
-use Rattle.rl_model.specs.Chip.{IsSound}
-use Rattle.rl_mirror.specs.Fields.{field_of, first_of, count_of}
-use Rattle.rl_mirror.specs.Prediction.{is_spent_by, spent_after}
-use Rattle.rl_mirror.proofs.FieldLemmas.{owner_is, seated}
+use Rattle.std.proofs.Common.{◌≡◌, ℕ, ◌+◌, ◌<◌, ◌≤◌, Bool, true, false, ◌&&◌, ◌||◌, leb, ltb, refl, ap, ◌∙◌, inl, inr, lt-ltb, le-ltb, arith}
+use Rattle.std.proofs.lemmas.Bool.{cases_eq, cases_lt, le-leb, lt-leb}
+use Rattle.rl_policy.specs.Bits.{is_within}
 
 -- one of the first i places, with d
 abbrev pub among : (i : ℕ) (d : ℕ → Bool) (k : ℕ) → Bool
@@ -47,6 +36,7 @@ among-added i k d e =
     or_none : (t : Bool) → (t || false) ≡ t
     or_none true = refl
     or_none false = refl
+
     no_end : (t : Bool) → (t && false) ≡ false
     no_end true = refl
     no_end false = refl

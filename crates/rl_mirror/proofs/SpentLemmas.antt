@@ -1,5 +1,5 @@
 -- The marks after a write.
-use Rattle.std.proofs.Common.{◌≡◌, ℕ, zero, suc, ◌+◌, ◌-◌, ◌<◌, ◌≤◌, Bool, true, false, ◌&&◌, ◌||◌, eqb, leb, ltb, List, length, map, set, get_or, refl, sym, ap, ◌∙◌, inl, inr, lt-ltb, le-ltb, ne_eqb, arith}
+use Rattle.std.proofs.Common.{◌≡◌, ℕ, ◌+◌, ◌-◌, ◌<◌, ◌≤◌, Bool, true, false, ◌&&◌, ◌||◌, eqb, leb, ltb, List, length, map, set, get_or, refl, sym, ap, ◌∙◌, inl, inr, lt-ltb, le-ltb, ne_eqb, arith}
 use Rattle.std.specs.List.{range_with_len}
 use Rattle.std.proofs.lemmas.Bool.{cases_eq, cases_lt, le-leb, lt-leb, eq-eqb}
 use Rattle.std.proofs.lemmas.List.{same_lists, get_or_default, get_or-set_same, get_or-set_other}
@@ -50,6 +50,7 @@ spent_added c reg fields i n old marks e l was =
     ends : (x : Bool) → (x || true) ≡ true
     ends true = refl
     ends false = refl
+
     other : (n ≡ first_of c reg + i → ⊥) → is_spent_so_far c reg fields i n ≡ is_spent_so_far c reg fields (i + 1) n
     other ne =
         elim (cases_lt n (first_of c reg)) [
@@ -82,6 +83,7 @@ all_taken c reg fields n sound lr ln =
     none : (t : Bool) → (t && false) ≡ false
     none true = refl
     none false = refl
+
     outside : ((field_of c n).shape.reg ≡ reg → ⊥) → is_spent_so_far c reg fields (count_of c reg) n ≡ false
     outside other =
         elim (cases_lt n (first_of c reg)) [
@@ -101,9 +103,9 @@ spent_all c reg fields old new sound lr marks long same =
     same_lists new (map (λ n. get_or old n false || is_spent_by c reg fields n) (range_with_len 0 (length old)))
     (long ∙ sym (length-map-range_with_len (λ n. get_or old n false || is_spent_by c reg fields n) 0 (length old)))
     (λ n d l.
-        let within : n < length old = omega arith in
-        get_or_default new n d false l ∙ same n within ∙ ap (λ t. get_or old n false || t) (all_taken c reg fields n sound lr (omega arith))
-        ∙ sym (get_or-map-range_with_len (λ n. get_or old n false || is_spent_by c reg fields n) 0 (length old) n n d within (omega arith)))
+    let within : n < length old = omega arith in
+    get_or_default new n d false l ∙ same n within ∙ ap (λ t. get_or old n false || t) (all_taken c reg fields n sound lr (omega arith))
+    ∙ sym (get_or-map-range_with_len (λ n. get_or old n false || is_spent_by c reg fields n) 0 (length old) n n d within (omega arith)))
 
 pub length-spent_after : (c : ChipData) (reg fields : ℕ) (spent : List Bool) → length (spent_after c reg fields spent) ≡ length spent
 unfolding spent_after

@@ -1,7 +1,7 @@
 -- Words that are made field by field.
 use Rattle.std.proofs.Common.{◌≡◌, ℕ, zero, suc, ◌+◌, ◌*◌, ◌^◌, ◌<◌, ◌≤◌, Bool, true, false, length, List, Option, Some, None, refl, sym, ap, subst, ◌∙◌, inl, inr, arith}
 use Rattle.std.specs.Option.{option_map_or}
-use Rattle.std.proofs.lemmas.Bool.{cases_lt, leb-true, ltb-true, and_parts}
+use Rattle.std.proofs.lemmas.Bool.{cases_lt, ltb-true, and_parts}
 use Rattle.std.specs.Prelude.{nat_le, nat_lt}
 use Rattle.std.proofs.Math.Pow.{pow_mono}
 use Rattle.std.proofs.Math.Nat.{pow-suc}
@@ -70,10 +70,10 @@ small_from_bits n k fits most none =
     let low : from_bits k (bit n) < 2 ^ k = from_bits-lt k (bit n) in
     let least : 2 ^ k ≤ 2 ^ 64 = pow_mono most in
     let same : n ≡ from_bits k (bit n) = same_from_bits 64 n (from_bits k (bit n)) fits (omega (arith, low, least)) (λ b l.
-        elim (cases_lt b k) [
-          | inl within ↦ sym (bit-from_bits k (bit n) b within)
-          | inr above ↦ none b above l ∙ sym (bit-above (from_bits k (bit n)) k b low above)
-        ]) in
+    elim (cases_lt b k) [
+      | inl within ↦ sym (bit-from_bits k (bit n) b within)
+      | inr above ↦ none b above l ∙ sym (bit-above (from_bits k (bit n)) k b low above)
+    ]) in
     subst (λ (m : ℕ). m < 2 ^ k) (sym same) low
 
 -- the bits of a list of fields

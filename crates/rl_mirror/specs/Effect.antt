@@ -1,5 +1,5 @@
 -- One bit of what becomes of a field.
-use Rattle.std.specs.Prelude.{ℕ, Bool, if◌then◌else◌}
+use Rattle.std.specs.Prelude.{ℕ, Bool}
 use Rattle.rl_policy.specs.Bits.{bit}
 use Rattle.rl_policy.specs.Table.{after_write, after_read, value_read, update_bit, neutral_bit}
 use Rattle.rl_policy.specs.declared.policy.Policy.{Policy}

@@ -1,5 +1,5 @@
 -- The fields of a register, and the bits that belong to them.
-use Rattle.std.specs.Prelude.{ℕ, ◌+◌, ◌-◌, ◌*◌, ◌==◌, Bool, false, not, ◌&&◌, List, [], length, get_or, take, drop, position, slice_get, Option}
+use Rattle.std.specs.Prelude.{ℕ, ◌+◌, Bool, false, List, [], get_or, take, drop, position, slice_get, Option}
 use Rattle.std.specs.Option.{option_map_or}
 use Rattle.rl_policy.specs.Bits.{bit, from_bits, is_within}
 use Rattle.rl_policy.specs.declared.policy.Policy.{Policy}

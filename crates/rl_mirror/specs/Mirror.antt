@@ -1,7 +1,7 @@
 -- What is believed of a chip.
 use Rattle.std.specs.Prelude.{◌≡◌, ℕ, ◌+◌, ◌^◌, ◌<◌, Bool, false, List, length, get_or}
 use Rattle.rl_model.specs.Rows.{ChipData}
-use Rattle.rl_mirror.specs.Fields.{first_of, size_of, fields_of, owned}
+use Rattle.rl_mirror.specs.Fields.{first_of, size_of, fields_of, field_in, owned, part_of}
 
 -- A mirrored and a desired value for each register, and a spent mark for each field, counted through all registers.
 pub record MirrorData : Type 0 where
@@ -34,3 +34,9 @@ pub record IsMirrorOf (c : ChipData) (m : MirrorData) : Type 0 where
   pub marks : length m.spent ≡ length c.fields
   pub mirrored : (reg : ℕ) → reg < length c.regs → IsValueOf c reg (mirrored_of m reg)
   pub desired : (reg : ℕ) → reg < length c.regs → IsValueOf c reg (desired_of m reg)
+
+-- the desired value of each field of the register is its mirrored one
+abbrev pub HasNoWish : ChipData → MirrorData → (reg : ℕ) → Type 0
+HasNoWish c m reg =
+    (k : ℕ) → k < length (fields_of c reg)
+    → part_of (field_in (fields_of c reg) k).shape (desired_of m reg) ≡ part_of (field_in (fields_of c reg) k).shape (mirrored_of m reg)

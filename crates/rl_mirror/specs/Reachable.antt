@@ -1,8 +1,8 @@
 -- Desired values that an update can reach.
-use Rattle.std.specs.Prelude.{◌≡◌, ◌⊎◌, ℕ, ◌-◌, ◌<◌, ◌^◌, Bool, true, false, IsTrue, length}
+use Rattle.std.specs.Prelude.{◌≡◌, ◌⊎◌, ℕ, ◌-◌, ◌<◌, ◌^◌, true, false, IsTrue, length}
 use Rattle.rl_policy.specs.Bits.{bit}
 use Rattle.rl_policy.specs.Reach.{is_reached, is_one_sided}
-use Rattle.rl_model.specs.Rows.{FieldSeen, ChipData}
+use Rattle.rl_model.specs.Rows.{ChipData}
 use Rattle.rl_mirror.specs.Fields.{field_of, covers, part_of}
 use Rattle.rl_mirror.specs.Mirror.{MirrorData, mirrored_of, desired_of, is_spent, IsMirrorOf}
 use Rattle.rl_mirror.specs.Prediction.{predict_write, update_word_of}

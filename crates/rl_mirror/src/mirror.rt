@@ -1,8 +1,9 @@
 //! The mirror of a chip.
-ghost use Rattle.std.specs.Prelude.{◌≡◌, ℕ, ◌+◌, ◌^◌, ◌<◌, length, IfOk};
+ghost use Rattle.std.specs.Prelude.{◌≡◌, ◌↔◌, false, ℕ, ◌+◌, ◌^◌, ◌<◌, length, IfOk};
 ghost use Rattle.rl_mirror.specs.Compared.{differ};
 ghost use Rattle.rl_mirror.specs.Fields.{field_of, size_of, count_of, fields_of};
-ghost use Rattle.rl_mirror.specs.Mirror.{mirrored_of, desired_of, is_spent, marks_in, IsMirrorOf};
+ghost use Rattle.rl_mirror.specs.Mirror.{mirrored_of, desired_of, is_spent, marks_in, IsMirrorOf, HasNoWish};
+ghost use Rattle.rl_mirror.specs.Reachable.{IsReachable};
 ghost use Rattle.rl_mirror.specs.Prediction.{written, predict_write, predict_read, predict_raw, reset, set, fresh, needs_update, update_word_of, neutral_around};
 
 use crate::effect::Effect;
@@ -38,6 +39,7 @@ impl Mirror {
     pub fn build(alloc: Global, chip: &Chip) -> Result<Mirror, AllocError>
         ensures value { IfOk result (λ m. m ≡ fresh chip.now) }
         ensures built { IfOk result (IsMirrorOf chip.now) }
+        ensures reach { IfOk result (IsReachable chip.now) }
     {
         let regs = chip.regs() as usize;
         let mut mirror = Mirror {
@@ -56,6 +58,7 @@ impl Mirror {
         requires built { IsMirrorOf chip.now self.old }
         ensures value { self.new ≡ predict_write chip.now reg value fields self.old }
         ensures built { IsMirrorOf chip.now self.new }
+        ensures reach { IsReachable chip.now self.old → IsReachable chip.now self.new }
     {
         let mirrored = self.mirrored[reg as usize];
         let desired = self.desired[reg as usize];
@@ -74,6 +77,7 @@ impl Mirror {
         requires built { IsMirrorOf chip.now self.old }
         ensures value { self.new ≡ predict_read chip.now reg value fields self.old }
         ensures built { IsMirrorOf chip.now self.new }
+        ensures reach { IsReachable chip.now self.old → IsReachable chip.now self.new }
     {
         let mirrored = self.mirrored[reg as usize];
         let desired = self.desired[reg as usize];
@@ -107,6 +111,7 @@ impl Mirror {
         requires built { IsMirrorOf chip.now self.old }
         ensures value { self.new ≡ predict_raw chip.now reg value self.old }
         ensures built { IsMirrorOf chip.now self.new }
+        ensures reach { IsReachable chip.now self.old → IsReachable chip.now self.new }
     {
         let bits = owned(chip, reg, value);
         self.mirrored[reg as usize] = bits;
@@ -119,6 +124,7 @@ impl Mirror {
         requires built { IsMirrorOf chip.now self.old }
         ensures value { self.new ≡ reset chip.now kind self.old }
         ensures built { IsMirrorOf chip.now self.new }
+        ensures reach { IsReachable chip.now self.old → IsReachable chip.now self.new }
     {
         reset_all(chip, kind, &mut self.mirrored);
         reset_all(chip, kind, &mut self.desired);
@@ -134,8 +140,15 @@ impl Mirror {
         requires built { IsMirrorOf chip.now self.old }
         ensures value { self.new ≡ set chip.now field v self.old }
         ensures built { IsMirrorOf chip.now self.new }
+        ensures reach { IsReachable chip.now self.old → IsReachable chip.now self.new }
     {
-        let Field { reg, lsb, width, policy, .. } = numbered_field(chip, field);
+        let Field {
+            reg,
+            lsb,
+            width,
+            policy,
+            ..
+        } = numbered_field(chip, field);
         let desired = self.desired(reg);
         let mark = self.spent(field);
         let wish = set_value(policy, width, take(desired, lsb, width), v, mark);
@@ -170,7 +183,8 @@ impl Mirror {
     pub fn needs_update(&self, chip: &Chip, reg: u32) -> bool
         requires reg { reg < length chip.now.regs }
         requires built { IsMirrorOf chip.now self.now }
-        ensures { result ≡ needs_update self.now reg }
+        ensures value { result ≡ needs_update self.now reg }
+        ensures fields { (result ≡ false) ↔ HasNoWish chip.now self.now reg }
     {
         self.desired(reg) != self.mirrored(reg)
     }
@@ -198,7 +212,12 @@ impl Mirror {
         ensures value { result ≡ neutral_around chip.now field v self.now }
         ensures fits { result < 256 ^ size_of chip.now (field_of chip.now field).shape.reg }
     {
-        let Field { reg, lsb, width, .. } = numbered_field(chip, field);
+        let Field {
+            reg,
+            lsb,
+            width,
+            ..
+        } = numbered_field(chip, field);
         let effect = Effect::Neutral {
             mirrored: self.mirrored(reg),
         };

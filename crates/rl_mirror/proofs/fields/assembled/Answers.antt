@@ -1,9 +1,9 @@
-use Rattle.std.proofs.Common.{◌≡◌, ℕ, ◌-◌, ◌^◌, Bool, cond, ◌∙◌, arith}
+use Rattle.std.proofs.Common.{ℕ, ◌-◌, ◌^◌, Bool, cond, ◌∙◌, arith}
 use Rattle.std.proofs.lemmas.Bool.{cond-true}
 use Rattle.rl_policy.specs.Bits.{bit}
 use Rattle.rl_policy.proofs.BitLemmas.{bit-max}
 use Rattle.rl_mirror.specs.Effect.{effect_bit}
-use Rattle.rl_mirror.specs.Fields.{fields_of, policy_in, word_by_field, size_of}
+use Rattle.rl_mirror.specs.Fields.{fields_of, policy_in}
 use Rattle.rl_mirror.specs.Mirror.{marks_in}
 use Rattle.rl_mirror.proofs.FieldLemmas.{field_list}
 use Rattle.rl_mirror.proofs.WordLemmas.{owned_zero, word_by_field-same}
@@ -19,4 +19,4 @@ returns-clause-value c =
     c.overlaid.ensures.value
     ∙ word_by_field-same fs (λ k b. cond (bit (2 ^ 64 - 1) k) (part k b) (bit 0 b)) part
     (λ k b place l in_it. cond-true (bit (2 ^ 64 - 1) k) (part k b) (bit 0 b)
-        (bit-max k (omega (arith, (field_list c.args.chip.now c.args.reg c.overlaid.ensures.sound c.requires).few))))
+    (bit-max k (omega (arith, (field_list c.args.chip.now c.args.reg c.overlaid.ensures.sound c.requires).few))))

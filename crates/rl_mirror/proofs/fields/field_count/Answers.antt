@@ -11,6 +11,6 @@ returns-clause-count c =
 pub returns-clause-few : goal.returns-clause-few
 returns-clause-few c =
     let count : length (fields_of c.args.chip.now c.args.reg) ≡ c.field_count.result =
-        length-fields_of c.args.chip.now c.args.reg c.field_count.ensures.sound c.requires
-        ∙ row_answer c.args.chip.now c.args.reg c.field_count.result (λ r. r.count) c.field_count.ensures.value in
+    length-fields_of c.args.chip.now c.args.reg c.field_count.ensures.sound c.requires
+    ∙ row_answer c.args.chip.now c.args.reg c.field_count.result (λ r. r.count) c.field_count.ensures.value in
     omega (arith, (field_list c.args.chip.now c.args.reg c.field_count.ensures.sound c.requires).few)

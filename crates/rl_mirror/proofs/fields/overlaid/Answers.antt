@@ -32,7 +32,7 @@ returns c =
     let part : ℕ → ℕ → Bool = λ k b. cond (bit c.args.fields k) (effect_bit c.args.effect (policy_in fs k) (marks_in c.args.chip.now c.args.spent.now c.args.reg k) b) (bit c.args.kept b) in
     let sound = c.field_count-k-end.ensures.sound in
     let is : c.loop-k.word ≡ word_by_field fs part = is_word_by_field fs part c.loop-k.word c.loop-k.invariant.fits
-        (λ b l. c.loop-k.invariant.bits b l ∙ finished _ fs c.loop-k.k b (λ k. part k b) c.args.kept (field_list c.args.chip.now c.args.reg sound c.requires.reg) end c.requires.kept l) in
+    (λ b l. c.loop-k.invariant.bits b l ∙ finished _ fs c.loop-k.k b (λ k. part k b) c.args.kept (field_list c.args.chip.now c.args.reg sound c.requires.reg) end c.requires.kept l) in
     record {
       sound = sound;
       held = subst (λ (n : ℕ). IsValueOf c.args.chip.now c.args.reg n) (sym is) (word_is_value c.args.chip.now c.args.reg part sound c.requires.reg);

@@ -1,4 +1,4 @@
-use Rattle.std.proofs.Common.{◌≡◌, ℕ, ◌+◌, ◌<◌, ◌&&◌, ◌||◌, Bool, true, false, set, get_or, length, refl, sym, ap, subst, ◌∙◌, arith}
+use Rattle.std.proofs.Common.{◌≡◌, ℕ, ◌+◌, ◌<◌, ◌&&◌, ◌||◌, true, false, set, get_or, length, refl, sym, ap, subst, ◌∙◌, arith}
 use Rattle.std.proofs.lemmas.List.{length-set}
 use Rattle.rl_policy.specs.Bits.{bit}
 use Rattle.rl_policy.specs.Table.{spends_mark}
@@ -20,8 +20,8 @@ loop-k-preserved-then-not-spends_place c =
     let k = c.loop-k.k in
     let place : k < length (fields_of chip c.args.reg) = omega (arith, c.field_count-k-end.ensures.count, c.loop-k-test.true) in
     let here : spends_at chip c.args.reg c.args.fields k ≡ false =
-        ap (λ (f : FieldSeen). bit c.args.fields k && spends_mark f.shape.policy) (sym (field_in-fields_of chip c.args.reg k c.field_count-k-end.ensures.sound c.requires.reg place))
-        ∙ sym c.spends_place.ensures ∙ c.if-not-spends_place.true in
+    ap (λ (f : FieldSeen). bit c.args.fields k && spends_mark f.shape.policy) (sym (field_in-fields_of chip c.args.reg k c.field_count-k-end.ensures.sound c.requires.reg place))
+    ∙ sym c.spends_place.ensures ∙ c.if-not-spends_place.true in
     record {
       long = c.loop-k.invariant.long;
       marks = λ n l. c.loop-k.invariant.marks n l ∙ ap (λ t. get_or c.args.spent.now n false || t) (spent_passed chip c.args.reg c.args.fields k n here);
@@ -34,8 +34,8 @@ loop-k-preserved c =
     let spent = c.loop-k.spent in
     let place : k < length (fields_of chip c.args.reg) = omega (arith, c.field_count-k-end.ensures.count, c.loop-k-test.true) in
     let here : spends_at chip c.args.reg c.args.fields k ≡ true =
-        ap (λ (f : FieldSeen). bit c.args.fields k && spends_mark f.shape.policy) (sym (field_in-fields_of chip c.args.reg k c.field_count-k-end.ensures.sound c.requires.reg place))
-        ∙ sym c.spends_place.ensures ∙ c.if-not-spends_place.false in
+    ap (λ (f : FieldSeen). bit c.args.fields k && spends_mark f.shape.policy) (sym (field_in-fields_of chip c.args.reg k c.field_count-k-end.ensures.sound c.requires.reg place))
+    ∙ sym c.spends_place.ensures ∙ c.if-not-spends_place.false in
     let number : c.field_number.result ≡ first_of chip c.args.reg + k = c.field_number.ensures.number in
     let within : first_of chip c.args.reg + k < length spent = omega (arith, c.field_number.ensures.within, c.loop-k.invariant.long, c.requires.marks) in
     record {
@@ -50,6 +50,6 @@ returns c =
     let chip = c.args.chip.now in
     let sound = c.field_count-k-end.ensures.sound in
     let end : c.loop-k.k ≡ count_of chip c.args.reg =
-        omega (arith, c.field_count-k-end.ensures.count, c.loop-k-test.false, c.loop-k.auto.k-end, length-fields_of chip c.args.reg sound c.requires.reg) in
+    omega (arith, c.field_count-k-end.ensures.count, c.loop-k-test.false, c.loop-k.auto.k-end, length-fields_of chip c.args.reg sound c.requires.reg) in
     spent_all chip c.args.reg c.args.fields c.args.spent.now c.loop-k.spent sound c.requires.reg c.requires.marks c.loop-k.invariant.long
     (λ n l. subst (λ (i : ℕ). get_or c.loop-k.spent n false ≡ (get_or c.args.spent.now n false || is_spent_so_far chip c.args.reg c.args.fields i n)) end (c.loop-k.invariant.marks n l))

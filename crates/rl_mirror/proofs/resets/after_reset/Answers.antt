@@ -1,12 +1,11 @@
-use Rattle.std.proofs.Common.{◌≡◌, ℕ, Bool, ◌<◌, cond, refl, sym, ap, subst, ◌∙◌, length, arith}
+use Rattle.std.proofs.Common.{◌≡◌, ℕ, Bool, ◌<◌, cond, refl, ap, ◌∙◌, length, arith}
 use Rattle.rl_policy.specs.Bits.{bit}
 use Rattle.rl_policy.proofs.BitLemmas.{bit-from_bits}
 use Rattle.rl_mirror.specs.Fields.{fields_of, field_in, covers, place_at, word_by_field}
-use Rattle.rl_mirror.specs.Mirror.{IsValueOf}
 use Rattle.rl_mirror.specs.Prediction.{reset_bit, after_reset}
-use Rattle.rl_mirror.proofs.PlaceLemmas.{so_far, so_far-next, covers_is}
+use Rattle.rl_mirror.proofs.PlaceLemmas.{so_far-next, covers_is}
 use Rattle.rl_mirror.proofs.FieldLemmas.{field_list}
-use Rattle.rl_mirror.proofs.WordLemmas.{is_word_by_field, finished, word_is_value}
+use Rattle.rl_mirror.proofs.WordLemmas.{is_word_by_field, finished}
 use Rattle.rl_mirror.proofs.resets.after_reset.Goals as goal
 
 pub loop-k-preserved : goal.loop-k-preserved
@@ -32,5 +31,5 @@ returns c =
     let sound = c.field_count-k-end.ensures.sound in
     let end : c.loop-k.k ≡ length fs = omega (arith, c.field_count-k-end.ensures.count, c.loop-k-test.false, c.loop-k.auto.k-end) in
     let is : c.loop-k.word ≡ word_by_field fs part = is_word_by_field fs part c.loop-k.word c.loop-k.invariant.fits
-        (λ b l. c.loop-k.invariant.bits b l ∙ finished _ fs c.loop-k.k b (λ k. part k b) c.args.value (field_list c.args.chip.now c.args.reg sound c.requires.reg) end c.requires.value l) in
+    (λ b l. c.loop-k.invariant.bits b l ∙ finished _ fs c.loop-k.k b (λ k. part k b) c.args.value (field_list c.args.chip.now c.args.reg sound c.requires.reg) end c.requires.value l) in
     is

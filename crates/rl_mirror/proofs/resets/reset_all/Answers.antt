@@ -15,6 +15,6 @@ returns-clause-value c =
     same_lists new (map after (range_with_len 0 (length old)))
     (long ∙ sym (length-map-range_with_len after 0 (length old)))
     (λ n d l.
-        let within : n < length old = omega (arith, long, l) in
-        let done : n < c.loop-reg.reg = omega (arith, within, c.requires.count, c.regs-reg-end.ensures.count, c.loop-reg-test.false) in
-        get_or_default new n d 0 l ∙ c.loop-reg.invariant.done n done ∙ sym (get_or-map-range_with_len after 0 (length old) n n d within (omega arith)))
+    let within : n < length old = omega (arith, long, l) in
+    let done : n < c.loop-reg.reg = omega (arith, within, c.requires.count, c.regs-reg-end.ensures.count, c.loop-reg-test.false) in
+    get_or_default new n d 0 l ∙ c.loop-reg.invariant.done n done ∙ sym (get_or-map-range_with_len after 0 (length old) n n d within (omega arith)))

@@ -1,6 +1,8 @@
-use Rattle.std.proofs.Common.{◌≡◌, ℕ, Bool, false, List, replicate, length, refl, ap, sym, subst, ◌∙◌}
+use Rattle.std.proofs.Common.{false, replicate, ap, sym, subst, ◌∙◌}
 use Rattle.rl_mirror.specs.Mirror.{MirrorData, IsMirrorOf}
-use Rattle.rl_mirror.specs.Prediction.{blank, reset, fresh}
+use Rattle.rl_mirror.specs.Prediction.{reset, fresh}
+use Rattle.rl_mirror.specs.Reachable.{IsReachable}
+use Rattle.rl_mirror.proofs.ReachLemmas.{fresh_reach}
 use Rattle.rl_mirror.proofs.MirrorLemmas.{blank_built, blank_is}
 use Rattle.rl_mirror.proofs.mirror.Mirror.build.Goals as goal
 
@@ -22,3 +24,6 @@ returns-clause-value c =
     (c.in_ok-vec.ensures.items_if_clones_equal (λ y e. e) ∙ ap (λ n. replicate n 0) c.regs-regs.ensures.count)
     (c.in_ok-vec-2.ensures.items_if_clones_equal (λ y e. e) ∙ ap (λ n. replicate n 0) c.regs-regs.ensures.count)
     (c.in_ok-vec-3.ensures.items_if_clones_equal (λ y e. e) ∙ ap (λ n. replicate n false) c.fields.ensures.count))
+
+pub returns-clause-reach : goal.returns-clause-reach
+returns-clause-reach c = subst (λ (m : MirrorData). IsReachable c.args.chip.now m) (sym (returns-clause-value c)) (fresh_reach c.args.chip.now c.regs-regs.ensures.sound)

@@ -2,6 +2,8 @@ use Rattle.std.proofs.Common.{◌≡◌, ◌<◌, [], length, refl, sym, ap, sub
 use Rattle.std.proofs.lemmas.List.{get_or_read_under}
 use Rattle.rl_mirror.specs.Mirror.{MirrorData, IsMirrorOf, mirrored_of, desired_of}
 use Rattle.rl_mirror.specs.Prediction.{predict_read}
+use Rattle.rl_mirror.specs.Reachable.{IsReachable}
+use Rattle.rl_mirror.proofs.ReachLemmas.{read_reach}
 use Rattle.rl_mirror.proofs.MirrorLemmas.{read_is}
 use Rattle.rl_mirror.proofs.mirror.Mirror.predict_read.Goals as goal
 
@@ -19,3 +21,7 @@ returns-clause-value c =
     read_is chip reg c.args.value c.args.fields m c.index-mirrored.result.now c.index-desired.result.now c.overlaid.result c.overlaid-2.result [] []
     mirrored desired c.overlaid.ensures.value c.overlaid-2.ensures.value
     ∙ ap (predict_read chip reg c.args.value c.args.fields) is
+
+pub returns-clause-reach : goal.returns-clause-reach
+returns-clause-reach c was =
+    subst (λ (m : MirrorData). IsReachable c.args.chip.now m) (sym (returns-clause-value c)) (read_reach c.args.chip.now c.args.reg c.args.value c.args.fields c.args.self.now c.overlaid.ensures.sound c.requires.reg c.requires.built was)

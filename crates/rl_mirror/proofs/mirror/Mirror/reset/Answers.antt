@@ -1,9 +1,9 @@
-use Rattle.std.proofs.Common.{◌≡◌, ℕ, ◌<◌, length, get_or, sym, ap, subst, ◌∙◌, arith}
+use Rattle.std.proofs.Common.{sym, ap, subst, ◌∙◌}
 use Rattle.std.specs.Vec.{with_items}
-use Rattle.std.proofs.lemmas.List.{get_or_default}
-use Rattle.rl_mirror.specs.Fields.{fields_of, owned}
 use Rattle.rl_mirror.specs.Mirror.{MirrorData, IsMirrorOf}
 use Rattle.rl_mirror.specs.Prediction.{reset}
+use Rattle.rl_mirror.specs.Reachable.{IsReachable}
+use Rattle.rl_mirror.proofs.ReachLemmas.{reset_reach}
 use Rattle.rl_mirror.proofs.MirrorLemmas.{hard_is, soft_is, reset_built, refilled, cleared}
 use Rattle.rl_mirror.proofs.mirror.Mirror.reset.Goals as goal
 
@@ -34,3 +34,11 @@ returns-else-kind-eq0-clause-value c =
 pub returns-else-kind-eq0-clause-built : goal.returns-else-kind-eq0-clause-built
 returns-else-kind-eq0-clause-built c =
     subst (λ (m : MirrorData). IsMirrorOf c.args.chip.now m) (sym (returns-else-kind-eq0-clause-value c)) (reset_built c.args.chip.now c.args.kind c.args.self.now c.reset_all.ensures.sound c.requires.built)
+
+pub returns-then-kind-eq0-clause-reach : goal.returns-then-kind-eq0-clause-reach
+returns-then-kind-eq0-clause-reach c was =
+    subst (λ (m : MirrorData). IsReachable c.args.chip.now m) (sym (returns-then-kind-eq0-clause-value c)) (reset_reach c.args.chip.now c.args.kind c.args.self.now c.reset_all.ensures.sound c.requires.built was)
+
+pub returns-else-kind-eq0-clause-reach : goal.returns-else-kind-eq0-clause-reach
+returns-else-kind-eq0-clause-reach c was =
+    subst (λ (m : MirrorData). IsReachable c.args.chip.now m) (sym (returns-else-kind-eq0-clause-value c)) (reset_reach c.args.chip.now c.args.kind c.args.self.now c.reset_all.ensures.sound c.requires.built was)

@@ -1,6 +1,8 @@
-use Rattle.std.proofs.Common.{◌≡◌, sym, subst}
+use Rattle.std.proofs.Common.{sym, subst}
 use Rattle.rl_policy.proofs.BitLemmas.{from_bits-lt}
 use Rattle.rl_mirror.specs.Mirror.{MirrorData, IsMirrorOf}
+use Rattle.rl_mirror.specs.Reachable.{IsReachable}
+use Rattle.rl_mirror.proofs.ReachLemmas.{set_reach}
 use Rattle.rl_mirror.proofs.MirrorLemmas.{set_by, set_built}
 use Rattle.rl_mirror.proofs.mirror.Mirror.set.Goals as goal
 
@@ -17,3 +19,8 @@ pub returns-clause-built : goal.returns-clause-built
 returns-clause-built c =
     subst (λ (m : MirrorData). IsMirrorOf c.args.chip.now m) (sym (returns-clause-value c))
     (set_built c.args.chip.now c.args.field c.args.v c.args.self.now c.numbered_field-reg.ensures.sound c.requires.field c.requires.built)
+
+pub returns-clause-reach : goal.returns-clause-reach
+returns-clause-reach c was =
+    subst (λ (m : MirrorData). IsReachable c.args.chip.now m) (sym (returns-clause-value c))
+    (set_reach c.args.chip.now c.args.field c.args.v c.args.self.now c.numbered_field-reg.ensures.sound c.requires.field c.requires.built was)
