@@ -1,0 +1,8 @@
+mod DocumentLemmas
+mod FlawLemmas
+mod Places
+mod PolicyLemmas
+mod RowLemmas
+mod StepLemmas
+mod ThereLemmas
+mod ValueLemmas

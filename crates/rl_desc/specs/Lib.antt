@@ -1,0 +1,11 @@
+pub mod Keys
+pub mod Words
+pub mod Data
+pub mod Spots
+pub mod Faults
+pub mod Shapes
+pub mod Refusals
+pub mod Columns
+pub mod Reading
+pub mod Flaws
+pub mod Described

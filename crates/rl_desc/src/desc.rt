@@ -1,0 +1,85 @@
+//! A description: a chip, its layout and the flaws of its device.
+ghost use Rattle.std.specs.Prelude.{◌^◌, ◌<◌, Some, length, IfOk};
+ghost use Rattle.toml.specs.View.{table_view};
+ghost use Rattle.rl_map.specs.Maps.{IsBuiltWith};
+ghost use Rattle.rl_bench.specs.Flaws.{AreFlawsOf};
+ghost use Rattle.rl_desc.specs.Refusals.{Reads};
+ghost use Rattle.rl_desc.specs.Described.{Laid, first_fault, description_of, described, rows_fault};
+
+use crate::document::Document;
+use crate::fault::{DescCause, DescFault};
+use crate::flaw::number_flaws;
+use crate::read::read_document;
+use rl_bench::Flaw;
+use rl_bus::AdapterKind;
+use rl_map::Layout;
+use rl_model::Chip;
+use std::alloc::Global;
+use std::marker::Model;
+
+/// What a description describes: the chip, where its registers and memories stand on the buses, and
+/// the flaws that the device is to have, in description order.
+#[derive(Drop)]
+pub struct Desc {
+    pub chip: Chip,
+    pub layout: Layout,
+    pub flaws: Vec<Flaw>,
+}
+
+impl Model for Desc {
+    ghost use Rattle.rl_desc.specs.Data.{DescData};
+
+    ghost Value = { DescData };
+
+    ghost view = { λ d. record { chip = d.chip; layout = d.layout; flaws = d.flaws.items } };
+}
+
+/// Reads a description in TOML.
+///
+/// `kinds` are those of the adapters at hand, of which a root map names one.
+///
+/// # Errors
+///
+/// The first condition that fails, with its place. Or want of memory.
+pub fn read_description(
+    alloc: Global,
+    bytes: &[u8],
+    kinds: &[AdapterKind],
+) -> Result<Desc, DescFault>
+    requires { length kinds.now < 2 ^ 32 }
+    // Exactly the first fault, or what is described, by what building the layout answered.
+    ensures read { (laid : Laid) × Reads (λ desc. Some desc) result (first_fault bytes.now laid) (description_of bytes.now laid) }
+    ensures built_with { IfOk result (λ desc. IsBuiltWith desc.layout desc.chip) }
+    ensures flaws { IfOk result (λ desc. AreFlawsOf desc.chip desc.layout desc.flaws) }
+{
+    let table = match toml::table_from_slice(alloc, bytes) {
+        Ok(table) => table,
+        Err(e) => {
+            if e.is_memory() {
+                return Err(DescFault::Memory);
+            }
+            return Err(DescFault::Bad {
+                cause: DescCause::Text,
+                spot: None,
+            });
+        }
+    };
+    let document = read_document(alloc, &table)?;
+    build(alloc, &document, kinds)
+}
+
+fn build(alloc: Global, document: &Document, kinds: &[AdapterKind]) -> Result<Desc, DescFault>
+    requires { length kinds.now < 2 ^ 32 }
+    ensures exact { (laid : Laid) × Reads (λ desc. Some desc) result (rows_fault document.now laid) (described document.now laid) }
+    ensures built_with { IfOk result (λ desc. IsBuiltWith desc.layout desc.chip) }
+    ensures flaws { IfOk result (λ desc. AreFlawsOf desc.chip desc.layout desc.flaws) }
+{
+    let chip = Chip::build(alloc, &document.parts)?;
+    let layout = Layout::build(alloc, &chip, &document.maps, &document.places, kinds)?;
+    let flaws = number_flaws(alloc, &chip, &layout, &document.flaws)?;
+    Ok(Desc {
+        chip,
+        layout,
+        flaws,
+    })
+}
