@@ -30,6 +30,7 @@ impl Layout {
     ) -> Result<Layout, MapFault>
         requires { length kinds.now < 2 ^ 32 }
         ensures sound { IfOk result IsSound }
+        ensures kinds { IfOk result (λ l. l.kinds ≡ kinds.now) }
         ensures built_with { IfOk result (λ l. IsBuiltWith l chip.now) }
     {
         let tables = add_maps(alloc, maps, kinds)?;
