@@ -1,5 +1,5 @@
 //! A description: a chip, its layout and the flaws of its device.
-ghost use Rattle.std.specs.Prelude.{◌^◌, ◌<◌, Some, length, IfOk};
+ghost use Rattle.std.specs.Prelude.{◌≡◌, ◌^◌, ◌<◌, Some, length, IfOk};
 ghost use Rattle.toml.specs.View.{table_view};
 ghost use Rattle.rl_map.specs.Maps.{IsBuiltWith};
 ghost use Rattle.rl_bench.specs.Flaws.{AreFlawsOf};
@@ -51,6 +51,7 @@ pub fn read_description(
     ensures read { (laid : Laid) × Reads (λ desc. Some desc) result (first_fault bytes.now laid) (description_of bytes.now laid) }
     ensures built_with { IfOk result (λ desc. IsBuiltWith desc.layout desc.chip) }
     ensures flaws { IfOk result (λ desc. AreFlawsOf desc.chip desc.layout desc.flaws) }
+    ensures kinds { IfOk result (λ desc. desc.layout.kinds ≡ kinds.now) }
 {
     let table = match toml::table_from_slice(alloc, bytes) {
         Ok(table) => table,
@@ -73,6 +74,7 @@ fn build(alloc: Global, document: &Document, kinds: &[AdapterKind]) -> Result<De
     ensures exact { (laid : Laid) × Reads (λ desc. Some desc) result (rows_fault document.now laid) (described document.now laid) }
     ensures built_with { IfOk result (λ desc. IsBuiltWith desc.layout desc.chip) }
     ensures flaws { IfOk result (λ desc. AreFlawsOf desc.chip desc.layout desc.flaws) }
+    ensures kinds { IfOk result (λ desc. desc.layout.kinds ≡ kinds.now) }
 {
     let chip = Chip::build(alloc, &document.parts)?;
     let layout = Layout::build(alloc, &chip, &document.maps, &document.places, kinds)?;

@@ -68,7 +68,7 @@ pub rows_same : (maps : List MapRow) (places : List PlaceRow) (ports : List Port
 unfolding words_of
 rows_same maps places ports kinds rows = refl
 
-tested : (chip : ChipData) (maps : List MapRow) (places : List PlaceRow) (ports : List PortRow) (kinds : List AdapterKind) (first rows : List WordRow)
+pub tested : (chip : ChipData) (maps : List MapRow) (places : List PlaceRow) (ports : List PortRow) (kinds : List AdapterKind) (first rows : List WordRow)
     → AreTables kinds maps ports → ArePlaces chip maps ports places first → length kinds < 2 ^ 32 → length rows ≡ length first → IsTested (built maps places ports kinds rows)
 tested chip maps places ports kinds first rows t p few same =
     let l = built maps places ports kinds rows in
@@ -119,7 +119,7 @@ mapped_at f [] k d e low = absurd (omega arith)
 mapped_at f (x ∷ xs) zero d e low = refl
 mapped_at f (x ∷ xs) (suc k) d e low = mapped_at f xs k d e (omega arith)
 
-row_in : (l : LayoutData) (p i k : ℕ) → IsLocation l p i → k < length (words_of l p i) → Contains (all_rows l) (row_of l p i (get_or (words_of l p i) k no_word))
+pub row_in : (l : LayoutData) (p i k : ℕ) → IsLocation l p i → k < length (words_of l p i) → Contains (all_rows l) (row_of l p i (get_or (words_of l p i) k no_word))
 row_in l p i k loc low =
     let r = row_of l p i (get_or (words_of l p i) k no_word) in
     let here : Contains (location_rows l p i) r = (k, omega (arith, low, mapped_length (row_of l p i) (words_of l p i)), mapped_at (row_of l p i) (words_of l p i) k no_word r low) in
@@ -233,7 +233,7 @@ key_at : (port address : ℕ) → key_of (row_at port address) ≡ port * 2 ^ 64
 unfolding row_at
 key_at port address = refl
 
-same_key : (first rows : List WordRow) (port address : ℕ) → IsStableByKey key_of nat_cmp first rows
+pub same_key : (first rows : List WordRow) (port address : ℕ) → IsStableByKey key_of nat_cmp first rows
     → filter (λ r. key_of r == port * 2 ^ 64 + address) rows ≡ filter (λ r. key_of r == port * 2 ^ 64 + address) first
 same_key first rows port address stable =
     let x = row_at port address in

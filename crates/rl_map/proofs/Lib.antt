@@ -21,3 +21,10 @@ pub mod Rights
 pub mod Ranges
 pub mod Askew
 pub mod Placing
+pub mod Refusing
+pub mod Accepting
+pub mod Stable
+pub mod Folding
+pub mod Sharing
+pub mod Finding
+pub mod Exactly

@@ -52,7 +52,7 @@ mapped_length : {X Y : Type 0} (f : X → Y) (xs : List X) → length (map f xs)
 mapped_length f [] = refl
 mapped_length f (x ∷ xs) = ap suc (mapped_length f xs)
 
-length-rows_of : (maps : List MapRow) (ports : List PortRow) (number : ℕ) (p : PlaceRow)
+pub length-rows_of : (maps : List MapRow) (ports : List PortRow) (number : ℕ) (p : PlaceRow)
     → length (rows_of maps ports number p) ≡ p.size * length (item_words (path_in maps p) (port_for ports p).base (location_of p 0))
 length-rows_of maps ports number p =
     let path = path_in maps p in

@@ -70,7 +70,7 @@ mapped_length f (x ∷ xs) = ap suc (mapped_length f xs)
 
 -- ---- a location by itself
 
-is_path : (l : LayoutData) → IsTested l → (p : ℕ) → p < length l.places → IsPath (path_of l p)
+pub is_path : (l : LayoutData) → IsTested l → (p : ℕ) → p < length l.places → IsPath (path_of l p)
 is_path l t p low = (t.each_map (place_at l p).map (t.each_place p low).map).path
 
 root_is : (l : LayoutData) → IsTested l → (p : ℕ) → p < length l.places → root_bytes (path_of l p) ≡ (port_at l (place_at l p).port).bytes

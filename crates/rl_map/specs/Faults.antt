@@ -1,5 +1,5 @@
 -- The first condition that fails for maps and places.
-use Rattle.std.specs.Prelude.{◌≡◌, ◌≢◌, ℕ, ◌+◌, ◌*◌, ◌%◌, ◌==◌, min, nat_lt, nat_le, ◌&&◌, ◌||◌, Bool, true, false, not, if◌then◌else◌, List, [], ◌∷◌, ◌++◌, length, map, filter, fold, flat_map, slice_index_or, Option, Some, None, is_some, is_none, option_map, unwrap_or, Result, Ok, Err, position, bit_and}
+use Rattle.std.specs.Prelude.{◌≡◌, ◌≢◌, ℕ, ◌+◌, ◌*◌, ◌%◌, ◌==◌, min, nat_lt, nat_le, ◌&&◌, ◌||◌, Bool, true, false, not, if◌then◌else◌, List, [], ◌∷◌, ◌++◌, length, map, filter, fold, flat_map, slice_index_or, Option, Some, None, is_some, is_none, option_map, unwrap_or, Result, Ok, Err, position}
 use Rattle.std.specs.List.{list_any, range_with_len}
 use Rattle.rl_model.specs.declared.fault.Array.{Array}
 use Rattle.rl_model.specs.declared.fault.Array.TheVariants as array
@@ -8,7 +8,6 @@ use Rattle.rl_model.specs.declared.rows.Item.{Item}
 use Rattle.rl_model.specs.declared.rows.Item.TheVariants as item
 use Rattle.rl_model.specs.Rows.{ChipData}
 use Rattle.rl_model.specs.Rules.{is_name, or_else}
-use Rattle.rl_model.specs.Paths.{is_among}
 use Rattle.rl_bus.specs.declared.op.AdapterKind.{AdapterKind}
 use Rattle.rl_map.specs.declared.fault.MapCause.{MapCause}
 use Rattle.rl_map.specs.declared.fault.MapCause.TheVariants.{TooMany, BadName, DuplicateName, NoSuchMap, TooDeep, BadBytes, NoSuchAdapter, NoSuchItem, PlacedTwice, MemInFifo, AddressOverflow, Unaligned, SharedAddress}
@@ -24,8 +23,8 @@ use Rattle.rl_map.specs.declared.rows.PlaceRow.{PlaceRow}
 use Rattle.rl_map.specs.Access.{through}
 use Rattle.rl_map.specs.Seat.{access_of, seat_of}
 use Rattle.rl_map.specs.Words.{item_words}
-use Rattle.rl_map.specs.Layout.{no_map, no_port, location_of, same_item}
-use Rattle.rl_map.specs.Maps.{MapTables, no_tables, with_map, tables_of, map_names, path_under, level_of, kind_number, kind_with, map_number, map_with, item_at, place_row}
+use Rattle.rl_map.specs.Layout.{no_map, no_port, location_of, same_item, has_right}
+use Rattle.rl_map.specs.Maps.{MapTables, no_tables, with_map, tables_of, path_under, level_of, kind_number, kind_with, map_number, map_with, item_at, place_row}
 
 -- ---- the order of refusals
 
@@ -49,13 +48,13 @@ is_width bytes = bytes == 1 || bytes == 2 || bytes == 4 || bytes == 8
 -- the parent is an earlier map, or there is none
 abbrev pub has_parent : List MapRow → Option (List ℕ) → Bool
 has_parent earlier None = true
-has_parent earlier (Some parent) = is_among parent (map_names earlier)
+has_parent earlier (Some parent) = is_some (map_number earlier parent)
 
 abbrev pub map_checks : List AdapterKind → List MapRow → MapNode → List Check
 map_checks kinds earlier m =
     (nat_le 64 (length earlier), TooMany)
     ∷ (not (is_name m.name), BadName)
-    ∷ (is_among m.name (map_names earlier), DuplicateName)
+    ∷ (is_some (map_number earlier m.name), DuplicateName)
     ∷ (not (has_parent earlier m.parent), NoSuchMap)
     ∷ (nat_lt 4 (length (path_under earlier m.parent (level_of m))), TooDeep)
     ∷ (not (is_width m.bytes), BadBytes)
@@ -76,10 +75,11 @@ pub record Placed : Type 0 where
   pub path : List Level
   pub port : PortRow
 
+abbrev pub placed_by : MapTables → PlaceRow → Placed
+placed_by t row = record { row = row; path = (slice_index_or t.maps row.map no_map).path; port = slice_index_or t.ports row.port no_port }
+
 abbrev pub placed : ChipData → MapTables → PlacePart → Placed
-placed chip t p =
-    let row = place_row chip t.maps p in
-    record { row = row; path = (slice_index_or t.maps row.map no_map).path; port = slice_index_or t.ports row.port no_port }
+placed chip t p = placed_by t (place_row chip t.maps p)
 
 abbrev pub is_mem : Item → Bool
 is_mem (item.Reg n) = false
@@ -120,8 +120,11 @@ abbrev pub stands_on : ℕ → Placed → Bool
 stands_on address p = some_byte p (λ index byte. address_in p index byte == address)
 
 -- two places of one port that may not share an address: they have a right in common, or one has a FIFO kind on its path
+abbrev pub share_right : PlaceRow → PlaceRow → Bool
+share_right p q = (has_right p.rights false && has_right q.rights false) || (has_right p.rights true && has_right q.rights true)
+
 abbrev pub clash : Placed → Placed → Bool
-clash p q = p.row.port == q.row.port && (not (bit_and p.row.rights.bits q.row.rights.bits == 0) || p.row.fifo || q.row.fifo)
+clash p q = p.row.port == q.row.port && (share_right p.row q.row || p.row.fifo || q.row.fifo)
 
 -- the first earlier place that clashes at the address
 abbrev pub sharer : List Placed → Placed → ℕ → Option ℕ
@@ -143,25 +146,25 @@ shared earlier p =
 
 -- ---- all conditions of a place
 
-abbrev pub place_checks : ChipData → MapTables → List Placed → ℕ → PlacePart → Placed → List Check
+abbrev pub place_checks : ChipData → MapTables → List PlaceRow → ℕ → PlacePart → Placed → List Check
 place_checks chip t earlier words part p =
     (nat_le 4096 (length earlier), TooMany)
     ∷ (is_none (map_number t.maps part.map), NoSuchMap)
     ∷ (is_none (item_at chip part.item), NoSuchItem)
-    ∷ (list_any (λ q. is_same_place q.row p.row) earlier, PlacedTwice)
+    ∷ (list_any (λ q. is_same_place q p.row) earlier, PlacedTwice)
     ∷ (is_mem p.row.item && p.row.fifo, MemInFifo)
     ∷ (nat_lt 1048576 (words + word_count p), TooMany)
     ∷ (some_byte p (is_above p), AddressOverflow)
     ∷ (some_byte p (is_unaligned p), Unaligned)
-    ∷ (is_some (shared earlier p), unwrap_or (shared earlier p) TooMany) ∷ []
+    ∷ (is_some (shared (map (placed_by t) earlier) p), unwrap_or (shared (map (placed_by t) earlier) p) TooMany) ∷ []
 
 -- the places after those that are earlier, which have so many words
-abbrev pub places_fault : ChipData → MapTables → List Placed → ℕ → List PlacePart → Option MapFault
+abbrev pub places_fault : ChipData → MapTables → List PlaceRow → ℕ → List PlacePart → Option MapFault
 places_fault chip t earlier words [] = None
 places_fault chip t earlier words (part ∷ parts) =
     let p = placed chip t part in
     or_else (first_of (row_at array.Place (length earlier)) (place_checks chip t earlier words part p))
-    (places_fault chip t (earlier ++ p ∷ []) (words + word_count p) parts)
+    (places_fault chip t (earlier ++ p.row ∷ []) (words + word_count p) parts)
 
 -- the first condition that fails
 unfoldable pub layout_fault : ChipData → List MapNode → List PlacePart → List AdapterKind → Option MapFault

@@ -10,3 +10,5 @@ pub mod Tables
 pub mod LayoutText
 pub mod Building
 pub mod Laws
+pub mod Steps
+pub mod Clashes

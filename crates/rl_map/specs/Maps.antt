@@ -89,7 +89,7 @@ tables_of kinds maps = fold (with_map kinds) no_tables maps
 abbrev pub item_at : ChipData → List ℕ → Option Item
 item_at chip path =
     option_or (option_map (λ n. item.Reg n) (position (bytes_eq path) (take (length chip.regs) (drop chip.scopes chip.paths))))
-    (option_map (λ n. item.Mem n) (position (bytes_eq path) (drop (chip.scopes + length chip.regs) chip.paths)))
+    (option_map (λ n. item.Mem n) (position (bytes_eq path) (take (length chip.mems) (drop (chip.scopes + length chip.regs) chip.paths))))
 
 abbrev pub item_bytes : ChipData → Item → ℕ
 item_bytes chip i = unwrap_or (bytes_of chip i) 0

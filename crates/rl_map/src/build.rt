@@ -1,17 +1,35 @@
 //! Building a layout of its parts.
 ghost use Rattle.std.specs.Prelude.{◌≡◌, ◌<◌, ◌^◌, length, IfOk};
 ghost use Rattle.rl_map.specs.Layout.{IsSound};
-ghost use Rattle.rl_map.specs.Maps.{IsBuiltWith};
+ghost use Rattle.rl_map.specs.Maps.{IsBuiltWith, layout_of};
+ghost use Rattle.rl_map.specs.Faults.{Passes, layout_fault};
+ghost use Rattle.rl_map.specs.Clashes.{first_fault};
 
 use crate::fault::{MapCause, MapFault, refusal, row_at};
 use crate::layout::Layout;
 use crate::maps::add_maps;
 use crate::parts::{MapNode, PlacePart};
 use crate::places::add_places;
-use crate::shared::{first_shared, sort_rows};
+use crate::shared::{Shared, first_shared, sort_rows};
 use rl_bus::AdapterKind;
 use rl_model::{Array, Chip};
 use std::alloc::Global;
+
+/// The refusal by a shared address, or else the other one.
+fn first_fault(shared: Option<Shared>, refused: Option<MapFault>) -> Option<MapFault>
+    ensures { result ≡ first_fault shared refused }
+{
+    match shared {
+        Some(shared) => Some(refusal(
+            row_at(Array::Place, shared.place),
+            MapCause::SharedAddress {
+                address: shared.address,
+                other: shared.other,
+            },
+        )),
+        None => refused,
+    }
+}
 
 impl Layout {
     /// Builds the layout of these maps and places, in description order, over a chip.
@@ -29,6 +47,7 @@ impl Layout {
         kinds: &[AdapterKind],
     ) -> Result<Layout, MapFault>
         requires { length kinds.now < 2 ^ 32 }
+        ensures exact { Passes result (layout_fault chip.now maps.now places.now kinds.now) (λ l. l ≡ layout_of chip.now maps.now places.now kinds.now) }
         ensures sound { IfOk result IsSound }
         ensures kinds { IfOk result (λ l. l.kinds ≡ kinds.now) }
         ensures built_with { IfOk result (λ l. IsBuiltWith l chip.now) }
@@ -39,16 +58,8 @@ impl Layout {
         let mut rows = Vec::new(alloc);
         let refused = add_places(chip, &map_rows, &ports, &mut place_rows, &mut rows, places)?;
         sort_rows(&mut rows)?;
-        if let Some(shared) = first_shared(&place_rows, &rows) {
-            return Err(refusal(
-                row_at(Array::Place, shared.place),
-                MapCause::SharedAddress {
-                    address: shared.address,
-                    other: shared.other,
-                },
-            ));
-        }
-        if let Some(fault) = refused {
+        let shared = first_shared(&place_rows, &rows);
+        if let Some(fault) = first_fault(shared, refused) {
             return Err(fault);
         }
         Ok(Layout {

@@ -1,7 +1,9 @@
 //! The maps and ports of a layout.
-ghost use Rattle.std.specs.Prelude.{◌≡◌, ◌++◌, ◌+◌, ◌<◌, ◌≤◌, ◌^◌, ◌∷◌, ℕ, [], Some, None, IfOk, OnOk, IfSome, length, All};
-ghost use Rattle.rl_map.specs.Maps.{kind_number, map_row, path_under, port_under, port_row, ports_with, tables_of, level_of};
-ghost use Rattle.rl_map.specs.Faults.{is_width};
+ghost use Rattle.std.specs.Prelude.{⊤, ◌≡◌, ◌++◌, ◌+◌, ◌<◌, ◌≤◌, ◌^◌, ◌∷◌, ℕ, [], Some, None, IfOk, OnOk, IfSome, length, All};
+ghost use Rattle.rl_map.specs.Maps.{kind_number, map_row, path_under, port_under, port_row, ports_with, tables_of, level_of, no_tables};
+ghost use Rattle.rl_map.specs.Faults.{is_width, Passes, first_of, row_at, map_checks, maps_fault};
+ghost use Rattle.rl_map.specs.Steps.{name_checks, under_checks, row_checks, adapter_checks, port_checks};
+ghost use Rattle.rl_model.specs.declared.fault.Array.TheVariants as array;
 ghost use Rattle.rl_map.specs.Building.{AreTables, IsMapRow, IsPortRow, IsUnder, HasPort};
 ghost use Rattle.rl_bus.specs.Lanes.{IsWidth};
 
@@ -12,7 +14,7 @@ use crate::parts::MapNode;
 use crate::path::{Level, Path};
 use crate::rows::{MapRow, PortRow};
 use rl_bus::AdapterKind;
-use rl_model::{Array, Name};
+use rl_model::{Array, Name, Spot};
 use std::alloc::{AllocError, Global};
 
 /// The place of the first kind with a name.
@@ -47,35 +49,37 @@ fn copied(alloc: Global, name: &Name) -> Result<Name, AllocError>
 }
 
 /// Refuses one map too many, a bad name, and one that is there.
-fn check_name(maps: &[MapRow], map: &MapNode) -> Result<(), MapCause>
-    ensures { OnOk result (length maps.now < 64) }
+fn check_name(maps: &[MapRow], map: &MapNode, spot: Spot) -> Result<(), MapFault>
+    ensures few { OnOk result (length maps.now < 64) }
+    ensures fault { Passes result (first_of spot (name_checks maps.now map.now)) (λ _. ⊤) }
 {
     if maps.len() >= 64 {
-        return Err(MapCause::TooMany);
+        return Err(refusal(spot, MapCause::TooMany));
     }
     if !is_name(map.name.text()) {
-        return Err(MapCause::BadName);
+        return Err(refusal(spot, MapCause::BadName));
     }
     match map_number(maps, map.name.text()) {
         None => Ok(()),
-        Some(_) => Err(MapCause::DuplicateName),
+        Some(_) => Err(refusal(spot, MapCause::DuplicateName)),
     }
 }
 
 /// The path of a map, from itself up to its root.
-fn path_under(maps: &[MapRow], map: &MapNode) -> Result<Path, MapCause>
+fn path_under(maps: &[MapRow], map: &MapNode, spot: Spot) -> Result<Path, MapFault>
     ensures path { IfOk result (λ path. path ≡ path_under maps.now map.now.parent (level_of map.now)) }
     ensures under { IfOk result (λ path. IsUnder maps.now map.now.parent) }
+    ensures fault { Passes result (first_of spot (under_checks maps.now map.now)) (λ _. ⊤) }
 {
     let level = level_of(map);
     match &map.parent {
         None => Ok(Path::of_root(level)),
         Some(parent) => match map_number(maps, parent.text()) {
-            None => Err(MapCause::NoSuchMap),
+            None => Err(refusal(spot, MapCause::NoSuchMap)),
             Some(number) => {
                 let above = &maps[number];
                 if above.path.levels().len() >= 4 {
-                    return Err(MapCause::TooDeep);
+                    return Err(refusal(spot, MapCause::TooDeep));
                 }
                 Ok(Path::under(level, &above.path))
             }
@@ -104,18 +108,20 @@ fn last_address(kind: &AdapterKind) -> u64
 }
 
 /// The port of a root.
-fn port_row(kinds: &[AdapterKind], number: u32, map: &MapNode) -> Result<PortRow, MapCause>
+fn port_row(kinds: &[AdapterKind], number: u32, map: &MapNode) -> Result<PortRow, MapFault>
     requires kinds { length kinds.now < 2 ^ 32 }
     requires width { IsWidth map.now.bytes }
     ensures row { IfOk result (λ row. row ≡ port_row kinds.now number map.now) }
     ensures fits { IfOk result (IsPortRow kinds.now (number + 1)) }
+    ensures fault { Passes result (first_of (row_at array.Map number) (adapter_checks kinds.now map.now)) (λ _. ⊤) }
 {
+    let spot = row_at(Array::Map, number);
     match kind_number(kinds, map.adapter.text()) {
-        None => Err(MapCause::NoSuchAdapter),
+        None => Err(refusal(spot, MapCause::NoSuchAdapter)),
         Some(adapter) => {
             let kind = kinds[adapter];
             if map.bytes > u64::from(kind.most_bytes) {
-                return Err(MapCause::BadBytes);
+                return Err(refusal(spot, MapCause::BadBytes));
             }
             prove!(last_address(&kind) <= u64::MAX);
             Ok(PortRow {
@@ -141,13 +147,11 @@ fn add_port(
     requires width { IsWidth map.now.bytes }
     ensures added { OnOk result (ports.new.items ≡ ports_with kinds.now number ports.old.items map.now.parent map.now) }
     ensures has_port { OnOk result (HasPort kinds.now number map.now.parent map.now) }
+    ensures fault { Passes result (first_of (row_at array.Map number) (port_checks kinds.now map.now)) (λ _. ⊤) }
 {
     match &map.parent {
         None => {
-            let row = port_row(kinds, number, map).map_err(|cause| refusal(
-                row_at(Array::Map, number),
-                cause,
-            ))?;
+            let row = port_row(kinds, number, map)?;
             ports.push(row)?;
         }
         Some(_) => {}
@@ -162,10 +166,11 @@ fn map_row(alloc: Global, maps: &[MapRow], ports: u32, map: &MapNode) -> Result<
     ensures few { OnOk result (length maps.now < 64) }
     ensures under { OnOk result (IsUnder maps.now map.now.parent) }
     ensures width { OnOk result (IsWidth map.now.bytes) }
+    ensures fault { Passes result (first_of (row_at array.Map (length maps.now)) (row_checks maps.now map.now)) (λ _. ⊤) }
 {
     let spot = row_at(Array::Map, maps.len() as u32);
-    check_name(maps, map).map_err(|cause| refusal(spot, cause))?;
-    let path = path_under(maps, map).map_err(|cause| refusal(spot, cause))?;
+    check_name(maps, map, spot)?;
+    let path = path_under(maps, map, spot)?;
     if !is_width(map.bytes) {
         return Err(refusal(spot, MapCause::BadBytes));
     }
@@ -189,6 +194,7 @@ fn add_map(
     ensures maps { OnOk result (maps.new.items ≡ maps.old.items ++ map_row (length ports.old.items) maps.old.items map.now ∷ []) }
     ensures ports { OnOk result (ports.new.items ≡ ports_with kinds.now (length maps.old.items) ports.old.items map.now.parent map.now) }
     ensures tables { OnOk result (AreTables kinds.now maps.new.items ports.new.items) }
+    ensures fault { Passes result (first_of (row_at array.Map (length maps.old.items)) (map_checks kinds.now maps.old.items map.now)) (λ _. ⊤) }
 {
     let number = maps.len() as u32;
     let count = ports.len() as u32;
@@ -208,6 +214,7 @@ pub(crate) fn add_maps(
     ensures maps { IfOk result (λ r. r.0.items ≡ (tables_of kinds.now parts.now).maps) }
     ensures ports { IfOk result (λ r. r.1.items ≡ (tables_of kinds.now parts.now).ports) }
     ensures tables { IfOk result (λ r. AreTables kinds.now r.0.items r.1.items) }
+    ensures fault { Passes result (maps_fault kinds.now no_tables parts.now) (λ _. ⊤) }
 {
     let mut maps = Vec::new(alloc);
     let mut ports = Vec::new(alloc);

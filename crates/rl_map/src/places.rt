@@ -8,6 +8,9 @@ ghost use Rattle.rl_map.specs.Seat.{AddressesFit};
 ghost use Rattle.rl_map.specs.Words.{item_words};
 ghost use Rattle.rl_map.specs.Layout.{has_right, cell_of, word_row, location_of};
 ghost use Rattle.rl_map.specs.Faults.{is_same_place};
+ghost use Rattle.rl_map.specs.declared.fault.MapFault.{MapFault};
+ghost use Rattle.rl_map.specs.Maps.{item_at, place_row};
+ghost use Rattle.rl_map.specs.Steps.{Tells, there_checks, fifo_checks, word_checks, own_checks, place_of_part, own_fault, own_faults, accepted};
 ghost use Rattle.rl_map.specs.Building.{AreTables, IsPlacedIn, IsPlaceRow, IsSeated, ArePlaces, HasRoom, rows_of, location_rows_of, path_in, port_for, placed_at};
 
 use crate::address::{is_place_above, is_place_unaligned};
@@ -24,7 +27,8 @@ use std::alloc::AllocError;
 
 /// The register or memory with a path.
 fn item_at(chip: &Chip, path: &[u8]) -> Option<Item>
-    ensures { IfSome result (HasItem chip.now) }
+    ensures there { IfSome result (HasItem chip.now) }
+    ensures exact { result ≡ item_at chip.now path.now }
 {
     match chip.reg_by_path(path) {
         Some(reg) => Some(Item::Reg(reg)),
@@ -153,7 +157,9 @@ fn is_placed(places: &[PlaceRow], row: &PlaceRow) -> bool
 /// The row of a place, if its map and its item are there.
 fn place_row(chip: &Chip, maps: &[MapRow], part: &PlacePart) -> Result<PlaceRow, MapCause>
     requires { length maps.now ≤ 64 }
-    ensures { IfOk result (IsPlacedIn chip.now maps.now) }
+    ensures placed { IfOk result (IsPlacedIn chip.now maps.now) }
+    ensures row { IfOk result (λ row. row ≡ place_row chip.now maps.now part.now) }
+    ensures fault { Tells result (there_checks chip.now maps.now part.now) }
 {
     match map_number(maps, part.map.text()) {
         None => Err(MapCause::NoSuchMap),
@@ -178,7 +184,8 @@ fn place_row(chip: &Chip, maps: &[MapRow], part: &PlacePart) -> Result<PlaceRow,
 
 /// Refuses a memory on a FIFO path.
 fn check_fifo(row: &PlaceRow) -> Result<(), MapCause>
-    ensures { OnOk result ((m : ℕ) → row.now.item ≡ Item.Mem m → row.now.fifo ≡ false) }
+    ensures mem { OnOk result ((m : ℕ) → row.now.item ≡ Item.Mem m → row.now.fifo ≡ false) }
+    ensures fault { Tells result (fifo_checks row.now) }
 {
     match row.item {
         Item::Reg(_) => Ok(()),
@@ -201,6 +208,7 @@ fn check_words(row: &PlaceRow, path: &[Level], port: &PortRow, words: usize) -> 
     requires words { words ≤ 1048576 }
     ensures room { OnOk result (words + row.now.size * length (item_words path.now port.now.base (location_of row.now 0)) ≤ 1048576) }
     ensures seated { OnOk result (IsSeated (placed_at row.now path.now port.now)) }
+    ensures fault { Tells result (word_checks words (placed_at row.now path.now port.now)) }
 {
     let more = u64::from(row.size) * u64::from(location(row, 0).count(path));
     if words as u64 + more > 1_048_576 {
@@ -229,6 +237,8 @@ fn checked_place(
     ensures few { OnOk result (length places.now < 4096) }
     ensures row { IfOk result (IsPlaceRow chip.now maps.now ports.now) }
     ensures room { IfOk result (HasRoom maps.now ports.now words) }
+    ensures exact { IfOk result (λ row. row ≡ place_row chip.now maps.now part.now) }
+    ensures fault { Tells result (own_checks chip.now maps.now places.now words part.now (place_of_part chip.now maps.now ports.now part.now)) }
 {
     if places.len() >= 4096 {
         return Err(MapCause::TooMany);
@@ -255,7 +265,10 @@ fn add_place(
 ) -> Result<Option<MapFault>, AllocError>
     requires tables { (kinds : List Kind) × AreTables kinds maps.now ports.now }
     requires places { ArePlaces chip.now maps.now ports.now places.old.items rows.old.items }
-    ensures { OnOk result (ArePlaces chip.now maps.now ports.now places.new.items rows.new.items) }
+    ensures places { OnOk result (ArePlaces chip.now maps.now ports.now places.new.items rows.new.items) }
+    ensures fault { IfOk result (λ refused. refused ≡ own_fault chip.now maps.now ports.now places.old.items (length rows.old.items) part.now) }
+    ensures added { IfOk result (λ refused. refused ≡ None → places.new.items ≡ places.old.items ++ place_row chip.now maps.now part.now ∷ []) }
+    ensures kept { IfOk result (λ refused. (fault : MapFault) → refused ≡ Some fault → places.new.items ≡ places.old.items) }
 {
     let number = places.len() as u32;
     let words = rows.len();
@@ -280,7 +293,9 @@ pub(crate) fn add_places(
 ) -> Result<Option<MapFault>, AllocError>
     requires tables { (kinds : List Kind) × AreTables kinds maps.now ports.now }
     requires places { ArePlaces chip.now maps.now ports.now places.old.items rows.old.items }
-    ensures { OnOk result (ArePlaces chip.now maps.now ports.now places.new.items rows.new.items) }
+    ensures places { OnOk result (ArePlaces chip.now maps.now ports.now places.new.items rows.new.items) }
+    ensures fault { IfOk result (λ refused. refused ≡ own_faults chip.now maps.now ports.now places.old.items (length rows.old.items) parts.now) }
+    ensures accepted { OnOk result (places.new.items ≡ places.old.items ++ accepted chip.now maps.now ports.now places.old.items (length rows.old.items) parts.now) }
 {
     for part in parts {
         let refused = add_place(chip, maps, ports, places, rows, part)?;

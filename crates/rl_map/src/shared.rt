@@ -1,16 +1,17 @@
 //! Words of two places at one address.
-ghost use Rattle.std.specs.Prelude.{◌≡◌, false, ◌≤◌, ◌<◌, ◌^◌, ◌&&◌, ◌||◌, ℕ, List, None, Some, Option, OnOk, length, All, if◌then◌else◌, ◌==◌, slice_index_or, IsPermutation};
+ghost use Rattle.std.specs.Prelude.{◌≡◌, false, true, ◌≤◌, ◌<◌, ◌^◌, ◌&&◌, ◌||◌, ℕ, List, None, Some, Option, OnOk, length, fold, All, if◌then◌else◌, ◌==◌, slice_index_or, IsPermutation};
 ghost use Rattle.std.specs.List.Sorted.{IsStableByKey};
 ghost use Rattle.std.specs.Ordering.{nat_cmp};
 ghost use Rattle.rl_map.specs.Layout.{IsAscending, key_of};
 ghost use Rattle.rl_map.specs.Building.{rows_clash, NoRowsClash, AreRowsOf};
+ghost use Rattle.rl_map.specs.Clashes.{shared_by, is_before, earlier, with_pair, NotAfter, IsMade, IsLeast};
 
 use crate::find::key;
 use crate::rows::PlaceRow;
 use rl_bus::WordRow;
 use std::alloc::AllocError;
 
-/// An address that a place shares with an earlier one.
+/// A place that clashes with an earlier one at an address.
 #[derive(Clone, Copy, Debug)]
 pub(crate) struct Shared {
     pub(crate) place: u32,
@@ -31,32 +32,77 @@ fn rows_clash(places: &[PlaceRow], a: &WordRow, b: &WordRow) -> bool
             || places[b.place as usize].fifo)
 }
 
-/// The place of the first row that clashes with a row.
-fn clashing(places: &[PlaceRow], rows: &[WordRow], row: &WordRow) -> Option<u32>
-    requires rows { AreRowsOf places.now rows.now }
-    requires row { row.now.place < length places.now }
-    ensures { result ≡ None → All (λ r. rows_clash places.now r row.now ≡ false) rows.now }
+/// The clash of two rows of one address.
+fn shared_by(a: &WordRow, b: &WordRow) -> Shared
+    ensures { result ≡ shared_by a.now b.now }
 {
-    for other in rows {
-        if rows_clash(places, other, row) {
-            return Some(other.place);
+    if a.place < b.place {
+        Shared {
+            place: b.place,
+            address: b.address,
+            other: a.place,
+        }
+    } else {
+        Shared {
+            place: a.place,
+            address: b.address,
+            other: b.place,
         }
     }
-    None
 }
 
-/// The one of the earlier place, and of two at one place the one that was found first.
-fn earlier(best: Option<Shared>, found: Shared) -> Shared {
+/// By place, then by address, then by the earlier place.
+fn is_before(a: Shared, b: Shared) -> bool
+    ensures { result ≡ is_before a b }
+{
+    a.place < b.place
+        || a.place == b.place
+            && (a.address < b.address || a.address == b.address && a.other < b.other)
+}
+
+fn earlier(best: Option<Shared>, found: Shared) -> Shared
+    ensures { result ≡ earlier best found }
+{
     match best {
         None => found,
-        Some(best) => {
-            if best.place <= found.place {
-                best
-            } else {
-                found
-            }
-        }
+        Some(best) => { if is_before(found, best) { found } else { best } }
     }
+}
+
+/// The best with the clash of two rows, if they clash.
+fn with_pair(
+    places: &[PlaceRow],
+    row: &WordRow,
+    best: Option<Shared>,
+    other: &WordRow,
+) -> Option<Shared>
+    requires first { other.now.place < length places.now }
+    requires second { row.now.place < length places.now }
+    ensures { result ≡ with_pair places.now row.now best other.now }
+{
+    if rows_clash(places, other, row) {
+        Some(earlier(best, shared_by(other, row)))
+    } else {
+        best
+    }
+}
+
+/// The best with the clashes of a row with other rows.
+fn with_row(
+    places: &[PlaceRow],
+    row: &WordRow,
+    best: &Option<Shared>,
+    rows: &[WordRow],
+) -> Option<Shared>
+    requires rows { AreRowsOf places.now rows.now }
+    requires row { row.now.place < length places.now }
+    ensures { result ≡ fold (with_pair places.now row.now) best.now rows.now }
+{
+    let mut least = *best;
+    for other in rows {
+        least = with_pair(places, row, least, other);
+    }
+    least
 }
 
 /// Where the rows of the address of row `k` begin, if those of the row before begin at `start`.
@@ -74,25 +120,19 @@ fn group_start(rows: &[WordRow], start: usize, k: usize) -> usize
     }
 }
 
-/// The first place that clashes with an earlier one, and of its addresses the least.
+/// The first place that clashes with an earlier one, of its addresses the least, and of the earlier places there the first.
 pub(crate) fn first_shared(places: &[PlaceRow], rows: &[WordRow]) -> Option<Shared>
     requires rows { AreRowsOf places.now rows.now }
     requires ascending { IsAscending rows.now }
-    ensures { result ≡ None → NoRowsClash places.now rows.now }
+    ensures least { IsLeast places.now rows.now result }
+    ensures made { (s : Shared) → result ≡ Some s → IsMade places.now rows.now s }
 {
     let mut best = None;
     let mut start = 0;
     for k in 0..rows.len() {
         let row = &rows[k];
         start = group_start(rows, start, k);
-        if let Some(other) = clashing(places, &rows[start..k], row) {
-            let found = Shared {
-                place: row.place,
-                address: row.address,
-                other,
-            };
-            best = Some(earlier(best, found));
-        }
+        best = with_row(places, row, &best, &rows[start..k]);
     }
     best
 }

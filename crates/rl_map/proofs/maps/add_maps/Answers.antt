@@ -1,5 +1,7 @@
 use Rattle.std.proofs.Common.{◌≡◌, ◌≢◌, ℕ, zero, suc, ◌+◌, ◌-◌, ◌*◌, ◌%◌, ◌^◌, ◌<◌, ◌≤◌, ◌⊎◌, inl, inr, ◌||◌, ◌&&◌, ◌==◌, not, Bool, true, false, cond, List, [], ◌∷◌, ◌++◌, length, get_or, take, drop, map, Option, Some, None, refl, sym, ap, ◌∙◌, subst, arith, rules, eq-eqb, eqb-true}
 use Rattle.rl_map.proofs.Growing.{maps_step}
+use Rattle.std.proofs.lemmas.Result.{err_from_is_err_and}
+use Rattle.rl_map.proofs.Refusing.{failed, maps_end, maps_next, maps_done}
 use Rattle.rl_map.proofs.maps.add_maps.Goals as goal
 
 pub loop-part-preserved : goal.loop-part-preserved
@@ -7,4 +9,20 @@ loop-part-preserved c =
     let was = c.loop-part.invariant in
     let made = c.in_ok-add_map.ensures in
     let next = maps_step c.args.kinds.now c.args.parts.now c.loop-part.part-index _ _ _ _ c.part-item.result c.loop-part-test.true c.part-item.is was.maps was.ports made.maps made.ports in
-    record { maps = next.0; ports = next.1; tables = made.tables }
+    record {
+      maps = next.0;
+      ports = next.1;
+      tables = made.tables;
+      fault = maps_next c.args.kinds.now c.loop-part.maps.items c.loop-part.ports.items _ _ c.args.parts.now c.loop-part.part-index c.part-item.result _ c.loop-part-test.true c.part-item.is was.fault made.fault.0 made.maps made.ports;
+    }
+
+pub returns-in_err-add_map-clause-fault : goal.returns-in_err-add_map-clause-fault
+returns-in_err-add_map-clause-fault c =
+    let p = err_from_is_err_and c.from_residual.result c.from_residual.ensures.1 in
+    failed c.from_residual.result _ c.in_err-add_map.field-0.0 p.0 p.1 p.2
+    (maps_end c.args.kinds.now c.loop-part.maps.items c.loop-part.ports.items c.args.parts.now c.loop-part.part-index c.part-item.result _ _ c.loop-part-test.true c.part-item.is c.loop-part.invariant.fault
+    c.in_err-add_map.ensures.fault)
+
+pub returns-clause-fault : goal.returns-clause-fault
+returns-clause-fault c =
+    (maps_done c.args.kinds.now c.loop-part.maps.items c.loop-part.ports.items c.args.parts.now c.loop-part.part-index _ c.loop-part-test.false c.loop-part.invariant.fault, tt)

@@ -1,17 +1,20 @@
-use Rattle.std.proofs.Common.{◌≡◌, ◌≢◌, ℕ, zero, suc, ◌+◌, ◌-◌, ◌*◌, ◌%◌, ◌^◌, ◌<◌, ◌≤◌, ◌⊎◌, inl, inr, ◌||◌, ◌&&◌, ◌==◌, not, Bool, true, false, cond, List, [], ◌∷◌, ◌++◌, length, get_or, take, drop, map, Option, Some, None, refl, sym, ap, ◌∙◌, subst, arith, rules, eq-eqb, eqb-true}
-use Rattle.std.proofs.lemmas.Bool.{cases_lt}
-use Rattle.rl_bus.specs.declared.table.WordRow.{WordRow}
-use Rattle.rl_map.specs.Layout.{key_of}
-use Rattle.rl_map.specs.Building.{rows_clash}
+use Rattle.std.proofs.Common.{◌≡◌, ℕ, ◌+◌, ◌-◌, ◌<◌, ◌≤◌, Some, None, get_or, take, drop, length, refl, sym, ap, ◌∙◌, subst, arith}
 use Rattle.rl_map.proofs.Sorting.{some_row}
-use Rattle.rl_map.proofs.Scanning.{Scan, scan_more, none_with, slice_length}
+use Rattle.rl_map.proofs.Scanning.{scan_more, slice_length}
+use Rattle.rl_map.proofs.Folding.{Seen, seen_more, seen_none}
 use Rattle.rl_map.proofs.shared.first_shared.Goals as goal
-use Rattle.rl_map.proofs.shared.first_shared.Goals.{in-Some, in_default}
+
+pub loop-k-init : goal.loop-k-init
+loop-k-init c = record {
+  start_in = omega arith;
+  same = λ i d p q. absurd (omega arith);
+  before = λ i d p. absurd (omega arith);
+  seen = seen_none c.args.places.now c.args.rows.now;
+}
 
 pub loop-k-preserved : goal.loop-k-preserved
 loop-k-preserved c =
     let rows = c.args.rows.now in
-    let places = c.args.places.now in
     let k = c.loop-k.k in
     let was = c.loop-k.invariant in
     let low : k < length rows = c.loop-k-test.true in
@@ -22,15 +25,12 @@ loop-k-preserved c =
       start_in = step.0.start_in;
       same = step.0.same;
       before = step.0.before;
-      none = λ e i j d less in_k key. elim c.match-clashing.branch [
-        | in-Some w ↦ absurd (let f = sym w.best-is ∙ e in cc)
-        | in_default w ↦ elim (cases_lt j k) [
-          | inl p ↦ was.none (sym w.best-is ∙ e) i j d less p key
-          | inr p ↦
-              let last : j ≡ k = omega arith in
-              subst (λ n. rows_clash places (get_or rows i d) (get_or rows n d) ≡ false) (sym last)
-              (none_with places rows next k i d _ step.0 step.1 low (c.clashing.ensures w.in_default.is) (slice_length rows next k step.1 (omega arith)) (omega arith)
-              (key ∙ ap (λ n. key_of (get_or rows n d)) last))
-        ]
-      ];
+      seen = subst (Seen c.args.places.now rows (k + 1)) (sym c.with_row-best.ensures)
+          (seen_more c.args.places.now rows next k _ c.loop-k.best step.0 step.1 low (slice_length rows next k step.1 (omega arith)) was.seen);
     }
+
+pub returns-clause-least : goal.returns-clause-least
+returns-clause-least c i j d less low key clash = c.loop-k.invariant.seen.least i j d less (omega (arith, low, c.loop-k-test.false)) key clash
+
+pub returns-clause-made : goal.returns-clause-made
+returns-clause-made c s e = c.loop-k.invariant.seen.made s e

@@ -3,13 +3,18 @@ use Rattle.rl_map.specs.Layout.{IsSound}
 use Rattle.rl_map.specs.Building.{ArePlaces, AreRowsOf, NoRowsClash}
 use Rattle.rl_map.proofs.Placing.{rows_in}
 use Rattle.rl_map.proofs.Closing.{built, built_sound}
+use Rattle.rl_map.proofs.Folding.{none_least}
+use Rattle.std.proofs.lemmas.Result.{err_from_is_err_and}
+use Rattle.rl_map.specs.Faults.{Fails, layout_fault}
+use Rattle.rl_map.specs.Clashes.{IsLeast, IsMade}
+use Rattle.rl_map.proofs.Exactly.{AreMade, by_maps, fault_is, whole_is, none_shared, accepted_by, refused_by, failed}
 use Rattle.rl_map.proofs.layout.Layout.build.Goals as goal
 
-pub first_shared-requires-clause-rows : goal.first_shared-requires-clause-rows
-first_shared-requires-clause-rows c =
+pub first_shared-shared-requires-clause-rows : goal.first_shared-shared-requires-clause-rows
+first_shared-shared-requires-clause-rows c =
     subst (λ x. AreRowsOf x c.deref-4.result.now) (sym c.deref-3.ensures.value)
     (subst (λ y. AreRowsOf c.add_places.new.places.items y) (sym c.deref-4.ensures.value)
-    (rows_in c.args.chip.now c.deref.result.now c.deref-2.result.now c.add_places.new.places.items c.add_places.new.rows.items c.sort_rows.new.rows.items c.in_ok-refused.ensures c.in_ok-sort_rows.ensures.moved))
+    (rows_in c.args.chip.now c.deref.result.now c.deref-2.result.now c.add_places.new.places.items c.add_places.new.rows.items c.sort_rows.new.rows.items c.in_ok-refused.ensures.places c.in_ok-sort_rows.ensures.moved))
 
 pub invariant_of-result : goal.invariant_of-result
 invariant_of-result c =
@@ -20,13 +25,93 @@ invariant_of-result c =
     let rows = c.sort_rows.new.rows.items in
     let p : ArePlaces c.args.chip.now maps ports places first =
     subst (λ m. ArePlaces c.args.chip.now m ports places first) c.deref.ensures.value
-    (subst (λ q. ArePlaces c.args.chip.now c.deref.result.now q places first) c.deref-2.ensures.value c.in_ok-refused.ensures) in
+    (subst (λ q. ArePlaces c.args.chip.now c.deref.result.now q places first) c.deref-2.ensures.value c.in_ok-refused.ensures.places) in
     let none : NoRowsClash places rows =
     subst (λ x. NoRowsClash x rows) c.deref-3.ensures.value
-    (subst (λ y. NoRowsClash c.deref-3.result.now y) c.deref-4.ensures.value (c.first_shared.ensures c.in_default.is)) in
+    (subst (λ y. NoRowsClash c.deref-3.result.now y) c.deref-4.ensures.value (none_least c.deref-3.result.now c.deref-4.result.now c.first_shared-shared.result c.first_shared-shared.ensures.least (none_shared c.first_shared-shared.result c.in_ok-refused.refused _ c.first_fault.ensures c.in_default.is))) in
     let sorted = c.in_ok-sort_rows.ensures in
     subst (λ k. IsSound (built maps places ports k rows)) (sym c.in_ok-from_slice.ensures.items)
     (built_sound c.args.chip.now maps places ports c.args.kinds.now first rows c.in_ok-tables.ensures.tables p c.requires sorted.moved sorted.ascending sorted.stable none)
 
 pub returns-clause-sound : goal.returns-clause-sound
 returns-clause-sound c = invariant_of-result c
+
+pub returns-in_err-tables-clause-exact : goal.returns-in_err-tables-clause-exact
+returns-in_err-tables-clause-exact c =
+    let p = err_from_is_err_and c.from_residual.result c.from_residual.ensures.1 in
+    failed c.args.chip.now c.args.maps.now c.args.places.now c.args.kinds.now c.from_residual.result c.in_err-tables.field-0.0 p.0 p.1 p.2
+    (by_maps c.args.chip.now c.args.maps.now c.args.places.now c.args.kinds.now _ c.in_err-tables.ensures.fault)
+
+pub returns-in-Some-clause-exact : goal.returns-in-Some-clause-exact
+returns-in-Some-clause-exact c =
+    let chip = c.args.chip.now in
+    let maps = c.in_ok-tables.tables.0.items in
+    let ports = c.in_ok-tables.tables.1.items in
+    let places = c.add_places.new.places.items in
+    let first = c.add_places.new.rows.items in
+    let rows = c.sort_rows.new.rows.items in
+    let p : ArePlaces chip maps ports places first =
+    subst (λ m. ArePlaces chip m ports places first) c.deref.ensures.value
+    (subst (λ q. ArePlaces chip c.deref.result.now q places first) c.deref-2.ensures.value c.in_ok-refused.ensures.places) in
+    let sorted = c.in_ok-sort_rows.ensures in
+    let made : AreMade chip c.args.maps.now c.args.places.now c.args.kinds.now maps ports places first rows c.first_shared-shared.result c.in_ok-refused.refused = record {
+      accepted = record {
+        fine = c.in_ok-tables.ensures.fault.0;
+        maps_are = c.in_ok-tables.ensures.maps;
+        ports_are = c.in_ok-tables.ensures.ports;
+        rows_are = accepted_by chip c.args.places.now c.deref.result.now maps c.deref-2.result.now ports _ places _ c.deref.ensures.value c.deref-2.ensures.value
+            c.new-place_rows.ensures.items c.new-rows.ensures.items c.in_ok-refused.ensures.accepted;
+      };
+      tables = c.in_ok-tables.ensures.tables;
+      few = c.requires;
+      placed = p;
+      refused_is = refused_by chip c.args.places.now c.deref.result.now maps c.deref-2.result.now ports _ _ _ c.deref.ensures.value c.deref-2.ensures.value
+          c.new-place_rows.ensures.items c.new-rows.ensures.items c.in_ok-refused.ensures.fault;
+      moved = sorted.moved;
+      ascending = sorted.ascending;
+      stable = sorted.stable;
+      least = subst (λ x. IsLeast x rows c.first_shared-shared.result) c.deref-3.ensures.value
+          (subst (λ y. IsLeast c.deref-3.result.now y c.first_shared-shared.result) c.deref-4.ensures.value c.first_shared-shared.ensures.least);
+      made = λ s e. subst (λ x. IsMade x rows s) c.deref-3.ensures.value
+          (subst (λ y. IsMade c.deref-3.result.now y s) c.deref-4.ensures.value (c.first_shared-shared.ensures.made s e));
+    } in
+    λ other. fault_is chip c.args.maps.now c.args.places.now c.args.kinds.now maps ports places first rows c.first_shared-shared.result c.in_ok-refused.refused made
+    ∙ sym c.first_fault.ensures ∙ c.in-Some.is
+
+pub returns-clause-exact : goal.returns-clause-exact
+returns-clause-exact c =
+    let chip = c.args.chip.now in
+    let maps = c.in_ok-tables.tables.0.items in
+    let ports = c.in_ok-tables.tables.1.items in
+    let places = c.add_places.new.places.items in
+    let first = c.add_places.new.rows.items in
+    let rows = c.sort_rows.new.rows.items in
+    let p : ArePlaces chip maps ports places first =
+    subst (λ m. ArePlaces chip m ports places first) c.deref.ensures.value
+    (subst (λ q. ArePlaces chip c.deref.result.now q places first) c.deref-2.ensures.value c.in_ok-refused.ensures.places) in
+    let sorted = c.in_ok-sort_rows.ensures in
+    let made : AreMade chip c.args.maps.now c.args.places.now c.args.kinds.now maps ports places first rows c.first_shared-shared.result c.in_ok-refused.refused = record {
+      accepted = record {
+        fine = c.in_ok-tables.ensures.fault.0;
+        maps_are = c.in_ok-tables.ensures.maps;
+        ports_are = c.in_ok-tables.ensures.ports;
+        rows_are = accepted_by chip c.args.places.now c.deref.result.now maps c.deref-2.result.now ports _ places _ c.deref.ensures.value c.deref-2.ensures.value
+            c.new-place_rows.ensures.items c.new-rows.ensures.items c.in_ok-refused.ensures.accepted;
+      };
+      tables = c.in_ok-tables.ensures.tables;
+      few = c.requires;
+      placed = p;
+      refused_is = refused_by chip c.args.places.now c.deref.result.now maps c.deref-2.result.now ports _ _ _ c.deref.ensures.value c.deref-2.ensures.value
+          c.new-place_rows.ensures.items c.new-rows.ensures.items c.in_ok-refused.ensures.fault;
+      moved = sorted.moved;
+      ascending = sorted.ascending;
+      stable = sorted.stable;
+      least = subst (λ x. IsLeast x rows c.first_shared-shared.result) c.deref-3.ensures.value
+          (subst (λ y. IsLeast c.deref-3.result.now y c.first_shared-shared.result) c.deref-4.ensures.value c.first_shared-shared.ensures.least);
+      made = λ s e. subst (λ x. IsMade x rows s) c.deref-3.ensures.value
+          (subst (λ y. IsMade c.deref-3.result.now y s) c.deref-4.ensures.value (c.first_shared-shared.ensures.made s e));
+    } in
+    let none = sym c.first_fault.ensures ∙ c.in_default.is in (
+      fault_is chip c.args.maps.now c.args.places.now c.args.kinds.now maps ports places first rows c.first_shared-shared.result c.in_ok-refused.refused made ∙ none,
+      whole_is chip c.args.maps.now c.args.places.now c.args.kinds.now maps ports places first rows c.first_shared-shared.result c.in_ok-refused.refused _ made none c.in_ok-from_slice.ensures.items,
+    )
