@@ -1,10 +1,10 @@
 //! A description: a chip, its layout and the flaws of its device.
-ghost use Rattle.std.specs.Prelude.{◌≡◌, ◌^◌, ◌<◌, Some, length, IfOk};
+ghost use Rattle.std.specs.Prelude.{◌≡◌, ◌≢◌, ◌^◌, ◌<◌, Some, None, length, IfOk, IfErr};
 ghost use Rattle.toml.specs.View.{table_view};
 ghost use Rattle.rl_map.specs.Maps.{IsBuiltWith};
 ghost use Rattle.rl_bench.specs.Flaws.{AreFlawsOf};
 ghost use Rattle.rl_desc.specs.Refusals.{Reads};
-ghost use Rattle.rl_desc.specs.Described.{Laid, first_fault, description_of, described, rows_fault};
+ghost use Rattle.rl_desc.specs.Described.{first_fault, description_of, described, rows_fault};
 
 use crate::document::Document;
 use crate::fault::{DescCause, DescFault};
@@ -47,8 +47,9 @@ pub fn read_description(
     kinds: &[AdapterKind],
 ) -> Result<Desc, DescFault>
     requires { length kinds.now < 2 ^ 32 }
-    // Exactly the first fault, or what is described, by what building the layout answered.
-    ensures read { (laid : Laid) × Reads (λ desc. Some desc) result (first_fault bytes.now laid) (description_of bytes.now laid) }
+    ensures valid { IfOk result (λ _. first_fault bytes.now kinds.now ≡ None) }
+    ensures read { IfOk result (λ desc. description_of bytes.now kinds.now ≡ Some desc) }
+    ensures refused { IfErr result (λ fault. fault ≢ DescFault.Memory → first_fault bytes.now kinds.now ≡ Some fault) }
     ensures built_with { IfOk result (λ desc. IsBuiltWith desc.layout desc.chip) }
     ensures flaws { IfOk result (λ desc. AreFlawsOf desc.chip desc.layout desc.flaws) }
     ensures kinds { IfOk result (λ desc. desc.layout.kinds ≡ kinds.now) }
@@ -71,7 +72,7 @@ pub fn read_description(
 
 fn build(alloc: Global, document: &Document, kinds: &[AdapterKind]) -> Result<Desc, DescFault>
     requires { length kinds.now < 2 ^ 32 }
-    ensures exact { (laid : Laid) × Reads (λ desc. Some desc) result (rows_fault document.now laid) (described document.now laid) }
+    ensures exact { Reads (λ desc. desc) result (rows_fault document.now kinds.now) (described document.now kinds.now) }
     ensures built_with { IfOk result (λ desc. IsBuiltWith desc.layout desc.chip) }
     ensures flaws { IfOk result (λ desc. AreFlawsOf desc.chip desc.layout desc.flaws) }
     ensures kinds { IfOk result (λ desc. desc.layout.kinds ≡ kinds.now) }

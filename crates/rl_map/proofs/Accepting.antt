@@ -1,6 +1,6 @@
 -- Which places are accepted, and which condition refuses the next.
-use Rattle.std.proofs.Common.{◌≡◌, ◌≢◌, ℕ, zero, suc, ◌+◌, ◌*◌, ◌<◌, ◌≤◌, ◌⊎◌, inl, inr, ◌&&◌, ◌||◌, not, Bool, true, false, cond, List, [], ◌∷◌, ◌++◌, length, get_or, take, drop, map, nat_lt, nat_le, Option, Some, None, refl, sym, ap, ◌∙◌, subst, arith, length-append}
-use Rattle.std.specs.Prelude.{slice_get, position, bytes_eq, is_some, is_none, option_map, unwrap_or, ◌↔◌, Result, Ok, Err}
+use Rattle.std.proofs.Common.{◌≡◌, ℕ, zero, suc, ◌+◌, ◌<◌, ◌≤◌, Bool, true, false, cond, List, [], ◌∷◌, ◌++◌, length, get_or, take, drop, map, nat_lt, nat_le, Option, Some, None, refl, sym, ap, ◌∙◌, subst, arith, length-append}
+use Rattle.std.specs.Prelude.{slice_get, position, bytes_eq, is_some, option_map, ◌↔◌, Result, Err}
 use Rattle.std.specs.List.{list_any, position_or_len}
 use Rattle.std.specs.Option.{option_or}
 use Rattle.std.proofs.Common.{get_or-take, get_or-drop, length-take, length-drop}
@@ -10,14 +10,12 @@ use Rattle.std.proofs.lemmas.Option.{slice_get_within, slice_get-get_or, get_or_
 use Rattle.std.proofs.lemmas.Slice.Eq.{bytes_eq-Decides}
 use Rattle.rl_model.specs.declared.fault.Array.TheVariants as array
 use Rattle.rl_model.specs.declared.fault.Spot.{Spot}
-use Rattle.rl_model.specs.declared.rows.Item.{Item}
 use Rattle.rl_model.specs.declared.rows.Item.TheVariants as item
 use Rattle.rl_model.specs.Rows.{ChipData}
-use Rattle.rl_model.specs.Chip.{bytes_of}
 use Rattle.rl_model.specs.Rules.{or_else}
 use Rattle.rl_bus.specs.declared.table.WordRow.{WordRow}
 use Rattle.rl_map.specs.declared.fault.MapCause.{MapCause}
-use Rattle.rl_map.specs.declared.fault.MapCause.TheVariants.{TooMany, NoSuchMap, NoSuchItem, PlacedTwice}
+use Rattle.rl_map.specs.declared.fault.MapCause.TheVariants.{TooMany, PlacedTwice}
 use Rattle.rl_map.specs.declared.fault.MapFault.{MapFault}
 use Rattle.rl_map.specs.declared.fault.MapFault.TheVariants.{Bad}
 use Rattle.rl_map.specs.declared.path.Level.{Level}
@@ -25,16 +23,15 @@ use Rattle.rl_map.specs.declared.parts.PlacePart.{PlacePart}
 use Rattle.rl_map.specs.declared.rows.MapRow.{MapRow}
 use Rattle.rl_map.specs.declared.rows.PortRow.{PortRow}
 use Rattle.rl_map.specs.declared.rows.PlaceRow.{PlaceRow}
-use Rattle.rl_map.specs.Level.{has_fifo}
 use Rattle.rl_map.specs.Layout.{no_map, no_port}
-use Rattle.rl_map.specs.Maps.{MapTables, map_number, map_with, item_at, item_bytes, item_size, place_row}
-use Rattle.rl_map.specs.Faults.{Check, first_of, row_at, Placed, word_count, is_same_place, placed_by, place_checks, places_fault}
+use Rattle.rl_map.specs.Maps.{MapTables, item_at, place_row}
+use Rattle.rl_map.specs.Faults.{Check, first_of, row_at, Placed, word_count, is_same_place, places_fault}
 use Rattle.rl_map.specs.Steps.{first_cause, Tells, there_checks, fifo_checks, word_checks, own_checks, place_of_part, own_fault, own_faults, accepted, shared_check, shared_faults}
 use Rattle.rl_map.specs.Building.{path_in, port_for, placed_in, placed_at, ArePlaces, rows_of, rows_of_all}
 use Rattle.rl_map.proofs.Lookups.{read_is}
 use Rattle.rl_map.proofs.Growing.{rows_more}
 use Rattle.rl_map.proofs.Placing.{length-rows_of}
-use Rattle.rl_map.proofs.Refusing.{first_append, first_later}
+use Rattle.rl_map.proofs.Refusing.{first_append}
 
 -- ---- an item by its path
 
@@ -110,44 +107,6 @@ item_other chip path o p h e g =
     sym (ap (λ x. option_or (option_map (λ n. item.Reg n) x) (option_map (λ n. item.Mem n) (position (bytes_eq path) (take (length chip.mems) (drop (chip.scopes + length chip.regs) chip.paths))))) none
     ∙ ap (λ x. option_map (λ n. item.Mem n) x) at)
 
--- ---- the row of a place
-
-made : ChipData → List MapRow → PlacePart → Option ℕ → Option Item → PlaceRow
-made chip maps p number o =
-    let m = map_with maps number in
-    let i = unwrap_or o (item.Reg 0) in
-    record {
-      map = unwrap_or number 0;
-      item = i;
-      offset = p.offset;
-      rights = p.rights;
-      bytes = item_bytes chip i;
-      size = item_size chip i;
-      port = m.port;
-      fifo = has_fifo m.path;
-    }
-
-size_is : (chip : ChipData) (i : Item) (size : ℕ) → ((r : ℕ) → i ≡ item.Reg r → size ≡ 1) → ((m : ℕ) → i ≡ item.Mem m → option_map (λ m. m.size) (slice_get chip.mems m) ≡ Some size)
-    → size ≡ item_size chip i
-size_is chip (item.Reg r) size f g = f r refl
-size_is chip (item.Mem m) size f g = sym (ap (λ o. unwrap_or o 0) (g m refl))
-
-pub row_is : (chip : ChipData) (maps : List MapRow) (part : PlacePart) (n number bytes size : ℕ) (i : Item) (m : MapRow) (fifo : Bool)
-    → map_number maps part.map ≡ Some n → item_at chip part.item ≡ Some i → n < length maps → m ≡ get_or maps n m → number ≡ n
-    → bytes_of chip i ≡ Some bytes → ((r : ℕ) → i ≡ item.Reg r → size ≡ 1) → ((k : ℕ) → i ≡ item.Mem k → option_map (λ m. m.size) (slice_get chip.mems k) ≡ Some size)
-    → fifo ≡ has_fifo m.path
-    → (let row : PlaceRow = record { map = number; item = i; offset = part.offset; rights = part.rights; bytes = bytes; size = size; port = m.port; fifo = fifo } in row) ≡ place_row chip maps part
-unfolding made
-row_is chip maps part n number bytes size i m fifo at there low read same wide f g lined =
-    let r1 : (number bytes size port : ℕ) (fifo : Bool) → PlaceRow = λ number bytes size port fifo. record { map = number; item = i; offset = part.offset; rights = part.rights; bytes = bytes; size = size; port = port; fifo = fifo } in
-    let row : m ≡ get_or maps n no_map = read_is maps n m no_map low read in
-    ap (λ x. r1 x bytes size m.port fifo) same
-    ∙ ap (λ x. r1 n x size m.port fifo) (sym (ap (λ o. unwrap_or o 0) wide))
-    ∙ ap (λ x. r1 n (item_bytes chip i) x m.port fifo) (size_is chip i size f g)
-    ∙ ap (λ x. r1 n (item_bytes chip i) (item_size chip i) m.port x) lined
-    ∙ ap (λ (x : MapRow). r1 n (item_bytes chip i) (item_size chip i) x.port (has_fifo x.path)) row
-    ∙ sym (ap (λ o. made chip maps part o (item_at chip part.item)) at ∙ ap (made chip maps part (Some n)) there)
-
 -- ---- causes
 
 pub cause_met : (a b : List Check) (e : MapCause) → first_cause a ≡ Some e → first_cause (a ++ b) ≡ Some e
@@ -178,9 +137,6 @@ first_cause-of spot (c ∷ cs) = by c.0 (first_cause-of spot cs)
 pub told : {X : Type 0} (r : Result X MapCause) (checks : List Check) (e y : MapCause) → r ≡ Err y → y ≡ e → first_cause checks ≡ Some e → Tells r checks
 told r checks e y at same h = subst (λ x. Tells x checks) (sym at) (h ∙ ap Some (sym same))
 
-le_true : (a b : ℕ) → a ≤ b → nat_le a b ≡ true
-le_true a b h = grind (arith, nat_tests)
-
 le_false : (a b : ℕ) → b < a → nat_le a b ≡ false
 le_false a b h = grind (arith, nat_tests)
 
@@ -192,25 +148,14 @@ module _ (chip : ChipData) (maps : List MapRow) (ports : List PortRow) (earlier 
   abbrev later : PlaceRow → Placed → List Check
   later row p = (list_any (λ q. is_same_place q row) earlier, PlacedTwice) ∷ fifo_checks row ++ word_checks words p
 
-  pub own_full : 4096 ≤ length earlier → first_cause own ≡ Some TooMany
-  own_full h = ap (λ t. cond t (Some TooMany) (first_cause (there_checks chip maps part ++ later (place_row chip maps part) (place_of_part chip maps ports part)))) (le_true 4096 (length earlier) h)
-
   own_some : length earlier < 4096 → first_cause own ≡ first_cause (there_checks chip maps part ++ later (place_row chip maps part) (place_of_part chip maps ports part))
   own_some h = ap (λ t. cond t (Some TooMany) (first_cause (there_checks chip maps part ++ later (place_row chip maps part) (place_of_part chip maps ports part)))) (le_false 4096 (length earlier) h)
-
-  pub own_nowhere : (e : MapCause) → length earlier < 4096 → first_cause (there_checks chip maps part) ≡ Some e → first_cause own ≡ Some e
-  own_nowhere e few h = own_some few ∙ cause_met (there_checks chip maps part) (later (place_row chip maps part) (place_of_part chip maps ports part)) e h
 
   own_there : (row : PlaceRow) → length earlier < 4096 → first_cause (there_checks chip maps part) ≡ None → row ≡ place_row chip maps part
       → first_cause own ≡ first_cause (later row (placed_in maps ports row))
   own_there row few h same =
       own_some few ∙ cause_later (there_checks chip maps part) (later (place_row chip maps part) (place_of_part chip maps ports part)) h
       ∙ ap (λ r. first_cause (later r (placed_in maps ports r))) (sym same)
-
-  pub own_twice : (row : PlaceRow) → length earlier < 4096 → first_cause (there_checks chip maps part) ≡ None → row ≡ place_row chip maps part
-      → list_any (λ q. is_same_place q row) earlier ≡ true → first_cause own ≡ Some PlacedTwice
-  own_twice row few h same twice =
-      own_there row few h same ∙ ap (λ t. cond t (Some PlacedTwice) (first_cause (fifo_checks row ++ word_checks words (placed_in maps ports row)))) twice
 
   own_once : (row : PlaceRow) → length earlier < 4096 → first_cause (there_checks chip maps part) ≡ None → row ≡ place_row chip maps part
       → list_any (λ q. is_same_place q row) earlier ≡ false → first_cause own ≡ first_cause (fifo_checks row ++ word_checks words (placed_in maps ports row))
@@ -227,11 +172,6 @@ module _ (chip : ChipData) (maps : List MapRow) (ports : List PortRow) (earlier 
       → first_cause own ≡ first_cause (word_checks words p)
   own_words row p few h same once g at =
       own_once row few h same once ∙ cause_later (fifo_checks row) (word_checks words (placed_in maps ports row)) g ∙ ap (λ x. first_cause (word_checks words x)) (sym at)
-
-  pub own_told : (cause : MapCause) (spot : Spot) (e : MapFault) → first_cause own ≡ Some cause → spot ≡ row_at array.Place (length earlier) → e ≡ Bad cause spot
-      → Some e ≡ own_fault chip maps ports earlier words part
-  own_told cause spot e h at is =
-      ap Some (is ∙ ap (λ s. Bad cause s) at) ∙ sym (first_cause-of (row_at array.Place (length earlier)) own ∙ ap (λ o. option_map (λ c. Bad c (row_at array.Place (length earlier))) o) h)
 
   pub own_fine : first_cause own ≡ None → None ≡ own_fault chip maps ports earlier words part
   own_fine h = sym (first_cause-of (row_at array.Place (length earlier)) own ∙ ap (λ o. option_map (λ c. Bad c (row_at array.Place (length earlier))) o) h)

@@ -1,8 +1,8 @@
 -- A layout that was built is sound.
-use Rattle.std.proofs.Common.{◌≡◌, ◌≢◌, ℕ, zero, suc, ◌+◌, ◌*◌, ◌%◌, ◌^◌, ◌<◌, ◌≤◌, ◌⊎◌, inl, inr, Bool, true, false, not, ◌==◌, ◌&&◌, ◌||◌, cond, List, [], ◌∷◌, ◌++◌, length, get_or, map, nat_lt, refl, sym, ap, ◌∙◌, subst, arith, eq-eqb, eqb-true}
-use Rattle.std.specs.Prelude.{All, filter, flat_map, Contains, IsPermutation, IsTrue}
+use Rattle.std.proofs.Common.{◌≡◌, ◌≢◌, ℕ, zero, suc, ◌+◌, ◌*◌, ◌%◌, ◌^◌, ◌<◌, ◌≤◌, ◌⊎◌, inl, inr, Bool, true, false, not, ◌==◌, ◌&&◌, ◌||◌, cond, List, [], ◌∷◌, length, get_or, map, nat_lt, refl, sym, ap, ◌∙◌, subst, arith, eq-eqb, eqb-true}
+use Rattle.std.specs.Prelude.{All, filter, flat_map, Contains, IsPermutation}
 use Rattle.std.specs.List.{list_any, range_with_len, AllByRecursion}
-use Rattle.std.specs.List.Sorted.{IsStableByKey, ties}
+use Rattle.std.specs.List.Sorted.{IsStableByKey}
 use Rattle.std.specs.Ordering.{nat_cmp, is_lt}
 use Rattle.std.specs.declared.cmp.Ordering.TheVariants.{Less, Equal, Greater}
 use Rattle.std.proofs.lemmas.Bool.{cases_lt}
@@ -13,7 +13,6 @@ use Rattle.rl_model.specs.Rows.{ChipData}
 use Rattle.rl_bus.specs.declared.op.AdapterKind.{AdapterKind}
 use Rattle.rl_bus.specs.declared.table.WordRow.{WordRow}
 use Rattle.rl_bus.specs.declared.table.Cell.TheVariants as cell
-use Rattle.rl_bus.specs.Setup.{stands_at}
 use Rattle.rl_map.specs.declared.path.Level.{Level}
 use Rattle.rl_map.specs.declared.seat.Access.{Access}
 use Rattle.rl_map.specs.declared.word.Word.{Word}
@@ -23,16 +22,15 @@ use Rattle.rl_map.specs.declared.rows.PlaceRow.{PlaceRow}
 use Rattle.rl_map.specs.Access.{IsAligned, through}
 use Rattle.rl_map.specs.Seat.{access_of}
 use Rattle.rl_map.specs.Words.{no_word}
-use Rattle.rl_map.specs.Layout.{LayoutData, no_map, no_port, no_place, place_at, port_at, map_at, path_of, location_of, words_of, row_of, has_right, key_of, IsLocation, IsRowOf, IsAscending, IsSound}
+use Rattle.rl_map.specs.Layout.{LayoutData, no_map, no_port, no_place, place_at, port_at, path_of, location_of, words_of, row_of, has_right, key_of, IsLocation, IsRowOf, IsAscending, IsSound}
 use Rattle.rl_map.specs.Maps.{location_rows, place_rows, all_rows, IsBuiltWith}
 use Rattle.rl_map.specs.Faults.{is_above, is_askew, is_unaligned}
-use Rattle.rl_map.specs.Building.{IsMapRow, IsPortRow, AreTables, IsPlaceRow, IsSeated, ArePlaces, placed_in, rows_of_all, rows_clash, NoRowsClash}
-use Rattle.rl_map.proofs.Fitting.{AreOn}
+use Rattle.rl_map.specs.Building.{IsPortRow, AreTables, IsPlaceRow, ArePlaces, placed_in, rows_of_all, rows_clash, NoRowsClash}
 use Rattle.rl_map.proofs.Lists.{filter_same}
 use Rattle.rl_map.proofs.Lookups.{default_any}
 use Rattle.rl_map.proofs.Growing.{none_of}
 use Rattle.rl_map.proofs.Sorting.{ge_from, standing_by_key}
-use Rattle.rl_map.proofs.Sound.{IsTested, IsShared, NoneClash, KeepsOrder, may_not, all_rows_are, sound_of}
+use Rattle.rl_map.proofs.Sound.{IsTested, NoneClash, KeepsOrder, may_not, all_rows_are, sound_of}
 
 -- ---- what the tests say
 

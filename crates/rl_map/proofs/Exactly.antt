@@ -1,6 +1,6 @@
 -- The first fault of all, and the layout where there is none.
-use Rattle.std.proofs.Common.{◌≡◌, ◌≢◌, ℕ, ◌<◌, ◌^◌, List, [], ◌∷◌, ◌++◌, length, map, Option, Some, None, refl, sym, ap, ◌∙◌, subst}
-use Rattle.std.specs.Prelude.{All, IsPermutation, option_map, Result, Ok, Err}
+use Rattle.std.proofs.Common.{◌≡◌, ◌<◌, ◌^◌, List, [], ◌++◌, length, map, Option, Some, None, refl, sym, ap, ◌∙◌, subst}
+use Rattle.std.specs.Prelude.{All, IsPermutation, option_map, Result, Err}
 use Rattle.std.specs.List.Sorted.{IsStableByKey}
 use Rattle.std.specs.Ordering.{nat_cmp}
 use Rattle.std.proofs.lemmas.List.Elements.{All-from_recursion}
@@ -17,7 +17,7 @@ use Rattle.rl_map.specs.declared.rows.PortRow.{PortRow}
 use Rattle.rl_map.specs.declared.rows.PlaceRow.{PlaceRow}
 use Rattle.rl_map.specs.declared.shared.Shared.{Shared}
 use Rattle.rl_map.specs.Layout.{LayoutData, key_of, IsAscending, IsRowOf}
-use Rattle.rl_map.specs.Maps.{MapTables, no_tables, tables_of, place_row, all_rows, by_address, layout_of}
+use Rattle.rl_map.specs.Maps.{no_tables, tables_of, place_row, all_rows, by_address, layout_of}
 use Rattle.rl_map.specs.Faults.{maps_fault, places_fault, layout_fault, Fails, Passes}
 use Rattle.rl_map.specs.Steps.{own_faults, accepted, shared_faults}
 use Rattle.rl_map.specs.Building.{rows_of_all, AreTables, ArePlaces}

@@ -1,7 +1,7 @@
 -- The refusals for shared addresses, in the order of places, are the first clash.
-use Rattle.std.proofs.Common.{◌≡◌, ◌≢◌, ℕ, zero, suc, ◌+◌, ◌<◌, ◌≤◌, ◌⊎◌, inl, inr, Bool, true, false, ◌==◌, ◌&&◌, cond, nat_lt, List, [], ◌∷◌, ◌++◌, length, get_or, map, Option, Some, None, is_some, unwrap_or, refl, sym, ap, ◌∙◌, subst, arith, eqb-true, eq-eqb, length-append}
+use Rattle.std.proofs.Common.{◌≡◌, ℕ, zero, suc, ◌+◌, ◌<◌, ◌≤◌, ◌⊎◌, inl, inr, Bool, true, false, ◌==◌, ◌&&◌, cond, nat_lt, List, [], ◌∷◌, ◌++◌, length, get_or, map, Option, Some, None, is_some, unwrap_or, refl, sym, ap, ◌∙◌, subst, arith, eqb-true, eq-eqb, length-append}
 use Rattle.std.specs.Prelude.{All, filter, flat_map, fold, min, option_map, position, IsPermutation}
-use Rattle.std.specs.List.{range_with_len, AllByRecursion, position_or_len}
+use Rattle.std.specs.List.{range_with_len, AllByRecursion}
 use Rattle.std.proofs.Math.Nat.{min-eq_left, min-eq_right}
 use Rattle.std.proofs.Math.ListN.{get_or-map}
 use Rattle.std.proofs.Math.Seq.{get_or-append_seam}
@@ -13,7 +13,6 @@ use Rattle.std.proofs.lemmas.List.Quantifiers.{position-Some}
 use Rattle.rl_model.specs.declared.fault.Array.TheVariants as array
 use Rattle.rl_model.specs.declared.fault.Spot.{Spot}
 use Rattle.rl_model.specs.Rules.{or_else}
-use Rattle.rl_bus.specs.declared.table.WordRow.{WordRow}
 use Rattle.rl_map.specs.declared.fault.MapCause.{MapCause}
 use Rattle.rl_map.specs.declared.fault.MapCause.TheVariants.{SharedAddress, TooMany}
 use Rattle.rl_map.specs.declared.fault.MapFault.{MapFault}
@@ -25,11 +24,11 @@ use Rattle.rl_map.specs.Maps.{all_rows}
 use Rattle.rl_map.specs.Faults.{Placed, address_in, stands_on, clash, sharer, addresses_of, least, shared, first_of, row_at}
 use Rattle.rl_map.specs.Steps.{shared_check, shared_faults}
 use Rattle.rl_map.specs.Building.{placed_in}
-use Rattle.rl_map.specs.Clashes.{IsFirst, NotAfter, IsMade, IsLeast}
+use Rattle.rl_map.specs.Clashes.{NotAfter, IsMade, IsLeast}
 use Rattle.rl_map.proofs.Lists.{filter_none}
 use Rattle.rl_map.proofs.Sorting.{some_row}
 use Rattle.rl_map.proofs.Sound.{IsTested}
-use Rattle.rl_map.proofs.Sharing.{placed_of, may_not_both, Shares, StandsAt, WordAt, word_at_byte, byte_at_word, ByteAt, stands_from, stands_to, shares_least, made_shares}
+use Rattle.rl_map.proofs.Sharing.{placed_of, may_not_both, Shares, StandsAt, word_at_byte, byte_at_word, stands_from, stands_to, shares_least, made_shares}
 
 -- ---- positions
 

@@ -1,8 +1,7 @@
 -- Each word of a location is one that the port's adapter carries, and each location has as many.
-use Rattle.std.proofs.Common.{◌≡◌, ℕ, zero, suc, ◌+◌, ◌*◌, ◌%◌, ◌^◌, ◌<◌, ◌≤◌, ◌⊎◌, inl, inr, Bool, true, false, ◌==◌, ◌||◌, cond, List, [], ◌∷◌, ◌++◌, length, get_or, map, Option, Some, None, is_some, unwrap_or, refl, sym, ap, ◌∙◌, subst, arith}
-use Rattle.std.specs.Prelude.{IsBitSet, IsTrue, All, slice_index}
-use Rattle.std.specs.Int.{bit_at}
-use Rattle.std.specs.List.{list_any, range_with_len, AllByRecursion}
+use Rattle.std.proofs.Common.{◌≡◌, ℕ, zero, suc, ◌*◌, ◌%◌, ◌^◌, ◌<◌, ◌≤◌, inl, inr, Bool, false, ◌==◌, ◌||◌, cond, List, [], ◌∷◌, ◌++◌, length, get_or, map, Option, Some, None, is_some, unwrap_or, refl, sym, ap, ◌∙◌, subst, arith}
+use Rattle.std.specs.Prelude.{IsBitSet, IsTrue}
+use Rattle.std.specs.List.{list_any, range_with_len}
 use Rattle.std.proofs.lemmas.Bool.{cases_lt}
 use Rattle.std.proofs.lemmas.List.{length-map}
 use Rattle.std.proofs.lemmas.List.Elements.{recursion_from_All}
@@ -19,12 +18,12 @@ use Rattle.rl_map.specs.declared.word.Word.{Word}
 use Rattle.rl_map.specs.Level.{IsPath, root_bytes}
 use Rattle.rl_map.specs.Access.{IsAccess, through, climb}
 use Rattle.rl_map.specs.Seat.{access_of, seat_of, slots}
-use Rattle.rl_map.specs.Words.{mask_of, byte_at, word_of, orders_below, words_below, seats_of, item_words, no_seat, no_word}
-use Rattle.rl_map.specs.Partition.{IsPartition, IsWordOn, number_of}
+use Rattle.rl_map.specs.Words.{mask_of, byte_at, word_of, orders_below, seats_of, item_words, no_seat, no_word}
+use Rattle.rl_map.specs.Partition.{IsWordOn, number_of}
 use Rattle.rl_map.proofs.Chunks.{through_access}
-use Rattle.rl_map.proofs.Apart.{Wide, moved, seats_apart}
+use Rattle.rl_map.proofs.Apart.{Wide, moved}
 use Rattle.rl_map.proofs.Gathered.{mask_lt}
-use Rattle.rl_map.proofs.Partition.{stands_at, words_at, bytes_at, is_listed, words_partition, apart_of}
+use Rattle.rl_map.proofs.Partition.{stands_at, words_at, bytes_at, is_listed, words_partition}
 use Rattle.rl_map.proofs.WordsApart.{seated}
 
 -- ---- lanes

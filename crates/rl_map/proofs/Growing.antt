@@ -1,8 +1,7 @@
 -- Maps, ports and places that are added one by one.
-use Rattle.std.proofs.Common.{◌≡◌, ◌≢◌, ℕ, zero, suc, ◌+◌, ◌*◌, ◌^◌, ◌<◌, ◌≤◌, ◌⊎◌, inl, inr, Bool, true, false, ◌||◌, cond, List, [], ◌∷◌, ◌++◌, length, get_or, take, map, Option, Some, None, refl, sym, ap, ◌∙◌, subst, arith, length-append}
+use Rattle.std.proofs.Common.{◌≡◌, ℕ, zero, suc, ◌+◌, ◌<◌, Bool, true, false, ◌||◌, List, [], ◌∷◌, ◌++◌, length, get_or, take, Option, Some, None, refl, sym, ap, ◌∙◌, subst, arith, length-append}
 use Rattle.std.specs.Prelude.{All, flat_map}
 use Rattle.std.specs.List.{list_any, range_with_len}
-use Rattle.std.proofs.lemmas.Bool.{cases_lt}
 use Rattle.std.proofs.lemmas.List.{get_or_append_left}
 use Rattle.std.proofs.lemmas.List.Elements.{All-push, All-cons, All-nil}
 use Rattle.std.proofs.Math.Seq.{get_or-append_seam}
@@ -17,7 +16,7 @@ use Rattle.rl_map.specs.declared.parts.MapNode.{MapNode}
 use Rattle.rl_map.specs.declared.rows.MapRow.{MapRow}
 use Rattle.rl_map.specs.declared.rows.PortRow.{PortRow}
 use Rattle.rl_map.specs.declared.rows.PlaceRow.{PlaceRow}
-use Rattle.rl_map.specs.Level.{IsPath, root_bytes}
+use Rattle.rl_map.specs.Level.{root_bytes}
 use Rattle.rl_map.specs.Layout.{no_map, no_port, no_place}
 use Rattle.rl_map.specs.Maps.{MapTables, no_tables, with_map, tables_of, map_number, map_with, level_of, path_under, port_under, map_row, port_row, ports_with}
 use Rattle.std.proofs.lemmas.List.Sums.{fold_more}

@@ -1,16 +1,15 @@
 -- The first condition that fails, step by step.
-use Rattle.std.proofs.Common.{◌≡◌, ◌≢◌, ℕ, zero, suc, ◌+◌, ◌<◌, ◌≤◌, Bool, true, false, not, cond, List, [], ◌∷◌, ◌++◌, length, get_or, drop, nat_lt, Option, Some, None, refl, sym, ap, ◌∙◌, subst, arith}
-use Rattle.std.specs.Prelude.{Result, Ok, Err, is_some, bytes_eq, ⊤}
+use Rattle.std.proofs.Common.{◌≡◌, ℕ, zero, suc, ◌+◌, ◌<◌, ◌≤◌, Bool, true, false, not, cond, List, [], ◌∷◌, ◌++◌, length, get_or, drop, nat_lt, Option, Some, None, refl, sym, ap, ◌∙◌, subst, arith}
+use Rattle.std.specs.Prelude.{Result, Err, is_some, bytes_eq, ⊤}
 use Rattle.std.proofs.lemmas.Bool.Decides.{nat_tests}
 use Rattle.std.proofs.lemmas.List.Quantifiers.{position-Some}
 use Rattle.rl_model.specs.declared.fault.Array.TheVariants as array
 use Rattle.rl_model.specs.declared.fault.Spot.{Spot}
 use Rattle.rl_model.specs.Rules.{or_else}
 use Rattle.rl_bus.specs.declared.op.AdapterKind.{AdapterKind}
-use Rattle.rl_map.specs.declared.fault.MapCause.{MapCause}
 use Rattle.rl_map.specs.declared.fault.MapCause.TheVariants.{NoSuchMap, TooDeep, BadBytes}
 use Rattle.rl_map.specs.declared.fault.MapFault.{MapFault}
-use Rattle.rl_map.specs.declared.fault.MapFault.TheVariants.{Bad, Memory}
+use Rattle.rl_map.specs.declared.fault.MapFault.TheVariants.{Bad}
 use Rattle.rl_map.specs.declared.path.Level.{Level}
 use Rattle.rl_map.specs.declared.parts.MapNode.{MapNode}
 use Rattle.rl_map.specs.declared.rows.MapRow.{MapRow}

@@ -1,37 +1,26 @@
 -- The first clash of rows is the first refusal for a shared address.
-use Rattle.std.proofs.Common.{◌≡◌, ◌≢◌, ℕ, zero, suc, ◌+◌, ◌*◌, ◌^◌, ◌<◌, ◌≤◌, ◌⊎◌, inl, inr, Bool, true, false, not, ◌==◌, ◌&&◌, ◌||◌, cond, nat_lt, List, [], ◌∷◌, ◌++◌, length, get_or, map, Option, Some, None, is_some, unwrap_or, refl, sym, ap, ◌∙◌, subst, arith, eqb-true, eq-eqb}
-use Rattle.std.specs.Prelude.{All, Contains, filter, flat_map, fold, min, option_map, position, IsPermutation, IsBitSet, slice_index}
-use Rattle.std.specs.List.{list_any, range_with_len, AllByRecursion, position_or_len}
+use Rattle.std.proofs.Common.{◌≡◌, ◌≢◌, ℕ, zero, suc, ◌+◌, ◌*◌, ◌^◌, ◌<◌, ◌≤◌, inl, inr, Bool, true, false, not, ◌==◌, ◌&&◌, ◌||◌, nat_lt, List, length, get_or, Option, refl, sym, ap, ◌∙◌, subst, arith, eqb-true, eq-eqb}
+use Rattle.std.specs.Prelude.{All, IsPermutation}
+use Rattle.std.specs.List.{list_any, range_with_len}
 use Rattle.std.proofs.lemmas.Bool.{cases_lt}
 use Rattle.std.proofs.lemmas.Bool.Decides.{nat_tests}
-use Rattle.std.proofs.lemmas.List.{get_or_append_left}
-use Rattle.std.proofs.lemmas.List.Sums.{position_or_len_is}
 use Rattle.std.proofs.lemmas.List.FromFn.{get_or-map-range_with_len, length-map-range_with_len}
 use Rattle.std.proofs.lemmas.List.Sorted.{Contains-permutation}
-use Rattle.rl_model.specs.declared.fault.Array.TheVariants as array
-use Rattle.rl_bus.specs.declared.op.AdapterKind.{AdapterKind}
 use Rattle.rl_bus.specs.declared.table.WordRow.{WordRow}
-use Rattle.rl_map.specs.declared.fault.MapCause.{MapCause}
-use Rattle.rl_map.specs.declared.fault.MapCause.TheVariants.{SharedAddress}
-use Rattle.rl_map.specs.declared.fault.MapFault.{MapFault}
-use Rattle.rl_map.specs.declared.fault.MapFault.TheVariants.{Bad}
 use Rattle.rl_map.specs.declared.path.Level.{Level}
 use Rattle.rl_map.specs.declared.seat.Seat.{Seat}
 use Rattle.rl_map.specs.declared.seat.Location.{Location}
-use Rattle.rl_map.specs.declared.word.Word.{Word}
-use Rattle.rl_map.specs.declared.rows.MapRow.{MapRow}
-use Rattle.rl_map.specs.declared.rows.PortRow.{PortRow}
 use Rattle.rl_map.specs.declared.rows.PlaceRow.{PlaceRow}
 use Rattle.rl_map.specs.declared.shared.Shared.{Shared}
 use Rattle.rl_map.specs.Level.{IsPath}
 use Rattle.rl_map.specs.Seat.{seat_of}
 use Rattle.rl_map.specs.Words.{seats_of, item_words, no_seat, no_word}
-use Rattle.rl_map.specs.Partition.{number_of, IsPartition}
+use Rattle.rl_map.specs.Partition.{number_of}
 use Rattle.rl_map.specs.Layout.{LayoutData, no_place, place_at, path_of, base_of, location_of, words_of, seat_at, row_of, has_right, index_of, key_of, IsLocation, IsRowOf}
 use Rattle.rl_map.specs.Maps.{all_rows}
-use Rattle.rl_map.specs.Faults.{Placed, address_in, some_byte, stands_on, share_right, clash}
+use Rattle.rl_map.specs.Faults.{Placed, address_in, stands_on, share_right, clash}
 use Rattle.rl_map.specs.Building.{placed_in, rows_clash}
-use Rattle.rl_map.specs.Clashes.{shared_by, IsFirst, NotAfter, IsMade, IsLeast}
+use Rattle.rl_map.specs.Clashes.{shared_by, NotAfter, IsMade, IsLeast}
 use Rattle.rl_map.proofs.Partition.{words_partition}
 use Rattle.rl_map.proofs.WordsApart.{seated}
 use Rattle.rl_map.proofs.Lookups.{default_any}

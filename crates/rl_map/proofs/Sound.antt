@@ -1,8 +1,7 @@
 -- What a build has tested of a layout makes it sound.
-use Rattle.std.proofs.Common.{◌≡◌, ◌≢◌, ℕ, zero, suc, ◌+◌, ◌*◌, ◌%◌, ◌^◌, ◌<◌, ◌≤◌, ◌⊎◌, inl, inr, Bool, true, false, ◌==◌, ◌&&◌, ◌||◌, cond, List, [], ◌∷◌, ◌++◌, length, get_or, map, refl, sym, ap, ◌∙◌, subst, arith, eq-eqb, eqb-true}
-use Rattle.std.specs.Prelude.{All, filter, flat_map, bit_and, IsPermutation}
+use Rattle.std.proofs.Common.{◌≡◌, ◌≢◌, ℕ, zero, suc, ◌+◌, ◌^◌, ◌<◌, ◌≤◌, ◌⊎◌, inl, inr, Bool, true, false, ◌==◌, ◌&&◌, cond, List, [], ◌∷◌, ◌++◌, length, get_or, map, refl, sym, ap, ◌∙◌, subst, arith, eq-eqb, eqb-true}
+use Rattle.std.specs.Prelude.{filter, flat_map, IsPermutation}
 use Rattle.std.specs.List.{AllByRecursion, range_with_len}
-use Rattle.std.proofs.lemmas.Bool.{cases_lt}
 use Rattle.std.proofs.lemmas.List.Elements.{recursion_from_All, All-from_recursion}
 use Rattle.std.proofs.lemmas.List.Sorted.{All-permutation}
 use Rattle.std.proofs.lemmas.List.FromFn.{length-map-range_with_len}
@@ -10,23 +9,21 @@ use Rattle.rl_model.specs.declared.rows.Item.{Item}
 use Rattle.rl_model.specs.declared.rows.Item.TheVariants as item
 use Rattle.rl_bus.specs.declared.table.WordRow.{WordRow}
 use Rattle.rl_bus.specs.Setup.{stands_at, stands_for}
-use Rattle.rl_map.specs.declared.path.Level.{Level}
-use Rattle.rl_map.specs.declared.seat.Location.{Location}
 use Rattle.rl_map.specs.declared.word.Word.{Word}
 use Rattle.rl_map.specs.declared.rows.PlaceRow.{PlaceRow}
-use Rattle.rl_map.specs.Level.{IsPath, has_fifo, root_bytes}
+use Rattle.rl_map.specs.Level.{IsPath, root_bytes}
 use Rattle.rl_map.specs.Access.{IsAligned}
 use Rattle.rl_map.specs.Seat.{access_of}
 use Rattle.rl_map.specs.Seat.{slots}
-use Rattle.rl_map.specs.Words.{item_words, words_with, word_of, orders_below, no_word}
+use Rattle.rl_map.specs.Words.{words_with, word_of, orders_below, no_word}
 use Rattle.rl_map.proofs.Orders.{length-orders_below}
 use Rattle.rl_map.specs.Partition.{IsWordOn}
 use Rattle.rl_map.specs.Layout.{LayoutData, place_at, port_at, map_at, path_of, base_of, location_of, words_of, place_seats, row_of, cell_of, index_of, has_right, lets_through, standing, IsLocation, IsMapOf, IsPortOf, IsPlaceOf, HasWords, IsRowOf, IsAscending, IsSound}
 use Rattle.rl_map.specs.Maps.{location_rows, place_rows, all_rows}
 use Rattle.rl_map.proofs.Partition.{words_partition}
-use Rattle.rl_map.proofs.WordsApart.{seated, words_apart}
+use Rattle.rl_map.proofs.WordsApart.{words_apart}
 use Rattle.rl_map.proofs.Reaching.{parts_from, reach_from}
-use Rattle.rl_map.proofs.Fitting.{AreOn, words_fit, as_many}
+use Rattle.rl_map.proofs.Fitting.{AreOn, words_fit}
 use Rattle.rl_map.proofs.Lists.{filter_none, filter_same, filter_both, filter_mapped, filter_flat, flat_nothing, flat_one}
 
 pub record IsTested (l : LayoutData) : Type 0 where

@@ -1,5 +1,5 @@
 -- What holds of the maps, the ports and the places while a layout is built.
-use Rattle.std.specs.Prelude.{◌≡◌, ◌≢◌, ◌⊎◌, ℕ, ◌+◌, ◌*◌, ◌^◌, ◌<◌, ◌≤◌, ◌==◌, Bool, true, false, not, ◌&&◌, ◌||◌, List, length, map, flat_map, All, slice_index_or, slice_get, Option, Some, None}
+use Rattle.std.specs.Prelude.{◌≡◌, ℕ, ◌+◌, ◌*◌, ◌^◌, ◌<◌, ◌≤◌, ◌==◌, Bool, false, not, ◌&&◌, ◌||◌, List, length, map, flat_map, All, slice_index_or, slice_get, Option, Some, None}
 use Rattle.std.specs.List.{range_with_len}
 use Rattle.rl_model.specs.Rows.{ChipData}
 use Rattle.rl_model.specs.declared.rows.Item.TheVariants as item
@@ -12,11 +12,9 @@ use Rattle.rl_map.specs.declared.rows.MapRow.{MapRow}
 use Rattle.rl_map.specs.declared.rows.PortRow.{PortRow}
 use Rattle.rl_map.specs.declared.rows.PlaceRow.{PlaceRow}
 use Rattle.rl_map.specs.Level.{IsPath, has_fifo, root_bytes}
-use Rattle.rl_map.specs.Access.{IsAligned}
-use Rattle.rl_map.specs.Seat.{access_of, seat_of}
 use Rattle.rl_map.specs.Words.{item_words}
-use Rattle.rl_map.specs.Layout.{LayoutData, no_map, no_port, no_place, location_of, word_row, key_of}
-use Rattle.rl_map.specs.Maps.{MapTables, IsPlaceIn, map_number, port_row}
+use Rattle.rl_map.specs.Layout.{no_map, no_port, no_place, location_of, word_row, key_of}
+use Rattle.rl_map.specs.Maps.{IsPlaceIn, map_number, port_row}
 use Rattle.rl_map.specs.Faults.{Placed, some_byte, is_above, is_unaligned}
 
 -- ---- maps and ports

@@ -24,7 +24,7 @@ use Rattle.rl_map.specs.Access.{through}
 use Rattle.rl_map.specs.Seat.{access_of, seat_of}
 use Rattle.rl_map.specs.Words.{item_words}
 use Rattle.rl_map.specs.Layout.{no_map, no_port, location_of, same_item, has_right}
-use Rattle.rl_map.specs.Maps.{MapTables, no_tables, with_map, tables_of, path_under, level_of, kind_number, kind_with, map_number, map_with, item_at, place_row}
+use Rattle.rl_map.specs.Maps.{MapTables, no_tables, with_map, tables_of, path_under, level_of, kind_number, kind_with, map_number, item_at, place_row}
 
 -- ---- the order of refusals
 

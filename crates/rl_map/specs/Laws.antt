@@ -1,13 +1,13 @@
 -- What holds of every path and every item.
-use Rattle.std.specs.Prelude.{◌≡◌, ℕ, ◌+◌, ◌*◌, ◌/◌, ◌%◌, ◌<◌, ◌≤◌, List, [], ◌∷◌, length, All, false, slice_index_or}
+use Rattle.std.specs.Prelude.{◌≡◌, ℕ, ◌+◌, ◌*◌, ◌/◌, ◌%◌, ◌≤◌, List, [], ◌∷◌, All, false}
 use Rattle.std.specs.Int.{div_ceil}
 use Rattle.rl_map.specs.declared.path.Level.{Level}
 use Rattle.rl_map.specs.declared.seat.Location.{Location}
 use Rattle.rl_map.specs.declared.seat.Seat.{Seat}
-use Rattle.rl_map.specs.Level.{IsPath, has_fifo}
-use Rattle.rl_map.specs.Access.{IsAligned, place_in_time, address_of}
-use Rattle.rl_map.specs.Seat.{access_of, seat_of, SeatsApart, AddressesApart}
-use Rattle.rl_map.specs.Words.{seats_of, item_words, no_word}
+use Rattle.rl_map.specs.Level.{IsPath}
+use Rattle.rl_map.specs.Access.{place_in_time, address_of}
+use Rattle.rl_map.specs.Seat.{seat_of, SeatsApart, AddressesApart}
+use Rattle.rl_map.specs.Words.{seats_of, item_words}
 use Rattle.rl_map.specs.Partition.{IsPartition}
 
 -- by every path the bytes of an item stand apart

@@ -1,6 +1,5 @@
 -- A layout as data, and what it answers.
-use Rattle.std.specs.Prelude.{◌≡◌, ◌≢◌, ◌⊎◌, ℕ, ◌+◌, ◌*◌, ◌/◌, ◌^◌, ◌<◌, ◌≤◌, ◌==◌, nat_lt, Bool, true, false, ◌&&◌, ◌||◌, if◌then◌else◌, List, [], ◌∷◌, ◌++◌, length, map, All, slice_index_or, slice_get, Option, Some, None, filter, position, bytes_eq, codes}
-use Rattle.std.specs.List.{range_with_len}
+use Rattle.std.specs.Prelude.{◌≡◌, ℕ, ◌+◌, ◌*◌, ◌/◌, ◌^◌, ◌<◌, ◌≤◌, ◌==◌, nat_lt, Bool, true, false, ◌&&◌, if◌then◌else◌, List, [], ◌∷◌, length, map, All, slice_index_or, slice_get, Option, Some, None, filter, position, bytes_eq, codes}
 use Rattle.rl_policy.specs.Bits.{bit}
 use Rattle.rl_model.specs.declared.rows.Item.{Item}
 use Rattle.rl_model.specs.declared.rows.Item.TheVariants as item
@@ -10,7 +9,7 @@ use Rattle.rl_bus.specs.declared.table.Cell.{Cell}
 use Rattle.rl_bus.specs.declared.table.Cell.TheVariants as cell
 use Rattle.rl_bus.specs.declared.table.WordRow.{WordRow}
 use Rattle.rl_bus.specs.Lanes.{IsWidth}
-use Rattle.rl_bus.specs.Setup.{stands_for, stands_at}
+use Rattle.rl_bus.specs.Setup.{stands_for}
 use Rattle.rl_map.specs.declared.path.Level.{Level}
 use Rattle.rl_map.specs.declared.seat.Location.{Location}
 use Rattle.rl_map.specs.declared.seat.Seat.{Seat}

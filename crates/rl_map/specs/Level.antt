@@ -1,5 +1,5 @@
 -- A path of address maps, from an item's own map up to the root.
-use Rattle.std.specs.Prelude.{◌≡◌, ℕ, ◌<◌, ◌≤◌, List, [], ◌∷◌, length, All, if◌then◌else◌, Bool, false, true}
+use Rattle.std.specs.Prelude.{ℕ, ◌≤◌, List, [], ◌∷◌, length, All, if◌then◌else◌, Bool, false, true}
 use Rattle.std.specs.List.{list_any}
 use Rattle.rl_bus.specs.Lanes.{IsWidth}
 use Rattle.rl_map.specs.declared.path.Kind.{Kind}

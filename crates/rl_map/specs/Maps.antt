@@ -1,6 +1,6 @@
 -- What a layout keeps of the maps, the ports and the places that it was built of.
-use Rattle.std.specs.Prelude.{◌≡◌, ℕ, ◌+◌, ◌<◌, nat_lt, Bool, true, false, ◌&&◌, ◌||◌, if◌then◌else◌, List, [], ◌∷◌, ◌++◌, length, map, flat_map, take, drop, fold, slice_get, slice_index_or, Option, Some, None, option_map, unwrap_or, position, bytes_eq}
-use Rattle.std.specs.List.{range_with_len, list_any, position_or_len}
+use Rattle.std.specs.Prelude.{◌≡◌, ℕ, ◌+◌, ◌<◌, nat_lt, if◌then◌else◌, List, [], ◌∷◌, ◌++◌, length, map, flat_map, take, drop, fold, slice_get, slice_index_or, Option, Some, None, option_map, unwrap_or, position, bytes_eq}
+use Rattle.std.specs.List.{range_with_len}
 use Rattle.std.specs.Option.{option_or}
 use Rattle.rl_model.specs.declared.rows.Item.{Item}
 use Rattle.rl_model.specs.declared.rows.Item.TheVariants as item
@@ -15,12 +15,9 @@ use Rattle.rl_map.specs.declared.rows.MapRow.{MapRow}
 use Rattle.rl_map.specs.declared.rows.PortRow.{PortRow}
 use Rattle.rl_map.specs.declared.rows.PlaceRow.{PlaceRow}
 use Rattle.rl_map.specs.Level.{has_fifo}
-use Rattle.rl_map.specs.Layout.{LayoutData, no_map, no_kind, no_place, no_port, place_at, words_of, row_of, key_of}
+use Rattle.rl_map.specs.Layout.{LayoutData, no_map, no_kind, place_at, words_of, row_of, key_of}
 
 -- ---- maps
-
-abbrev pub map_names : List MapRow → List (List ℕ)
-map_names maps = map (λ m. m.name) maps
 
 -- the map with a name
 abbrev pub map_number : List MapRow → List ℕ → Option ℕ

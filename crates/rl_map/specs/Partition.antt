@@ -1,5 +1,5 @@
 -- The words of an item are a partition of its bytes.
-use Rattle.std.specs.Prelude.{◌≡◌, ℕ, ◌/◌, ◌%◌, ◌^◌, ◌<◌, ◌≤◌, IsTrue, IsBitSet, Bool, true, false, ◌||◌, List, [], ◌∷◌, length, slice_index, slice_index_or}
+use Rattle.std.specs.Prelude.{◌≡◌, ℕ, ◌%◌, ◌^◌, ◌<◌, ◌≤◌, IsTrue, IsBitSet, Bool, true, false, ◌||◌, List, [], ◌∷◌, length, slice_index, slice_index_or}
 use Rattle.rl_bus.specs.Spread.{lane_bit, AreInCell}
 use Rattle.rl_bus.specs.declared.op.AdapterKind.{AdapterKind}
 use Rattle.rl_map.specs.declared.seat.Seat.{Seat}

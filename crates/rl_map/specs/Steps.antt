@@ -1,5 +1,5 @@
 -- The conditions of maps and places, step by step.
-use Rattle.std.specs.Prelude.{◌≡◌, ℕ, ◌+◌, ◌*◌, nat_lt, nat_le, ◌&&◌, Bool, not, List, [], ◌∷◌, ◌++◌, length, map, Option, Some, None, is_some, is_none, unwrap_or, Result, Ok, Err, if◌then◌else◌}
+use Rattle.std.specs.Prelude.{◌≡◌, ℕ, ◌+◌, nat_lt, nat_le, ◌&&◌, not, List, [], ◌∷◌, ◌++◌, length, map, Option, Some, None, is_some, is_none, unwrap_or, Result, Ok, Err, if◌then◌else◌}
 use Rattle.std.specs.List.{list_any}
 use Rattle.rl_model.specs.declared.fault.Array.TheVariants as array
 use Rattle.rl_model.specs.Rows.{ChipData}
@@ -8,13 +8,12 @@ use Rattle.rl_bus.specs.declared.op.AdapterKind.{AdapterKind}
 use Rattle.rl_map.specs.declared.fault.MapCause.{MapCause}
 use Rattle.rl_map.specs.declared.fault.MapCause.TheVariants.{TooMany, BadName, DuplicateName, NoSuchMap, TooDeep, BadBytes, NoSuchAdapter, NoSuchItem, PlacedTwice, MemInFifo, AddressOverflow, Unaligned}
 use Rattle.rl_map.specs.declared.fault.MapFault.{MapFault}
-use Rattle.rl_map.specs.declared.path.Level.{Level}
 use Rattle.rl_map.specs.declared.parts.MapNode.{MapNode}
 use Rattle.rl_map.specs.declared.parts.PlacePart.{PlacePart}
 use Rattle.rl_map.specs.declared.rows.MapRow.{MapRow}
 use Rattle.rl_map.specs.declared.rows.PortRow.{PortRow}
 use Rattle.rl_map.specs.declared.rows.PlaceRow.{PlaceRow}
-use Rattle.rl_map.specs.Maps.{MapTables, path_under, level_of, map_number, kind_number, kind_with, item_at, place_row}
+use Rattle.rl_map.specs.Maps.{path_under, level_of, map_number, kind_number, kind_with, item_at, place_row}
 use Rattle.rl_map.specs.Faults.{Check, first_of, row_at, has_parent, is_width, Placed, is_mem, word_count, is_same_place, some_byte, is_above, is_unaligned, shared}
 use Rattle.rl_map.specs.Building.{placed_in}
 

@@ -1,6 +1,5 @@
 -- Which device a chip and a layout have.
 use Rattle.std.specs.Prelude.{ℕ, ◌+◌, List, [], ◌∷◌, ◌++◌, map}
-use Rattle.rl_model.specs.declared.rows.Reset.{Reset}
 use Rattle.rl_model.specs.declared.rows.MemRow.{MemRow as Mem}
 use Rattle.rl_model.specs.Rows.{FieldSeen, ChipData}
 use Rattle.rl_bus.specs.declared.table.FieldRow.{FieldRow}

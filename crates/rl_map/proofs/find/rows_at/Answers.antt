@@ -1,9 +1,8 @@
-use Rattle.std.proofs.Common.{◌≡◌, ℕ, ◌+◌, ◌-◌, ◌*◌, ◌^◌, ◌<◌, ◌≤◌, true, false, leb, ltb, eqb, List, length, take, drop, arith, rules, sym, ap, ◌∙◌, subst}
+use Rattle.std.proofs.Common.{◌≡◌, ℕ, ◌+◌, ◌-◌, ◌*◌, ◌^◌, ◌≤◌, true, false, leb, ltb, eqb, List, length, arith, rules, sym, ap, ◌∙◌, subst}
 use Rattle.std.specs.Prelude.{filter}
 use Rattle.std.specs.List.Sorted.{IsPartitionPoint}
 use Rattle.std.proofs.lemmas.List.Sorted.{IsPartitionPoint-from_clause, IsPartitionedBy-leb, IsPartitionedBy-ltb}
 use Rattle.rl_bus.specs.declared.table.WordRow.{WordRow}
-use Rattle.rl_bus.specs.Setup.{stands_at}
 use Rattle.rl_map.specs.Layout.{key_of}
 use Rattle.rl_map.proofs.Sorting.{ArePoints, points_rise, some_row, group_is, standing_by_key, lt_from, ge_from, le_from, gt_from}
 use Rattle.rl_map.proofs.find.rows_at.Goals as goal

@@ -1,4 +1,4 @@
-use Rattle.std.proofs.Common.{◌≡◌, ◌≢◌, ℕ, zero, suc, ◌+◌, ◌-◌, ◌*◌, ◌%◌, ◌^◌, ◌<◌, ◌≤◌, ◌⊎◌, inl, inr, ◌||◌, ◌&&◌, ◌==◌, not, Bool, true, false, cond, List, [], ◌∷◌, ◌++◌, length, get_or, take, drop, map, Option, Some, None, refl, sym, ap, ◌∙◌, subst, arith, rules, eq-eqb, eqb-true}
+use Rattle.std.proofs.Common.{sym, ap, ◌∙◌}
 use Rattle.rl_map.specs.Maps.{map_number}
 use Rattle.rl_map.proofs.Growing.{no_port_under}
 use Rattle.rl_map.proofs.maps.port_under.Goals as goal

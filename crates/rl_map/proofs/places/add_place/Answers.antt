@@ -1,4 +1,4 @@
-use Rattle.std.proofs.Common.{◌≡◌, ◌≢◌, ℕ, zero, suc, ◌+◌, ◌-◌, ◌*◌, ◌%◌, ◌^◌, ◌<◌, ◌≤◌, ◌⊎◌, inl, inr, ◌||◌, ◌&&◌, ◌==◌, not, Bool, true, false, cond, List, [], ◌∷◌, ◌++◌, length, get_or, take, drop, map, Option, Some, None, refl, sym, ap, ◌∙◌, subst, arith, rules, eq-eqb, eqb-true}
+use Rattle.std.proofs.Common.{◌≡◌, [], ◌∷◌, ◌++◌, length, None, ap, ◌∙◌, subst, arith}
 use Rattle.rl_map.specs.Layout.{no_port}
 use Rattle.rl_map.proofs.Placing.{fits_of, places_more}
 use Rattle.rl_map.specs.Steps.{first_cause, own_checks, place_of_part}

@@ -1,4 +1,4 @@
-use Rattle.std.proofs.Common.{◌≡◌, ◌≢◌, ℕ, zero, suc, ◌+◌, ◌-◌, ◌*◌, ◌%◌, ◌^◌, ◌<◌, ◌≤◌, ◌⊎◌, inl, inr, ◌||◌, ◌&&◌, ◌==◌, not, Bool, true, false, cond, List, [], ◌∷◌, ◌++◌, length, get_or, take, drop, map, Option, Some, None, refl, sym, ap, ◌∙◌, subst, arith, rules, eq-eqb, eqb-true}
+use Rattle.std.proofs.Common.{length, sym, ◌∙◌}
 use Rattle.rl_map.proofs.Accepting.{faults_end, accepted_end, faults_next, accepted_next}
 use Rattle.rl_map.proofs.places.add_places.Goals as goal
 

@@ -1,4 +1,4 @@
-use Rattle.std.proofs.Common.{◌≡◌, ap, ◌∙◌, sym}
+use Rattle.std.proofs.Common.{ap, ◌∙◌, sym}
 use Rattle.rl_map.specs.Layout.{has_right}
 use Rattle.rl_map.proofs.Rights.{reads, writes}
 use Rattle.rl_map.proofs.places.has_right.Goals as goal

@@ -1,4 +1,4 @@
-use Rattle.std.proofs.Common.{◌≡◌, ℕ, ◌+◌, ◌-◌, ◌<◌, ◌≤◌, Some, None, get_or, take, drop, length, refl, sym, ap, ◌∙◌, subst, arith}
+use Rattle.std.proofs.Common.{◌+◌, ◌<◌, length, sym, subst, arith}
 use Rattle.rl_map.proofs.Sorting.{some_row}
 use Rattle.rl_map.proofs.Scanning.{scan_more, slice_length}
 use Rattle.rl_map.proofs.Folding.{Seen, seen_more, seen_none}

@@ -1,11 +1,10 @@
-use Rattle.std.proofs.Common.{◌≡◌, ◌≢◌, ℕ, zero, suc, ◌+◌, ◌-◌, ◌*◌, ◌%◌, ◌^◌, ◌<◌, ◌≤◌, ◌⊎◌, inl, inr, ◌||◌, ◌&&◌, ◌==◌, not, Bool, true, false, cond, List, [], ◌∷◌, ◌++◌, length, get_or, take, drop, map, Option, Some, None, refl, sym, ap, ◌∙◌, subst, arith, rules, eq-eqb, eqb-true}
+use Rattle.std.proofs.Common.{sym, ◌∙◌, subst}
 use Rattle.rl_map.specs.Layout.{IsSound}
 use Rattle.rl_map.specs.Building.{ArePlaces, AreRowsOf, NoRowsClash}
 use Rattle.rl_map.proofs.Placing.{rows_in}
 use Rattle.rl_map.proofs.Closing.{built, built_sound}
 use Rattle.rl_map.proofs.Folding.{none_least}
 use Rattle.std.proofs.lemmas.Result.{err_from_is_err_and}
-use Rattle.rl_map.specs.Faults.{Fails, layout_fault}
 use Rattle.rl_map.specs.Clashes.{IsLeast, IsMade}
 use Rattle.rl_map.proofs.Exactly.{AreMade, by_maps, fault_is, whole_is, none_shared, accepted_by, refused_by, failed}
 use Rattle.rl_map.proofs.layout.Layout.build.Goals as goal

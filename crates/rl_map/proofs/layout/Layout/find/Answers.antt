@@ -1,7 +1,7 @@
-use Rattle.std.proofs.Common.{◌≡◌, ℕ, zero, suc, ◌+◌, ◌-◌, ◌*◌, ◌%◌, ◌^◌, ◌<◌, ◌≤◌, ◌||◌, Bool, true, false, cond, List, [], ◌∷◌, ◌++◌, length, get_or, map, Some, None, refl, sym, ap, ◌∙◌, subst, arith, rules}
-use Rattle.std.specs.Prelude.{filter, find}
+use Rattle.std.proofs.Common.{length, sym, ap, ◌∙◌, subst, arith}
+use Rattle.std.specs.Prelude.{filter}
 use Rattle.rl_bus.specs.Setup.{stands_at}
-use Rattle.rl_map.specs.Layout.{LayoutData, found, IsHere, IsSound}
+use Rattle.rl_map.specs.Layout.{LayoutData, found, IsHere}
 use Rattle.rl_map.proofs.Lookups.{filter_le, found_none, found_some, is_here}
 use Rattle.rl_map.proofs.layout.Layout.find.Goals as goal
 

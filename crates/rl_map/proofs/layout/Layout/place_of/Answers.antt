@@ -1,6 +1,6 @@
-use Rattle.std.proofs.Common.{◌≡◌, ◌≢◌, ℕ, zero, suc, ◌+◌, ◌-◌, ◌*◌, ◌%◌, ◌^◌, ◌<◌, ◌≤◌, ◌⊎◌, inl, inr, ◌||◌, ◌&&◌, ◌==◌, not, Bool, true, false, cond, List, [], ◌∷◌, ◌++◌, length, get_or, take, drop, map, Option, Some, None, refl, sym, ap, ◌∙◌, subst, arith, rules, eq-eqb, eqb-true}
+use Rattle.std.proofs.Common.{◌≡◌, ◌<◌, ◌&&◌, length, sym, ap, ◌∙◌, subst}
 use Rattle.std.specs.Prelude.{position}
-use Rattle.rl_map.specs.Layout.{LayoutData, place_at, place_of, same_item, is_in}
+use Rattle.rl_map.specs.Layout.{LayoutData, place_at, same_item, is_in}
 use Rattle.rl_map.proofs.Lookups.{place_there}
 use Rattle.rl_map.proofs.layout.Layout.place_of.Goals as goal
 

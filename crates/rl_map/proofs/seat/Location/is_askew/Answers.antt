@@ -1,8 +1,7 @@
-use Rattle.std.proofs.Common.{◌≡◌, ◌≢◌, ℕ, zero, suc, ◌+◌, ◌-◌, ◌*◌, ◌%◌, ◌^◌, ◌<◌, ◌≤◌, ◌⊎◌, inl, inr, ◌||◌, ◌&&◌, ◌==◌, not, Bool, true, false, cond, List, [], ◌∷◌, ◌++◌, length, get_or, take, drop, map, Option, Some, None, refl, sym, ap, ◌∙◌, subst, arith, rules, eq-eqb, eqb-true}
+use Rattle.std.proofs.Common.{◌≡◌, ◌+◌, ◌%◌, false, get_or, drop, sym, ap, ◌∙◌, subst, arith}
 use Rattle.rl_map.specs.declared.path.Kind.TheVariants.{Little}
 use Rattle.rl_map.specs.declared.path.Level.{Level}
 use Rattle.rl_map.specs.declared.seat.Access.{Access}
-use Rattle.rl_map.specs.Access.{through}
 use Rattle.rl_map.specs.Faults.{is_askew}
 use Rattle.rl_bus.specs.Lanes.{IsWidth}
 use Rattle.rl_map.proofs.Climb.{HasRoom, through_room, room_in_four}

@@ -1,0 +1,13 @@
+pub mod Alone
+pub mod Bytes
+pub mod Seated
+pub mod Going
+pub mod Locations
+pub mod Narrow
+pub mod Places
+pub mod Ready
+pub mod Rights
+pub mod Setups
+pub mod Tables
+pub mod Traces
+pub mod UnderWay

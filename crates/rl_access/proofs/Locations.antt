@@ -1,0 +1,31 @@
+-- Locations of memories.
+use Rattle.std.proofs.Common.{◌≡◌, ℕ, ◌*◌, ◌^◌, ◌<◌, ◌≤◌, Bool, length, Some, sym, ap, ◌∙◌, subst, arith}
+use Rattle.rl_policy.specs.Bits.{from_bits}
+use Rattle.rl_policy.proofs.BitLemmas.{from_bits-lt}
+use Rattle.rl_model.specs.Rows.{ChipData}
+use Rattle.rl_model.specs.Chip.{bytes_of}
+use Rattle.rl_model.specs.declared.rows.Item.TheVariants as item
+use Rattle.rl_map.specs.Layout.{place_at}
+use Rattle.rl_split.specs.Access.{IsChoice, all_bytes}
+use Rattle.rl_access.specs.Access.{IsPlaceFor}
+use Rattle.rl_access.specs.Model.{ModelData, IsModel}
+use Rattle.rl_access.specs.Operation.{location_size}
+use Rattle.rl_access.proofs.Bytes.{bytes_bits, below_digits}
+use Rattle.rl_access.proofs.Places.{size_is, place_size, all_chosen}
+
+-- the lowest bytes of a word have the location's digits
+pub taken_digits : (c : ChipData) (mem bytes value : ℕ) (f : ℕ → Bool) → bytes_of c (item.Mem mem) ≡ Some bytes → value ≡ from_bits (8 * bytes) f → value < 16 ^ (2 * location_size c mem)
+taken_digits c mem bytes value f e is =
+    let size : location_size c mem ≡ bytes = size_is c (item.Mem mem) bytes e in
+    let low : value < 2 ^ (8 * bytes) = subst (λ v. v < 2 ^ (8 * bytes)) (sym is) (from_bits-lt (8 * bytes) f) in
+    subst (λ n. value < 16 ^ (2 * n)) (sym size) (below_digits bytes value (subst (λ n. value < n) (bytes_bits bytes) low))
+
+-- all bytes of a location
+pub location_chosen : (m : ModelData) (mem place bytes chosen : ℕ) → IsModel m → IsPlaceFor m (item.Mem mem) place → bytes_of m.chip (item.Mem mem) ≡ Some bytes → 1 ≤ bytes → chosen ≡ all_bytes bytes → IsChoice (place_at m.layout place).bytes chosen
+location_chosen m mem place bytes chosen ok there e some all =
+    let size : location_size m.chip mem ≡ bytes = size_is m.chip (item.Mem mem) bytes e in
+    let same : (place_at m.layout place).bytes ≡ bytes = place_size m (item.Mem mem) place ok there ∙ size in
+    subst (λ n. IsChoice n chosen) (sym same) (subst (λ n. IsChoice bytes n) (sym all) (all_chosen bytes some))
+
+pub location_digits : (m : ModelData) (mem place value : ℕ) → IsModel m → IsPlaceFor m (item.Mem mem) place → value < 256 ^ (place_at m.layout place).bytes → value < 16 ^ (2 * location_size m.chip mem)
+location_digits m mem place value ok there low = below_digits (location_size m.chip mem) value (subst (λ n. value < 256 ^ n) (place_size m (item.Mem mem) place ok there) low)

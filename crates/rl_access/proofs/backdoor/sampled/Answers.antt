@@ -1,0 +1,12 @@
+use Rattle.rl_mirror.specs.Fields.{size_of}
+use Rattle.rl_model.specs.Rows.{ChipData}
+use Rattle.std.proofs.Common.{◌<◌, ◌^◌, subst}
+use Rattle.rl_access.proofs.Bytes.{below_digits}
+use Rattle.rl_access.proofs.Tables.{reg_there}
+use Rattle.rl_access.proofs.backdoor.sampled.Goals as goal
+
+pub peek-bits-requires : goal.peek-bits-requires
+peek-bits-requires g c = record { cell = reg_there c.args.m.now _ c.args.reg c.requires.device c.requires.reg }
+
+pub returns : goal.returns
+returns g c = below_digits (size_of c.args.m.now.chip c.args.reg) c.owned.result (subst (λ (h : ChipData). c.owned.result < 256 ^ size_of h c.args.reg) c.chip.ensures.chip c.owned.ensures.fits)

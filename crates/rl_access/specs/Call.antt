@@ -1,0 +1,45 @@
+-- One call: from what stands before it to what stands after it.
+use Rattle.std.specs.Prelude.{◌≡◌, ℕ, List, Option, Some, option_map, MatchResult}
+use Rattle.rl_bus.specs.Standing.{Standing, standing_at}
+use Rattle.rl_bus.specs.State.{State}
+use Rattle.rl_access.specs.declared.event.Event.{Event}
+use Rattle.rl_access.specs.declared.event.Op.{Op}
+use Rattle.rl_access.specs.declared.event.Refused.{Refused}
+use Rattle.rl_access.specs.Items.{AreItemsOf, HasCauses, items_of, moved_on_by_all, port_for, adapter_for}
+use Rattle.rl_access.specs.Model.{ModelData}
+use Rattle.rl_access.specs.Rules.{grant, named, sends, outcome, event_of, refused_event, IsSampled, device_after}
+
+-- what a call meets and leaves
+pub record Scene : Type 0 where
+  pub model : ModelData
+  pub adapters : List Standing
+  pub errors : ℕ
+  pub device : Option State
+
+abbrev pub scene : ModelData → List Standing → ℕ → Option State → Scene
+scene model adapters errors device = record { model = model; adapters = adapters; errors = errors; device = device }
+
+-- a refused operation changes nothing
+pub record IsRefused (s new : Scene) (op : Op) (why : Refused) (event : Event) : Type 0 where
+  pub event_is : event ≡ refused_event s.model (named s.model op) why
+  pub unchanged : new ≡ s
+
+-- what a granted operation does
+pub record IsDone (s new : Scene) (op : Op) (place : ℕ) (event : Event) : Type 0 where
+  -- the bits that the device was found to have, where the backdoor reads them
+  pub sampled : ℕ
+  -- the items are those of its operations, and each adapter moves by them
+  pub items : AreItemsOf (standing_at s.adapters (adapter_for s.model.layout place)) (port_for s.model.layout place) (sends s.model op place) event.trace
+  pub adapters : new.adapters ≡ moved_on_by_all s.adapters (adapter_for s.model.layout place) event.trace
+  pub cause : HasCauses s.errors new.errors event.trace
+  -- the event and the model are what the rules make of these
+  pub event_is : event ≡ event_of s.model (named s.model op) event.trace (outcome s.model op place sampled event.trace)
+  pub model : new.model ≡ (outcome s.model op place sampled event.trace).model
+  -- the device, where it tells its state
+  pub found : (d : State) → s.device ≡ Some d → IsSampled d op sampled
+  pub answers : (d : State) → s.device ≡ Some d → event.trace ≡ items_of (standing_at s.adapters (adapter_for s.model.layout place)) d (port_for s.model.layout place) (sends s.model op place)
+  pub goes : new.device ≡ option_map (device_after s.model op sampled event.trace) s.device
+
+-- the operation is refused by its first cause, or done
+abbrev pub Performs : Scene → Scene → Op → Event → Type 0
+Performs s new op event = MatchResult (grant s.model op) (λ place. IsDone s new op place event) (λ why. IsRefused s new op why event)

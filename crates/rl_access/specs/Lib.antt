@@ -1,0 +1,10 @@
+pub mod Gathering
+pub mod Model
+pub mod Operation
+pub mod Event
+pub mod HandsOver
+pub mod Items
+pub mod Access
+pub mod Rules
+pub mod Call
+pub mod Tally

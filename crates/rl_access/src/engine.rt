@@ -1,0 +1,220 @@
+//! What all accesses over the bus have in common.
+ghost use Rattle.std.specs.Prelude.{◌≡◌, ℕ, ◌<◌, ◌≤◌, ◌*◌, ◌^◌, map, length, All, None, true, false};
+ghost use Rattle.rl_bus.specs.Standing.{standing_at};
+ghost use Rattle.rl_bus.specs.Wire.{Fits};
+ghost use Rattle.rl_map.specs.Layout.{IsLocation, place_at};
+ghost use Rattle.rl_split.specs.Access.{IsChoice, kind_of, bus_bytes_of, ops_of};
+ghost use Rattle.rl_split.specs.Lists.{ops_in};
+ghost use Rattle.rl_mirror.specs.Fields.{size_of, count_of};
+ghost use Rattle.rl_access.specs.Access.{IsAccessOn, HasBytes, IsValueWithin, IsWholeTrace};
+ghost use Rattle.rl_access.specs.Event.{EventFits, ItemFits, IsEndWithin, IsTold};
+ghost use Rattle.rl_access.specs.Items.{AreItemsOf, AreSent, port_for, adapter_for, words_answered, failed_at};
+ghost use Rattle.rl_access.specs.Model.{IsReady, IsSameChip};
+ghost use Rattle.rl_access.specs.Operation.{has_end, digits_of, ends_with_value};
+ghost use Rattle.rl_access.specs.Rules.{access_ops, write_outcome, read_outcome, register_event, value_of};
+ghost use Rattle.rl_access.specs.declared.event.End.TheVariants as end;
+
+use crate::access::Access;
+use crate::event::{End, Event, Op};
+use crate::model::Model;
+use crate::send::send_all;
+use crate::trace::Trace;
+use rl_bus::{Adapter, Adapters, Device};
+use rl_split::{Answers, Words, join, split};
+
+/// The operations of an access to a location of a place.
+pub(crate) fn operations(
+    m: &Model,
+    place: u32,
+    index: u32,
+    chosen: u8,
+    value: u64,
+    write: bool,
+) -> Words
+    requires location { IsLocation m.now.layout place index }
+    requires chosen { IsChoice (place_at m.now.layout place).bytes chosen }
+    requires value { value < 256 ^ (place_at m.now.layout place).bytes }
+    ensures ops { ops_in result ≡ ops_of m.now.layout place index chosen value write }
+    ensures few { length result ≤ 8 }
+    ensures fits { All (Fits (kind_of m.now.layout place)) (ops_in result) }
+    ensures bytes { HasBytes (bus_bytes_of m.now.layout place) (ops_in result) }
+{
+    split(m.layout(), place, index, chosen, value, write)
+}
+
+/// Sends the operations to the port of a place.
+pub(crate) fn send<D: Device>(
+    m: &Model,
+    d: &mut D,
+    a: &mut Adapters,
+    place: u32,
+    words: &Words,
+) -> Trace
+    requires place { place < length m.now.layout.places }
+    requires ready { IsReady m.now (map standing a.old.items) (D.state d.old) }
+    requires few { length words.now ≤ 8 }
+    requires fits { All (Fits (kind_of m.now.layout place)) (ops_in words.now) }
+    requires bytes { HasBytes (bus_bytes_of m.now.layout place) (ops_in words.now) }
+    ensures sent { AreSent (adapter_for m.now.layout place) (port_for m.now.layout place) (ops_in words.now) result (map standing a.old.items) (map standing a.new.items) (D.errors d.old) (D.errors d.new) (D.state d.old) (D.state d.new) }
+    ensures ready { IsReady m.now (map standing a.new.items) (D.state d.new) }
+    ensures fit { All (ItemFits m.now.layout) result }
+    ensures whole { IsWholeTrace (length words.now) result }
+{
+    let port = m.layout().port_of(place);
+    let which = m.layout().adapter(port);
+    send_all(d, a, which, port, words)
+}
+
+/// The words that the items answered.
+pub(crate) fn answers_of(trace: &Trace) -> Answers
+    ensures { result ≡ words_answered trace.now }
+{
+    let mut answers = Answers::new();
+    for k in 0..trace.len() {
+        answers.push(trace.item(k).answer.word);
+    }
+    answers
+}
+
+/// Takes a write as done, unless an item failed.
+fn conclude_write(m: &mut Model, access: &Access, good: End, trace: &Trace) -> End
+    requires reg { access.now.reg < length m.old.chip.regs }
+    ensures end { result ≡ (write_outcome m.old good access.now trace.now).end }
+    ensures model { m.new ≡ (write_outcome m.old good access.now trace.now).model }
+{
+    match trace.failed_at() {
+        None => {
+            m.predict_write(access);
+            good
+        }
+        Some(word) => End::BusError { word },
+    }
+}
+
+/// A write of a register, told as an operation that ends so where no item failed.
+pub(crate) fn write_as<D: Device>(
+    m: &mut Model,
+    d: &mut D,
+    a: &mut Adapters,
+    op: Op,
+    access: &Access,
+    good: End,
+) -> Event
+    requires ready { IsReady m.old (map standing a.old.items) (D.state d.old) }
+    requires access { IsAccessOn m.old access.now }
+    requires told { IsTold m.old op access.now.reg }
+    requires ends { has_end op good ≡ true }
+    requires within { IsEndWithin (digits_of m.old.chip op) good }
+    ensures ready { IsReady m.new (map standing a.new.items) (D.state d.new) }
+    ensures sent { AreSent (adapter_for m.old.layout access.now.place) (port_for m.old.layout access.now.place) (access_ops m.old access.now true) result.trace (map standing a.old.items) (map standing a.new.items) (D.errors d.old) (D.errors d.new) (D.state d.old) (D.state d.new) }
+    ensures event { result ≡ register_event op access.now.reg result.trace (write_outcome m.old good access.now result.trace) }
+    ensures model { m.new ≡ (write_outcome m.old good access.now result.trace).model }
+    ensures parts { IsSameChip m.old m.new }
+    ensures fits { EventFits m.new result }
+{
+    let words = operations(m, access.place, 0, access.chosen, access.value, true);
+    let trace = send(m, d, a, access.place, &words);
+    let end = conclude_write(m, access, good, &trace);
+    m.event(op, access.reg, end, trace, 0)
+}
+
+/// The value that the items of a read brought.
+fn joined_value(m: &Model, access: &Access, words: &Words, trace: &Trace) -> u64
+    requires access { IsAccessOn m.now access.now }
+    requires words { ops_in words.now ≡ ops_of m.now.layout access.now.place 0 access.now.chosen 0 false }
+    requires whole { length trace.now ≡ length words.now }
+    ensures value { result ≡ value_of m.now access.now trace.now }
+    ensures fits { result < 256 ^ (place_at m.now.layout access.now.place).bytes }
+{
+    let answers = answers_of(trace);
+    join(m.layout(), access.place, 0, access.chosen, words, &answers)
+}
+
+/// Takes a read as done, unless an item failed, and names the fields that differ from what was believed
+/// before it, where this is a check.
+fn conclude_read(
+    m: &mut Model,
+    access: &Access,
+    check: bool,
+    words: &Words,
+    trace: &Trace,
+) -> (End, u64)
+    requires access { IsAccessOn m.old access.now }
+    requires words { ops_in words.now ≡ ops_of m.old.layout access.now.place 0 access.now.chosen 0 false }
+    requires whole { IsWholeTrace (length words.now) trace.now }
+    ensures end { result.0 ≡ (read_outcome m.old check access.now trace.now).end }
+    ensures differ { result.1 ≡ (read_outcome m.old check access.now trace.now).differ }
+    ensures model { m.new ≡ (read_outcome m.old check access.now trace.now).model }
+    ensures fits { IsValueWithin (256 ^ (place_at m.old.layout access.now.place).bytes) result.0 }
+    ensures ends { ends_with_value result.0 ≡ true }
+    ensures fields { result.1 < 2 ^ count_of m.old.chip access.now.reg }
+{
+    match trace.failed_at() {
+        None => {
+            let value = joined_value(m, access, words, trace);
+            let differ = m.differ(check, access.reg, value);
+            m.predict_read(access.reg, value, access.fields);
+            (End::Value { value }, differ)
+        }
+        Some(word) => (End::BusError { word }, 0),
+    }
+}
+
+/// A read of a register: the items, how it ended, and the differing fields.
+#[derive(Drop)]
+pub(crate) struct Reading {
+    pub(crate) trace: Trace,
+    pub(crate) end: End,
+    pub(crate) differ: u64,
+}
+
+pub(crate) fn read<D: Device>(
+    m: &mut Model,
+    d: &mut D,
+    a: &mut Adapters,
+    access: &Access,
+    check: bool,
+) -> Reading
+    requires ready { IsReady m.old (map standing a.old.items) (D.state d.old) }
+    requires access { IsAccessOn m.old access.now }
+    ensures ready { IsReady m.new (map standing a.new.items) (D.state d.new) }
+    ensures sent { AreSent (adapter_for m.old.layout access.now.place) (port_for m.old.layout access.now.place) (access_ops m.old access.now false) result.trace (map standing a.old.items) (map standing a.new.items) (D.errors d.old) (D.errors d.new) (D.state d.old) (D.state d.new) }
+    ensures end { result.end ≡ (read_outcome m.old check access.now result.trace).end }
+    ensures differ { result.differ ≡ (read_outcome m.old check access.now result.trace).differ }
+    ensures model { m.new ≡ (read_outcome m.old check access.now result.trace).model }
+    ensures within { IsValueWithin (256 ^ (place_at m.old.layout access.now.place).bytes) result.end }
+    ensures ends { ends_with_value result.end ≡ true }
+    ensures fields { result.differ < 2 ^ count_of m.old.chip access.now.reg }
+    ensures parts { IsSameChip m.old m.new }
+    ensures items { All (ItemFits m.old.layout) result.trace }
+{
+    let words = operations(m, access.place, 0, access.chosen, 0, false);
+    let trace = send(m, d, a, access.place, &words);
+    let (end, differ) = conclude_read(m, access, check, &words, &trace);
+    Reading { trace, end, differ }
+}
+
+/// A read of a register, told as an operation.
+pub(crate) fn read_as<D: Device>(
+    m: &mut Model,
+    d: &mut D,
+    a: &mut Adapters,
+    op: Op,
+    access: &Access,
+    check: bool,
+) -> Event
+    requires ready { IsReady m.old (map standing a.old.items) (D.state d.old) }
+    requires access { IsAccessOn m.old access.now }
+    requires told { IsTold m.old op access.now.reg }
+    requires ends { (value : ℕ) → has_end op (end.Value value) ≡ true }
+    requires digits { 16 ^ digits_of m.old.chip op ≡ 256 ^ (place_at m.old.layout access.now.place).bytes }
+    ensures ready { IsReady m.new (map standing a.new.items) (D.state d.new) }
+    ensures sent { AreSent (adapter_for m.old.layout access.now.place) (port_for m.old.layout access.now.place) (access_ops m.old access.now false) result.trace (map standing a.old.items) (map standing a.new.items) (D.errors d.old) (D.errors d.new) (D.state d.old) (D.state d.new) }
+    ensures event { result ≡ register_event op access.now.reg result.trace (read_outcome m.old check access.now result.trace) }
+    ensures model { m.new ≡ (read_outcome m.old check access.now result.trace).model }
+    ensures parts { IsSameChip m.old m.new }
+    ensures fits { EventFits m.new result }
+{
+    let done = read(m, d, a, access, check);
+    m.event(op, access.reg, done.end, done.trace, done.differ)
+}

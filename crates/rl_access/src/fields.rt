@@ -1,0 +1,127 @@
+//! Accesses to one field, and desired values.
+ghost use Rattle.std.specs.Prelude.{◌≡◌, ◌+◌, ◌<◌, ◌≤◌, map as each, length, true};
+ghost use Rattle.rl_access.specs.Event.{EventFits, IsEndWithin};
+ghost use Rattle.rl_access.specs.Model.{IsReady, IsSameChip};
+ghost use Rattle.rl_access.specs.Operation.{IsMapIn, field_digits, ends_with_value};
+ghost use Rattle.rl_access.specs.Rules.{end_in_field};
+
+use crate::engine::{read, write_as};
+use crate::event::{End, Event, Op};
+use crate::model::Model;
+use crate::trace::Trace;
+use rl_bus::{Adapter, Adapters, Device};
+use rl_model::{Field, Item};
+use rl_policy::take;
+
+/// Writes a field over the bus: its own bytes alone where the access may be narrow, else the whole register
+/// with the neutral word in each other field.
+pub fn field_write<D: Device>(
+    m: &mut Model,
+    d: &mut D,
+    a: &mut Adapters,
+    field: u32,
+    map: Option<u32>,
+    value: u64,
+) -> Event
+    requires ready { IsReady m.old (each standing a.old.items) (D.state d.old) }
+    requires field { field < length m.old.chip.fields }
+    requires map { IsMapIn (length m.old.layout.maps) map }
+    ensures ready { IsReady m.new (each standing a.new.items) (D.state d.new) }
+    ensures parts { IsSameChip m.old m.new }
+    ensures fits { EventFits m.new result }
+{
+    let reg = m.field(field).reg;
+    let place = m.place_of(Item::Reg(reg), map);
+    let op = Op::FieldWrite {
+        field,
+        map: m.map_used(place, map),
+        value,
+    };
+    match m.fitting_field(field, value, m.way(place, true)) {
+        Ok(place) => {
+            let access = m.field_written(field, place, value);
+            if !m.is_narrow(field, place, true) {
+                m.forget(place);
+            }
+            write_as(m, d, a, op, &access, End::Done)
+        }
+        Err(why) => m.refuse(op, reg, why),
+    }
+}
+
+/// Reads a field over the bus: its own bytes alone where the access may be narrow, else the whole register.
+pub fn field_read<D: Device>(
+    m: &mut Model,
+    d: &mut D,
+    a: &mut Adapters,
+    field: u32,
+    map: Option<u32>,
+) -> Event
+    requires ready { IsReady m.old (each standing a.old.items) (D.state d.old) }
+    requires field { field < length m.old.chip.fields }
+    requires map { IsMapIn (length m.old.layout.maps) map }
+    ensures ready { IsReady m.new (each standing a.new.items) (D.state d.new) }
+    ensures parts { IsSameChip m.old m.new }
+    ensures fits { EventFits m.new result }
+{
+    let shape = m.field(field);
+    let place = m.place_of(Item::Reg(shape.reg), map);
+    let op = Op::FieldRead {
+        field,
+        map: m.map_used(place, map),
+    };
+    match m.way(place, false) {
+        Ok(place) => {
+            let access = m.field_read(field, place);
+            if !m.is_narrow(field, place, false) {
+                m.forget(place);
+            }
+            let done = read(m, d, a, &access, false);
+            let end = part_of(&shape, done.end);
+            m.event(op, shape.reg, end, done.trace, 0)
+        }
+        Err(why) => m.refuse(op, shape.reg, why),
+    }
+}
+
+// The field's part of a value that was read.
+fn part_of(field: &Field, end: End) -> End
+    requires some { 1 ≤ field.now.width }
+    requires most { field.now.lsb + field.now.width ≤ 64 }
+    requires read { ends_with_value end ≡ true }
+    ensures part { result ≡ end_in_field field.now end }
+    ensures within { IsEndWithin (field_digits field.now.width) result }
+    ensures ends { ends_with_value result ≡ true }
+{
+    match end {
+        End::Value { value } => End::Value {
+            value: take(value, field.lsb, field.width),
+        },
+        other => other,
+    }
+}
+
+/// Gives a field a desired value: what a write of the value would leave of the desired one.
+pub fn set(m: &mut Model, field: u32, value: u64) -> Event
+    requires field { field < length m.old.chip.fields }
+    ensures fits { EventFits m.new result }
+    ensures parts { IsSameChip m.old m.new }
+{
+    let reg = m.field(field).reg;
+    let op = Op::Set { field, value };
+    match m.fitting_field(field, value, Ok(0)) {
+        Ok(_) => {
+            m.set(field, value);
+            m.event(op, reg, End::Done, Trace::new(), 0)
+        }
+        Err(why) => m.refuse(op, reg, why),
+    }
+}
+
+/// Tells the mirrored and the desired value of a register.
+pub fn show(m: &Model, reg: u32) -> Event
+    requires reg { reg < length m.now.chip.regs }
+    ensures fits { EventFits m.now result }
+{
+    m.event(Op::Show { reg }, reg, End::Done, Trace::new(), 0)
+}

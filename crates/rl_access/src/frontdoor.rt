@@ -1,0 +1,157 @@
+//! Accesses to registers over the bus.
+ghost use Rattle.std.specs.Prelude.{◌<◌, map as each, length};
+ghost use Rattle.rl_access.specs.Event.{EventFits};
+ghost use Rattle.rl_access.specs.Model.{IsReady, IsSameChip};
+ghost use Rattle.rl_access.specs.Operation.{IsMapIn};
+
+use crate::engine::{read_as, write_as};
+use crate::event::{End, Event, Op};
+use crate::model::Model;
+use rl_bus::{Adapter, Adapters, Device};
+use rl_model::Item;
+
+/// Writes a register over the bus.
+pub fn front_write<D: Device>(
+    m: &mut Model,
+    d: &mut D,
+    a: &mut Adapters,
+    reg: u32,
+    map: Option<u32>,
+    value: u64,
+) -> Event
+    requires ready { IsReady m.old (each standing a.old.items) (D.state d.old) }
+    requires reg { reg < length m.old.chip.regs }
+    requires map { IsMapIn (length m.old.layout.maps) map }
+    ensures ready { IsReady m.new (each standing a.new.items) (D.state d.new) }
+    ensures parts { IsSameChip m.old m.new }
+    ensures fits { EventFits m.new result }
+{
+    let place = m.place_of(Item::Reg(reg), map);
+    let op = Op::Write {
+        reg,
+        map: m.map_used(place, map),
+        value,
+    };
+    match m.fitting(Item::Reg(reg), value, m.way(place, true)) {
+        Ok(place) => {
+            let access = m.whole(reg, place, value);
+            m.forget(place);
+            write_as(m, d, a, op, &access, End::Done)
+        }
+        Err(why) => m.refuse(op, reg, why),
+    }
+}
+
+/// Reads a register over the bus.
+pub fn front_read<D: Device>(
+    m: &mut Model,
+    d: &mut D,
+    a: &mut Adapters,
+    reg: u32,
+    map: Option<u32>,
+) -> Event
+    requires ready { IsReady m.old (each standing a.old.items) (D.state d.old) }
+    requires reg { reg < length m.old.chip.regs }
+    requires map { IsMapIn (length m.old.layout.maps) map }
+    ensures ready { IsReady m.new (each standing a.new.items) (D.state d.new) }
+    ensures parts { IsSameChip m.old m.new }
+    ensures fits { EventFits m.new result }
+{
+    let place = m.place_of(Item::Reg(reg), map);
+    let op = Op::Read {
+        reg,
+        map: m.map_used(place, map),
+    };
+    match m.way(place, false) {
+        Ok(place) => {
+            let access = m.whole_read(reg, place);
+            m.forget(place);
+            read_as(m, d, a, op, &access, false)
+        }
+        Err(why) => m.refuse(op, reg, why),
+    }
+}
+
+/// Reads a register to learn its value.
+fn mirror_register<D: Device>(
+    m: &mut Model,
+    d: &mut D,
+    a: &mut Adapters,
+    reg: u32,
+    map: Option<u32>,
+) -> Event
+    requires ready { IsReady m.old (each standing a.old.items) (D.state d.old) }
+    requires reg { reg < length m.old.chip.regs }
+    requires map { IsMapIn (length m.old.layout.maps) map }
+    ensures ready { IsReady m.new (each standing a.new.items) (D.state d.new) }
+    ensures parts { IsSameChip m.old m.new }
+    ensures fits { EventFits m.new result }
+{
+    let place = m.place_of(Item::Reg(reg), map);
+    let op = Op::Mirror {
+        reg,
+        map: m.map_used(place, map),
+    };
+    match m.way(place, false) {
+        Ok(place) => {
+            let access = m.whole_read(reg, place);
+            m.forget(place);
+            read_as(m, d, a, op, &access, false)
+        }
+        Err(why) => m.refuse(op, reg, why),
+    }
+}
+
+/// Reads a register, and names the compared fields that differ from what was mirrored.
+fn check_register<D: Device>(
+    m: &mut Model,
+    d: &mut D,
+    a: &mut Adapters,
+    reg: u32,
+    map: Option<u32>,
+) -> Event
+    requires ready { IsReady m.old (each standing a.old.items) (D.state d.old) }
+    requires reg { reg < length m.old.chip.regs }
+    requires map { IsMapIn (length m.old.layout.maps) map }
+    ensures ready { IsReady m.new (each standing a.new.items) (D.state d.new) }
+    ensures parts { IsSameChip m.old m.new }
+    ensures fits { EventFits m.new result }
+{
+    let place = m.place_of(Item::Reg(reg), map);
+    let op = Op::Check {
+        reg,
+        map: m.map_used(place, map),
+    };
+    match m.way(place, false) {
+        Ok(place) => {
+            let access = m.whole_read(reg, place);
+            m.forget(place);
+            read_as(m, d, a, op, &access, true)
+        }
+        Err(why) => m.refuse(op, reg, why),
+    }
+}
+
+/// Reads a register over the bus to learn its value. With `check` the event names the compared fields whose
+/// bits aren't those that were mirrored before the read.
+pub fn mirror<D: Device>(
+    m: &mut Model,
+    d: &mut D,
+    a: &mut Adapters,
+    reg: u32,
+    map: Option<u32>,
+    check: bool,
+) -> Event
+    requires ready { IsReady m.old (each standing a.old.items) (D.state d.old) }
+    requires reg { reg < length m.old.chip.regs }
+    requires map { IsMapIn (length m.old.layout.maps) map }
+    ensures ready { IsReady m.new (each standing a.new.items) (D.state d.new) }
+    ensures parts { IsSameChip m.old m.new }
+    ensures fits { EventFits m.new result }
+{
+    if check {
+        check_register(m, d, a, reg, map)
+    } else {
+        mirror_register(m, d, a, reg, map)
+    }
+}

@@ -1,0 +1,39 @@
+//! Accesses to the registers and memories of a chip.
+//!
+//! Each operation of a register model, as IEEE 1800.2 has them in this project's profile: frontdoor
+//! accesses over a bus in whole and narrow form, mirror with check, desired values and updates, the
+//! backdoor, memories and bursts, another master's accesses, and the predictor that watches the bus.
+//! Each call answers an event: the operation, how it ended, the bus items that it sent, and what is then
+//! believed of the register.
+#![tactic(auto)]
+
+mod access;
+mod backdoor;
+mod burst;
+mod engine;
+mod event;
+mod fields;
+mod frontdoor;
+mod memory;
+mod model;
+mod other;
+mod predictor;
+mod recorder;
+mod refusal;
+mod send;
+mod tally;
+mod trace;
+mod updates;
+
+pub use backdoor::{adopt, back_read, back_write, hw, peek, poke, reset};
+pub use burst::{burst_read, burst_write};
+pub use event::{End, Event, Op, Refused, Tally};
+pub use fields::{field_read, field_write, set, show};
+pub use frontdoor::{front_read, front_write, mirror};
+pub use memory::{mem_check, mem_peek, mem_poke, mem_read, mem_write};
+pub use model::Model;
+pub use other::{other_read, other_write};
+pub use predictor::Predictor;
+pub use recorder::Recorder;
+pub use trace::{Trace, TraceItem};
+pub use updates::update;

@@ -1,0 +1,394 @@
+//! A register model.
+ghost use Rattle.std.specs.Prelude.{◌≡◌, ◌+◌, ◌-◌, ◌*◌, ◌<◌, ◌≤◌, ◌^◌, length, [], true, All, Some, None, IfOk, IfSome, if◌then◌else◌};
+ghost use Rattle.rl_map.specs.Layout.{place_at};
+ghost use Rattle.rl_map.specs.Maps.{IsBuiltWith};
+ghost use Rattle.rl_model.specs.declared.rows.Item.TheVariants as item;
+ghost use Rattle.rl_split.specs.Access.{all_bytes};
+ghost use Rattle.rl_split.specs.Narrow.{bytes_of_field};
+ghost use Rattle.rl_access.specs.declared.event.End.TheVariants as end;
+ghost use Rattle.rl_mirror.specs.Compared.{differ};
+ghost use Rattle.rl_mirror.specs.Fields.{field_of, first_of, count_of, size_of};
+ghost use Rattle.rl_mirror.specs.Prediction.{predict_write, predict_read, predict_raw, reset, set, fresh, needs_update, update_word_of};
+ghost use Rattle.rl_access.specs.Access.{IsAccessOn, IsPlaceFor, IsFieldIn};
+ghost use Rattle.rl_access.specs.Event.{EventFits, ItemFits, IsEndWithin, IsTold};
+ghost use Rattle.rl_access.specs.Gathering.{IsNothingGathered};
+ghost use Rattle.rl_access.specs.Model.{IsModel};
+ghost use Rattle.rl_access.specs.Operation.{reg_of, HasNumbers, register_of, has_end, digits_of, IsMapIn};
+ghost use Rattle.rl_access.specs.Rules.{forgetting, map_of_place, register_event, memory_event, quiet, whole, field_alone, field_written, field_read, is_alone};
+
+use crate::access::Access;
+use crate::event::{End, Event, Op, Refused};
+use crate::predictor::Predictor;
+use crate::trace::Trace;
+use rl_map::Layout;
+use rl_mirror::Mirror;
+use rl_model::{Chip, Field, Item};
+use rl_policy::put;
+use rl_policy::word::window;
+use rl_split::narrow;
+use std::alloc::{AllocError, Global};
+
+/// A chip with its layout, what is believed of its registers, and a predictor.
+#[derive(Drop)]
+pub struct Model {
+    chip: Chip,
+    layout: Layout,
+    mirror: Mirror,
+    predictor: Predictor,
+}
+
+impl std::marker::Model for Model {
+    ghost use Rattle.rl_access.specs.Model.{ModelData, IsModel};
+
+    ghost Value = { ModelData };
+
+    ghost view = { λ m. record { chip = m.chip; layout = m.layout; mirror = m.mirror; gathered = m.predictor } };
+
+    ghost invariant = { λ m. IsModel (record { chip = m.chip; layout = m.layout; mirror = m.mirror; gathered = m.predictor }) };
+}
+
+impl Model {
+    /// The model of a chip and a layout that was built with it. It begins after a hard reset.
+    ///
+    /// Where no memory is found the chip and the layout are dropped.
+    pub fn build(alloc: Global, chip: Chip, layout: Layout) -> Result<Model, AllocError>
+        requires built_with { IsBuiltWith layout chip }
+        ensures chip { IfOk result (λ m. m.chip ≡ chip) }
+        ensures layout { IfOk result (λ m. m.layout ≡ layout) }
+        ensures mirror { IfOk result (λ m. m.mirror ≡ fresh chip) }
+        ensures nothing_gathered { IfOk result (λ m. IsNothingGathered m.gathered) }
+        ensures sound { IfOk result IsModel }
+    {
+        let mirror = Mirror::build(alloc, &chip)?;
+        let predictor = Predictor::build(alloc, &layout)?;
+        let _ = chip.regs();
+        let _ = layout.places();
+        Ok(Model {
+            chip,
+            layout,
+            mirror,
+            predictor,
+        })
+    }
+
+    /// Its chip.
+    pub fn chip(&self) -> &Chip
+        ensures chip { result.now ≡ self.now.chip }
+        ensures sound { IsModel self.now }
+    {
+        &self.chip
+    }
+
+    /// Its layout.
+    pub fn layout(&self) -> &Layout
+        ensures layout { result.now ≡ self.now.layout }
+        ensures sound { IsModel self.now }
+    {
+        &self.layout
+    }
+
+    /// What is believed of its registers.
+    pub fn mirror(&self) -> &Mirror
+        ensures mirror { result.now ≡ self.now.mirror }
+        ensures sound { IsModel self.now }
+    {
+        &self.mirror
+    }
+
+    /// The map that an event names: that of the place used, or the one asked for.
+    pub(crate) fn map_used(&self, place: Option<u32>, map: Option<u32>) -> Option<u32>
+        requires place { IfSome place (λ p. p < length self.now.layout.places) }
+        requires map { IsMapIn (length self.now.layout.maps) map }
+        ensures map { result ≡ map_of_place self.now.layout place map }
+        ensures in_range { IsMapIn (length self.now.layout.maps) result }
+    {
+        match place {
+            None => map,
+            Some(place) => Some(self.layout.map_of(place)),
+        }
+    }
+
+    /// Forgets what was gathered of a place, where its root is explicit.
+    pub(crate) fn forget(&mut self, place: u32)
+        requires { place < length self.old.layout.places }
+        ensures { self.new ≡ forgetting self.old place }
+    {
+        if self.layout.explicit(self.layout.port_of(place)) {
+            self.predictor.forget(place);
+        }
+    }
+
+    /// Takes a write as done.
+    pub(crate) fn predict_write(&mut self, access: &Access)
+        requires { access.now.reg < length self.old.chip.regs }
+        ensures { self.new ≡ record self.old { mirror = predict_write self.old.chip access.now.reg access.now.value access.now.fields self.old.mirror } }
+    {
+        self.mirror
+            .predict_write(&self.chip, access.reg, access.value, access.fields);
+    }
+
+    /// Takes a read of these fields, which answered the value, as done.
+    pub(crate) fn predict_read(&mut self, reg: u32, value: u64, fields: u64)
+        requires { reg < length self.old.chip.regs }
+        ensures { self.new ≡ record self.old { mirror = predict_read self.old.chip reg value fields self.old.mirror } }
+    {
+        self.mirror.predict_read(&self.chip, reg, value, fields);
+    }
+
+    /// Takes the register's bits as known.
+    pub(crate) fn predict_raw(&mut self, reg: u32, value: u64)
+        requires { reg < length self.old.chip.regs }
+        ensures { self.new ≡ record self.old { mirror = predict_raw self.old.chip reg value self.old.mirror } }
+    {
+        self.mirror.predict_raw(&self.chip, reg, value);
+    }
+
+    /// Gives a field a desired value.
+    pub(crate) fn set(&mut self, field: u32, value: u64)
+        requires field { field < length self.old.chip.fields }
+        requires value { value < 2 ^ (field_of self.old.chip field).shape.width }
+        ensures { self.new ≡ record self.old { mirror = set self.old.chip field value self.old.mirror } }
+    {
+        self.mirror.set(&self.chip, field, value);
+    }
+
+    /// Takes a reset as done.
+    pub(crate) fn reset(&mut self, kind: u32)
+        requires { kind < length self.old.chip.kinds }
+        ensures { self.new ≡ record self.old { mirror = reset self.old.chip kind self.old.mirror } }
+    {
+        self.mirror.reset(&self.chip, kind);
+    }
+
+    /// The fields whose bits in `read` aren't the mirrored ones, where this is a check.
+    pub(crate) fn differ(&self, check: bool, reg: u32, read: u64) -> u64
+        requires { reg < length self.now.chip.regs }
+        ensures value { result ≡ (if check then differ self.now.chip reg read self.now.mirror else 0) }
+        ensures fits { result < 2 ^ count_of self.now.chip reg }
+    {
+        if check {
+            self.mirror.differ(&self.chip, reg, read)
+        } else {
+            0
+        }
+    }
+
+    /// The event of an operation on a register that has just ended.
+    pub(crate) fn event(&self, op: Op, reg: u32, end: End, trace: Trace, differ: u64) -> Event
+        requires reg { reg < length self.now.chip.regs }
+        requires register { register_of self.now.chip op ≡ Some reg }
+        requires numbers { HasNumbers self.now.chip (length self.now.layout.maps) op }
+        requires ends { has_end op end ≡ true }
+        requires within { IsEndWithin (digits_of self.now.chip op) end }
+        requires items { All (ItemFits self.now.layout) trace }
+        requires differ { differ < 2 ^ count_of self.now.chip reg }
+        ensures event { result ≡ register_event op reg trace (record { end = end; model = self.now; differ = differ }) }
+        ensures fits { EventFits self.now result }
+    {
+        Event {
+            op,
+            end,
+            trace,
+            mirrored: self.mirror.mirrored(reg),
+            desired: self.mirror.desired(reg),
+            differ,
+        }
+    }
+
+    /// The event of an operation on a register that was refused.
+    pub(crate) fn refuse(&self, op: Op, reg: u32, why: Refused) -> Event
+        requires told { IsTold self.now op reg }
+        requires ends { has_end op (end.Refused why) ≡ true }
+        ensures event { result ≡ register_event op reg [] (quiet (end.Refused why) self.now) }
+        ensures fits { EventFits self.now result }
+    {
+        self.event(op, reg, End::Refused { why }, Trace::new(), 0)
+    }
+
+    /// The event of an operation on a memory that was refused.
+    pub(crate) fn refuse_memory(&self, op: Op, why: Refused) -> Event
+        requires register { register_of self.now.chip op ≡ None }
+        requires numbers { HasNumbers self.now.chip (length self.now.layout.maps) op }
+        requires ends { has_end op (end.Refused why) ≡ true }
+        ensures event { result ≡ memory_event op [] (quiet (end.Refused why) self.now) }
+        ensures fits { EventFits self.now result }
+    {
+        self.memory_event(op, End::Refused { why }, Trace::new(), 0)
+    }
+
+    /// An access to a whole register at a place.
+    pub(crate) fn whole(&self, reg: u32, place: u32, value: u64) -> Access
+        requires reg { reg < length self.now.chip.regs }
+        requires place { IsPlaceFor self.now (item.Reg reg) place }
+        requires value { value < 256 ^ size_of self.now.chip reg }
+        ensures access { result ≡ whole self.now reg place value }
+        ensures valid { IsAccessOn self.now result }
+        ensures digits { 16 ^ (2 * size_of self.now.chip reg) ≡ 256 ^ (place_at self.now.layout place).bytes }
+    {
+        let bytes = self.chip.bytes(Item::Reg(reg));
+        Access {
+            reg,
+            place,
+            chosen: all_bytes(bytes),
+            fields: u64::MAX,
+            value,
+        }
+    }
+
+    /// The shape of a field.
+    pub(crate) fn field(&self, field: u32) -> Field
+        requires { field < length self.now.chip.fields }
+        ensures field { result ≡ (field_of self.now.chip field).shape }
+        ensures reg { result.reg < length self.now.chip.regs }
+        ensures bits { IsFieldIn (size_of self.now.chip result.reg) result }
+    {
+        self.chip.field(field)
+    }
+
+    /// Whether an access to a field reaches its own bytes alone.
+    pub(crate) fn is_narrow(&self, field: u32, place: u32, write: bool) -> bool
+        requires field { field < length self.now.chip.fields }
+        requires place { place < length self.now.layout.places }
+        ensures { result ≡ is_alone self.now field place write }
+    {
+        narrow(&self.chip, &self.layout, field, place, write)
+    }
+
+    /// An access to the bytes of one field.
+    fn field_alone(&self, field: u32, place: u32, value: u64) -> Access
+        requires field { field < length self.now.chip.fields }
+        requires place { IsPlaceFor self.now (item.Reg (reg_of self.now.chip field)) place }
+        requires value { value < 2 ^ (field_of self.now.chip field).shape.width }
+        ensures access { result ≡ field_alone self.now field place value }
+        ensures valid { IsAccessOn self.now result }
+    {
+        let _ = &self.layout;
+        let shape = self.field(field);
+        let number = self.place_in_register(field);
+        Access {
+            reg: shape.reg,
+            place,
+            chosen: bytes_of_field(&shape),
+            fields: 1 << number,
+            value: put(0, shape.lsb, shape.width, value),
+        }
+    }
+
+    // The number of a field among those of its register.
+    fn place_in_register(&self, field: u32) -> u32
+        requires { field < length self.now.chip.fields }
+        ensures number { result ≡ field - first_of self.now.chip (reg_of self.now.chip field) }
+        ensures few { result < 64 }
+    {
+        field - self.chip.first_field(self.field(field).reg)
+    }
+
+    /// The access of a field write: narrow, or the whole register with the neutral word in each other field.
+    pub(crate) fn field_written(&self, field: u32, place: u32, value: u64) -> Access
+        requires field { field < length self.now.chip.fields }
+        requires place { IsPlaceFor self.now (item.Reg (reg_of self.now.chip field)) place }
+        requires value { value < 2 ^ (field_of self.now.chip field).shape.width }
+        ensures access { result ≡ field_written self.now field place value }
+        ensures valid { IsAccessOn self.now result }
+        ensures reg { result.reg ≡ reg_of self.now.chip field }
+    {
+        if self.is_narrow(field, place, true) {
+            self.field_alone(field, place, value)
+        } else {
+            let word = self.mirror.neutral_around(&self.chip, field, value);
+            self.whole(self.field(field).reg, place, word)
+        }
+    }
+
+    /// The access of a field read: narrow, or the whole register.
+    pub(crate) fn field_read(&self, field: u32, place: u32) -> Access
+        requires field { field < length self.now.chip.fields }
+        requires place { IsPlaceFor self.now (item.Reg (reg_of self.now.chip field)) place }
+        ensures access { result ≡ field_read self.now field place }
+        ensures valid { IsAccessOn self.now result }
+        ensures reg { result.reg ≡ reg_of self.now.chip field }
+    {
+        if self.is_narrow(field, place, false) {
+            self.field_alone_read(field, place)
+        } else {
+            self.whole_read(self.field(field).reg, place)
+        }
+    }
+
+    fn field_alone_read(&self, field: u32, place: u32) -> Access
+        requires field { field < length self.now.chip.fields }
+        requires place { IsPlaceFor self.now (item.Reg (reg_of self.now.chip field)) place }
+        ensures access { result ≡ field_alone self.now field place 0 }
+        ensures valid { IsAccessOn self.now result }
+    {
+        self.field_alone(field, place, 0)
+    }
+
+    /// Whether some field of the register has another desired value than its mirrored one.
+    pub(crate) fn needs_update(&self, reg: u32) -> bool
+        requires { reg < length self.now.chip.regs }
+        ensures { result ≡ needs_update self.now.mirror reg }
+    {
+        self.mirror.needs_update(&self.chip, reg)
+    }
+
+    /// The word of an update.
+    pub(crate) fn update_word_of(&self, reg: u32) -> u64
+        requires { reg < length self.now.chip.regs }
+        ensures word { result ≡ update_word_of self.now.chip reg self.now.mirror }
+        ensures fits { result < 256 ^ size_of self.now.chip reg }
+    {
+        self.mirror.update_word_of(&self.chip, reg)
+    }
+
+    /// A read of a whole register at a place.
+    pub(crate) fn whole_read(&self, reg: u32, place: u32) -> Access
+        requires reg { reg < length self.now.chip.regs }
+        requires place { IsPlaceFor self.now (item.Reg reg) place }
+        ensures access { result ≡ whole self.now reg place 0 }
+        ensures valid { IsAccessOn self.now result }
+        ensures digits { 16 ^ (2 * size_of self.now.chip reg) ≡ 256 ^ (place_at self.now.layout place).bytes }
+    {
+        self.whole(reg, place, 0)
+    }
+
+    /// The event of an operation on a memory that has just ended.
+    pub(crate) fn memory_event(&self, op: Op, end: End, trace: Trace, differ: u64) -> Event
+        requires register { register_of self.now.chip op ≡ None }
+        requires numbers { HasNumbers self.now.chip (length self.now.layout.maps) op }
+        requires ends { has_end op end ≡ true }
+        requires within { IsEndWithin (digits_of self.now.chip op) end }
+        requires items { All (ItemFits self.now.layout) trace }
+        requires differ { differ ≤ 1 }
+        ensures event { result ≡ memory_event op trace (record { end = end; model = self.now; differ = differ }) }
+        ensures fits { EventFits self.now result }
+    {
+        Event {
+            op,
+            end,
+            trace,
+            mirrored: 0,
+            desired: 0,
+            differ,
+        }
+    }
+}
+
+// The bytes of an item: one bit for each.
+pub(crate) fn all_bytes(bytes: u32) -> u8
+    requires { bytes ≤ 8 }
+    ensures { result ≡ all_bytes bytes }
+{
+    ((1u16 << bytes) - 1) as u8
+}
+
+// The bytes in which a field has a bit.
+fn bytes_of_field(field: &Field) -> u8
+    requires some { 1 ≤ field.now.width }
+    requires most { field.now.lsb + field.now.width ≤ 64 }
+    ensures { result ≡ bytes_of_field field.now }
+{
+    let first = field.lsb / 8;
+    let last = (field.lsb + field.width - 1) / 8;
+    window(first, last - first + 1) as u8
+}

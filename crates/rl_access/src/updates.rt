@@ -1,0 +1,45 @@
+//! Bringing a register to its desired value.
+ghost use Rattle.std.specs.Prelude.{◌<◌, map as each, length};
+ghost use Rattle.rl_access.specs.Event.{EventFits};
+ghost use Rattle.rl_access.specs.Model.{IsReady, IsSameChip};
+ghost use Rattle.rl_access.specs.Operation.{IsMapIn};
+
+use crate::engine::write_as;
+use crate::event::{End, Event, Op};
+use crate::model::Model;
+use crate::trace::Trace;
+use rl_bus::{Adapter, Adapters, Device};
+use rl_model::Item;
+
+/// Brings a register to its desired value by one write of the whole register, where some field has another
+/// desired value than its mirrored one.
+pub fn update<D: Device>(
+    m: &mut Model,
+    d: &mut D,
+    a: &mut Adapters,
+    reg: u32,
+    map: Option<u32>,
+) -> Event
+    requires ready { IsReady m.old (each standing a.old.items) (D.state d.old) }
+    requires reg { reg < length m.old.chip.regs }
+    requires map { IsMapIn (length m.old.layout.maps) map }
+    ensures ready { IsReady m.new (each standing a.new.items) (D.state d.new) }
+    ensures parts { IsSameChip m.old m.new }
+    ensures fits { EventFits m.new result }
+{
+    let place = m.place_of(Item::Reg(reg), map);
+    let op = Op::Update {
+        reg,
+        map: m.map_used(place, map),
+    };
+    match m.way(place, true) {
+        Ok(place) if m.needs_update(reg) => {
+            let word = m.update_word_of(reg);
+            let access = m.whole(reg, place, word);
+            m.forget(place);
+            write_as(m, d, a, op, &access, End::Sent { word })
+        }
+        Ok(_) => m.event(op, reg, End::Nothing, Trace::new(), 0),
+        Err(why) => m.refuse(op, reg, why),
+    }
+}

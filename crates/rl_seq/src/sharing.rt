@@ -1,0 +1,94 @@
+//! The sequence over registers that stand in several maps.
+ghost use Rattle.std.specs.Prelude.{◌≡◌, ◌<◌, map, length, IfSome};
+ghost use Rattle.rl_bus.specs.Causes.{HasCause};
+ghost use Rattle.rl_access.specs.Model.{IsReady, IsSameChip};
+
+use crate::choice::{inverted, is_place, is_reg_tested, places_of};
+use crate::steps::{check_at, write_at};
+use rl_access::{Model, Recorder, Tally};
+use rl_bus::{Adapter, Adapters, Device, Failed};
+use rl_model::{Item, Skip};
+
+/// Writes every register with several places in each of its maps, and checks it in each other one.
+pub fn shared_access<D: Device, R: Recorder>(
+    m: &mut Model,
+    d: &mut D,
+    a: &mut Adapters,
+    block: Option<u32>,
+    rec: &mut R,
+) -> Result<Tally, Failed>
+    requires ready { IsReady m.old (map standing a.old.items) (D.state d.old) }
+    requires block { IfSome block (λ b. b < m.old.chip.blocks) }
+    ensures ready { IsReady m.new (map standing a.new.items) (D.state d.new) }
+    ensures parts { IsSameChip m.old m.new }
+    ensures cause { HasCause (R.faults rec.old) (R.faults rec.new) result }
+    ensures steady { R.steady rec.new ≡ R.steady rec.old }
+{
+    let mut tally = Tally::new();
+    for reg in 0..m.chip().regs() {
+        if is_shared(m, reg, block) {
+            share_places(m, d, a, reg, rec, &mut tally)?;
+        }
+    }
+    Ok(tally)
+}
+
+fn is_shared(m: &Model, reg: u32, block: Option<u32>) -> bool
+    requires reg { reg < length m.now.chip.regs }
+    requires block { IfSome block (λ b. b < m.now.chip.blocks) }
+{
+    is_reg_tested(m.chip(), reg, block, Skip::NO_REG_SHARED_ACCESS_TEST)
+        && places_of(m.layout(), Item::Reg(reg)) >= 2
+}
+
+fn share_places<D: Device, R: Recorder>(
+    m: &mut Model,
+    d: &mut D,
+    a: &mut Adapters,
+    reg: u32,
+    rec: &mut R,
+    tally: &mut Tally,
+) -> Result<(), Failed>
+    requires ready { IsReady m.old (map standing a.old.items) (D.state d.old) }
+    requires reg { reg < length m.old.chip.regs }
+    ensures ready { IsReady m.new (map standing a.new.items) (D.state d.new) }
+    ensures parts { IsSameChip m.old m.new }
+    ensures cause { HasCause (R.faults rec.old) (R.faults rec.new) result }
+    ensures steady { R.steady rec.new ≡ R.steady rec.old }
+{
+    for place in 0..m.layout().places() {
+        if is_place(m.layout(), place, Item::Reg(reg), false, true) {
+            let value = m.mirror().mirrored(reg);
+            let turned = inverted(m.chip(), Item::Reg(reg), value);
+            let at = m.layout().map_of(place);
+            write_at(m, d, a, reg, at, turned, rec, tally)?;
+            check_others(m, d, a, reg, place, rec, tally)?;
+        }
+    }
+    Ok(())
+}
+
+fn check_others<D: Device, R: Recorder>(
+    m: &mut Model,
+    d: &mut D,
+    a: &mut Adapters,
+    reg: u32,
+    written: u32,
+    rec: &mut R,
+    tally: &mut Tally,
+) -> Result<(), Failed>
+    requires ready { IsReady m.old (map standing a.old.items) (D.state d.old) }
+    requires reg { reg < length m.old.chip.regs }
+    ensures ready { IsReady m.new (map standing a.new.items) (D.state d.new) }
+    ensures parts { IsSameChip m.old m.new }
+    ensures cause { HasCause (R.faults rec.old) (R.faults rec.new) result }
+    ensures steady { R.steady rec.new ≡ R.steady rec.old }
+{
+    for place in 0..m.layout().places() {
+        if place != written && is_place(m.layout(), place, Item::Reg(reg), true, false) {
+            let at = m.layout().map_of(place);
+            check_at(m, d, a, reg, at, rec, tally)?;
+        }
+    }
+    Ok(())
+}
