@@ -42,11 +42,6 @@ done
 smallest=$here/smallest-session.session
 description=$(sed '/^---$/,$d' "$smallest"; echo .)
 description=${description%.}
-large() {
-    local name=$1 status=$2
-    cat > "$tmp/in"
-    check "$name" "$tmp/in" "$tmp/want" "$status" run
-}
 # padded SIZE: the description with a comment that makes it so many bytes long.
 padded() {
     printf '%s' "$description"
@@ -55,14 +50,17 @@ padded() {
 }
 read_zero='read a @bus: ok 0x00000000 mirror 0x00000000\n  bus r 0x0 0x00000000 1111 #0 ok\nend: 1 events, 0 differences, 0 bus errors\n'
 printf "$read_zero" > "$tmp/want"
-padded 1048576 | large longest-description 0
-{ printf '%s---\n' "$description"; yes '                              ' | head -n 900000; echo 'read a'; } | large blank-lines 0
+{ printf '%s---\n' "$description"; yes '                              ' | head -n 900000; echo 'read a'; } > "$tmp/in"
+check blank-lines "$tmp/in" "$tmp/want" 0 run
 printf 'refused session: description too long\n' > "$tmp/want"
-padded 1048577 | large description-too-long 2
+padded 1048577 > "$tmp/in"
+check description-too-long "$tmp/in" "$tmp/want" 2 run
 printf 'end: 0 events, 0 differences, 0 bus errors\n' > "$tmp/want"
-{ printf '%s---\n' "$description"; yes '' | head -n 1000000; } | large most-lines 0
+{ printf '%s---\n' "$description"; yes '' | head -n 1000000; } > "$tmp/in"
+check most-lines "$tmp/in" "$tmp/want" 0 run
 printf 'refused line 1000001: too many lines\n' > "$tmp/want"
-{ printf '%s---\n' "$description"; yes '' | head -n 1000001; } | large too-many-lines 2
+{ printf '%s---\n' "$description"; yes '' | head -n 1000001; } > "$tmp/in"
+check too-many-lines "$tmp/in" "$tmp/want" 2 run
 
 # An input that can't be read, and an output that is full.
 : > "$tmp/want"
