@@ -50,6 +50,8 @@ padded() {
 }
 read_zero='read a @bus: ok 0x00000000 mirror 0x00000000\n  bus r 0x0 0x00000000 1111 #0 ok\nend: 1 events, 0 differences, 0 bus errors\n'
 printf "$read_zero" > "$tmp/want"
+padded 1048576 > "$tmp/in"
+check longest-description "$tmp/in" "$tmp/want" 0 run
 { printf '%s---\n' "$description"; yes '                              ' | head -n 900000; echo 'read a'; } > "$tmp/in"
 check blank-lines "$tmp/in" "$tmp/want" 0 run
 printf 'refused session: description too long\n' > "$tmp/want"

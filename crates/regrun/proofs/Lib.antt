@@ -1,2 +1,7 @@
 pub mod BufferLemmas
+pub mod HexLemmas
+pub mod LayoutLemmas
+pub mod ListingLemmas
+pub mod ReadyLemmas
 pub mod WordLemmas
+pub mod TextLemmas

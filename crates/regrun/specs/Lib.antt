@@ -1,5 +1,10 @@
 pub mod Causes
+pub mod LayoutPieces
+pub mod Opened
+pub mod Operations
+pub mod Refusals
 pub mod Said
+pub mod Soak
 pub mod Statuses
 pub mod Texts
 pub mod Told

@@ -3,7 +3,7 @@ use Rattle.std.specs.Prelude.{ℕ, List, [], ◌∷◌, codes, decimal}
 use Rattle.rl_report.specs.Pieces.{joined}
 use Rattle.regrun.specs.declared.counts.Counts.{Counts}
 use Rattle.regrun.specs.declared.texts.LineRefusal.{LineRefusal}
-use Rattle.regrun.specs.declared.texts.LineRefusal.TheVariants.{TooLong, NotAscii, NoSuchCommand, WrongCount, BadName, BadNumber, NumberTooLarge, CountOutOfRange, NoSuchName, TooManyLines, NotBuilt}
+use Rattle.regrun.specs.declared.texts.LineRefusal.TheVariants.{TooLong, NotAscii, NoSuchCommand, WrongCount, BadName, BadNumber, NumberTooLarge, CountOutOfRange, NoSuchName, TooManyLines}
 
 abbrev pub reason_text : LineRefusal → List ℕ
 reason_text TooLong = codes "too long"
@@ -16,7 +16,6 @@ reason_text NumberTooLarge = codes "number too large"
 reason_text CountOutOfRange = codes "count out of range"
 reason_text NoSuchName = codes "no such name"
 reason_text TooManyLines = codes "too many lines"
-reason_text NotBuilt = codes "not built"
 
 -- the last line, where a line was refused
 abbrev pub refused_text : ℕ → LineRefusal → List ℕ

@@ -6,6 +6,8 @@ use Rattle.rl_policy.specs.declared.number.NumberText.TheVariants.{Value, Bad, T
 use Rattle.rl_policy.specs.Numbers.{number_of}
 use Rattle.regrun.specs.declared.words.Task.{Task}
 use Rattle.regrun.specs.declared.words.Task.TheVariants.{Run, Map, Soak, Weave}
+use Rattle.regrun.specs.declared.words.Built.{Built}
+use Rattle.regrun.specs.declared.words.Built.TheVariants as is
 
 abbrev pub task_named : List ℕ → Option Task
 task_named word = if bytes_eq word (codes "run") then Some Run else (if bytes_eq word (codes "map") then Some Map else None)
@@ -21,3 +23,14 @@ task_of [] = None
 task_of (word ∷ []) = task_named word
 task_of (word ∷ number ∷ []) = numbered_task word (number_of number)
 task_of (word ∷ number ∷ other ∷ others) = None
+
+-- what is built of it: not `weave`
+abbrev pub built : Option Task → Option Built
+built None = None
+built (Some Run) = Some is.Run
+built (Some Map) = Some is.Map
+built (Some (Soak n)) = Some (is.Soak n)
+built (Some (Weave n)) = None
+
+abbrev pub task_built : List (List ℕ) → Option Built
+task_built words = built (task_of words)

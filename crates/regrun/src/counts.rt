@@ -1,4 +1,5 @@
 // What a log counts.
+use rl_access::{End, Event, Tally};
 
 /// What happened in a session. Each count stays at the end of `u64`.
 #[derive(Clone, Copy, Debug, PartialEq, Eq)]
@@ -9,4 +10,40 @@ pub struct Counts {
     pub differences: u64,
     /// Each access that ended by a bus error.
     pub errors: u64,
+}
+
+impl Counts {
+    pub(crate) fn new() -> Counts {
+        Counts {
+            events: 0,
+            differences: 0,
+            errors: 0,
+        }
+    }
+
+    // Counts an event.
+    pub(crate) fn count(&mut self, event: &Event) {
+        self.events = self.events.saturating_add(1);
+        let differences = u64::from(event.differ.count_ones());
+        self.differences = self.differences.saturating_add(differences);
+        if let End::BusError { .. } = event.end {
+            self.errors = self.errors.saturating_add(1);
+        }
+    }
+
+    // Counts these too.
+    pub(crate) fn add(&mut self, other: &Counts) {
+        self.events = self.events.saturating_add(other.events);
+        self.differences = self.differences.saturating_add(other.differences);
+        self.errors = self.errors.saturating_add(other.errors);
+    }
+
+    // The counts of a sequence.
+    pub(crate) fn of(tally: &Tally) -> Counts {
+        Counts {
+            events: tally.steps,
+            differences: tally.differences,
+            errors: tally.errors,
+        }
+    }
 }

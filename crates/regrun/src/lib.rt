@@ -3,14 +3,25 @@
 
 mod buffered;
 mod counts;
-mod first_form;
-mod play;
+mod digits;
+mod layout_text;
+mod line;
+mod opening;
+mod perform;
+mod playing;
+mod recorder;
+mod refusals;
+mod resolve;
+mod soak;
+mod soaking;
 mod status;
 mod texts;
 mod top;
 mod words;
 
 pub use counts::Counts;
+pub use playing::play;
+pub use soak::soak_session;
 pub use status::Status;
 pub use top::regrun;
 

@@ -3,11 +3,12 @@ ghost use Rattle.std.specs.Prelude.{◌≡◌};
 ghost use Rattle.rl_bus.specs.Causes.{HasCause};
 ghost use Rattle.rl_report.specs.Pieces.{Puts};
 ghost use Rattle.regrun.specs.Texts.{reason_text, refused_text, end_text};
+ghost use Rattle.rl_script.specs.Commands.{sequence_name};
 
 use crate::Counts;
 use itoa::Buffer;
-use rl_report::{Failed, Sink, put_pieces};
-use rl_script::LineFault;
+use rl_report::{Failed, Sink, put_all, put_pieces};
+use rl_script::{LineFault, Path, Sequence};
 
 // Why a line is refused.
 #[derive(Clone, Copy, Debug, PartialEq, Eq)]
@@ -22,7 +23,6 @@ pub(crate) enum LineRefusal {
     CountOutOfRange,
     NoSuchName,
     TooManyLines,
-    NotBuilt,
 }
 
 fn reason(refusal: LineRefusal) -> &'static [u8]
@@ -39,7 +39,6 @@ fn reason(refusal: LineRefusal) -> &'static [u8]
         LineRefusal::CountOutOfRange => b"count out of range",
         LineRefusal::NoSuchName => b"no such name",
         LineRefusal::TooManyLines => b"too many lines",
-        LineRefusal::NotBuilt => b"not built",
     }
 }
 
@@ -99,5 +98,73 @@ pub(crate) fn put_end<K: Sink>(sink: &mut K, counts: &Counts) -> Result<(), Fail
         errors.format(counts.errors).as_bytes(),
         b" bus errors\n",
     ];
+    put_pieces(sink, &pieces)
+}
+
+fn sequence_name(which: Sequence) -> &'static [u8]
+    ensures { result.now ≡ sequence_name which }
+{
+    match which {
+        Sequence::HwReset => b"hw-reset",
+        Sequence::BitBash => b"bit-bash",
+        Sequence::Access => b"access",
+        Sequence::Shared => b"shared",
+        Sequence::MemWalk => b"mem-walk",
+    }
+}
+
+// Writes the name of a sequence, and the block that it goes over.
+fn put_sequence<K: Sink>(sink: &mut K, which: Sequence, block: &Option<Path>) -> Result<(), Failed>
+    ensures cause { HasCause (K.faults sink.old) (K.faults sink.new) result }
+    ensures ends_kept { K.ends sink.new ≡ K.ends sink.old }
+    ensures same_target { K.target sink.new ≡ K.target sink.old }
+{
+    put_all(sink, b"seq ")?;
+    put_all(sink, sequence_name(which))?;
+    put_all(sink, b" ")?;
+    match block {
+        None => put_all(sink, b"*"),
+        Some(block) => put_all(sink, block.text()),
+    }
+}
+
+// Writes the line before the events of a sequence.
+pub(crate) fn put_sequence_begin<K: Sink>(
+    sink: &mut K,
+    which: Sequence,
+    block: &Option<Path>,
+) -> Result<(), Failed>
+    ensures cause { HasCause (K.faults sink.old) (K.faults sink.new) result }
+    ensures ends_kept { K.ends sink.new ≡ K.ends sink.old }
+    ensures same_target { K.target sink.new ≡ K.target sink.old }
+{
+    put_sequence(sink, which, block)?;
+    put_all(sink, b": begin\n")
+}
+
+// Writes the line after the events of a sequence.
+pub(crate) fn put_sequence_end<K: Sink>(
+    sink: &mut K,
+    which: Sequence,
+    block: &Option<Path>,
+    counts: &Counts,
+) -> Result<(), Failed>
+    ensures cause { HasCause (K.faults sink.old) (K.faults sink.new) result }
+    ensures ends_kept { K.ends sink.new ≡ K.ends sink.old }
+    ensures same_target { K.target sink.new ≡ K.target sink.old }
+{
+    let mut steps = Buffer::new();
+    let mut differences = Buffer::new();
+    let mut errors = Buffer::new();
+    let pieces: [&[u8]; 7] = [
+        b": ",
+        steps.format(counts.events).as_bytes(),
+        b" steps, ",
+        differences.format(counts.differences).as_bytes(),
+        b" differences, ",
+        errors.format(counts.errors).as_bytes(),
+        b" bus errors\n",
+    ];
+    put_sequence(sink, which, block)?;
     put_pieces(sink, &pieces)
 }

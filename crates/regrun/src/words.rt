@@ -1,6 +1,6 @@
 // What the words of a call ask for.
 ghost use Rattle.std.specs.Prelude.{◌≡◌, map, string_bytes};
-ghost use Rattle.regrun.specs.Words.{task_named, numbered_task, task_of};
+ghost use Rattle.regrun.specs.Words.{task_named, numbered_task, task_of, task_built};
 
 use rl_policy::{NumberText, read_number};
 
@@ -51,5 +51,25 @@ pub(crate) fn task_of(words: &[String]) -> Option<Task>
         [word] => task_named(word.as_str()),
         [word, number] => numbered_task(word.as_str(), read_number(number.as_str().as_bytes())),
         _ => None,
+    }
+}
+
+// What is asked for and built.
+#[derive(Clone, Copy, Debug, PartialEq, Eq)]
+pub(crate) enum Built {
+    Run,
+    Map,
+    Soak(u64),
+}
+
+// What is built of what the words ask for.
+pub(crate) fn task_built(words: &[String]) -> Option<Built>
+    ensures { result ≡ task_built (map string_bytes words.now) }
+{
+    match task_of(words) {
+        Some(Task::Run) => Some(Built::Run),
+        Some(Task::Map) => Some(Built::Map),
+        Some(Task::Soak(n)) => Some(Built::Soak(n)),
+        Some(Task::Weave(_)) | None => None,
     }
 }

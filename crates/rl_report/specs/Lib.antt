@@ -1,3 +1,4 @@
+pub mod EventText
 pub mod Got
 pub mod Opening
 pub mod Lines

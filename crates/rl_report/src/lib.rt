@@ -1,6 +1,7 @@
 //! Input and output of a report: sources and sinks that count their faults, and lines over a source.
 #![tactic(auto)]
 
+mod event;
 mod lines;
 mod memory;
 mod numbers;
@@ -10,9 +11,10 @@ mod sink;
 mod source;
 mod standard;
 
+pub use event::{write_event, write_event_line, write_item};
 pub use lines::{Got, LineReader};
 pub use memory::{MemSink, MemSource};
-pub use numbers::{all_digits, put_decimal, put_hex, put_spelled};
+pub use numbers::Digits;
 pub use opening::{Head, HeadFault};
 pub use pieces::{put_all, put_pieces};
 pub use rl_bus::Failed;

@@ -1,69 +1,88 @@
-// Numbers as text into a sink, with no memory taken.
-ghost use Rattle.std.specs.Prelude.{◌≡◌, ◌^◌, ◌<◌, ◌≤◌, ◌++◌, length, decimal, codes};
-ghost use Rattle.rl_bus.specs.Causes.{HasCause};
-ghost use Rattle.rl_report.specs.Numbers.{hex_digits, spelled, without_zeros};
-ghost use Rattle.rl_report.specs.Pieces.{Puts};
+// Numbers as text, with no memory taken.
+ghost use Rattle.std.specs.Prelude.{◌≡◌, ◌^◌, ◌<◌, ◌≤◌, length};
+ghost use Rattle.rl_policy.specs.Numbers.{hex_digits};
+ghost use Rattle.rl_report.specs.Numbers.{padded, digits_if};
 
-use crate::{Failed, Sink, put_all};
-use itoa::Buffer;
+use rl_policy::spell;
+use std::marker::Model;
 
-/// Writes a number in decimal.
-pub fn put_decimal<K: Sink>(sink: &mut K, n: u64) -> Result<(), Failed>
-    ensures bytes { Puts (K.written sink.old) (K.written sink.new) (decimal n) result }
-    ensures cause { HasCause (K.faults sink.old) (K.faults sink.new) result }
-    ensures ends_kept { K.ends sink.new ≡ K.ends sink.old }
-    ensures same_target { K.target sink.new ≡ K.target sink.old }
-{
-    let mut buffer = Buffer::new();
-    put_all(sink, buffer.format(n).as_bytes())
+/// Up to 16 digits of a number.
+#[derive(Drop)]
+pub struct Digits {
+    text: [u8; 16],
+    len: usize,
 }
 
-/// Writes so many hexadecimal digits of a number that has no more.
-pub fn put_hex<K: Sink>(sink: &mut K, n: u64, count: usize) -> Result<(), Failed>
-    requires some { 0 < count }
-    requires few { count ≤ 16 }
-    requires fits { n < 16 ^ count }
-    ensures bytes { Puts (K.written sink.old) (K.written sink.new) (hex_digits count n) result }
-    ensures cause { HasCause (K.faults sink.old) (K.faults sink.new) result }
-    ensures ends_kept { K.ends sink.new ≡ K.ends sink.old }
-    ensures same_target { K.target sink.new ≡ K.target sink.old }
-{
-    let mut digits = [0u8; 16];
-    let len = io::hex(n, count, &mut digits);
-    put_all(sink, &digits[..len])
+impl Model for Digits {
+    ghost use Rattle.std.specs.Prelude.{ℕ, List, take, length, ◌≡◌, ◌≤◌};
+
+    ghost Value = { List ℕ };
+
+    ghost view = { λ d. take d.len d.text };
+
+    ghost invariant = { λ d. (d.len ≤ 16) × (length d.text ≡ 16) };
 }
 
-/// Writes a number as `0x` and its hexadecimal digits, with no zero in front.
-pub fn put_spelled<K: Sink>(sink: &mut K, n: u64) -> Result<(), Failed>
-    ensures bytes { Puts (K.written sink.old) (K.written sink.new) (spelled n) result }
-    ensures cause { HasCause (K.faults sink.old) (K.faults sink.new) result }
-    ensures ends_kept { K.ends sink.new ≡ K.ends sink.old }
-    ensures same_target { K.target sink.new ≡ K.target sink.old }
-{
-    let digits = all_digits(n);
-    put_all(sink, b"0x")?;
-    put_all(sink, skip_zeros(&digits))
-}
-
-/// All hexadecimal digits of a number.
-pub fn all_digits(n: u64) -> [u8; 16]
-    ensures { result ≡ hex_digits 16 n }
-{
-    let mut digits = [0u8; 16];
-    io::hex(n, 16, &mut digits);
-    digits
-}
-
-// What follows the zeros in front, but for the last digit.
-fn skip_zeros(digits: &[u8]) -> &[u8]
-    ensures { result.now ≡ without_zeros digits.now }
-{
-    let mut rest = digits;
-    while let [b'0', after @ ..] = rest {
-        if after.is_empty() {
-            break;
-        }
-        rest = after;
+impl Digits {
+    /// Hexadecimal digits, with no zero in front.
+    pub fn hex(n: u64) -> Digits
+        ensures { result ≡ hex_digits n }
+    {
+        let mut text = [0u8; 16];
+        let len = spell(&mut text, n);
+        Digits { text, len }
     }
-    rest
+
+    /// The hexadecimal digits of a number that may be missing.
+    pub fn hex_if(n: Option<u64>) -> Digits
+        ensures { result ≡ digits_if n }
+    {
+        match n {
+            Some(n) => Digits::hex(n),
+            None => Digits {
+                text: [0; 16],
+                len: 0,
+            },
+        }
+    }
+
+    /// So many hexadecimal digits of a number that has no more.
+    pub fn padded(n: u64, count: u32) -> Digits
+        requires some { 1 ≤ count }
+        requires few { count ≤ 16 }
+        requires fits { n < 16 ^ count }
+        ensures { result ≡ padded count n }
+    {
+        let mut text = [0u8; 16];
+        let len = io::hex(n, count as usize, &mut text);
+        Digits { text, len }
+    }
+
+    /// The byte enables of a word of so many bytes: a digit for each, the highest byte first.
+    pub fn lanes(lanes: u8, bytes: u8) -> Digits
+        requires { bytes ≤ 8 }
+        ensures { length result ≡ bytes }
+    {
+        let mut text = [0u8; 16];
+        for k in 0..bytes {
+            text[k as usize] = lane_digit(lanes, bytes - 1 - k);
+        }
+        Digits {
+            text,
+            len: bytes as usize,
+        }
+    }
+
+    /// The digits as text.
+    pub fn text(&self) -> &[u8]
+        ensures { result.now ≡ self.now }
+    {
+        &self.text[..self.len]
+    }
+}
+
+fn lane_digit(lanes: u8, lane: u8) -> u8
+    requires { lane < 8 }
+{
+    b'0' + (lanes >> lane & 1)
 }

@@ -1,0 +1,27 @@
+use Rattle.std.proofs.Common.{sym, ap, ◌∙◌, subst}
+use Rattle.rl_map.specs.Maps.{IsBuiltWith}
+use Rattle.rl_bench.specs.Flaws.{AreFlawsOf}
+use Rattle.rl_bench.specs.State.{bench_state}
+use Rattle.rl_desc.specs.Data.{DescData}
+use Rattle.regrun.proofs.ReadyLemmas.{device_built}
+use Rattle.regrun.proofs.opening.open.Goals as goal
+
+pub build-requires-clause-built_with : goal.build-requires-clause-built_with
+build-requires-clause-built_with c = subst (λ (d : DescData). IsBuiltWith d.layout d.chip) (sym c.desc.view_is) c.requires.built_with
+
+pub build-requires-clause-flaws : goal.build-requires-clause-flaws
+build-requires-clause-flaws c =
+    subst (AreFlawsOf c.desc.inside.chip c.desc.inside.layout) (sym c.deref.ensures.value) (subst (λ (d : DescData). AreFlawsOf d.chip d.layout d.flaws) (sym c.desc.view_is) c.requires.flaws)
+
+pub build-requires-2 : goal.build-requires-2
+build-requires-2 c = record { built_with = subst (λ (d : DescData). IsBuiltWith d.layout d.chip) (sym c.desc.view_is) c.requires.built_with }
+
+pub returns : goal.returns
+returns c =
+    let m = c.in_ok-model.ensures in
+    let i = c.desc.inside in
+    record {
+      chip = m.chip ∙ ap (λ (d : DescData). d.chip) c.desc.view_is;
+      layout = m.layout ∙ ap (λ (d : DescData). d.layout) c.desc.view_is;
+      device = device_built c.in_ok-model.model i.chip i.layout c.deref.result.now (bench_state c.in_ok-bench.bench) m.chip m.layout c.in_ok-bench.ensures;
+    }

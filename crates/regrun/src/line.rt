@@ -1,0 +1,355 @@
+// What a line does, and its log.
+ghost use Rattle.std.specs.Prelude.{◌≡◌, ◌<◌, ◌∷◌, [], length, map as each, IfSome};
+ghost use Rattle.rl_bus.specs.Causes.{HasCause};
+ghost use Rattle.rl_access.specs.Model.{IsReady, IsSameChip};
+ghost use Rattle.rl_access.specs.Operation.{IsMapIn};
+
+use crate::Counts;
+use crate::perform::perform;
+use crate::recorder::Writing;
+use crate::resolve::{block_at, map_asked, mem_at, op_of};
+use crate::texts::{LineRefusal, put_sequence_begin, put_sequence_end};
+use rl_access::{Model, Tally, burst_read, burst_write};
+use rl_bus::{Adapter, Adapters, Device};
+use rl_report::{Failed, Sink, write_event};
+use rl_script::{Ident, Line, Path, Sequence, Values};
+
+fn run_sequence<D: Device, K: Sink>(
+    m: &mut Model,
+    d: &mut D,
+    a: &mut Adapters,
+    which: Sequence,
+    block: Option<u32>,
+    rec: &mut Writing<'_, K>,
+) -> Result<Tally, Failed>
+    requires ready { IsReady m.old (each standing a.old.items) (D.state d.old) }
+    requires block { IfSome block (λ b. b < m.old.chip.blocks) }
+    ensures ready { IsReady m.new (each standing a.new.items) (D.state d.new) }
+    ensures parts { IsSameChip m.old m.new }
+    ensures cause { HasCause (K.faults rec.old.sink.now) (K.faults rec.new.sink.now) result }
+    ensures steady { rec.new.sink.ghost_name ∷ K.ends rec.new.sink.now ∷ K.target rec.new.sink.now ∷ [] ≡ rec.old.sink.ghost_name ∷ K.ends rec.old.sink.now ∷ K.target rec.old.sink.now ∷ [] }
+{
+    match which {
+        Sequence::HwReset => rl_seq::hw_reset(m, d, a, block, rec),
+        Sequence::BitBash => rl_seq::bit_bash(m, d, a, block, rec),
+        Sequence::Access => rl_seq::access_test(m, d, a, block, rec),
+        Sequence::Shared => rl_seq::shared_access(m, d, a, block, rec),
+        Sequence::MemWalk => rl_seq::mem_walk(m, d, a, block, rec),
+    }
+}
+
+// Runs a sequence, and writes its events.
+#[tactic(auto, using(crate::proofs::ReadyLemmas::steady_ends, crate::proofs::ReadyLemmas::steady_target, crate::proofs::ReadyLemmas::steady_name))]
+fn record_sequence<D: Device, K: Sink>(
+    m: &mut Model,
+    d: &mut D,
+    a: &mut Adapters,
+    which: Sequence,
+    block: Option<u32>,
+    rec: &mut Writing<'_, K>,
+) -> Result<Tally, Failed>
+    requires ready { IsReady m.old (each standing a.old.items) (D.state d.old) }
+    requires block { IfSome block (λ b. b < m.old.chip.blocks) }
+    ensures ready { IsReady m.new (each standing a.new.items) (D.state d.new) }
+    ensures parts { IsSameChip m.old m.new }
+    ensures cause { HasCause (K.faults rec.old.sink.now) (K.faults rec.new.sink.now) result }
+    ensures ends_kept { K.ends rec.new.sink.now ≡ K.ends rec.old.sink.now }
+    ensures same_target { K.target rec.new.sink.now ≡ K.target rec.old.sink.now }
+    ensures same_sink { rec.new.sink.ghost_name ≡ rec.old.sink.ghost_name }
+{
+    run_sequence(m, d, a, which, block, rec)
+}
+
+// Runs a burst of writes, and writes its events.
+#[tactic(auto, using(crate::proofs::ReadyLemmas::steady_ends, crate::proofs::ReadyLemmas::steady_target, crate::proofs::ReadyLemmas::steady_name))]
+fn record_burst_write<D: Device, K: Sink>(
+    m: &mut Model,
+    d: &mut D,
+    a: &mut Adapters,
+    mem: u32,
+    through: Option<u32>,
+    first: u64,
+    values: &[u64],
+    rec: &mut Writing<'_, K>,
+) -> Result<Tally, Failed>
+    requires ready { IsReady m.old (each standing a.old.items) (D.state d.old) }
+    requires mem { mem < length m.old.chip.mems }
+    requires through { IsMapIn (length m.old.layout.maps) through }
+    ensures ready { IsReady m.new (each standing a.new.items) (D.state d.new) }
+    ensures parts { IsSameChip m.old m.new }
+    ensures cause { HasCause (K.faults rec.old.sink.now) (K.faults rec.new.sink.now) result }
+    ensures ends_kept { K.ends rec.new.sink.now ≡ K.ends rec.old.sink.now }
+    ensures same_target { K.target rec.new.sink.now ≡ K.target rec.old.sink.now }
+    ensures same_sink { rec.new.sink.ghost_name ≡ rec.old.sink.ghost_name }
+{
+    burst_write(m, d, a, mem, through, first, values, rec)
+}
+
+// Runs a burst of reads, and writes its events.
+#[tactic(auto, using(crate::proofs::ReadyLemmas::steady_ends, crate::proofs::ReadyLemmas::steady_target, crate::proofs::ReadyLemmas::steady_name))]
+fn record_burst_read<D: Device, K: Sink>(
+    m: &mut Model,
+    d: &mut D,
+    a: &mut Adapters,
+    mem: u32,
+    through: Option<u32>,
+    first: u64,
+    count: u64,
+    rec: &mut Writing<'_, K>,
+) -> Result<Tally, Failed>
+    requires ready { IsReady m.old (each standing a.old.items) (D.state d.old) }
+    requires mem { mem < length m.old.chip.mems }
+    requires through { IsMapIn (length m.old.layout.maps) through }
+    ensures ready { IsReady m.new (each standing a.new.items) (D.state d.new) }
+    ensures parts { IsSameChip m.old m.new }
+    ensures cause { HasCause (K.faults rec.old.sink.now) (K.faults rec.new.sink.now) result }
+    ensures ends_kept { K.ends rec.new.sink.now ≡ K.ends rec.old.sink.now }
+    ensures same_target { K.target rec.new.sink.now ≡ K.target rec.old.sink.now }
+    ensures same_sink { rec.new.sink.ghost_name ≡ rec.old.sink.ghost_name }
+{
+    burst_read(m, d, a, mem, through, first, count, rec)
+}
+
+// The same, to a sink.
+fn log_sequence<D: Device, K: Sink>(
+    m: &mut Model,
+    d: &mut D,
+    a: &mut Adapters,
+    which: Sequence,
+    block: Option<u32>,
+    out: &mut K,
+    counts: &mut Counts,
+) -> Result<Tally, Failed>
+    requires ready { IsReady m.old (each standing a.old.items) (D.state d.old) }
+    requires block { IfSome block (λ b. b < m.old.chip.blocks) }
+    ensures ready { IsReady m.new (each standing a.new.items) (D.state d.new) }
+    ensures parts { IsSameChip m.old m.new }
+    ensures cause { HasCause (K.faults out.old) (K.faults out.new) result }
+    ensures ends_kept { K.ends out.new ≡ K.ends out.old }
+    ensures same_target { K.target out.new ≡ K.target out.old }
+{
+    let mut rec = Writing {
+        sink: out,
+        counts: *counts,
+    };
+    let result = record_sequence(m, d, a, which, block, &mut rec);
+    *counts = rec.counts;
+    result
+}
+
+// The same, to a sink.
+fn log_burst_write<D: Device, K: Sink>(
+    m: &mut Model,
+    d: &mut D,
+    a: &mut Adapters,
+    mem: u32,
+    through: Option<u32>,
+    first: u64,
+    values: &[u64],
+    out: &mut K,
+    counts: &mut Counts,
+) -> Result<Tally, Failed>
+    requires ready { IsReady m.old (each standing a.old.items) (D.state d.old) }
+    requires mem { mem < length m.old.chip.mems }
+    requires through { IsMapIn (length m.old.layout.maps) through }
+    ensures ready { IsReady m.new (each standing a.new.items) (D.state d.new) }
+    ensures parts { IsSameChip m.old m.new }
+    ensures cause { HasCause (K.faults out.old) (K.faults out.new) result }
+    ensures ends_kept { K.ends out.new ≡ K.ends out.old }
+    ensures same_target { K.target out.new ≡ K.target out.old }
+{
+    let mut rec = Writing {
+        sink: out,
+        counts: *counts,
+    };
+    let result = record_burst_write(m, d, a, mem, through, first, values, &mut rec);
+    *counts = rec.counts;
+    result
+}
+
+// The same, to a sink.
+fn log_burst_read<D: Device, K: Sink>(
+    m: &mut Model,
+    d: &mut D,
+    a: &mut Adapters,
+    mem: u32,
+    through: Option<u32>,
+    first: u64,
+    count: u64,
+    out: &mut K,
+    counts: &mut Counts,
+) -> Result<Tally, Failed>
+    requires ready { IsReady m.old (each standing a.old.items) (D.state d.old) }
+    requires mem { mem < length m.old.chip.mems }
+    requires through { IsMapIn (length m.old.layout.maps) through }
+    ensures ready { IsReady m.new (each standing a.new.items) (D.state d.new) }
+    ensures parts { IsSameChip m.old m.new }
+    ensures cause { HasCause (K.faults out.old) (K.faults out.new) result }
+    ensures ends_kept { K.ends out.new ≡ K.ends out.old }
+    ensures same_target { K.target out.new ≡ K.target out.old }
+{
+    let mut rec = Writing {
+        sink: out,
+        counts: *counts,
+    };
+    let result = record_burst_read(m, d, a, mem, through, first, count, &mut rec);
+    *counts = rec.counts;
+    result
+}
+
+// Runs a line that is a burst of writes.
+fn write_burst<D: Device, K: Sink>(
+    m: &mut Model,
+    d: &mut D,
+    a: &mut Adapters,
+    mem: &Path,
+    first: u64,
+    values: &Values,
+    name: &Option<Ident>,
+    out: &mut K,
+    counts: &mut Counts,
+) -> Result<Option<LineRefusal>, Failed>
+    requires ready { IsReady m.old (each standing a.old.items) (D.state d.old) }
+    ensures ready { IsReady m.new (each standing a.new.items) (D.state d.new) }
+    ensures parts { IsSameChip m.old m.new }
+    ensures cause { HasCause (K.faults out.old) (K.faults out.new) result }
+    ensures ends_kept { K.ends out.new ≡ K.ends out.old }
+    ensures same_target { K.target out.new ≡ K.target out.old }
+{
+    let Some(mem) = mem_at(m, mem) else {
+        return Ok(Some(LineRefusal::NoSuchName));
+    };
+    let Some(through) = map_asked(m, name) else {
+        return Ok(Some(LineRefusal::NoSuchName));
+    };
+    log_burst_write(m, d, a, mem, through, first, values.items(), out, counts)?;
+    Ok(None)
+}
+
+// Runs a line that is a burst of reads.
+fn read_burst<D: Device, K: Sink>(
+    m: &mut Model,
+    d: &mut D,
+    a: &mut Adapters,
+    mem: &Path,
+    first: u64,
+    count: u64,
+    name: &Option<Ident>,
+    out: &mut K,
+    counts: &mut Counts,
+) -> Result<Option<LineRefusal>, Failed>
+    requires ready { IsReady m.old (each standing a.old.items) (D.state d.old) }
+    ensures ready { IsReady m.new (each standing a.new.items) (D.state d.new) }
+    ensures parts { IsSameChip m.old m.new }
+    ensures cause { HasCause (K.faults out.old) (K.faults out.new) result }
+    ensures ends_kept { K.ends out.new ≡ K.ends out.old }
+    ensures same_target { K.target out.new ≡ K.target out.old }
+{
+    let Some(mem) = mem_at(m, mem) else {
+        return Ok(Some(LineRefusal::NoSuchName));
+    };
+    let Some(through) = map_asked(m, name) else {
+        return Ok(Some(LineRefusal::NoSuchName));
+    };
+    log_burst_read(m, d, a, mem, through, first, count, out, counts)?;
+    Ok(None)
+}
+
+// The block that is asked for: none stands for the whole chip. None where it isn't there.
+fn block_asked(model: &Model, path: &Option<Path>) -> Option<Option<u32>>
+    ensures { IfSome result (λ block. IfSome block (λ b. b < model.now.chip.blocks)) }
+{
+    match path {
+        None => Some(None),
+        Some(path) => match block_at(model, path) {
+            Some(number) => Some(Some(number)),
+            None => None,
+        },
+    }
+}
+
+// Runs a line that is a sequence, with the lines around its events.
+fn sequence<D: Device, K: Sink>(
+    m: &mut Model,
+    d: &mut D,
+    a: &mut Adapters,
+    which: Sequence,
+    path: &Option<Path>,
+    out: &mut K,
+    counts: &mut Counts,
+) -> Result<Option<LineRefusal>, Failed>
+    requires ready { IsReady m.old (each standing a.old.items) (D.state d.old) }
+    ensures ready { IsReady m.new (each standing a.new.items) (D.state d.new) }
+    ensures parts { IsSameChip m.old m.new }
+    ensures cause { HasCause (K.faults out.old) (K.faults out.new) result }
+    ensures ends_kept { K.ends out.new ≡ K.ends out.old }
+    ensures same_target { K.target out.new ≡ K.target out.old }
+{
+    let Some(block) = block_asked(m, path) else {
+        return Ok(Some(LineRefusal::NoSuchName));
+    };
+    put_sequence_begin(out, which, path)?;
+    let tally = log_sequence(m, d, a, which, block, out, counts)?;
+    put_sequence_end(out, which, path, &Counts::of(&tally))?;
+    Ok(None)
+}
+
+// Runs a line that is one operation.
+fn operation<D: Device, K: Sink>(
+    m: &mut Model,
+    d: &mut D,
+    a: &mut Adapters,
+    line: &Line,
+    out: &mut K,
+    counts: &mut Counts,
+) -> Result<Option<LineRefusal>, Failed>
+    requires ready { IsReady m.old (each standing a.old.items) (D.state d.old) }
+    ensures ready { IsReady m.new (each standing a.new.items) (D.state d.new) }
+    ensures parts { IsSameChip m.old m.new }
+    ensures cause { HasCause (K.faults out.old) (K.faults out.new) result }
+    ensures ends_kept { K.ends out.new ≡ K.ends out.old }
+    ensures same_target { K.target out.new ≡ K.target out.old }
+{
+    let Some(op) = op_of(m, line) else {
+        return Ok(Some(LineRefusal::NoSuchName));
+    };
+    let event = perform(m, d, a, op);
+    counts.count(&event);
+    write_event(out, m, &event)?;
+    Ok(None)
+}
+
+// Runs a line, and writes its log. Answers why it is refused, if a name isn't there.
+pub(crate) fn run_line<D: Device, K: Sink>(
+    m: &mut Model,
+    d: &mut D,
+    a: &mut Adapters,
+    line: &Line,
+    out: &mut K,
+    counts: &mut Counts,
+) -> Result<Option<LineRefusal>, Failed>
+    requires ready { IsReady m.old (each standing a.old.items) (D.state d.old) }
+    ensures ready { IsReady m.new (each standing a.new.items) (D.state d.new) }
+    ensures parts { IsSameChip m.old m.new }
+    ensures cause { HasCause (K.faults out.old) (K.faults out.new) result }
+    ensures ends_kept { K.ends out.new ≡ K.ends out.old }
+    ensures same_target { K.target out.new ≡ K.target out.old }
+{
+    match line {
+        Line::Blank => Ok(None),
+        Line::BurstWrite {
+            mem,
+            first,
+            values,
+            map,
+        } => { write_burst(m, d, a, mem, *first, values, map, out, counts) }
+        Line::BurstRead {
+            mem,
+            first,
+            count,
+            map,
+        } => { read_burst(m, d, a, mem, *first, *count, map, out, counts) }
+        Line::Seq { which, block } => sequence(m, d, a, *which, block, out, counts),
+        _ => operation(m, d, a, line, out, counts),
+    }
+}

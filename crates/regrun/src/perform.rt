@@ -1,0 +1,109 @@
+// One operation, by the call that does it.
+ghost use Rattle.std.specs.Prelude.{◌≡◌, true, false, length, map as each};
+ghost use Rattle.rl_access.specs.Event.{EventFits};
+ghost use Rattle.rl_access.specs.Model.{IsReady, IsDeviceOf, IsSameChip};
+ghost use Rattle.rl_access.specs.Operation.{HasNumbers};
+ghost use Rattle.regrun.specs.Operations.{is_single, is_over_bus};
+
+use rl_access::{Event, Model, Op};
+use rl_bus::{Adapter, Adapters, Device};
+
+// Performs an operation on a register over the bus.
+fn perform_bus<D: Device>(m: &mut Model, d: &mut D, a: &mut Adapters, op: Op) -> Event
+    requires ready { IsReady m.old (each standing a.old.items) (D.state d.old) }
+    requires numbers { HasNumbers m.old.chip (length m.old.layout.maps) op }
+    requires over_bus { is_over_bus op ≡ true }
+    ensures ready { IsReady m.new (each standing a.new.items) (D.state d.new) }
+    ensures parts { IsSameChip m.old m.new }
+    ensures fits { EventFits m.new result }
+{
+    match op {
+        Op::Write { reg, map, value } => rl_access::front_write(m, d, a, reg, map, value),
+        Op::Read { reg, map } => rl_access::front_read(m, d, a, reg, map),
+        Op::Mirror { reg, map } => rl_access::mirror(m, d, a, reg, map, false),
+        Op::Check { reg, map } => rl_access::mirror(m, d, a, reg, map, true),
+        Op::Update { reg, map } => rl_access::update(m, d, a, reg, map),
+        Op::OtherWrite { reg, map, value } => rl_access::other_write(m, d, a, reg, map, value),
+        Op::OtherRead { reg, map } => rl_access::other_read(m, d, a, reg, map),
+        Op::FieldWrite { field, map, value } => rl_access::field_write(m, d, a, field, map, value),
+        Op::FieldRead { field, map } => rl_access::field_read(m, d, a, field, map),
+        Op::MemWrite {
+            mem,
+            map,
+            index,
+            value,
+        } => { rl_access::mem_write(m, d, a, mem, map, index, value) }
+        Op::MemRead { mem, map, index } => rl_access::mem_read(m, d, a, mem, map, index),
+        Op::MemCheck {
+            mem,
+            map,
+            index,
+            value,
+        } => { rl_access::mem_check(m, d, a, mem, map, index, value) }
+        _ => unreachable!(),
+    }
+}
+
+// Performs an operation by the backdoor, on the device's own, or a reset.
+#[tactic(auto, using(crate::proofs::ReadyLemmas::device_same))]
+fn perform_back<D: Device>(m: &mut Model, d: &mut D, op: Op) -> Event
+    requires device { IsDeviceOf m.old (D.state d.old) }
+    requires numbers { HasNumbers m.old.chip (length m.old.layout.maps) op }
+    requires single { is_single op ≡ true }
+    requires over_bus { is_over_bus op ≡ false }
+    ensures device { IsDeviceOf m.new (D.state d.new) }
+    ensures parts { IsSameChip m.old m.new }
+    ensures fits { EventFits m.new result }
+{
+    match op {
+        Op::BackWrite { reg, value } => rl_access::back_write(m, d, reg, value),
+        Op::BackRead { reg } => rl_access::back_read(m, d, reg, false),
+        Op::BackCheck { reg } => rl_access::back_read(m, d, reg, true),
+        Op::Peek { reg } => rl_access::peek(m, d, reg),
+        Op::Poke { reg, value } => rl_access::poke(m, d, reg, value),
+        Op::MemPeek { mem, index } => rl_access::mem_peek(m, d, mem, index),
+        Op::MemPoke { mem, index, value } => rl_access::mem_poke(m, d, mem, index, value),
+        Op::Hw { field, value } => rl_access::hw(m, d, field, value),
+        Op::Reset { kind } => rl_access::reset(m, d, kind),
+        Op::Set { field, value } => rl_access::set(m, field, value),
+        Op::Show { reg } => rl_access::show(m, reg),
+        _ => unreachable!(),
+    }
+}
+
+fn is_over_bus(op: Op) -> bool
+    ensures { result ≡ is_over_bus op }
+{
+    matches!(
+        op,
+        Op::Write { .. }
+            | Op::Read { .. }
+            | Op::Mirror { .. }
+            | Op::Check { .. }
+            | Op::Update { .. }
+            | Op::OtherWrite { .. }
+            | Op::OtherRead { .. }
+            | Op::FieldWrite { .. }
+            | Op::FieldRead { .. }
+            | Op::MemWrite { .. }
+            | Op::MemRead { .. }
+            | Op::MemCheck { .. }
+    )
+}
+
+// Performs an operation that is no burst.
+#[tactic(auto, using(crate::proofs::ReadyLemmas::ready_after))]
+pub(crate) fn perform<D: Device>(m: &mut Model, d: &mut D, a: &mut Adapters, op: Op) -> Event
+    requires ready { IsReady m.old (each standing a.old.items) (D.state d.old) }
+    requires numbers { HasNumbers m.old.chip (length m.old.layout.maps) op }
+    requires single { is_single op ≡ true }
+    ensures ready { IsReady m.new (each standing a.new.items) (D.state d.new) }
+    ensures parts { IsSameChip m.old m.new }
+    ensures fits { EventFits m.new result }
+{
+    if is_over_bus(op) {
+        perform_bus(m, d, a, op)
+    } else {
+        perform_back(m, d, op)
+    }
+}

@@ -1,0 +1,272 @@
+// The lines of a script, one after another.
+ghost use Rattle.std.specs.Prelude.{◌≡◌, ◌≢◌, ◌≤◌, map, true, false, IfOk, IfErr, IfSome};
+ghost use Rattle.rl_bus.specs.Causes.{Rose};
+ghost use Rattle.rl_access.specs.Model.{IsReady, IsSameChip};
+ghost use Rattle.regrun.specs.Causes.{IsCaused};
+ghost use Rattle.regrun.specs.Said.{IsToRun};
+
+use crate::buffered::Buffered;
+use crate::line::run_line;
+use crate::texts::{LineRefusal, put_end, put_line_refused, refusal_of};
+use crate::{Counts, Status};
+use rl_access::Model;
+use rl_bus::{Adapter, Adapters, Device};
+use rl_report::{Failed, Got, LineReader, Sink, Source};
+use rl_script::{Line, read_line};
+use std::alloc::Global;
+
+const MOST_LINES: u64 = 1_000_000;
+
+// What comes of a line.
+#[derive(Clone, Copy)]
+enum Turn {
+    Next,
+    Stop(Status),
+}
+
+// What a line says, or why it is refused.
+#[derive(Drop)]
+enum Said {
+    Line(Line),
+    Refused(LineRefusal),
+}
+
+// Takes the next line. What was written before is out before the source is read.
+fn take_line<S: Source, K: Sink>(
+    lines: &mut LineReader,
+    source: &mut S,
+    out: &mut Buffered<'_, K>,
+) -> Result<Got, Status>
+    requires found { lines.old.found ≡ true }
+    requires going { lines.old.refused ≡ false }
+    ensures found { lines.new.found ≡ true }
+    ensures going { IfOk result (λ got. got ≢ Got.TooLong → lines.new.refused ≡ false) }
+    ensures source_later { S.faults source.old ≤ S.faults source.new }
+    ensures sink_later { K.faults out.old.sink.now ≤ K.faults out.new.sink.now }
+    ensures cause { IfErr result (λ status. IsCaused status (S.faults source.old) (S.faults source.new) (K.faults out.old.sink.now) (K.faults out.new.sink.now)) }
+    ensures ends_kept { K.ends out.new.sink.now ≡ K.ends out.old.sink.now }
+    ensures same_sink { out.new.sink.ghost_name ≡ out.old.sink.ghost_name }
+{
+    if !lines.holds_line() && out.flush().is_err() {
+        return Err(Status::SinkFault);
+    }
+    match lines.next_line(source) {
+        Ok(got) => Ok(got),
+        Err(Failed) => Err(Status::SourceFault),
+    }
+}
+
+// What a line says. None stands for want of memory.
+fn what_is_said(alloc: Global, number: u64, got: Got, line: &[u8]) -> Option<Said>
+    ensures short { IfSome result (λ said. IsToRun said → got ≢ Got.TooLong) }
+    ensures last { IfSome result (λ said. IsToRun said → number ≤ 1000000) }
+{
+    if number > MOST_LINES {
+        return Some(Said::Refused(LineRefusal::TooManyLines));
+    }
+    if got == Got::TooLong {
+        return Some(Said::Refused(LineRefusal::TooLong));
+    }
+    match read_line(alloc, line) {
+        Ok(line) => Some(Said::Line(line)),
+        Err(fault) => Some(Said::Refused(refusal_of(fault)?)),
+    }
+}
+
+// The status at the end of a script.
+fn status_at_end(counts: &Counts) -> Status
+    ensures passed { result ≢ Status.Found → result ≡ Status.Passed }
+    ensures found { result ≢ Status.Passed → result ≡ Status.Found }
+{
+    if counts.differences == 0 && counts.errors == 0 {
+        Status::Passed
+    } else {
+        Status::Found
+    }
+}
+
+// Ends a script whose lines were all run.
+fn end<K: Sink>(counts: &Counts, out: &mut Buffered<'_, K>) -> Status
+    ensures sink_later { K.faults out.old.sink.now ≤ K.faults out.new.sink.now }
+    ensures cause { IsCaused result 0 0 (K.faults out.old.sink.now) (K.faults out.new.sink.now) }
+    ensures ends_kept { K.ends out.new.sink.now ≡ K.ends out.old.sink.now }
+    ensures same_sink { out.new.sink.ghost_name ≡ out.old.sink.ghost_name }
+{
+    match put_end(out, counts) {
+        Ok(()) => status_at_end(counts),
+        Err(Failed) => Status::SinkFault,
+    }
+}
+
+// Ends a script at a line that is refused.
+fn refuse<K: Sink>(number: u64, refusal: LineRefusal, out: &mut Buffered<'_, K>) -> Status
+    ensures sink_later { K.faults out.old.sink.now ≤ K.faults out.new.sink.now }
+    ensures cause { IsCaused result 0 0 (K.faults out.old.sink.now) (K.faults out.new.sink.now) }
+    ensures ends_kept { K.ends out.new.sink.now ≡ K.ends out.old.sink.now }
+    ensures same_sink { out.new.sink.ghost_name ≡ out.old.sink.ghost_name }
+{
+    match put_line_refused(out, number, refusal) {
+        Ok(()) => Status::Refused,
+        Err(Failed) => Status::SinkFault,
+    }
+}
+
+// Runs what a line says, and writes its log.
+fn run_said<D: Device, K: Sink>(
+    number: u64,
+    said: &Said,
+    model: &mut Model,
+    device: &mut D,
+    adapters: &mut Adapters,
+    out: &mut Buffered<'_, K>,
+    counts: &mut Counts,
+) -> Turn
+    requires ready { IsReady model.old (map standing adapters.old.items) (D.state device.old) }
+    ensures ready { IsReady model.new (map standing adapters.new.items) (D.state device.new) }
+    ensures parts { IsSameChip model.old model.new }
+    ensures next { result ≡ Turn.Next → IsToRun said.now }
+    ensures sink_later { K.faults out.old.sink.now ≤ K.faults out.new.sink.now }
+    ensures cause { (status : Status) → result ≡ Turn.Stop status → IsCaused status 0 0 (K.faults out.old.sink.now) (K.faults out.new.sink.now) }
+    ensures ends_kept { K.ends out.new.sink.now ≡ K.ends out.old.sink.now }
+    ensures same_sink { out.new.sink.ghost_name ≡ out.old.sink.ghost_name }
+{
+    let refusal = match said {
+        Said::Refused(refusal) => *refusal,
+        Said::Line(line) => match run_line(model, device, adapters, line, out, counts) {
+            Ok(None) => return Turn::Next,
+            Ok(Some(refusal)) => refusal,
+            Err(Failed) => return Turn::Stop(Status::SinkFault),
+        },
+    };
+    Turn::Stop(refuse(number, refusal, out))
+}
+
+fn let_go(_said: Said) {}
+
+// Reads the next line, runs it and writes its log.
+fn play_line<S: Source, D: Device, K: Sink>(
+    alloc: Global,
+    number: u64,
+    model: &mut Model,
+    device: &mut D,
+    adapters: &mut Adapters,
+    lines: &mut LineReader,
+    source: &mut S,
+    out: &mut Buffered<'_, K>,
+    counts: &mut Counts,
+) -> Turn
+    requires ready { IsReady model.old (map standing adapters.old.items) (D.state device.old) }
+    requires found { lines.old.found ≡ true }
+    requires going { lines.old.refused ≡ false }
+    ensures ready { IsReady model.new (map standing adapters.new.items) (D.state device.new) }
+    ensures parts { IsSameChip model.old model.new }
+    ensures found { lines.new.found ≡ true }
+    ensures going { result ≡ Turn.Next → lines.new.refused ≡ false }
+    ensures last { result ≡ Turn.Next → number ≤ 1000000 }
+    ensures source_later { S.faults source.old ≤ S.faults source.new }
+    ensures sink_later { K.faults out.old.sink.now ≤ K.faults out.new.sink.now }
+    ensures cause { (status : Status) → result ≡ Turn.Stop status → IsCaused status (S.faults source.old) (S.faults source.new) (K.faults out.old.sink.now) (K.faults out.new.sink.now) }
+    ensures ends_kept { K.ends out.new.sink.now ≡ K.ends out.old.sink.now }
+    ensures same_sink { out.new.sink.ghost_name ≡ out.old.sink.ghost_name }
+{
+    let got = match take_line(lines, source, out) {
+        Ok(Got::End) => return Turn::Stop(end(counts, out)),
+        Ok(got) => got,
+        Err(status) => return Turn::Stop(status),
+    };
+    match what_is_said(alloc, number, got, lines.line()) {
+        None => Turn::Stop(Status::Memory),
+        Some(said) => {
+            let turn = run_said(number, &said, model, device, adapters, out, counts);
+            let_go(said);
+            turn
+        }
+    }
+}
+
+// Runs the lines that are left, and writes the log of each and the last line.
+pub(crate) fn play_lines<S: Source, D: Device, K: Sink>(
+    alloc: Global,
+    model: &mut Model,
+    device: &mut D,
+    adapters: &mut Adapters,
+    lines: &mut LineReader,
+    source: &mut S,
+    out: &mut Buffered<'_, K>,
+    counts: &mut Counts,
+) -> Status
+    requires ready { IsReady model.old (map standing adapters.old.items) (D.state device.old) }
+    requires found { lines.old.found ≡ true }
+    requires going { lines.old.refused ≡ false }
+    ensures ready { IsReady model.new (map standing adapters.new.items) (D.state device.new) }
+    ensures parts { IsSameChip model.old model.new }
+    ensures source_later { S.faults source.old ≤ S.faults source.new }
+    ensures sink_later { K.faults out.old.sink.now ≤ K.faults out.new.sink.now }
+    ensures cause { IsCaused result (S.faults source.old) (S.faults source.new) (K.faults out.old.sink.now) (K.faults out.new.sink.now) }
+    ensures ends_kept { K.ends out.new.sink.now ≡ K.ends out.old.sink.now }
+    ensures same_sink { out.new.sink.ghost_name ≡ out.old.sink.ghost_name }
+{
+    let mut number = 1u64;
+    loop {
+        match play_line(
+            alloc, number, model, device, adapters, lines, source, out, counts,
+        ) {
+            Turn::Next => number += 1,
+            Turn::Stop(status) => return status,
+        }
+    }
+}
+
+// Writes what is kept back of a run that is over.
+fn settle<K: Sink>(status: Status, out: &mut Buffered<'_, K>) -> Status
+    requires { status ≢ Status.Words }
+    ensures sink_later { K.faults out.old.sink.now ≤ K.faults out.new.sink.now }
+    ensures kept { result ≢ Status.SinkFault → result ≡ status }
+    ensures cause { result ≡ Status.SinkFault → status ≢ Status.SinkFault → Rose (K.faults out.old.sink.now) (K.faults out.new.sink.now) }
+    ensures ends_kept { K.ends out.new.sink.now ≡ K.ends out.old.sink.now }
+    ensures same_sink { out.new.sink.ghost_name ≡ out.old.sink.ghost_name }
+{
+    if status == Status::SinkFault {
+        return status;
+    }
+    match out.flush() {
+        Err(Failed) if status.is_complete() => Status::SinkFault,
+        _ => status,
+    }
+}
+
+/// Runs the lines that are left on a device, and writes the log of each and the last line.
+///
+/// Lines are numbered from the first that is read here, and the last line and the status are by the lines of this
+/// call alone. The counts rise by what happened. The output isn't finished.
+pub fn play<S: Source, K: Sink, D: Device>(
+    alloc: Global,
+    model: &mut Model,
+    device: &mut D,
+    adapters: &mut Adapters,
+    lines: &mut LineReader,
+    source: &mut S,
+    sink: &mut K,
+    counts: &mut Counts,
+) -> Status
+    requires ready { IsReady model.old (map standing adapters.old.items) (D.state device.old) }
+    requires found { lines.old.found ≡ true }
+    requires going { lines.old.refused ≡ false }
+    ensures ready { IsReady model.new (map standing adapters.new.items) (D.state device.new) }
+    ensures parts { IsSameChip model.old model.new }
+
+    // No fault is made up.
+    ensures source_later { S.faults source.old ≤ S.faults source.new }
+    ensures sink_later { K.faults sink.old ≤ K.faults sink.new }
+    ensures cause { IsCaused result (S.faults source.old) (S.faults source.new) (K.faults sink.old) (K.faults sink.new) }
+
+    ensures ends_kept { K.ends sink.new ≡ K.ends sink.old }
+{
+    let mut own = Counts::new();
+    let mut out = Buffered::new(sink);
+    let status = play_lines(
+        alloc, model, device, adapters, lines, source, &mut out, &mut own,
+    );
+    counts.add(&own);
+    settle(status, &mut out)
+}

@@ -1,0 +1,28 @@
+// The events of a burst or a sequence, written as they come.
+use crate::Counts;
+use rl_access::{Event, Model, Recorder};
+use rl_report::{Failed, Sink, write_event};
+
+// Writes each event, and counts it.
+#[derive(Drop)]
+pub(crate) struct Writing<'a, K> {
+    pub(crate) sink: &'a mut K,
+    pub(crate) counts: Counts,
+}
+
+impl<K: Sink> Recorder for Writing<'_, K> {
+    ghost use Rattle.std.specs.Prelude.{[], ◌∷◌, ⊤};
+
+    ghost faults = { λ r. K.faults r.sink.now };
+
+    ghost steady = { λ r. r.sink.ghost_name ∷ K.ends r.sink.now ∷ K.target r.sink.now ∷ [] };
+
+    ghost takes = { λ old model event new. ⊤ };
+
+    ghost breaks = { λ old model event new. ⊤ };
+
+    fn step(&mut self, model: &Model, event: &Event) -> Result<(), Failed> {
+        self.counts.count(event);
+        write_event(self.sink, model, event)
+    }
+}

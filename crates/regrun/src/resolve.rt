@@ -1,0 +1,219 @@
+// The names in a line, as numbers of the model.
+ghost use Rattle.std.specs.Prelude.{◌≡◌, ◌<◌, true, length, IfSome};
+ghost use Rattle.rl_access.specs.Operation.{IsMapIn, HasNumbers};
+ghost use Rattle.regrun.specs.Operations.{is_single};
+
+use rl_access::{Model, Op};
+use rl_script::{Ident, Line, Path};
+
+// The map that is asked for, if one is. None where it isn't there.
+pub(crate) fn map_asked(model: &Model, name: &Option<Ident>) -> Option<Option<u32>>
+    ensures { IfSome result (IsMapIn (length model.now.layout.maps)) }
+{
+    match name {
+        None => Some(None),
+        Some(name) => match model.layout().map_by_name(name.text()) {
+            Some(number) => Some(Some(number)),
+            None => None,
+        },
+    }
+}
+
+fn reg_at(model: &Model, path: &Path) -> Option<u32>
+    ensures { IfSome result (λ n. n < length model.now.chip.regs) }
+{
+    model.chip().reg_by_path(path.text())
+}
+
+fn field_at(model: &Model, path: &Path) -> Option<u32>
+    ensures { IfSome result (λ n. n < length model.now.chip.fields) }
+{
+    model.chip().field_by_path(path.text())
+}
+
+pub(crate) fn mem_at(model: &Model, path: &Path) -> Option<u32>
+    ensures { IfSome result (λ n. n < length model.now.chip.mems) }
+{
+    model.chip().mem_by_path(path.text())
+}
+
+pub(crate) fn block_at(model: &Model, path: &Path) -> Option<u32>
+    ensures { IfSome result (λ n. n < model.now.chip.blocks) }
+{
+    model.chip().block_by_path(path.text())
+}
+
+fn kind_named(model: &Model, name: &Ident) -> Option<u32>
+    ensures { IfSome result (λ n. n < length model.now.chip.kinds) }
+{
+    model.chip().kind_by_name(name.text())
+}
+
+// The operation of a line on a register over the bus, if the names are there.
+fn bus_op(model: &Model, line: &Line) -> Option<Op>
+    ensures numbers { IfSome result (HasNumbers model.now.chip (length model.now.layout.maps)) }
+    ensures single { IfSome result (λ op. is_single op ≡ true) }
+{
+    let (reg, name) = match line {
+        Line::Write { reg, map, .. }
+        | Line::Read { reg, map }
+        | Line::Mirror { reg, map }
+        | Line::Check { reg, map }
+        | Line::Update { reg, map }
+        | Line::OtherWrite { reg, map, .. }
+        | Line::OtherRead { reg, map } => (reg, map),
+        _ => return None,
+    };
+    let reg = reg_at(model, reg)?;
+    let map = map_asked(model, name)?;
+    match line {
+        Line::Write { value, .. } => Some(Op::Write {
+            reg,
+            map,
+            value: *value,
+        }),
+        Line::Read { .. } => Some(Op::Read { reg, map }),
+        Line::Mirror { .. } => Some(Op::Mirror { reg, map }),
+        Line::Check { .. } => Some(Op::Check { reg, map }),
+        Line::Update { .. } => Some(Op::Update { reg, map }),
+        Line::OtherWrite { value, .. } => Some(Op::OtherWrite {
+            reg,
+            map,
+            value: *value,
+        }),
+        Line::OtherRead { .. } => Some(Op::OtherRead { reg, map }),
+        _ => None,
+    }
+}
+
+// The operation of a line on a register by the backdoor or on the model alone, or a reset.
+fn back_op(model: &Model, line: &Line) -> Option<Op>
+    ensures numbers { IfSome result (HasNumbers model.now.chip (length model.now.layout.maps)) }
+    ensures single { IfSome result (λ op. is_single op ≡ true) }
+{
+    match line {
+        Line::Show { reg } => Some(Op::Show {
+            reg: reg_at(model, reg)?,
+        }),
+        Line::BackRead { reg } => Some(Op::BackRead {
+            reg: reg_at(model, reg)?,
+        }),
+        Line::BackCheck { reg } => Some(Op::BackCheck {
+            reg: reg_at(model, reg)?,
+        }),
+        Line::Peek { reg } => Some(Op::Peek {
+            reg: reg_at(model, reg)?,
+        }),
+        Line::BackWrite { reg, value } => {
+            let reg = reg_at(model, reg)?;
+            Some(Op::BackWrite { reg, value: *value })
+        }
+        Line::Poke { reg, value } => {
+            let reg = reg_at(model, reg)?;
+            Some(Op::Poke { reg, value: *value })
+        }
+        Line::Reset { kind } => Some(Op::Reset {
+            kind: kind_named(model, kind)?,
+        }),
+        _ => bus_op(model, line),
+    }
+}
+
+// The operation of a line on a field.
+fn field_op(model: &Model, line: &Line) -> Option<Op>
+    ensures numbers { IfSome result (HasNumbers model.now.chip (length model.now.layout.maps)) }
+    ensures single { IfSome result (λ op. is_single op ≡ true) }
+{
+    match line {
+        Line::FieldWrite { field, value, map } => {
+            let field = field_at(model, field)?;
+            let map = map_asked(model, map)?;
+            Some(Op::FieldWrite {
+                field,
+                map,
+                value: *value,
+            })
+        }
+        Line::FieldRead { field, map } => {
+            let field = field_at(model, field)?;
+            let map = map_asked(model, map)?;
+            Some(Op::FieldRead { field, map })
+        }
+        Line::Set { field, value } => {
+            let field = field_at(model, field)?;
+            Some(Op::Set {
+                field,
+                value: *value,
+            })
+        }
+        Line::Hw { field, value } => {
+            let field = field_at(model, field)?;
+            Some(Op::Hw {
+                field,
+                value: *value,
+            })
+        }
+        _ => back_op(model, line),
+    }
+}
+
+// The operation of a line, if its names are there.
+pub(crate) fn op_of(model: &Model, line: &Line) -> Option<Op>
+    ensures numbers { IfSome result (HasNumbers model.now.chip (length model.now.layout.maps)) }
+    ensures single { IfSome result (λ op. is_single op ≡ true) }
+{
+    match line {
+        Line::MemWrite {
+            mem,
+            index,
+            value,
+            map,
+        } => {
+            let mem = mem_at(model, mem)?;
+            let map = map_asked(model, map)?;
+            Some(Op::MemWrite {
+                mem,
+                map,
+                index: *index,
+                value: *value,
+            })
+        }
+        Line::MemCheck {
+            mem,
+            index,
+            value,
+            map,
+        } => {
+            let mem = mem_at(model, mem)?;
+            let map = map_asked(model, map)?;
+            Some(Op::MemCheck {
+                mem,
+                map,
+                index: *index,
+                value: *value,
+            })
+        }
+        Line::MemRead { mem, index, map } => {
+            let mem = mem_at(model, mem)?;
+            let map = map_asked(model, map)?;
+            Some(Op::MemRead {
+                mem,
+                map,
+                index: *index,
+            })
+        }
+        Line::MemPeek { mem, index } => {
+            let mem = mem_at(model, mem)?;
+            Some(Op::MemPeek { mem, index: *index })
+        }
+        Line::MemPoke { mem, index, value } => {
+            let mem = mem_at(model, mem)?;
+            Some(Op::MemPoke {
+                mem,
+                index: *index,
+                value: *value,
+            })
+        }
+        _ => field_op(model, line),
+    }
+}

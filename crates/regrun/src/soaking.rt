@@ -1,0 +1,188 @@
+// A session that is made from a number, run with nothing written but one line.
+ghost use Rattle.std.specs.Prelude.{◌≡◌, ◌≤◌, ◌<◌, ◌^◌, ◌-◌, ◌++◌, false, true, Some, IfErr, map, length, min, take, drop, vec_len};
+ghost use Rattle.rl_access.specs.Model.{IsReady, IsSameChip};
+ghost use Rattle.rl_map.specs.Maps.{IsBuiltWith};
+ghost use Rattle.rl_bench.specs.Flaws.{AreFlawsOf};
+ghost use Rattle.rl_bench.specs.State.{bench_state};
+ghost use Rattle.rl_bus.specs.Standing.{kinds_of};
+ghost use Rattle.regrun.specs.Causes.{IsCaused};
+
+use crate::buffered::Buffered;
+use crate::opening::open;
+use crate::playing::play_lines;
+use crate::soak::{mirror_sum, put_soak_line, soak_session};
+use crate::top::open_session;
+use crate::{Counts, Status};
+use rl_access::Model;
+use rl_bench::Bench;
+use rl_bus::{Adapter, Adapters};
+use rl_desc::Desc;
+use rl_report::{Failed, LineReader, Sink, Source};
+use std::alloc::Global;
+
+// A session in memory, which never fails.
+#[derive(Drop)]
+struct Text {
+    bytes: Vec<u8>,
+    at: usize,
+    ghost within: { at ≤ vec_len bytes },
+}
+
+// Copies as many bytes as both have. Answers how many.
+fn copy_front(from: &[u8], to: &mut [u8]) -> usize
+    ensures count { result ≡ min (length from.now) (length to.old) }
+    ensures copied { to.new ≡ take result from.now ++ drop result to.old }
+{
+    let count = from.len().min(to.len());
+    to[..count].copy_from_slice(&from[..count]);
+    count
+}
+
+impl Source for Text {
+    ghost use Rattle.std.specs.Prelude.{Some};
+
+    ghost left = { λ s. Some (drop s.at s.bytes.items) };
+
+    ghost faults = { λ _. 0 };
+
+    fn read(&mut self, buf: &mut [u8]) -> Result<usize, Failed> {
+        let count = copy_front(&self.bytes[self.at..], buf);
+        self.at += count;
+        Ok(count)
+    }
+}
+
+// A sink that keeps nothing, and never fails.
+#[derive(Drop)]
+struct Quiet {}
+
+impl Sink for Quiet {
+    ghost use Rattle.std.specs.Prelude.{None};
+
+    ghost written = { λ _. None };
+
+    ghost faults = { λ _. 0 };
+
+    ghost ends = { λ _. 2 ^ 64 - 1 };
+
+    fn write(&mut self, piece: &[u8]) -> Result<usize, Failed> {
+        Ok(piece.len())
+    }
+
+    fn finish(&mut self) -> Result<(), Failed> {
+        Ok(())
+    }
+}
+
+// Runs a session with nothing written.
+fn run_quietly(
+    alloc: Global,
+    model: &mut Model,
+    bench: &mut Bench,
+    adapters: &mut Adapters,
+    lines: &mut LineReader,
+    source: &mut Text,
+    counts: &mut Counts,
+) -> Status
+    requires ready { IsReady model.old (map standing adapters.old.items) (Some (bench_state bench.old)) }
+    requires found { lines.old.found ≡ true }
+    requires going { lines.old.refused ≡ false }
+    ensures ready { IsReady model.new (map standing adapters.new.items) (Some (bench_state bench.new)) }
+    ensures parts { IsSameChip model.old model.new }
+    ensures cause { IsCaused result 0 0 0 0 }
+{
+    let mut quiet = Quiet {};
+    let mut out = Buffered::new(&mut quiet);
+    play_lines(
+        alloc, model, bench, adapters, lines, source, &mut out, counts,
+    )
+}
+
+// Writes the line of a soak.
+fn put_line<K: Sink>(
+    out: &mut Buffered<'_, K>,
+    n: u64,
+    counts: &Counts,
+    sum: u64,
+) -> Result<(), Status>
+    ensures sink_later { K.faults out.old.sink.now ≤ K.faults out.new.sink.now }
+    ensures cause { IfErr result (λ status. IsCaused status 0 0 (K.faults out.old.sink.now) (K.faults out.new.sink.now)) }
+    ensures ends_kept { K.ends out.new.sink.now ≡ K.ends out.old.sink.now }
+    ensures same_sink { out.new.sink.ghost_name ≡ out.old.sink.ghost_name }
+{
+    match put_soak_line(out, n, counts, sum) {
+        Ok(()) => Ok(()),
+        Err(Failed) => Err(Status::SinkFault),
+    }
+}
+
+// Runs the session of a description, and writes its line.
+fn soak_desc<K: Sink>(
+    alloc: Global,
+    n: u64,
+    desc: Desc,
+    lines: &mut LineReader,
+    source: &mut Text,
+    out: &mut Buffered<'_, K>,
+    adapters: &mut Adapters,
+) -> Status
+    requires kinds { desc.layout.kinds ≡ kinds_of (map standing adapters.old.items) }
+    requires built_with { IsBuiltWith desc.layout desc.chip }
+    requires flaws { AreFlawsOf desc.chip desc.layout desc.flaws }
+    requires found { lines.old.found ≡ true }
+    requires going { lines.old.refused ≡ false }
+    ensures kinds { kinds_of (map standing adapters.new.items) ≡ kinds_of (map standing adapters.old.items) }
+    ensures sink_later { K.faults out.old.sink.now ≤ K.faults out.new.sink.now }
+    ensures cause { IsCaused result 0 0 (K.faults out.old.sink.now) (K.faults out.new.sink.now) }
+    ensures ends_kept { K.ends out.new.sink.now ≡ K.ends out.old.sink.now }
+    ensures same_sink { out.new.sink.ghost_name ≡ out.old.sink.ghost_name }
+{
+    let Ok((mut model, mut bench)) = open(alloc, desc) else {
+        return Status::Memory;
+    };
+    let mut counts = Counts::new();
+    let status = run_quietly(
+        alloc,
+        &mut model,
+        &mut bench,
+        adapters,
+        lines,
+        source,
+        &mut counts,
+    );
+    if !status.is_complete() {
+        return status;
+    }
+    let sum = mirror_sum(model.mirror(), model.chip().regs());
+    if let Err(fault) = put_line(out, n, &counts, sum) {
+        return fault;
+    }
+    status
+}
+
+// Makes the session of a number, runs it and writes one line.
+pub(crate) fn put_soak<K: Sink>(
+    alloc: Global,
+    n: u64,
+    out: &mut Buffered<'_, K>,
+    adapters: &mut Adapters,
+) -> Status
+    requires few { length (map standing adapters.old.items) < 2 ^ 32 }
+    ensures kinds { kinds_of (map standing adapters.new.items) ≡ kinds_of (map standing adapters.old.items) }
+    ensures sink_later { K.faults out.old.sink.now ≤ K.faults out.new.sink.now }
+    ensures cause { IsCaused result 0 0 (K.faults out.old.sink.now) (K.faults out.new.sink.now) }
+    ensures ends_kept { K.ends out.new.sink.now ≡ K.ends out.old.sink.now }
+    ensures same_sink { out.new.sink.ghost_name ≡ out.old.sink.ghost_name }
+{
+    let Ok(bytes) = soak_session(alloc, n) else {
+        return Status::Memory;
+    };
+    let Ok(mut lines) = LineReader::build(alloc) else {
+        return Status::Memory;
+    };
+    let mut source = Text { bytes, at: 0 };
+    match open_session(alloc, &mut lines, &mut source, out, adapters) {
+        Ok(desc) => soak_desc(alloc, n, desc, &mut lines, &mut source, out, adapters),
+        Err(status) => status,
+    }
+}

@@ -1,0 +1,524 @@
+// The text of an event.
+ghost use Rattle.std.specs.Prelude.{◌≡◌, ◌+◌, ◌*◌, ◌^◌, ◌<◌, ◌≤◌, [], ◌∷◌, false, length, IfSome};
+ghost use Rattle.rl_bus.specs.Causes.{HasCause};
+ghost use Rattle.rl_mirror.specs.Fields.{field_of, size_of};
+ghost use Rattle.rl_access.specs.Event.{EventFits, ItemFits};
+ghost use Rattle.rl_access.specs.Operation.{HasNumbers, IsMapIn, register_of, reg_of, location_size, field_digits, digits_of};
+ghost use Rattle.rl_report.specs.EventText.{number_text, why_text, ends_as_reset_of};
+ghost use Rattle.rl_report.specs.Numbers.{padded};
+ghost use Rattle.rl_report.specs.Pieces.{Puts, joined};
+
+use crate::numbers::Digits;
+use crate::{Failed, Sink, put_all, put_pieces};
+use itoa::Buffer;
+use rl_access::{End, Event, Model, Op, Refused, TraceItem};
+use rl_model::Item;
+
+// Writes a number that may be missing.
+fn put_number<K: Sink>(sink: &mut K, n: Option<u64>) -> Result<(), Failed>
+    ensures bytes { Puts (K.written sink.old) (K.written sink.new) (number_text n) result }
+    ensures cause { HasCause (K.faults sink.old) (K.faults sink.new) result }
+    ensures ends_kept { K.ends sink.new ≡ K.ends sink.old }
+    ensures same_target { K.target sink.new ≡ K.target sink.old }
+{
+    let Some(n) = n else {
+        return Ok(());
+    };
+    let digits = Digits::hex(n);
+    let pieces: [&[u8]; 2] = [b" 0x", digits.text()];
+    put_pieces(sink, &pieces)
+}
+
+// Writes a map that may be missing.
+fn put_map<K: Sink>(sink: &mut K, model: &Model, through: Option<u32>) -> Result<(), Failed>
+    requires { IsMapIn (length model.now.layout.maps) through }
+    ensures cause { HasCause (K.faults sink.old) (K.faults sink.new) result }
+    ensures ends_kept { K.ends sink.new ≡ K.ends sink.old }
+    ensures same_target { K.target sink.new ≡ K.target sink.old }
+{
+    let Some(number) = through else {
+        return Ok(());
+    };
+    put_all(sink, b" @")?;
+    put_all(sink, model.layout().map_name(number))
+}
+
+// Writes an operation on a register.
+fn put_reg<K: Sink>(
+    sink: &mut K,
+    model: &Model,
+    verb: &[u8],
+    reg: u32,
+    value: Option<u64>,
+    through: Option<u32>,
+) -> Result<(), Failed>
+    requires reg { reg < length model.now.chip.regs }
+    requires through { IsMapIn (length model.now.layout.maps) through }
+    ensures cause { HasCause (K.faults sink.old) (K.faults sink.new) result }
+    ensures ends_kept { K.ends sink.new ≡ K.ends sink.old }
+    ensures same_target { K.target sink.new ≡ K.target sink.old }
+{
+    put_all(sink, verb)?;
+    put_all(sink, model.chip().path(Item::Reg(reg)))?;
+    put_number(sink, value)?;
+    put_map(sink, model, through)
+}
+
+// Writes an operation on a field.
+fn put_field<K: Sink>(
+    sink: &mut K,
+    model: &Model,
+    verb: &[u8],
+    field: u32,
+    value: Option<u64>,
+    through: Option<u32>,
+) -> Result<(), Failed>
+    requires field { field < length model.now.chip.fields }
+    requires through { IsMapIn (length model.now.layout.maps) through }
+    ensures cause { HasCause (K.faults sink.old) (K.faults sink.new) result }
+    ensures ends_kept { K.ends sink.new ≡ K.ends sink.old }
+    ensures same_target { K.target sink.new ≡ K.target sink.old }
+{
+    let chip = model.chip();
+    put_all(sink, verb)?;
+    put_all(sink, chip.path(Item::Reg(chip.field(field).reg)))?;
+    put_all(sink, b".")?;
+    put_all(sink, chip.field_name(field))?;
+    put_number(sink, value)?;
+    put_map(sink, model, through)
+}
+
+// Writes an operation on a location.
+fn put_mem<K: Sink>(
+    sink: &mut K,
+    model: &Model,
+    verb: &[u8],
+    mem: u32,
+    index: u64,
+    value: Option<u64>,
+    through: Option<u32>,
+) -> Result<(), Failed>
+    requires mem { mem < length model.now.chip.mems }
+    requires through { IsMapIn (length model.now.layout.maps) through }
+    ensures cause { HasCause (K.faults sink.old) (K.faults sink.new) result }
+    ensures ends_kept { K.ends sink.new ≡ K.ends sink.old }
+    ensures same_target { K.target sink.new ≡ K.target sink.old }
+{
+    put_all(sink, verb)?;
+    put_all(sink, model.chip().path(Item::Mem(mem)))?;
+    put_number(sink, Some(index))?;
+    put_number(sink, value)?;
+    put_map(sink, model, through)
+}
+
+// Writes a burst.
+fn put_burst<K: Sink>(
+    sink: &mut K,
+    model: &Model,
+    verb: &[u8],
+    mem: u32,
+    first: u64,
+    count: u64,
+    through: Option<u32>,
+) -> Result<(), Failed>
+    requires mem { mem < length model.now.chip.mems }
+    requires through { IsMapIn (length model.now.layout.maps) through }
+    ensures cause { HasCause (K.faults sink.old) (K.faults sink.new) result }
+    ensures ends_kept { K.ends sink.new ≡ K.ends sink.old }
+    ensures same_target { K.target sink.new ≡ K.target sink.old }
+{
+    let mut buffer = Buffer::new();
+    let pieces: [&[u8]; 2] = [b" count ", buffer.format(count).as_bytes()];
+    put_all(sink, verb)?;
+    put_all(sink, model.chip().path(Item::Mem(mem)))?;
+    put_number(sink, Some(first))?;
+    put_pieces(sink, &pieces)?;
+    put_map(sink, model, through)
+}
+
+// Writes an operation on a register, in canonical spelling.
+fn put_reg_op<K: Sink>(sink: &mut K, model: &Model, op: Op) -> Result<(), Failed>
+    requires { HasNumbers model.now.chip (length model.now.layout.maps) op }
+    ensures cause { HasCause (K.faults sink.old) (K.faults sink.new) result }
+    ensures ends_kept { K.ends sink.new ≡ K.ends sink.old }
+    ensures same_target { K.target sink.new ≡ K.target sink.old }
+{
+    match op {
+        Op::Write { reg, map, value } => put_reg(sink, model, b"write ", reg, Some(value), map),
+        Op::Read { reg, map } => put_reg(sink, model, b"read ", reg, None, map),
+        Op::Mirror { reg, map } => put_reg(sink, model, b"mirror ", reg, None, map),
+        Op::Check { reg, map } => put_reg(sink, model, b"check ", reg, None, map),
+        Op::Update { reg, map } => put_reg(sink, model, b"update ", reg, None, map),
+        Op::Show { reg } => put_reg(sink, model, b"show ", reg, None, None),
+        Op::BackWrite { reg, value } => {
+            put_reg(sink, model, b"back-write ", reg, Some(value), None)
+        }
+        Op::BackRead { reg } => put_reg(sink, model, b"back-read ", reg, None, None),
+        Op::BackCheck { reg } => put_reg(sink, model, b"back-check ", reg, None, None),
+        Op::Peek { reg } => put_reg(sink, model, b"peek ", reg, None, None),
+        Op::Poke { reg, value } => put_reg(sink, model, b"poke ", reg, Some(value), None),
+        Op::OtherWrite { reg, map, value } => {
+            put_reg(sink, model, b"other-write ", reg, Some(value), map)
+        }
+        Op::OtherRead { reg, map } => put_reg(sink, model, b"other-read ", reg, None, map),
+        _ => Ok(()),
+    }
+}
+
+// Writes an operation in canonical spelling.
+fn put_op<K: Sink>(sink: &mut K, model: &Model, op: Op) -> Result<(), Failed>
+    requires { HasNumbers model.now.chip (length model.now.layout.maps) op }
+    ensures cause { HasCause (K.faults sink.old) (K.faults sink.new) result }
+    ensures ends_kept { K.ends sink.new ≡ K.ends sink.old }
+    ensures same_target { K.target sink.new ≡ K.target sink.old }
+{
+    match op {
+        Op::FieldWrite { field, map, value } => {
+            put_field(sink, model, b"field-write ", field, Some(value), map)
+        }
+        Op::FieldRead { field, map } => put_field(sink, model, b"field-read ", field, None, map),
+        Op::Set { field, value } => put_field(sink, model, b"set ", field, Some(value), None),
+        Op::Hw { field, value } => put_field(sink, model, b"hw ", field, Some(value), None),
+        Op::MemWrite {
+            mem,
+            map,
+            index,
+            value,
+        } => { put_mem(sink, model, b"mem-write ", mem, index, Some(value), map) }
+        Op::MemRead { mem, map, index } => {
+            put_mem(sink, model, b"mem-read ", mem, index, None, map)
+        }
+        Op::MemCheck {
+            mem,
+            map,
+            index,
+            value,
+        } => { put_mem(sink, model, b"mem-check ", mem, index, Some(value), map) }
+        Op::MemPeek { mem, index } => put_mem(sink, model, b"mem-peek ", mem, index, None, None),
+        Op::MemPoke { mem, index, value } => {
+            put_mem(sink, model, b"mem-poke ", mem, index, Some(value), None)
+        }
+        Op::BurstWrite {
+            mem,
+            map,
+            first,
+            count,
+        } => { put_burst(sink, model, b"burst-write ", mem, first, count, map) }
+        Op::BurstRead {
+            mem,
+            map,
+            first,
+            count,
+        } => { put_burst(sink, model, b"burst-read ", mem, first, count, map) }
+        Op::Reset { kind } => {
+            put_all(sink, b"reset ")?;
+            put_all(sink, model.chip().kind_name(kind))
+        }
+        _ => put_reg_op(sink, model, op),
+    }
+}
+
+fn why_text(why: Refused) -> &'static [u8]
+    ensures { result.now ≡ why_text why }
+{
+    match why {
+        Refused::NotPlaced => b"not placed",
+        Refused::NotObserved => b"not observed",
+        Refused::NoRight => b"no right",
+        Refused::NoBackdoor => b"no backdoor",
+        Refused::NotVolatile => b"not volatile",
+        Refused::NotWritable => b"not writable",
+        Refused::OutOfRange => b"out of range",
+        Refused::TooWide => b"too wide",
+    }
+}
+
+// The register that an operation concerns: none where it concerns a memory or all registers.
+fn register_of(model: &Model, op: Op) -> Option<u32>
+    requires { HasNumbers model.now.chip (length model.now.layout.maps) op }
+    ensures value { result ≡ register_of model.now.chip op }
+    ensures in_range { IfSome result (λ reg. reg < length model.now.chip.regs) }
+{
+    match op {
+        Op::Write { reg, .. }
+        | Op::Read { reg, .. }
+        | Op::Mirror { reg, .. }
+        | Op::Check { reg, .. }
+        | Op::Show { reg }
+        | Op::Update { reg, .. }
+        | Op::BackWrite { reg, .. }
+        | Op::BackRead { reg }
+        | Op::BackCheck { reg }
+        | Op::Peek { reg }
+        | Op::Poke { reg, .. }
+        | Op::OtherWrite { reg, .. }
+        | Op::OtherRead { reg, .. } => Some(reg),
+        Op::FieldWrite { field, .. }
+        | Op::FieldRead { field, .. }
+        | Op::Set { field, .. }
+        | Op::Hw { field, .. } => Some(register_with(model, field)),
+        _ => None,
+    }
+}
+
+// The register of a field.
+fn register_with(model: &Model, field: u32) -> u32
+    requires { field < length model.now.chip.fields }
+    ensures value { result ≡ reg_of model.now.chip field }
+    ensures in_range { result < length model.now.chip.regs }
+{
+    model.chip().field(field).reg
+}
+
+// The digits of a register's value.
+fn register_digits(model: &Model, reg: u32) -> u32
+    requires { reg < length model.now.chip.regs }
+    ensures value { result ≡ 2 * size_of model.now.chip reg }
+    ensures some { 1 ≤ result }
+    ensures few { result ≤ 16 }
+{
+    2 * model.chip().bytes(Item::Reg(reg))
+}
+
+// The digits of a location's value.
+fn location_digits(model: &Model, mem: u32) -> u32
+    requires { mem < length model.now.chip.mems }
+    ensures value { result ≡ 2 * location_size model.now.chip mem }
+    ensures some { 1 ≤ result }
+    ensures few { result ≤ 16 }
+{
+    2 * model.chip().bytes(Item::Mem(mem))
+}
+
+// The digits of a field's value.
+fn field_digits(model: &Model, field: u32) -> u32
+    requires { field < length model.now.chip.fields }
+    ensures value { result ≡ field_digits (field_of model.now.chip field).shape.width }
+    ensures some { 1 ≤ result }
+    ensures few { result ≤ 16 }
+{
+    model.chip().field(field).width.div_ceil(4)
+}
+
+// The digits of a value that an operation reads or sends.
+fn digits_of(model: &Model, op: Op) -> u32
+    requires numbers { HasNumbers model.now.chip (length model.now.layout.maps) op }
+    requires ends { ends_as_reset_of op ≡ false }
+    ensures value { result ≡ digits_of model.now.chip op }
+    ensures some { 1 ≤ result }
+    ensures few { result ≤ 16 }
+{
+    match op {
+        Op::FieldRead { field, .. } => field_digits(model, field),
+        Op::MemWrite { mem, .. }
+        | Op::MemRead { mem, .. }
+        | Op::MemCheck { mem, .. }
+        | Op::BurstWrite { mem, .. }
+        | Op::BurstRead { mem, .. }
+        | Op::MemPeek { mem, .. }
+        | Op::MemPoke { mem, .. } => location_digits(model, mem),
+        Op::FieldWrite { field, .. } | Op::Set { field, .. } | Op::Hw { field, .. } => {
+            register_digits(model, register_with(model, field))
+        }
+        Op::Write { reg, .. }
+        | Op::Read { reg, .. }
+        | Op::Mirror { reg, .. }
+        | Op::Check { reg, .. }
+        | Op::Show { reg }
+        | Op::Update { reg, .. }
+        | Op::BackWrite { reg, .. }
+        | Op::BackRead { reg }
+        | Op::BackCheck { reg }
+        | Op::Peek { reg }
+        | Op::Poke { reg, .. }
+        | Op::OtherWrite { reg, .. }
+        | Op::OtherRead { reg, .. } => register_digits(model, reg),
+        Op::Reset { .. } => unreachable!(),
+    }
+}
+
+// Writes a value, in so many hexadecimal digits, behind a text.
+fn put_value<K: Sink>(sink: &mut K, text: &[u8], value: u64, count: u32) -> Result<(), Failed>
+    requires some { 1 ≤ count }
+    requires few { count ≤ 16 }
+    requires fits { value < 16 ^ count }
+    ensures bytes { Puts (K.written sink.old) (K.written sink.new) (joined (text.now ∷ padded count value ∷ [])) result }
+    ensures cause { HasCause (K.faults sink.old) (K.faults sink.new) result }
+    ensures ends_kept { K.ends sink.new ≡ K.ends sink.old }
+    ensures same_target { K.target sink.new ≡ K.target sink.old }
+{
+    let digits = Digits::padded(value, count);
+    let pieces: [&[u8]; 2] = [text, digits.text()];
+    put_pieces(sink, &pieces)
+}
+
+// Writes how an operation ended, but for a refusal.
+fn put_end<K: Sink>(sink: &mut K, model: &Model, event: &Event) -> Result<(), Failed>
+    requires { EventFits model.now event.now }
+    ensures cause { HasCause (K.faults sink.old) (K.faults sink.new) result }
+    ensures ends_kept { K.ends sink.new ≡ K.ends sink.old }
+    ensures same_target { K.target sink.new ≡ K.target sink.old }
+{
+    match event.end {
+        End::Done => put_all(sink, b": ok"),
+        End::Value { value } => put_value(sink, b": ok 0x", value, digits_of(model, event.op)),
+        End::Sent { word } => put_value(sink, b": ok sent 0x", word, digits_of(model, event.op)),
+        End::Nothing => put_all(sink, b": ok none"),
+        End::BusError { word } => {
+            let mut buffer = Buffer::new();
+            let pieces: [&[u8]; 2] = [b": bus error at word ", buffer.format(word).as_bytes()];
+            put_pieces(sink, &pieces)
+        }
+        End::Refused { .. } => Ok(()),
+    }
+}
+
+// The desired value is told.
+fn shows_desired(op: Op, end: End) -> bool {
+    matches!(op, Op::Set { .. } | Op::Show { .. }) && end == End::Done
+}
+
+// The operation compares.
+fn is_check(op: Op) -> bool {
+    matches!(
+        op,
+        Op::Check { .. } | Op::BackCheck { .. } | Op::MemCheck { .. }
+    )
+}
+
+// Writes the names of the differing fields of a register.
+fn put_differ<K: Sink>(sink: &mut K, model: &Model, reg: u32, differ: u64) -> Result<(), Failed>
+    requires { reg < length model.now.chip.regs }
+    ensures cause { HasCause (K.faults sink.old) (K.faults sink.new) result }
+    ensures ends_kept { K.ends sink.new ≡ K.ends sink.old }
+    ensures same_target { K.target sink.new ≡ K.target sink.old }
+{
+    let chip = model.chip();
+    let (first, count) = fields_with(model, reg);
+    put_all(sink, b" differ")?;
+    for k in 0..count {
+        if differ >> k & 1 == 1 {
+            put_all(sink, b" ")?;
+            put_all(sink, chip.field_name(first + k))?;
+        }
+    }
+    Ok(())
+}
+
+// The first of a register's fields, and how many they are.
+fn fields_with(model: &Model, reg: u32) -> (u32, u32)
+    requires { reg < length model.now.chip.regs }
+    ensures within { result.0 + result.1 ≤ length model.now.chip.fields }
+    ensures few { result.1 ≤ 64 }
+{
+    let chip = model.chip();
+    (chip.first_field(reg), chip.field_count(reg))
+}
+
+// Writes what is believed of the register of an event.
+fn put_register<K: Sink>(sink: &mut K, model: &Model, event: &Event, reg: u32) -> Result<(), Failed>
+    requires reg { reg < length model.now.chip.regs }
+    requires mirrored { event.now.mirrored < 16 ^ (2 * size_of model.now.chip reg) }
+    requires desired { event.now.desired < 16 ^ (2 * size_of model.now.chip reg) }
+    ensures cause { HasCause (K.faults sink.old) (K.faults sink.new) result }
+    ensures ends_kept { K.ends sink.new ≡ K.ends sink.old }
+    ensures same_target { K.target sink.new ≡ K.target sink.old }
+{
+    let digits = register_digits(model, reg);
+    if shows_desired(event.op, event.end) {
+        put_value(sink, b" desired 0x", event.desired, digits)?;
+    }
+    put_value(sink, b" mirror 0x", event.mirrored, digits)?;
+    if is_check(event.op) && event.differ != 0 {
+        put_differ(sink, model, reg, event.differ)?;
+    }
+    Ok(())
+}
+
+// Writes what came of an operation.
+fn put_result<K: Sink>(sink: &mut K, model: &Model, event: &Event) -> Result<(), Failed>
+    requires { EventFits model.now event.now }
+    ensures cause { HasCause (K.faults sink.old) (K.faults sink.new) result }
+    ensures ends_kept { K.ends sink.new ≡ K.ends sink.old }
+    ensures same_target { K.target sink.new ≡ K.target sink.old }
+{
+    if let End::Refused { why } = event.end {
+        let pieces: [&[u8]; 2] = [b": refused ", why_text(why)];
+        return put_pieces(sink, &pieces);
+    }
+    put_end(sink, model, event)?;
+    match register_of(model, event.op) {
+        Some(reg) => put_register(sink, model, event, reg),
+        None if is_check(event.op) && event.differ != 0 => put_all(sink, b" differ"),
+        None => Ok(()),
+    }
+}
+
+/// Writes the line of an event: the operation in canonical spelling, and what came of it.
+pub fn write_event_line<K: Sink>(sink: &mut K, model: &Model, event: &Event) -> Result<(), Failed>
+    requires { EventFits model.now event.now }
+    ensures cause { HasCause (K.faults sink.old) (K.faults sink.new) result }
+    ensures ends_kept { K.ends sink.new ≡ K.ends sink.old }
+    ensures same_target { K.target sink.new ≡ K.target sink.old }
+{
+    put_op(sink, model, event.op)?;
+    put_result(sink, model, event)?;
+    put_all(sink, b"\n")
+}
+
+fn way_text(write: bool) -> &'static [u8] {
+    if write { b" w 0x" } else { b" r 0x" }
+}
+
+fn answer_text(failed: bool) -> &'static [u8] {
+    if failed { b" error\n" } else { b" ok\n" }
+}
+
+/// Writes the line of a bus item: its port's map, address, word, byte enables, tag and answer.
+/// The word of a read is that of the answer.
+pub fn write_item<K: Sink>(sink: &mut K, model: &Model, item: &TraceItem) -> Result<(), Failed>
+    requires { ItemFits model.now.layout item.now }
+    ensures cause { HasCause (K.faults sink.old) (K.faults sink.new) result }
+    ensures ends_kept { K.ends sink.new ≡ K.ends sink.old }
+    ensures same_target { K.target sink.new ≡ K.target sink.old }
+{
+    let layout = model.layout();
+    let bytes = layout.port_bytes(item.port);
+    let address = Digits::hex(item.op.address);
+    let word = if item.op.write {
+        item.op.word
+    } else {
+        item.answer.word
+    };
+    let word = Digits::padded(word, 2 * bytes);
+    let lanes = Digits::lanes(item.op.lanes, item.op.bytes);
+    let mut tag = Buffer::new();
+    put_all(sink, b"  ")?;
+    put_all(sink, layout.map_name(layout.port_map(item.port)))?;
+    put_all(sink, way_text(item.op.write))?;
+    let pieces: [&[u8]; 7] = [
+        address.text(),
+        b" 0x",
+        word.text(),
+        b" ",
+        lanes.text(),
+        b" #",
+        tag.format(item.tag).as_bytes(),
+    ];
+    put_pieces(sink, &pieces)?;
+    put_all(sink, answer_text(item.answer.failed))
+}
+
+/// Writes an event: its line, and a line for each item that it sent. It takes no memory.
+pub fn write_event<K: Sink>(sink: &mut K, model: &Model, event: &Event) -> Result<(), Failed>
+    requires { EventFits model.now event.now }
+    ensures cause { HasCause (K.faults sink.old) (K.faults sink.new) result }
+    ensures ends_kept { K.ends sink.new ≡ K.ends sink.old }
+    ensures same_target { K.target sink.new ≡ K.target sink.old }
+{
+    write_event_line(sink, model, event)?;
+    for k in 0..event.trace.len() {
+        write_item(sink, model, &event.trace.item(k))?;
+    }
+    Ok(())
+}
