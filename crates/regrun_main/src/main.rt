@@ -1,13 +1,11 @@
 // Runs a session from standard input, and writes its log to standard output.
 #![tactic(auto)]
 
-ghost use Rattle.std.specs.Prelude.{◌<◌, ◌^◌, map, length, IfOk};
-
 use regrun::{Status, regrun};
 use rl_apb::ApbAdapter;
 use rl_bus::{Adapters, PlainAdapter};
 use rl_report::{StdSink, StdSource};
-use std::alloc::{AllocError, Global};
+use std::alloc::AllocError;
 use std::process::ExitCode;
 use std::rt::Env;
 use std::{env, io};
@@ -21,10 +19,12 @@ fn words(rt: &(impl Env + AllocGlobal)) -> io::Result<Vec<String>> {
     Ok(words)
 }
 
-// The adapters by which root maps may be driven.
-fn adapters(alloc: Global) -> Result<Adapters, AllocError>
-    ensures { IfOk result (λ adapters. length (map standing adapters.items) < 2 ^ 32) }
-{
+// Runs what the words ask for, with a plain and an APB adapter for the root maps.
+fn run(
+    rt: &(impl Env + AllocGlobal + Input + Print),
+    words: &[String],
+) -> Result<Status, AllocError> {
+    let alloc = rt.alloc();
     let plain = PlainAdapter {
         next_tag: 0,
         trail: 0,
@@ -36,21 +36,20 @@ fn adapters(alloc: Global) -> Result<Adapters, AllocError>
     let mut adapters: Adapters = Vec::new(alloc);
     adapters.push(Box::new(alloc, plain)?)?;
     adapters.push(Box::new(alloc, apb)?)?;
-    Ok(adapters)
+    let mut source = StdSource::new(rt.reader());
+    let mut sink = StdSink::new(io::writer(rt));
+    Ok(regrun(alloc, words, &mut source, &mut sink, &mut adapters))
 }
 
 fn status(rt: &(impl Env + AllocGlobal + Input + Print)) -> Status {
-    let words = match words(rt) {
-        Ok(words) => words,
-        Err(error) if error.kind() == io::ErrorKind::OutOfMemory => return Status::Memory,
-        Err(_) => return Status::Words,
-    };
-    let Ok(mut adapters) = adapters(rt.alloc()) else {
-        return Status::Memory;
-    };
-    let mut source = StdSource::new(rt.reader());
-    let mut sink = StdSink::new(io::writer(rt));
-    regrun(rt.alloc(), &words, &mut source, &mut sink, &mut adapters)
+    match words(rt) {
+        Ok(words) => match run(rt, &words) {
+            Ok(status) => status,
+            Err(_) => Status::Memory,
+        },
+        Err(error) if error.kind() == io::ErrorKind::OutOfMemory => Status::Memory,
+        Err(_) => Status::Words,
+    }
 }
 
 fn main(rt: HostRuntime) -> ExitCode {
