@@ -9,6 +9,7 @@ pub mod Narrow
 pub mod Places
 pub mod Ready
 pub mod Rights
+pub mod Running
 pub mod Setups
 pub mod Tables
 pub mod Traces
