@@ -4,6 +4,8 @@ pub mod Seated
 pub mod Going
 pub mod Locations
 pub mod Narrow
+pub mod OverBus
+pub mod Performed
 pub mod Places
 pub mod Ready
 pub mod Rights

@@ -3,7 +3,7 @@ ghost use Rattle.std.specs.Prelude.{◌≡◌, ◌+◌, ◌<◌, ◌≤◌, map 
 ghost use Rattle.rl_access.specs.Event.{EventFits, IsEndWithin};
 ghost use Rattle.rl_access.specs.Model.{IsReady, IsSameChip};
 ghost use Rattle.rl_access.specs.Operation.{IsMapIn, field_digits, ends_with_value};
-ghost use Rattle.rl_access.specs.Rules.{end_in_field};
+ghost use Rattle.rl_access.specs.Rules.{end_in_field, forgetting_field};
 
 use crate::engine::{read, write_as};
 use crate::event::{End, Event, Op};
@@ -40,9 +40,7 @@ pub fn field_write<D: Device>(
     match m.fitting_field(field, value, m.way(place, true)) {
         Ok(place) => {
             let access = m.field_written(field, place, value);
-            if !m.is_narrow(field, place, true) {
-                m.forget(place);
-            }
+            forget_around(m, field, place, true);
             write_as(m, d, a, op, &access, End::Done)
         }
         Err(why) => m.refuse(op, reg, why),
@@ -73,14 +71,23 @@ pub fn field_read<D: Device>(
     match m.way(place, false) {
         Ok(place) => {
             let access = m.field_read(field, place);
-            if !m.is_narrow(field, place, false) {
-                m.forget(place);
-            }
+            forget_around(m, field, place, false);
             let done = read(m, d, a, &access, false);
             let end = part_of(&shape, done.end);
             m.event(op, shape.reg, end, done.trace, 0)
         }
         Err(why) => m.refuse(op, shape.reg, why),
+    }
+}
+
+// Forgets what was gathered of the place, unless the access reaches the field's bytes alone.
+fn forget_around(m: &mut Model, field: u32, place: u32, write: bool)
+    requires field { field < length m.old.chip.fields }
+    requires place { place < length m.old.layout.places }
+    ensures { m.new ≡ forgetting_field m.old field place write }
+{
+    if !m.is_narrow(field, place, write) {
+        m.forget(place);
     }
 }
 
