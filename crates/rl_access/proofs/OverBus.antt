@@ -1,8 +1,9 @@
 -- The operations that are one write or one read of a register over the bus.
-use Rattle.std.proofs.Common.{◌≡◌, ℕ, List, [], Bool, true, false, if◌then◌else◌, Option, None, Some, Ok, Err, refl, sym, ap, ◌∙◌, subst}
+use Rattle.std.proofs.Common.{◌≡◌, ℕ, List, [], Bool, true, false, if◌then◌else◌, Option, None, Some, Ok, refl, sym, ap, ◌∙◌, subst}
 use Rattle.rl_bus.specs.Standing.{Standing}
 use Rattle.rl_bus.specs.State.{State}
 use Rattle.rl_map.specs.Layout.{place_of}
+use Rattle.rl_model.specs.declared.rows.Field.{Field}
 use Rattle.rl_model.specs.declared.rows.Item.{Item}
 use Rattle.rl_model.specs.declared.rows.Item.TheVariants as item
 use Rattle.rl_mirror.specs.Fields.{field_of}
@@ -18,7 +19,7 @@ use Rattle.rl_access.specs.Call.{scene, Performs}
 use Rattle.rl_access.specs.Items.{AreSent, failed_at, port_for, adapter_for}
 use Rattle.rl_access.specs.Model.{ModelData}
 use Rattle.rl_access.specs.Operation.{reg_of}
-use Rattle.rl_access.specs.Rules.{Grant, placed, with_right, with_watch, way, watched_way, map_of_place, map_used, fitting, fitting_field, grant, named, forgetting, forgetting_field, whole, field_written, field_read, field_alone, is_alone, access_ops, Outcome, or_error, write_outcome, read_outcome, value_of, end_in_field, in_field, register_event, quiet}
+use Rattle.rl_access.specs.Rules.{Grant, placed, with_right, with_watch, way, watched_way, map_of_place, map_used, grant, named, forgetting, forgetting_field, whole, field_written, field_read, field_alone, is_alone, access_ops, Outcome, or_error, write_outcome, read_outcome, value_of, end_in_field, in_field, register_event, quiet}
 use Rattle.rl_access.proofs.Performed.{IsOverBus, IsWriteOf, IsReadOf, IsQuiet, sent_over_bus}
 
 -- ---- the way, and the map that is named
@@ -31,6 +32,10 @@ watched_way_is m reg map place write found there is = is ∙ ap (λ p. with_righ
 
 pub map_is : (m : ModelData) (i : Item) (map place used : Option ℕ) → place ≡ place_of m.layout i map → used ≡ map_of_place m.layout place map → used ≡ map_used m i map
 map_is m i map place used there is = is ∙ ap (λ p. map_of_place m.layout p map) there
+
+-- the place of a field's register
+pub field_place_is : (m : ModelData) (field : ℕ) (shape : Field) (map place : Option ℕ) → shape ≡ (field_of m.chip field).shape → place ≡ place_of m.layout (item.Reg shape.reg) map → place ≡ place_of m.layout (item.Reg (reg_of m.chip field)) map
+field_place_is m field shape map place same there = there ∙ ap (λ (f : Field). place_of m.layout (item.Reg f.reg) map) same
 
 -- ---- writes
 
@@ -141,8 +146,8 @@ is_no_update m reg map place nothing =
 
 -- ---- desired values
 
-pub is_set : (m new : ModelData) (field value : ℕ) → new ≡ record m { mirror = set m.chip field value m.mirror } → IsQuiet m (op.Set field value) 0 (reg_of m.chip field) end.Done new
-is_set m new field value is = record {
+pub is_set : (m new : ModelData) (field value place : ℕ) → new ≡ record m { mirror = set m.chip field value m.mirror } → IsQuiet m (op.Set field value) place (reg_of m.chip field) end.Done new
+is_set m new field value place is = record {
   sends_are = refl;
   outcome_is = ap (quiet end.Done) (sym is);
   register = refl;
@@ -187,13 +192,6 @@ error_differs : (failed : Option ℕ) (m : ModelData) (good : Outcome) → good.
 error_differs None m good none = none
 error_differs (Some k) m good none = refl
 
--- a read of one field: the items, its end within the field, and the model
-pub record IsFieldRead (m new : ModelData) (told : Op) (field : ℕ) (a : Access) (items : List TraceItem) (e : End) (event : Event) (before now : List Standing) (errors later : ℕ) (state after : Option State) : Type 0 where
-  pub sent : AreSent (adapter_for m.layout a.place) (port_for m.layout a.place) (access_ops m a false) items before now errors later state after
-  pub end_is : e ≡ end_in_field (field_of m.chip field).shape (read_outcome m false a items).end
-  pub model : new ≡ (read_outcome m false a items).model
-  pub event_is : event ≡ register_event told (reg_of m.chip field) items (record { end = e; model = new; differ = 0 })
-
 field_read_outcome : (m new : ModelData) (field : ℕ) (a : Access) (items : List TraceItem) (e : End) → e ≡ end_in_field (field_of m.chip field).shape (read_outcome m false a items).end → new ≡ (read_outcome m false a items).model →
     ◌≡◌ {A = Outcome} (record { end = e; model = new; differ = 0 }) (in_field m.chip field (read_outcome m false a items))
 field_read_outcome m new field a items e end_is model =
@@ -212,24 +210,43 @@ field_read_over_bus m field map place = record { sends_are = refl; outcome_is = 
 
 first_read : (m new : ModelData) (field : ℕ) (map : Option ℕ) (told : Op) (place : ℕ) (items : List TraceItem) (e : End) (event : Event) (before now : List Standing) (errors later : ℕ) (state after : Option State) →
     grant m (op.FieldRead field map) ≡ Ok place → told ≡ named m (op.FieldRead field map) →
-    IsFieldRead (forgetting_field m field place false) new told field (field_read m field place) items e event before now errors later state after →
+    AreSent (adapter_for m.layout (field_read m field place).place) (port_for m.layout (field_read m field place).place) (access_ops m (field_read m field place) false) items before now errors later state after →
+    e ≡ end_in_field (field_of m.chip field).shape (read_outcome (forgetting_field m field place false) false (field_read m field place) items).end → new ≡ (read_outcome (forgetting_field m field place false) false (field_read m field place) items).model →
+    event ≡ register_event told (reg_of m.chip field) items (record { end = e; model = new; differ = 0 }) →
     Performs (scene m before errors state) (scene new now later after) (op.FieldRead field map) event
-first_read m new field map told place items e event before now errors later state after granted names is =
+first_read m new field map told place items e event before now errors later state after granted names sent end_is model event_is =
     let entry = forgetting_field m field place false in
     let a = field_read m field place in
     let out = in_field m.chip field (read_outcome entry false a items) in
-    let event_is : event ≡ register_event told (reg_of m.chip field) items out = is.event_is ∙ ap (register_event told (reg_of m.chip field) items) (field_read_outcome entry new field a items e is.end_is is.model) in
-    subst (λ ev. Performs (scene m before errors state) (scene new now later after) (op.FieldRead field map) ev) (sym event_is)
+    let all : event ≡ register_event told (reg_of m.chip field) items out = event_is ∙ ap (register_event told (reg_of m.chip field) items) (field_read_outcome entry new field a items e end_is model) in
+    subst (λ ev. Performs (scene m before errors state) (scene new now later after) (op.FieldRead field map) ev) (sym all)
     (sent_over_bus m new (op.FieldRead field map) told place (reg_of m.chip field) (access_ops entry a false) (λ all. in_field m.chip field (read_outcome entry false a all)) (register_event told (reg_of m.chip field) items out) before now errors later state after granted names
     (field_read_over_bus m field map place)
-    (subst (λ p. AreSent (adapter_for m.layout p) (port_for m.layout p) (access_ops entry a false) items before now errors later state after) (written_place m field place 0 0 (is_alone m field place false)) is.sent)
-    refl is.model)
+    (subst (λ p. AreSent (adapter_for m.layout p) (port_for m.layout p) (access_ops entry a false) items before now errors later state after) (written_place m field place 0 0 (is_alone m field place false)) sent)
+    refl model)
 
-pub field_read_performs : (m entry new : ModelData) (field : ℕ) (map : Option ℕ) (told : Op) (place : ℕ) (a : Access) (items : List TraceItem) (e : End) (event : Event) (before now : List Standing) (errors later : ℕ) (state after : Option State) →
-    grant m (op.FieldRead field map) ≡ Ok place → told ≡ named m (op.FieldRead field map) → entry ≡ forgetting_field m field place false → a ≡ field_read m field place →
-    IsFieldRead entry new told field a items e event before now errors later state after →
+-- what a read of a field's access did, as its parts promise it
+record IsFieldRead (m new : ModelData) (told : Op) (field : ℕ) (a : Access) (items : List TraceItem) (e : End) (event : Event) (before now : List Standing) (errors later : ℕ) (state after : Option State) : Type 0 where
+  sent : AreSent (adapter_for m.layout a.place) (port_for m.layout a.place) (access_ops m a false) items before now errors later state after
+  end_is : e ≡ end_in_field (field_of m.chip field).shape (read_outcome m false a items).end
+  model : new ≡ (read_outcome m false a items).model
+
+pub field_read_performs : {before now : List Standing} {errors later : ℕ} {state after : Option State} (m entry new : ModelData) (field : ℕ) (shape : Field) (map : Option ℕ) (told : Op) (place : ℕ) (a : Access) (items : List TraceItem) (read e : End) (event : Event) →
+    grant m (op.FieldRead field map) ≡ Ok place → told ≡ named m (op.FieldRead field map) → shape ≡ (field_of m.chip field).shape → entry ≡ forgetting_field m field place false → a ≡ field_read m field place →
+    AreSent (adapter_for entry.layout a.place) (port_for entry.layout a.place) (access_ops entry a false) items before now errors later state after →
+    read ≡ (read_outcome entry false a items).end → new ≡ (read_outcome entry false a items).model → e ≡ end_in_field shape read → event ≡ register_event told shape.reg items (record { end = e; model = new; differ = 0 }) →
     Performs (scene m before errors state) (scene new now later after) (op.FieldRead field map) event
-field_read_performs m entry new field map told place a items e event before now errors later state after granted names from same is =
-    first_read m new field map told place items e event before now errors later state after granted names
-    (subst (λ (x : Access). IsFieldRead (forgetting_field m field place false) new told field x items e event before now errors later state after) same
-    (subst (λ (x : ModelData). IsFieldRead x new told field a items e event before now errors later state after) from is))
+field_read_performs {before} {now} {errors} {later} {state} {after} m entry new field shape map told place a items read e event granted names shape_is from same sent read_is model end_is event_is =
+    let first = forgetting_field m field place false in
+    let chip : entry.chip ≡ m.chip = ap (λ (x : ModelData). x.chip) from in
+    let here : IsFieldRead entry new told field a items e event before now errors later state after = record {
+      sent = sent;
+      end_is = end_is ∙ ap (λ (s : Field). end_in_field s read) (shape_is ∙ ap (λ c. (field_of c field).shape) (sym chip)) ∙ ap (end_in_field (field_of entry.chip field).shape) read_is;
+      model = model;
+    } in
+    let there : IsFieldRead first new told field (field_read m field place) items e event before now errors later state after =
+    subst (λ (x : Access). IsFieldRead first new told field x items e event before now errors later state after) same
+    (subst (λ (x : ModelData). IsFieldRead x new told field a items e event before now errors later state after) from here)
+    in
+    first_read m new field map told place items e event before now errors later state after granted names there.sent there.end_is there.model
+    (event_is ∙ ap (λ (s : Field). let o : Outcome = record { end = e; model = new; differ = 0 } in register_event told s.reg items o) shape_is)

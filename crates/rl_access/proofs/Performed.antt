@@ -15,7 +15,7 @@ use Rattle.rl_access.specs.Call.{Scene, scene, IsRefused, IsDone, Performs}
 use Rattle.rl_access.specs.Items.{AreItemsOf, AreSent, HasCauses, items_of, state_after_all, port_for, adapter_for}
 use Rattle.rl_access.specs.Model.{ModelData}
 use Rattle.rl_access.specs.Operation.{register_of}
-use Rattle.rl_access.specs.Rules.{Grant, Outcome, grant, named, sends, outcome, event_at, event_of, register_event, refused_event, quiet, access_ops, write_outcome, read_outcome, IsSampled, device_after}
+use Rattle.rl_access.specs.Rules.{Grant, Outcome, grant, named, sends, outcome, event_at, event_of, register_event, quiet, access_ops, write_outcome, read_outcome, IsSampled, device_after}
 
 -- ---- by the grant
 
@@ -148,9 +148,15 @@ quiet_event m new op place reg e before errors state is =
       goes = stays (device_after m op 0 []) is.device state;
     }
 
-pub quiet_performs : (m new : ModelData) (op told : Op) (place reg : ℕ) (e : End) (event : Event) (before : List Standing) (errors : ℕ) (state : Option State) →
-    grant m op ≡ Ok place → told ≡ named m op → IsQuiet m op place reg e new → event ≡ register_event told reg [] (quiet e new) →
+pub quiet_performs : (m new : ModelData) (op told : Op) (place reg register : ℕ) (e : End) (items : List TraceItem) (event : Event) (before : List Standing) (errors : ℕ) (state : Option State) →
+    grant m op ≡ Ok place → told ≡ named m op → IsQuiet m op place reg e new → register ≡ reg → items ≡ [] → event ≡ register_event told register items (quiet e new) →
     Performs (scene m before errors state) (scene new before errors state) op event
-quiet_performs m new op told place reg e event before errors state granted names is event_is =
-    subst (λ ev. Performs (scene m before errors state) (scene new before errors state) op ev) (sym (event_is ∙ ap (λ t. register_event t reg [] (quiet e new)) names))
+quiet_performs m new op told place reg register e items event before errors state granted names is same none event_is =
+    let all : event ≡ register_event (named m op) reg [] (quiet e new) =
+    event_is
+    ∙ ap (λ t. register_event t register items (quiet e new)) names
+    ∙ ap (λ r. register_event (named m op) r items (quiet e new)) same
+    ∙ ap (λ it. register_event (named m op) reg it (quiet e new)) none
+    in
+    subst (λ ev. Performs (scene m before errors state) (scene new before errors state) op ev) (sym all)
     (performs_done (scene m before errors state) (scene new before errors state) op place (register_event (named m op) reg [] (quiet e new)) granted (quiet_event m new op place reg e before errors state is))

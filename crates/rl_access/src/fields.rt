@@ -1,9 +1,11 @@
 //! Accesses to one field, and desired values.
 ghost use Rattle.std.specs.Prelude.{◌≡◌, ◌+◌, ◌<◌, ◌≤◌, map as each, length, true};
+ghost use Rattle.rl_access.specs.Call.{Performs, PerformsAlone, scene};
 ghost use Rattle.rl_access.specs.Event.{EventFits, IsEndWithin};
 ghost use Rattle.rl_access.specs.Model.{IsReady, IsSameChip};
 ghost use Rattle.rl_access.specs.Operation.{IsMapIn, field_digits, ends_with_value};
 ghost use Rattle.rl_access.specs.Rules.{end_in_field, forgetting_field};
+ghost use Rattle.rl_access.specs.declared.event.Op.TheVariants as op;
 
 use crate::engine::{read, write_as};
 use crate::event::{End, Event, Op};
@@ -29,6 +31,7 @@ pub fn field_write<D: Device>(
     ensures ready { IsReady m.new (each standing a.new.items) (D.state d.new) }
     ensures parts { IsSameChip m.old m.new }
     ensures fits { EventFits m.new result }
+    ensures performs { Performs (scene m.old (each standing a.old.items) (D.errors d.old) (D.state d.old)) (scene m.new (each standing a.new.items) (D.errors d.new) (D.state d.new)) (op.FieldWrite field map value) result }
 {
     let reg = m.field(field).reg;
     let place = m.place_of(Item::Reg(reg), map);
@@ -61,6 +64,7 @@ pub fn field_read<D: Device>(
     ensures ready { IsReady m.new (each standing a.new.items) (D.state d.new) }
     ensures parts { IsSameChip m.old m.new }
     ensures fits { EventFits m.new result }
+    ensures performs { Performs (scene m.old (each standing a.old.items) (D.errors d.old) (D.state d.old)) (scene m.new (each standing a.new.items) (D.errors d.new) (D.state d.new)) (op.FieldRead field map) result }
 {
     let shape = m.field(field);
     let place = m.place_of(Item::Reg(shape.reg), map);
@@ -113,6 +117,7 @@ pub fn set(m: &mut Model, field: u32, value: u64) -> Event
     requires field { field < length m.old.chip.fields }
     ensures fits { EventFits m.new result }
     ensures parts { IsSameChip m.old m.new }
+    ensures performs { PerformsAlone m.old m.new (op.Set field value) result }
 {
     let reg = m.field(field).reg;
     let op = Op::Set { field, value };
@@ -129,6 +134,7 @@ pub fn set(m: &mut Model, field: u32, value: u64) -> Event
 pub fn show(m: &Model, reg: u32) -> Event
     requires reg { reg < length m.now.chip.regs }
     ensures fits { EventFits m.now result }
+    ensures performs { PerformsAlone m.now m.now (op.Show reg) result }
 {
     m.event(Op::Show { reg }, reg, End::Done, Trace::new(), 0)
 }
