@@ -6,6 +6,8 @@ pub mod Going
 pub mod Locations
 pub mod MemoryPerforms
 pub mod Narrow
+pub mod OverBus
+pub mod Performed
 pub mod Places
 pub mod Ready
 pub mod Rights
