@@ -1,6 +1,8 @@
 //! Which registers, memories, places and bits a sequence goes over.
-ghost use Rattle.std.specs.Prelude.{◌<◌, length, IfSome};
+ghost use Rattle.std.specs.Prelude.{◌≡◌, ◌<◌, ◌||◌, not, length, IfSome};
 ghost use Rattle.rl_model.specs.Chip.{HasItem};
+ghost use Rattle.rl_map.specs.Layout.{place_at, has_right};
+ghost use Rattle.rl_seq.specs.Choice.{is_tested, is_reg_tested, is_place, is_same};
 
 use bitflags::Flags;
 use rl_map::Layout;
@@ -11,6 +13,7 @@ use rl_policy::{Policy, mask, write_only};
 pub(crate) fn is_tested(chip: &Chip, item: Item, block: Option<u32>, skip: Skip) -> bool
     requires item { HasItem chip.now item }
     requires block { IfSome block (λ b. b < chip.now.blocks) }
+    ensures { result ≡ is_tested chip.now item block skip.bits }
 {
     let inside = match block {
         None => true,
@@ -23,6 +26,7 @@ pub(crate) fn is_tested(chip: &Chip, item: Item, block: Option<u32>, skip: Skip)
 pub(crate) fn is_reg_tested(chip: &Chip, reg: u32, block: Option<u32>, skip: Skip) -> bool
     requires reg { reg < length chip.now.regs }
     requires block { IfSome block (λ b. b < chip.now.blocks) }
+    ensures { result ≡ is_reg_tested chip.now reg block skip.bits }
 {
     let item = Item::Reg(reg);
     is_tested(chip, item, block, skip) && is_tested(chip, item, block, Skip::NO_REG_TESTS)
@@ -31,11 +35,41 @@ pub(crate) fn is_reg_tested(chip: &Chip, reg: u32, block: Option<u32>, skip: Ski
 /// Whether the place is the item's, and has the right to read where `reads`, to write where `writes`.
 pub(crate) fn is_place(layout: &Layout, place: u32, item: Item, reads: bool, writes: bool) -> bool
     requires { place < length layout.now.places }
+    ensures { result ≡ is_place layout.now place item reads writes }
 {
     let rights = layout.rights(place);
-    let may_read = !reads || rights.contains(Rights::READ);
-    let may_write = !writes || rights.contains(Rights::WRITE);
-    layout.item(place) == item && may_read && may_write
+    let of_item = is_of(layout, place, item);
+    let may_read = is_allowed(rights, reads, false);
+    let may_write = is_allowed(rights, writes, true);
+    of_item && may_read && may_write
+}
+
+fn is_of(layout: &Layout, place: u32, item: Item) -> bool
+    requires { place < length layout.now.places }
+    ensures { result ≡ is_same (place_at layout.now place).item item }
+{
+    match (layout.item(place), item) {
+        (Item::Reg(a), Item::Reg(b)) => a == b,
+        (Item::Mem(a), Item::Mem(b)) => a == b,
+        _ => false,
+    }
+}
+
+// The right of a direction is there, or isn't asked for.
+fn is_allowed(rights: Rights, asked: bool, write: bool) -> bool
+    ensures { result ≡ (not asked || has_right rights write) }
+{
+    !asked || has_right(rights, write)
+}
+
+fn has_right(rights: Rights, write: bool) -> bool
+    ensures { result ≡ has_right rights write }
+{
+    if write {
+        rights.contains(Rights::WRITE)
+    } else {
+        rights.contains(Rights::READ)
+    }
 }
 
 /// How many places the item has.

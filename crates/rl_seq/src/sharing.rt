@@ -57,15 +57,36 @@ fn share_places<D: Device, R: Recorder>(
     ensures steady { R.steady rec.new ≡ R.steady rec.old }
 {
     for place in 0..m.layout().places() {
-        if is_place(m.layout(), place, Item::Reg(reg), false, true) {
-            let value = m.mirror().mirrored(reg);
-            let turned = inverted(m.chip(), Item::Reg(reg), value);
-            let at = m.layout().map_of(place);
-            write_at(m, d, a, reg, at, turned, rec, tally)?;
-            check_others(m, d, a, reg, place, rec, tally)?;
-        }
+        share_place(m, d, a, reg, place, rec, tally)?;
     }
     Ok(())
+}
+
+fn share_place<D: Device, R: Recorder>(
+    m: &mut Model,
+    d: &mut D,
+    a: &mut Adapters,
+    reg: u32,
+    place: u32,
+    rec: &mut R,
+    tally: &mut Tally,
+) -> Result<(), Failed>
+    requires ready { IsReady m.old (map standing a.old.items) (D.state d.old) }
+    requires reg { reg < length m.old.chip.regs }
+    requires place { place < length m.old.layout.places }
+    ensures ready { IsReady m.new (map standing a.new.items) (D.state d.new) }
+    ensures parts { IsSameChip m.old m.new }
+    ensures cause { HasCause (R.faults rec.old) (R.faults rec.new) result }
+    ensures steady { R.steady rec.new ≡ R.steady rec.old }
+{
+    if !is_place(m.layout(), place, Item::Reg(reg), false, true) {
+        return Ok(());
+    }
+    let value = m.mirror().mirrored(reg);
+    let turned = inverted(m.chip(), Item::Reg(reg), value);
+    let at = m.layout().map_of(place);
+    write_at(m, d, a, reg, at, turned, rec, tally)?;
+    check_others(m, d, a, reg, place, rec, tally)
 }
 
 fn check_others<D: Device, R: Recorder>(
@@ -85,10 +106,35 @@ fn check_others<D: Device, R: Recorder>(
     ensures steady { R.steady rec.new ≡ R.steady rec.old }
 {
     for place in 0..m.layout().places() {
-        if place != written && is_place(m.layout(), place, Item::Reg(reg), true, false) {
-            let at = m.layout().map_of(place);
-            check_at(m, d, a, reg, at, rec, tally)?;
-        }
+        check_other(m, d, a, reg, written, place, rec, tally)?;
     }
     Ok(())
+}
+
+fn check_other<D: Device, R: Recorder>(
+    m: &mut Model,
+    d: &mut D,
+    a: &mut Adapters,
+    reg: u32,
+    written: u32,
+    place: u32,
+    rec: &mut R,
+    tally: &mut Tally,
+) -> Result<(), Failed>
+    requires ready { IsReady m.old (map standing a.old.items) (D.state d.old) }
+    requires reg { reg < length m.old.chip.regs }
+    requires place { place < length m.old.layout.places }
+    ensures ready { IsReady m.new (map standing a.new.items) (D.state d.new) }
+    ensures parts { IsSameChip m.old m.new }
+    ensures cause { HasCause (R.faults rec.old) (R.faults rec.new) result }
+    ensures steady { R.steady rec.new ≡ R.steady rec.old }
+{
+    if place == written {
+        return Ok(());
+    }
+    if !is_place(m.layout(), place, Item::Reg(reg), true, false) {
+        return Ok(());
+    }
+    let at = m.layout().map_of(place);
+    check_at(m, d, a, reg, at, rec, tally)
 }

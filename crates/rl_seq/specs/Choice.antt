@@ -1,0 +1,60 @@
+-- Which registers, memories, places and bits a sequence goes over.
+use Rattle.std.specs.Prelude.{ℕ, zero, suc, ◌+◌, ◌==◌, bit_and, Bool, true, false, not, ◌&&◌, ◌||◌, Option, None, Some}
+use Rattle.std.specs.Option.{option_map_or}
+use Rattle.rl_map.specs.Layout.{LayoutData, place_at, has_right}
+use Rattle.rl_model.specs.Chip.{skip_of, is_inside, path_at, path_of_item}
+use Rattle.rl_model.specs.Rows.{ChipData}
+use Rattle.rl_model.specs.declared.rows.Field.{Field}
+use Rattle.rl_model.specs.declared.rows.Item.{Item}
+use Rattle.rl_model.specs.declared.rows.Item.TheVariants.{Reg, Mem}
+use Rattle.rl_mirror.specs.Compared.{is_compared}
+use Rattle.rl_mirror.specs.Fields.{field_of, first_of, count_of}
+use Rattle.rl_policy.specs.Bits.{is_within}
+
+-- the exclusions, as bits
+abbrev pub no_reg_tests : ℕ
+no_reg_tests = 1
+
+abbrev pub no_reg_hw_reset_test : ℕ
+no_reg_hw_reset_test = 2
+
+abbrev pub no_reg_bit_bash_test : ℕ
+no_reg_bit_bash_test = 4
+
+-- an exclusion names the item
+abbrev pub is_excluded : ChipData → Item → ℕ → Bool
+is_excluded c item skip = option_map_or (λ s. bit_and s.bits skip == skip) (skip_of c item) false
+
+-- the item stands in the block, or no block is named
+abbrev pub is_in_block : ChipData → Item → Option ℕ → Bool
+is_in_block c item None = true
+is_in_block c item (Some block) = is_inside (path_at c block) (path_of_item c item)
+
+abbrev pub is_tested : ChipData → Item → Option ℕ → ℕ → Bool
+is_tested c item block skip = is_in_block c item block && not (is_excluded c item skip)
+
+abbrev pub is_reg_tested : ChipData → ℕ → Option ℕ → ℕ → Bool
+is_reg_tested c reg block skip = is_tested c (Reg reg) block skip && is_tested c (Reg reg) block no_reg_tests
+
+abbrev pub is_same : Item → Item → Bool
+is_same (Reg a) (Reg b) = a == b
+is_same (Mem a) (Mem b) = a == b
+is_same (Reg a) (Mem b) = false
+is_same (Mem a) (Reg b) = false
+
+-- the place is the item's, and has these rights
+abbrev pub is_place : LayoutData → ℕ → Item → (reads writes : Bool) → Bool
+is_place l place item reads writes =
+    let rights = (place_at l place).rights in
+    (is_same (place_at l place).item item && (not reads || has_right rights false)) && (not writes || has_right rights true)
+
+-- for some number below the count
+abbrev pub any_below : ℕ → (ℕ → Bool) → Bool
+any_below zero p = false
+any_below (suc n) p = any_below n p || p n
+
+-- the bit belongs to a field that checks compare
+abbrev pub is_bit_compared : ChipData → (reg bit : ℕ) → Bool
+is_bit_compared c reg bit = any_below (count_of c reg) (λ k.
+    let f = (field_of c (first_of c reg + k)).shape in
+    is_within f.lsb f.width bit && is_compared f)
