@@ -1,5 +1,5 @@
 -- A sequence that is under way.
-use Rattle.std.proofs.Common.{◌≡◌, ℕ, ◌<◌, ◌≤◌, List, length, map, Option, refl, sym, ap, ◌∙◌, subst, arith}
+use Rattle.std.proofs.Common.{◌≡◌, ℕ, ◌≤◌, List, map, Option, refl, ◌∙◌}
 use Rattle.rl_bus.specs.Standing.{Standing}
 use Rattle.rl_bus.specs.State.{State}
 use Rattle.rl_access.specs.Call.{Scene, scene}

@@ -1,5 +1,5 @@
 -- Plans that are followed one after another.
-use Rattle.std.proofs.Common.{◌≡◌, ℕ, zero, suc, ◌+◌, ◌<◌, ◌≤◌, Bool, true, false, cond, List, [], ◌∷◌, ◌++◌, Option, Result, Ok, Err, OnOk, OnErr, IfOk, MatchResult, refl, sym, ap, ◌∙◌, subst, nat_lt, add-one, arith}
+use Rattle.std.proofs.Common.{◌≡◌, ℕ, zero, suc, ◌+◌, ◌<◌, Bool, true, false, List, [], ◌∷◌, ◌++◌, Result, Ok, Err, OnOk, OnErr, refl, sym, ap, ◌∙◌, subst, nat_lt, add-one, arith}
 use Rattle.std.specs.Result.{IsErr}
 use borrow.Author.Tests.{ltb-true, ltb-false}
 use Rattle.rl_model.specs.Rows.{ChipData}
@@ -8,7 +8,7 @@ use Rattle.rl_access.specs.declared.event.Event.{Event}
 use Rattle.rl_access.specs.declared.event.Op.{Op}
 use Rattle.rl_access.specs.declared.event.Tally.{Tally}
 use Rattle.rl_access.specs.Call.{Scene}
-use Rattle.rl_access.specs.HandsOver.{Told, TakesAll, BreaksAtLast, HandsOver}
+use Rattle.rl_access.specs.HandsOver.{Told, TakesAll, BreaksAtLast}
 use Rattle.rl_access.specs.Model.{ModelData, IsSameChip}
 use Rattle.rl_access.specs.Runs.{IsOneStep, no_tally, counted_all}
 use Rattle.rl_access.specs.Tally.{counted}

@@ -4,7 +4,6 @@ use Rattle.std.specs.Option.{option_map_or}
 use Rattle.rl_map.specs.Layout.{LayoutData, place_at, has_right}
 use Rattle.rl_model.specs.Chip.{skip_of, is_inside, path_at, path_of_item}
 use Rattle.rl_model.specs.Rows.{ChipData}
-use Rattle.rl_model.specs.declared.rows.Field.{Field}
 use Rattle.rl_model.specs.declared.rows.Item.{Item}
 use Rattle.rl_model.specs.declared.rows.Item.TheVariants.{Reg, Mem}
 use Rattle.rl_mirror.specs.Compared.{is_compared}

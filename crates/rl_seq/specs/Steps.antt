@@ -1,8 +1,8 @@
 -- The sequences, each as the operations that it stands for. They follow the description alone, and what is mirrored at each moment.
-use Rattle.std.specs.Prelude.{ℕ, ◌*◌, ◌^◌, bit_xor, true, false, List, length, Option, Some}
+use Rattle.std.specs.Prelude.{ℕ, ◌*◌, ◌^◌, bit_xor, true, false, length, Option, Some}
 use Rattle.rl_map.specs.Layout.{LayoutData, place_at}
 use Rattle.rl_model.specs.Rows.{ChipData}
-use Rattle.rl_model.specs.declared.rows.Item.TheVariants.{Reg, Mem}
+use Rattle.rl_model.specs.declared.rows.Item.TheVariants.{Reg}
 use Rattle.rl_mirror.specs.Fields.{size_of}
 use Rattle.rl_mirror.specs.Mirror.{mirrored_of}
 use Rattle.rl_access.specs.declared.event.Op.TheVariants as op

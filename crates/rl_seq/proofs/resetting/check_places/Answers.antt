@@ -1,4 +1,4 @@
-use Rattle.std.proofs.Common.{◌≡◌, ◌∙◌, length, refl, ap, sym, arith}
+use Rattle.std.proofs.Common.{◌≡◌, ◌∙◌, length, refl, ap, arith}
 use Rattle.rl_seq.specs.Steps.{check_at_place}
 use Rattle.rl_map.specs.Layout.{LayoutData}
 use Rattle.rl_seq.specs.Plan.{each_below}

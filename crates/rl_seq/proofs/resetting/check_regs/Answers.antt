@@ -1,4 +1,4 @@
-use Rattle.std.proofs.Common.{◌≡◌, ◌∙◌, length, refl, ap, sym, arith}
+use Rattle.std.proofs.Common.{◌≡◌, ◌∙◌, length, refl, ap, arith}
 use Rattle.rl_seq.specs.Steps.{check_reg}
 use Rattle.rl_model.specs.Rows.{ChipData}
 use Rattle.rl_seq.specs.Plan.{each_below}
