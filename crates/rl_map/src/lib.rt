@@ -12,6 +12,7 @@ mod find;
 mod kept;
 pub mod laws;
 mod layout;
+mod links;
 mod maps;
 mod name;
 mod parts;
