@@ -21,6 +21,8 @@ mod places;
 mod rows;
 mod seat;
 mod shared;
+#[cfg(test)]
+mod tests;
 mod word;
 
 pub use fault::{MapCause, MapFault};
