@@ -1,9 +1,13 @@
 pub mod Alone
+pub mod BackPerforms
 pub mod Bytes
 pub mod Seated
 pub mod Going
 pub mod Locations
+pub mod MemoryPerforms
 pub mod Narrow
+pub mod OverBus
+pub mod Performed
 pub mod Places
 pub mod Ready
 pub mod Rights

@@ -7,4 +7,5 @@ pub mod Items
 pub mod Access
 pub mod Rules
 pub mod Call
+pub mod Backdoor
 pub mod Tally

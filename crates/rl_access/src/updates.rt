@@ -1,8 +1,10 @@
 //! Bringing a register to its desired value.
 ghost use Rattle.std.specs.Prelude.{◌<◌, map as each, length};
+ghost use Rattle.rl_access.specs.Call.{Performs, scene};
 ghost use Rattle.rl_access.specs.Event.{EventFits};
 ghost use Rattle.rl_access.specs.Model.{IsReady, IsSameChip};
 ghost use Rattle.rl_access.specs.Operation.{IsMapIn};
+ghost use Rattle.rl_access.specs.declared.event.Op.TheVariants as op;
 
 use crate::engine::write_as;
 use crate::event::{End, Event, Op};
@@ -26,6 +28,7 @@ pub fn update<D: Device>(
     ensures ready { IsReady m.new (each standing a.new.items) (D.state d.new) }
     ensures parts { IsSameChip m.old m.new }
     ensures fits { EventFits m.new result }
+    ensures performs { Performs (scene m.old (each standing a.old.items) (D.errors d.old) (D.state d.old)) (scene m.new (each standing a.new.items) (D.errors d.new) (D.state d.new)) (op.Update reg map) result }
 {
     let place = m.place_of(Item::Reg(reg), map);
     let op = Op::Update {

@@ -176,6 +176,12 @@ module _ (chip : ChipData) (maps : List MapRow) (ports : List PortRow) (earlier 
   pub own_fine : first_cause own ≡ None → None ≡ own_fault chip maps ports earlier words part
   own_fine h = sym (first_cause-of (row_at array.Place (length earlier)) own ∙ ap (λ o. option_map (λ c. Bad c (row_at array.Place (length earlier))) o) h)
 
+  pub own_met : (cause : MapCause) (spot : Spot) (e : MapFault) → first_cause own ≡ Some cause → e ≡ Bad cause spot → spot ≡ row_at array.Place (length earlier)
+      → Some e ≡ own_fault chip maps ports earlier words part
+  own_met cause spot e h made at =
+      ap Some (made ∙ ap (Bad cause) at)
+      ∙ sym (first_cause-of (row_at array.Place (length earlier)) own ∙ ap (λ o. option_map (λ c. Bad c (row_at array.Place (length earlier))) o) h)
+
 pub seat_is : (maps : List MapRow) (ports : List PortRow) (row : PlaceRow) (map : MapRow) (port : PortRow) (path : List Level)
     → row.map < length maps → row.port < length ports → map ≡ get_or maps row.map map → port ≡ get_or ports row.port port → path ≡ map.path → placed_at row path port ≡ placed_in maps ports row
 seat_is maps ports row map port path low_m low_p a b e =

@@ -9,6 +9,7 @@ mod address;
 mod build;
 mod fault;
 mod find;
+mod kept;
 pub mod laws;
 mod layout;
 mod maps;
