@@ -11,6 +11,7 @@ pub mod Performed
 pub mod Places
 pub mod Ready
 pub mod Rights
+pub mod Running
 pub mod Setups
 pub mod Tables
 pub mod Traces

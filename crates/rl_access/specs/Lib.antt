@@ -3,6 +3,7 @@ pub mod Model
 pub mod Operation
 pub mod Event
 pub mod HandsOver
+pub mod Runs
 pub mod Items
 pub mod Access
 pub mod Rules
