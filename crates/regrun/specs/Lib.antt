@@ -1,5 +1,6 @@
 pub mod Causes
 pub mod LayoutPieces
+pub mod Named
 pub mod Opened
 pub mod Operations
 pub mod Refusals

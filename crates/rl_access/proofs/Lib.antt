@@ -2,10 +2,12 @@ pub mod Alone
 pub mod BackPerforms
 pub mod Bytes
 pub mod Seated
+pub mod Gathers
 pub mod Going
 pub mod Locations
 pub mod MemoryPerforms
 pub mod Narrow
+pub mod OneWord
 pub mod OverBus
 pub mod Performed
 pub mod Places
@@ -16,3 +18,6 @@ pub mod Setups
 pub mod Tables
 pub mod Traces
 pub mod UnderWay
+pub mod Whole
+pub mod WholeGathered
+pub mod Wished

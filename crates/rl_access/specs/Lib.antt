@@ -9,4 +9,6 @@ pub mod Access
 pub mod Rules
 pub mod Call
 pub mod Backdoor
+pub mod Observed
 pub mod Tally
+pub mod Wishes

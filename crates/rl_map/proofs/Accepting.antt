@@ -41,10 +41,10 @@ lt_true a b h = grind (arith, nat_tests)
 lt_same : (a : ℕ) → nat_lt a a ≡ false
 lt_same a = grind (arith, nat_tests)
 
-at_first : {X : Type 0} (p : X → Bool) (xs : List X) (n : ℕ) → position_or_len p xs ≡ n → n < length xs → position p xs ≡ Some n
+pub at_first : {X : Type 0} (p : X → Bool) (xs : List X) (n : ℕ) → position_or_len p xs ≡ n → n < length xs → position p xs ≡ Some n
 at_first p xs n e low = ap (λ t. cond t (Some (position_or_len p xs)) None) (lt_true _ _ (omega (arith, e))) ∙ ap Some e
 
-at_none : {X : Type 0} (p : X → Bool) (xs : List X) → position_or_len p xs ≡ length xs → position p xs ≡ None
+pub at_none : {X : Type 0} (p : X → Bool) (xs : List X) → position_or_len p xs ≡ length xs → position p xs ≡ None
 at_none p xs e = ap (λ n. cond (nat_lt n (length xs)) (Some (position_or_len p xs)) None) e ∙ ap (λ t. cond t (Some (position_or_len p xs)) None) (lt_same (length xs))
 
 not_true : (b : Bool) → (b ≡ true → ⊥) → b ≡ false

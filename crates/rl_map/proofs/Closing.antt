@@ -35,11 +35,11 @@ use Rattle.rl_map.proofs.Sound.{IsTested, NoneClash, KeepsOrder, may_not, all_ro
 
 -- ---- what the tests say
 
-or_false : (a b : Bool) → (a || b) ≡ false → (a ≡ false) × (b ≡ false)
+pub or_false : (a b : Bool) → (a || b) ≡ false → (a ≡ false) × (b ≡ false)
 or_false true b e = cc
 or_false false b e = (refl, e)
 
-aligned_from : (b : Bool) (x : ℕ) → (b && not (x == 0)) ≡ false → b ≡ true → x ≡ 0
+pub aligned_from : (b : Bool) (x : ℕ) → (b && not (x == 0)) ≡ false → b ≡ true → x ≡ 0
 aligned_from true x e f = by (x == 0) refl e
   where
     by : (t : Bool) → (x == 0) ≡ t → not t ≡ false → x ≡ 0
@@ -51,7 +51,7 @@ straight_step : (w l : Bool) (x : ℕ) → (not w && (l && not (x == 0))) ≡ fa
 straight_step true l x e f g = cc
 straight_step false l x e f g = aligned_from l x e g
 
-straight_from : (path : List Level) (a : Access) → is_askew a path ≡ false → IsAligned a path
+pub straight_from : (path : List Level) (a : Access) → is_askew a path ≡ false → IsAligned a path
 straight_from [] a e = tt
 straight_from (level ∷ up) a e =
     let h = or_false (not a.word && (level.word && not (a.address % a.bytes == 0))) (is_askew (through a level) up) e in

@@ -30,3 +30,5 @@ pub mod Finding
 pub mod Exactly
 pub mod Even
 pub mod Keeping
+pub mod EvenTests
+pub mod Linking

@@ -10,6 +10,7 @@ pub mod Tables
 pub mod LayoutText
 pub mod Building
 pub mod Locations
+pub mod Links
 pub mod Laws
 pub mod Steps
 pub mod Clashes

@@ -7,6 +7,7 @@ ghost use Rattle.rl_map.specs.Clashes.{first_fault};
 
 use crate::fault::{MapCause, MapFault, refusal, row_at};
 use crate::layout::Layout;
+use crate::links::ItemLinks;
 use crate::maps::add_maps;
 use crate::parts::{MapNode, PlacePart};
 use crate::places::{Placing, add_places};
@@ -56,12 +57,14 @@ impl Layout {
         let (map_rows, ports) = tables;
         let mut placing = Placing {
             places: Vec::new(alloc),
+            links: ItemLinks::new(alloc),
             rows: Vec::new(alloc),
             words: Vec::new(alloc),
         };
         let refused = add_places(chip, &map_rows, &ports, &mut placing, places)?;
         let Placing {
             places: place_rows,
+            links,
             mut rows,
             words,
         } = placing;
@@ -77,6 +80,7 @@ impl Layout {
             kinds: Vec::from_slice(alloc, kinds)?,
             rows,
             words,
+            links,
         })
     }
 }

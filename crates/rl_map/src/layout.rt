@@ -3,8 +3,9 @@ ghost use Rattle.std.specs.Prelude.{◌≡◌, ◌+◌, ◌^◌, ◌<◌, ◌≤
 ghost use Rattle.rl_map.specs.Layout.{map_at, port_at, place_at, seat_at, words_of, has_right, found, words_found, standing, place_of, map_named, IsLocation, IsHere, IsSound};
 ghost use Rattle.rl_map.specs.Partition.{IsWordOn};
 
-use crate::find::{count_through, first_through, index_of, map_number, place_number, rows_at};
+use crate::find::{count_through, first_through, index_of, map_number, rows_at};
 use crate::kept::PlaceWords;
+use crate::links::ItemLinks;
 use crate::rows::{Here, MapRow, PlaceRow, PortRow, location};
 use crate::seat::Seat;
 use crate::word::{Word, Words};
@@ -25,6 +26,7 @@ pub struct Layout {
     pub(crate) rows: Vec<WordRow>,
     /// The words of each place.
     pub(crate) words: Vec<PlaceWords>,
+    pub(crate) links: ItemLinks,
 }
 
 impl Model for Layout {
@@ -36,9 +38,11 @@ impl Model for Layout {
 
     ghost use Rattle.rl_map.specs.Layout.{IsSound};
     ghost use Rattle.rl_map.specs.Locations.{AreKept};
+    ghost use Rattle.rl_map.specs.Links.{AreLinked};
 
     ghost invariant = { λ l. IsSound (record { maps = l.maps.items; places = l.places.items; ports = l.ports.items; kinds = l.kinds.items; rows = l.rows.items })
-        × AreKept (record { maps = l.maps.items; places = l.places.items; ports = l.ports.items; kinds = l.kinds.items; rows = l.rows.items }) l.words.items };
+        × AreKept (record { maps = l.maps.items; places = l.places.items; ports = l.ports.items; kinds = l.kinds.items; rows = l.rows.items }) l.words.items
+        × AreLinked l.places.items l.links.lasts.items l.links.before.items };
 }
 
 impl Layout {
@@ -122,10 +126,7 @@ impl Layout {
         ensures place { result ≡ place_of self.now item map }
         ensures there { IfSome result (λ p. (p < length self.now.places) × ((place_at self.now p).item ≡ item)) }
     {
-        match place_number(&self.places, item, map) {
-            None => None,
-            Some(number) => Some(number as u32),
-        }
+        self.links.place_of(&self.places, item, map)
     }
 
     /// The register or memory that stands at a place.

@@ -12,6 +12,7 @@ mod find;
 mod kept;
 pub mod laws;
 mod layout;
+mod links;
 mod maps;
 mod name;
 mod parts;
@@ -20,6 +21,8 @@ mod places;
 mod rows;
 mod seat;
 mod shared;
+#[cfg(test)]
+mod tests;
 mod word;
 
 pub use fault::{MapCause, MapFault};

@@ -8,6 +8,7 @@ ghost use Rattle.rl_map.specs.Seat.{AddressesFit};
 ghost use Rattle.rl_map.specs.Words.{item_words};
 ghost use Rattle.rl_map.specs.Layout.{has_right, cell_of, word_row, location_of};
 ghost use Rattle.rl_map.specs.Faults.{is_same_place};
+ghost use Rattle.rl_map.specs.Links.{AreLinked};
 ghost use Rattle.rl_map.specs.Locations.{AreStraight, AreLocations, AreWordsOf};
 ghost use Rattle.rl_map.specs.declared.fault.MapFault.{MapFault};
 ghost use Rattle.rl_map.specs.Maps.{item_at, place_row};
@@ -16,8 +17,9 @@ ghost use Rattle.rl_map.specs.Building.{AreTables, IsPlacedIn, IsPlaceRow, IsSea
 
 use crate::address::{is_place_above, is_place_unaligned};
 use crate::fault::{MapCause, MapFault, refusal, row_at};
-use crate::find::{map_number, same_item};
+use crate::find::map_number;
 use crate::kept::PlaceWords;
+use crate::links::ItemLinks;
 use crate::parts::PlacePart;
 use crate::path::Level;
 use crate::rows::{MapRow, PlaceRow, PortRow, location};
@@ -143,10 +145,12 @@ fn push_place(
 }
 
 /// Whether the map and the item of a row have a place already.
-fn is_placed(places: &[PlaceRow], row: &PlaceRow) -> bool
+fn is_placed(places: &[PlaceRow], links: &ItemLinks, row: &PlaceRow) -> bool
+    requires linked { AreLinked places.now links.now.lasts.items links.now.before.items }
+    requires few { length places.now ≤ 4096 }
     ensures { result ≡ list_any (λ q. is_same_place q row.now) places.now }
 {
-    places.iter().any(|place| place.map == row.map && same_item(place.item, row.item))
+    links.place_of(places, row.item, Some(row.map)).is_some()
 }
 
 /// The row of a place, if its map and its item are there.
@@ -198,6 +202,7 @@ fn check_fifo(row: &PlaceRow) -> Result<(), MapCause>
 fn check_words(row: &PlaceRow, path: &[Level], port: &PortRow, words: usize) -> Result<(), MapCause>
     requires path { IsPath path.now }
     requires size { row.now.bytes ≤ 8 }
+    requires some { 1 ≤ row.now.size }
     requires locations { row.now.size ≤ 65536 }
     requires width { 0 < port.now.bytes }
     requires words { words ≤ 1048576 }
@@ -224,10 +229,12 @@ fn checked_place(
     maps: &[MapRow],
     ports: &[PortRow],
     places: &[PlaceRow],
+    links: &ItemLinks,
     words: usize,
     part: &PlacePart,
 ) -> Result<PlaceRow, MapCause>
     requires tables { (kinds : List Kind) × AreTables kinds maps.now ports.now }
+    requires linked { AreLinked places.now links.now.lasts.items links.now.before.items }
     requires words { words ≤ 1048576 }
     ensures few { OnOk result (length places.now < 4096) }
     ensures row { IfOk result (IsPlaceRow chip.now maps.now ports.now) }
@@ -239,7 +246,7 @@ fn checked_place(
         return Err(MapCause::TooMany);
     }
     let row = place_row(chip, maps, part)?;
-    if is_placed(places, &row) {
+    if is_placed(places, links, &row) {
         return Err(MapCause::PlacedTwice);
     }
     check_fifo(&row)?;
@@ -249,10 +256,11 @@ fn checked_place(
     Ok(row)
 }
 
-/// The places that were added so far, with the rows of their words and what is kept of the words.
+/// The places that were added so far, with their links, the rows of their words and what is kept of the words.
 #[derive(Drop)]
 pub(crate) struct Placing {
     pub(crate) places: Vec<PlaceRow>,
+    pub(crate) links: ItemLinks,
     pub(crate) rows: Vec<WordRow>,
     pub(crate) words: Vec<PlaceWords>,
 }
@@ -268,19 +276,30 @@ fn add_place(
     requires tables { (kinds : List Kind) × AreTables kinds maps.now ports.now }
     requires places { ArePlaces chip.now maps.now ports.now placing.old.places.items placing.old.rows.items }
     requires words { AreWordsOf maps.now ports.now placing.old.places.items placing.old.words.items }
+    requires links { AreLinked placing.old.places.items placing.old.links.lasts.items placing.old.links.before.items }
     ensures places { OnOk result (ArePlaces chip.now maps.now ports.now placing.new.places.items placing.new.rows.items) }
     ensures words { OnOk result (AreWordsOf maps.now ports.now placing.new.places.items placing.new.words.items) }
+    ensures links { OnOk result (AreLinked placing.new.places.items placing.new.links.lasts.items placing.new.links.before.items) }
     ensures fault { IfOk result (λ refused. refused ≡ own_fault chip.now maps.now ports.now placing.old.places.items (length placing.old.rows.items) part.now) }
     ensures added { IfOk result (λ refused. refused ≡ None → placing.new.places.items ≡ placing.old.places.items ++ place_row chip.now maps.now part.now ∷ []) }
     ensures kept { IfOk result (λ refused. (fault : MapFault) → refused ≡ Some fault → placing.new.places.items ≡ placing.old.places.items) }
 {
     let number = placing.places.len() as u32;
     let count = placing.rows.len();
-    match checked_place(chip, maps, ports, &placing.places, count, part) {
+    match checked_place(
+        chip,
+        maps,
+        ports,
+        &placing.places,
+        &placing.links,
+        count,
+        part,
+    ) {
         Err(cause) => Ok(Some(refusal(row_at(Array::Place, number), cause))),
         Ok(row) => {
             let words = push_place(&mut placing.rows, &row, number, maps, ports)?;
             placing.words.push(words)?;
+            placing.links.push(&placing.places, &row)?;
             placing.places.push(row)?;
             Ok(None)
         }
@@ -298,8 +317,10 @@ pub(crate) fn add_places(
     requires tables { (kinds : List Kind) × AreTables kinds maps.now ports.now }
     requires places { ArePlaces chip.now maps.now ports.now placing.old.places.items placing.old.rows.items }
     requires words { AreWordsOf maps.now ports.now placing.old.places.items placing.old.words.items }
+    requires links { AreLinked placing.old.places.items placing.old.links.lasts.items placing.old.links.before.items }
     ensures places { OnOk result (ArePlaces chip.now maps.now ports.now placing.new.places.items placing.new.rows.items) }
     ensures words { OnOk result (AreWordsOf maps.now ports.now placing.new.places.items placing.new.words.items) }
+    ensures links { OnOk result (AreLinked placing.new.places.items placing.new.links.lasts.items placing.new.links.before.items) }
     ensures fault { IfOk result (λ refused. refused ≡ own_faults chip.now maps.now ports.now placing.old.places.items (length placing.old.rows.items) parts.now) }
     ensures accepted { OnOk result (placing.new.places.items ≡ placing.old.places.items ++ accepted chip.now maps.now ports.now placing.old.places.items (length placing.old.rows.items) parts.now) }
 {

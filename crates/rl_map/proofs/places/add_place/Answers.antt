@@ -16,13 +16,13 @@ push_place-requires-clause-fits c =
 pub push_place-requires-clause-straight : goal.push_place-requires-clause-straight
 push_place-requires-clause-straight c = straight_of c.args.maps.now c.args.ports.now c.in-Ok.row c.in-Ok.ensures.room.seated
 
-pub returns-in_ok-push-in-Ok-2-clause-places : goal.returns-in_ok-push-in-Ok-2-clause-places
-returns-in_ok-push-in-Ok-2-clause-places c =
+pub returns-in_ok-push-in-Ok-3-clause-places : goal.returns-in_ok-push-in-Ok-3-clause-places
+returns-in_ok-push-in-Ok-3-clause-places c =
     places_more c.args.chip.now c.args.maps.now c.args.ports.now _ _ c.in-Ok.row _ _ _ _ _ c.requires.places c.in-Ok.ensures.row c.in-Ok.ensures.room c.deref.ensures.value c.in-Ok.ensures.few
-    (omega (arith, c.len-number.ensures, c.args.placing.now.places.ok)) (omega (arith, c.len-count.ensures, c.args.placing.now.rows.ok)) c.in_ok-push-in-Ok-2.ensures.items c.in_ok-words-in-Ok.ensures.rows
+    (omega (arith, c.len-number.ensures, c.args.placing.now.places.ok)) (omega (arith, c.len-count.ensures, c.args.placing.now.rows.ok)) c.in_ok-push-in-Ok-3.ensures.items c.in_ok-words-in-Ok.ensures.rows
 
-pub returns-in_ok-push-in-Ok-2-clause-fault : goal.returns-in_ok-push-in-Ok-2-clause-fault
-returns-in_ok-push-in-Ok-2-clause-fault c =
+pub returns-in_ok-push-in-Ok-3-clause-fault : goal.returns-in_ok-push-in-Ok-3-clause-fault
+returns-in_ok-push-in-Ok-3-clause-fault c =
     let chip = c.args.chip.now in
     let maps = c.args.maps.now in
     let p = place_of_part chip maps c.args.ports.now c.args.part.now in
@@ -31,13 +31,13 @@ returns-in_ok-push-in-Ok-2-clause-fault c =
     (subst (λ x. first_cause (own_checks chip maps x (length c.args.placing.now.rows.items) c.args.part.now p) ≡ None) c.deref.ensures.value
     (subst (λ n. first_cause (own_checks chip maps c.deref.result.now n c.args.part.now p) ≡ None) words c.in-Ok.ensures.fault))
 
-pub returns-in_ok-push-in-Ok-2-clause-added : goal.returns-in_ok-push-in-Ok-2-clause-added
-returns-in_ok-push-in-Ok-2-clause-added c = λ e. c.in_ok-push-in-Ok-2.ensures.items ∙ ap (λ r. c.args.placing.now.places.items ++ r ∷ []) c.in-Ok.ensures.exact
+pub returns-in_ok-push-in-Ok-3-clause-added : goal.returns-in_ok-push-in-Ok-3-clause-added
+returns-in_ok-push-in-Ok-3-clause-added c = λ e. c.in_ok-push-in-Ok-3.ensures.items ∙ ap (λ r. c.args.placing.now.places.items ++ r ∷ []) c.in-Ok.ensures.exact
 
-pub returns-in_ok-push-in-Ok-2-clause-words : goal.returns-in_ok-push-in-Ok-2-clause-words
-returns-in_ok-push-in-Ok-2-clause-words c =
+pub returns-in_ok-push-in-Ok-3-clause-words : goal.returns-in_ok-push-in-Ok-3-clause-words
+returns-in_ok-push-in-Ok-3-clause-words c =
     words_more c.args.maps.now c.args.ports.now _ _ _ _ c.in-Ok.row c.in_ok-words-in-Ok.words c.requires.words c.in_ok-words-in-Ok.ensures.words
-    c.in_ok-push-in-Ok-2.ensures.items c.in_ok-push-in-Ok.ensures.items
+    c.in_ok-push-in-Ok-3.ensures.items c.in_ok-push-in-Ok.ensures.items
 
 pub returns-in-Err-clause-fault : goal.returns-in-Err-clause-fault
 returns-in-Err-clause-fault c =

@@ -20,6 +20,7 @@ loop-part-preserved c =
     record {
       places = told.places;
       words = told.words;
+      links = told.links;
       fault = faults_next c.args.chip.now c.args.maps.now c.args.ports.now c.args.parts.now c.loop-part.part-index c.part-item.result c.loop-part-test.true c.part-item.is c.loop-part.placing.places.items c.add_place.new.placing.places.items c.loop-part.placing.rows.items c.add_place.new.placing.rows.items c.in_ok-refused.refused _
           none told.fault told.added was.places told.places was.fault;
       accepted = accepted_next c.args.chip.now c.args.maps.now c.args.ports.now c.args.parts.now c.loop-part.part-index c.part-item.result c.loop-part-test.true c.part-item.is c.loop-part.placing.places.items c.add_place.new.placing.places.items c.loop-part.placing.rows.items c.add_place.new.placing.rows.items c.in_ok-refused.refused _

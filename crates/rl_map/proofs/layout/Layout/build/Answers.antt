@@ -37,6 +37,7 @@ invariant_of-result c =
       subst (λ k. IsSound (built maps places ports k rows)) (sym c.in_ok-from_slice.ensures.items)
           (built_sound c.args.chip.now maps places ports c.args.kinds.now first rows c.in_ok-tables.ensures.tables p c.requires sorted.moved sorted.ascending sorted.stable none),
       kept_built maps places ports _ rows kepts words,
+      c.in_ok-refused.ensures.links,
     )
 
 pub returns-clause-sound : goal.returns-clause-sound
@@ -66,13 +67,13 @@ returns-in-Some-clause-exact c =
         maps_are = c.in_ok-tables.ensures.maps;
         ports_are = c.in_ok-tables.ensures.ports;
         rows_are = accepted_by chip c.args.places.now c.deref.result.now maps c.deref-2.result.now ports _ places _ c.deref.ensures.value c.deref-2.ensures.value
-            c.new.ensures.items c.new-2.ensures.items c.in_ok-refused.ensures.accepted;
+            c.new.ensures.items c.new-3.ensures.items c.in_ok-refused.ensures.accepted;
       };
       tables = c.in_ok-tables.ensures.tables;
       few = c.requires;
       placed = p;
       refused_is = refused_by chip c.args.places.now c.deref.result.now maps c.deref-2.result.now ports _ _ _ c.deref.ensures.value c.deref-2.ensures.value
-          c.new.ensures.items c.new-2.ensures.items c.in_ok-refused.ensures.fault;
+          c.new.ensures.items c.new-3.ensures.items c.in_ok-refused.ensures.fault;
       moved = sorted.moved;
       ascending = sorted.ascending;
       stable = sorted.stable;
@@ -102,13 +103,13 @@ returns-clause-exact c =
         maps_are = c.in_ok-tables.ensures.maps;
         ports_are = c.in_ok-tables.ensures.ports;
         rows_are = accepted_by chip c.args.places.now c.deref.result.now maps c.deref-2.result.now ports _ places _ c.deref.ensures.value c.deref-2.ensures.value
-            c.new.ensures.items c.new-2.ensures.items c.in_ok-refused.ensures.accepted;
+            c.new.ensures.items c.new-3.ensures.items c.in_ok-refused.ensures.accepted;
       };
       tables = c.in_ok-tables.ensures.tables;
       few = c.requires;
       placed = p;
       refused_is = refused_by chip c.args.places.now c.deref.result.now maps c.deref-2.result.now ports _ _ _ c.deref.ensures.value c.deref-2.ensures.value
-          c.new.ensures.items c.new-2.ensures.items c.in_ok-refused.ensures.fault;
+          c.new.ensures.items c.new-3.ensures.items c.in_ok-refused.ensures.fault;
       moved = sorted.moved;
       ascending = sorted.ascending;
       stable = sorted.stable;
