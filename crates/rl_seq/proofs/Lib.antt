@@ -1,2 +1,3 @@
+pub mod Bashed
 pub mod Going
 pub mod Planned

@@ -1,12 +1,14 @@
 //! Which registers, memories, places and bits a sequence goes over.
-ghost use Rattle.std.specs.Prelude.{◌≡◌, ◌<◌, ◌||◌, not, length, IfSome};
+ghost use Rattle.std.specs.Prelude.{◌≡◌, ◌<◌, ◌||◌, ◌&&◌, not, length, IfSome};
 ghost use Rattle.rl_model.specs.Chip.{HasItem};
 ghost use Rattle.rl_map.specs.Layout.{place_at, has_right};
-ghost use Rattle.rl_seq.specs.Choice.{is_tested, is_reg_tested, is_place, is_same};
+ghost use Rattle.rl_mirror.specs.Compared.{is_compared};
+ghost use Rattle.rl_policy.specs.Bits.{is_within};
+ghost use Rattle.rl_seq.specs.Choice.{is_tested, is_reg_tested, is_place, is_same, is_bit_compared};
 
 use bitflags::Flags;
 use rl_map::Layout;
-use rl_model::{Chip, Item, Rights, Skip};
+use rl_model::{Chip, Field, Item, Rights, Skip};
 use rl_policy::{Policy, mask, write_only};
 
 /// Whether the item is within the block, and no exclusion names it.
@@ -84,17 +86,30 @@ pub(crate) fn places_of(layout: &Layout, item: Item) -> u32 {
 }
 
 /// Whether the bit belongs to a field that checks compare.
-pub(crate) fn is_compared(chip: &Chip, reg: u32, bit: u32) -> bool
+pub(crate) fn is_bit_compared(chip: &Chip, reg: u32, bit: u32) -> bool
     requires { reg < length chip.now.regs }
+    ensures { result ≡ is_bit_compared chip.now reg bit }
 {
     let first = chip.first_field(reg);
-    for field in first..first + chip.field_count(reg) {
-        let shape = chip.field(field);
-        if shape.lsb <= bit && bit - shape.lsb < shape.width {
-            return shape.compare && !write_only(shape.policy);
+    for k in 0..chip.field_count(reg) {
+        if is_compared_in(&chip.field(first + k), bit) {
+            return true;
         }
     }
     false
+}
+
+// Whether the bit belongs to the field, and checks compare it.
+fn is_compared_in(field: &Field, bit: u32) -> bool
+    ensures { result ≡ (is_within field.now.lsb field.now.width bit && is_compared field.now) }
+{
+    covers(field, bit) && field.compare && !write_only(field.policy)
+}
+
+fn covers(field: &Field, bit: u32) -> bool
+    ensures { result ≡ is_within field.now.lsb field.now.width bit }
+{
+    field.lsb <= bit && bit - field.lsb < field.width
 }
 
 /// Whether the register has a field that isn't RO.
