@@ -1,7 +1,10 @@
 pub mod BufferLemmas
+pub mod EndingLemmas
 pub mod HexLemmas
 pub mod LayoutLemmas
 pub mod ListingLemmas
+pub mod OpeningLemmas
 pub mod ReadyLemmas
+pub mod SessionLemmas
 pub mod WordLemmas
 pub mod TextLemmas
