@@ -4,7 +4,7 @@ ghost use Rattle.rl_model.specs.Chip.{HasItem};
 ghost use Rattle.rl_map.specs.Layout.{place_at, has_right};
 ghost use Rattle.rl_mirror.specs.Compared.{is_compared};
 ghost use Rattle.rl_policy.specs.Bits.{is_within};
-ghost use Rattle.rl_seq.specs.Choice.{is_tested, is_reg_tested, is_place, is_same, is_bit_compared};
+ghost use Rattle.rl_seq.specs.Choice.{is_tested, is_reg_tested, is_place, is_same, is_bit_compared, places_of, has_writable_field, is_read_only, turned_round};
 
 use bitflags::Flags;
 use rl_map::Layout;
@@ -75,10 +75,12 @@ fn has_right(rights: Rights, write: bool) -> bool
 }
 
 /// How many places the item has.
-pub(crate) fn places_of(layout: &Layout, item: Item) -> u32 {
+pub(crate) fn places_of(layout: &Layout, item: Item) -> u32
+    ensures { result ≡ places_of layout.now item }
+{
     let mut count = 0;
     for place in 0..layout.places() {
-        if layout.item(place) == item {
+        if is_of(layout, place, item) {
             count += 1;
         }
     }
@@ -115,19 +117,27 @@ fn covers(field: &Field, bit: u32) -> bool
 /// Whether the register has a field that isn't RO.
 pub(crate) fn has_writable_field(chip: &Chip, reg: u32) -> bool
     requires { reg < length chip.now.regs }
+    ensures { result ≡ has_writable_field chip.now reg }
 {
     let first = chip.first_field(reg);
-    for field in first..first + chip.field_count(reg) {
-        if chip.field(field).policy != Policy::Ro {
+    for k in 0..chip.field_count(reg) {
+        if !is_read_only(chip.field(first + k).policy) {
             return true;
         }
     }
     false
 }
 
+fn is_read_only(policy: Policy) -> bool
+    ensures { result ≡ is_read_only policy }
+{
+    matches!(policy, Policy::Ro)
+}
+
 /// The value with all bits of the item's bytes turned round.
 pub(crate) fn inverted(chip: &Chip, item: Item, value: u64) -> u64
     requires { HasItem chip.now item }
+    ensures { result ≡ turned_round chip.now item value }
 {
     !value & mask(8 * chip.bytes(item))
 }

@@ -112,6 +112,7 @@ pub(crate) fn back_check<D: Device, R: Recorder>(
     requires reg { reg < length m.old.chip.regs }
     ensures device { IsDeviceOf m.new (D.state d.new) }
     ensures parts { IsSameChip m.old m.new }
+    ensures walks { (adapters : List Standing) → Walks R.takes R.breaks rec.old rec.new (scene m.old adapters (D.errors d.old) (D.state d.old)) (scene m.new adapters (D.errors d.new) (D.state d.new)) tally.old tally.new (step (op.BackCheck reg) stop) result }
     ensures cause { HasCause (R.faults rec.old) (R.faults rec.new) result }
     ensures steady { R.steady rec.new ≡ R.steady rec.old }
 {
@@ -132,6 +133,7 @@ pub(crate) fn back_write_value<D: Device, R: Recorder>(
     requires reg { reg < length m.old.chip.regs }
     ensures device { IsDeviceOf m.new (D.state d.new) }
     ensures parts { IsSameChip m.old m.new }
+    ensures walks { (adapters : List Standing) → Walks R.takes R.breaks rec.old rec.new (scene m.old adapters (D.errors d.old) (D.state d.old)) (scene m.new adapters (D.errors d.new) (D.state d.new)) tally.old tally.new (step (op.BackWrite reg value) stop) result }
     ensures cause { HasCause (R.faults rec.old) (R.faults rec.new) result }
     ensures steady { R.steady rec.new ≡ R.steady rec.old }
 {
@@ -156,6 +158,7 @@ pub(crate) fn mem_write_at<D: Device, R: Recorder>(
     requires map { at < length m.old.layout.maps }
     ensures ready { IsReady m.new (map standing a.new.items) (D.state d.new) }
     ensures parts { IsSameChip m.old m.new }
+    ensures walks { Walks R.takes R.breaks rec.old rec.new (scene m.old (map standing a.old.items) (D.errors d.old) (D.state d.old)) (scene m.new (map standing a.new.items) (D.errors d.new) (D.state d.new)) tally.old tally.new (step (op.MemWrite mem (Some at) index value) stop) result }
     ensures cause { HasCause (R.faults rec.old) (R.faults rec.new) result }
     ensures steady { R.steady rec.new ≡ R.steady rec.old }
 {
@@ -180,6 +183,7 @@ pub(crate) fn mem_check_at<D: Device, R: Recorder>(
     requires map { at < length m.old.layout.maps }
     ensures ready { IsReady m.new (map standing a.new.items) (D.state d.new) }
     ensures parts { IsSameChip m.old m.new }
+    ensures walks { Walks R.takes R.breaks rec.old rec.new (scene m.old (map standing a.old.items) (D.errors d.old) (D.state d.old)) (scene m.new (map standing a.new.items) (D.errors d.new) (D.state d.new)) tally.old tally.new (step (op.MemCheck mem (Some at) index value) stop) result }
     ensures cause { HasCause (R.faults rec.old) (R.faults rec.new) result }
     ensures steady { R.steady rec.new ≡ R.steady rec.old }
 {
