@@ -1,4 +1,4 @@
-use Rattle.std.proofs.Common.{◌≡◌, ◌==◌, not, true, false, sym, ap, subst}
+use Rattle.std.proofs.Common.{◌==◌, not, sym, ap}
 use Rattle.std.proofs.lemmas.Bool.{eq-eqb, ne_eqb}
 use Rattle.rl_seq.specs.Plan.{only_if}
 use Rattle.rl_seq.specs.Steps.{check_at_place}

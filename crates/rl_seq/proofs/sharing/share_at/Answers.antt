@@ -1,4 +1,4 @@
-use Rattle.std.proofs.Common.{◌≡◌, ℕ, Some, length, ap, ◌∙◌}
+use Rattle.std.proofs.Common.{◌≡◌, Some, length, ap, ◌∙◌}
 use Rattle.rl_map.specs.Layout.{LayoutData}
 use Rattle.rl_model.specs.Rows.{ChipData}
 use Rattle.rl_model.specs.declared.rows.Item.TheVariants.{Reg}

@@ -1,4 +1,4 @@
-use Rattle.std.proofs.Common.{◌≡◌, sym, ap, arith}
+use Rattle.std.proofs.Common.{◌≡◌, ap, arith}
 use Rattle.rl_seq.specs.Tests.{turn_before}
 use Rattle.rl_seq.proofs.Planned.{walks_none, walks_same}
 use Rattle.rl_seq.proofs.Walked.{before_is}

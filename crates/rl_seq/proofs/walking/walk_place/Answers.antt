@@ -1,4 +1,4 @@
-use Rattle.std.proofs.Common.{◌≡◌, true, false, sym, ◌∙◌, subst}
+use Rattle.std.proofs.Common.{◌≡◌, true, sym, ◌∙◌, subst}
 use Rattle.rl_map.specs.Layout.{LayoutData}
 use Rattle.rl_model.specs.declared.rows.Item.TheVariants.{Mem}
 use Rattle.rl_seq.specs.Choice.{is_place}
