@@ -24,6 +24,3 @@ pub use playing::play;
 pub use soak::soak_session;
 pub use status::Status;
 pub use top::regrun;
-
-#[cfg(test)]
-mod tests;

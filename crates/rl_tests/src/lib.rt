@@ -1,0 +1,16 @@
+//! An adapter and a sink that no other crate has, and tests of the public calls over them.
+//!
+//! What a command can show stands in `rows/`; here is what it can't: sources and sinks that fail, and parts that a
+//! caller brings.
+#![tactic(auto)]
+
+mod adapter;
+mod sink;
+
+pub use adapter::ThirdAdapter;
+pub use sink::Unending;
+
+#[cfg(test)]
+mod parts;
+#[cfg(test)]
+mod sessions;
