@@ -1,9 +1,8 @@
 -- What a buffered sink tells.
-use Rattle.std.proofs.Common.{◌≡◌, ℕ, ◌+◌, ◌≤◌, List, [], ◌++◌, Some, None, length, take, drop, slice_range, refl, sym, ap, ◌∙◌, subst, append_assoc, append-nil, arith}
+use Rattle.std.proofs.Common.{ℕ, List, ◌++◌, Some, None, take, drop, refl, sym, ap, ◌∙◌, append_assoc}
 use Rattle.std.proofs.lemmas.List.{take-append-drop}
 use Rattle.std.specs.declared.option.Option.{Option}
 use Rattle.std.specs.Io.KnownBytes.{Appends, Keeps, append_known}
-use Rattle.rl_report.proofs.RangeLemmas.{range_less, spliced}
 
 -- bytes that were kept back were written
 pub told_after : (a b : Option (List ℕ)) (kept : List ℕ) (n : ℕ) → Appends a b (take n kept) → Keeps (append_known a kept) (append_known b (drop n kept))

@@ -1,7 +1,11 @@
 pub mod BufferLemmas
+pub mod EndingLemmas
 pub mod HexLemmas
 pub mod LayoutLemmas
 pub mod ListingLemmas
+pub mod NamedLemmas
+pub mod OpeningLemmas
 pub mod ReadyLemmas
+pub mod SessionLemmas
 pub mod WordLemmas
 pub mod TextLemmas

@@ -1,7 +1,7 @@
 -- What stays true of a model, its device and its adapters.
-use Rattle.std.proofs.Common.{◌≡◌, ℕ, List, [], ◌∷◌, Option, Some, None, IfSome, option_map, slice_get, ◌<◌, length, refl, sym, ap, ◌∙◌, subst}
+use Rattle.std.proofs.Common.{◌≡◌, ℕ, List, [], ◌∷◌, Option, Some, None, IfSome, option_map, slice_get, ◌<◌, length, refl, sym, ap, ◌∙◌}
 use Rattle.std.proofs.lemmas.Option.{slice_get_within}
-use Rattle.rl_bus.specs.Standing.{Standing, kinds_of}
+use Rattle.rl_bus.specs.Standing.{Standing}
 use Rattle.rl_bus.specs.Setup.{Setup}
 use Rattle.rl_bus.specs.State.{State, first_state, reset_by}
 use Rattle.rl_model.specs.Rows.{ChipData}
@@ -9,7 +9,7 @@ use Rattle.rl_map.specs.Layout.{LayoutData}
 use Rattle.rl_bench.specs.declared.flaw.Flaw.{Flaw}
 use Rattle.rl_bench.specs.Flaws.{flaws_of, first_of, locations_of}
 use Rattle.rl_map.specs.Tables.{setup_of}
-use Rattle.rl_access.specs.Model.{ModelData, IsReady, IsDeviceOf, IsSetupOf, IsSameChip}
+use Rattle.rl_access.specs.Model.{ModelData, IsReady, IsDeviceOf, IsSameChip}
 
 pub device_same : (m n : ModelData) (state : Option State) → IsDeviceOf m state → IsSameChip m n → IsDeviceOf n state
 device_same m n state h e =

@@ -1,5 +1,5 @@
 -- Words that ask for nothing.
-use Rattle.std.proofs.Common.{◌≡◌, ℕ, ◌≤◌, List, [], ◌∷◌, None, length, map, String, string_bytes, refl, arith}
+use Rattle.std.proofs.Common.{◌≡◌, ◌≤◌, List, [], ◌∷◌, None, length, map, String, string_bytes, refl, arith}
 use Rattle.std.specs.declared.alloc.Global.{Global}
 use Rattle.regrun.specs.Words.{task_of}
 

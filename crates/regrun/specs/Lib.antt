@@ -1,11 +1,15 @@
 pub mod Causes
+pub mod Endings
 pub mod LayoutPieces
+pub mod Named
 pub mod Opened
 pub mod Operations
 pub mod Refusals
 pub mod Said
+pub mod Session
 pub mod Soak
 pub mod Statuses
+pub mod Telling
 pub mod Texts
 pub mod Told
 pub mod Words

@@ -1,7 +1,7 @@
 // A sink that keeps bytes back, until it is told to write them or has no more room.
-ghost use Rattle.std.specs.Prelude.{◌≡◌, ◌<◌, ◌≤◌, ◌-◌, ◌+◌, ◌++◌, IfOk, OnOk, slice_range, length, take, drop, min};
+ghost use Rattle.std.specs.Prelude.{◌≡◌, ◌<◌, ◌≤◌, ◌-◌, ◌+◌, ◌++◌, IfOk, OnOk, OnErr, slice_range, length, take, drop, min};
 ghost use Rattle.std.specs.Io.KnownBytes.{WriteAppends, Keeps, append_known};
-ghost use Rattle.rl_bus.specs.Causes.{HasCause};
+ghost use Rattle.rl_bus.specs.Causes.{HasCause, Rose};
 
 use rl_report::{Failed, Sink};
 
@@ -59,13 +59,14 @@ fn copy_behind(bytes: &mut [u8], end: usize, piece: &[u8]) -> usize
 }
 
 impl<'a, K: Sink> Buffered<'a, K> {
-    ghost use Rattle.regrun.specs.Told.{kept_back};
+    ghost use Rattle.regrun.specs.Told.{kept_back, told};
 
     // A sink before this one, with nothing kept back.
     pub(crate) fn new(sink: &'a mut K) -> Buffered<'a, K>
         ensures sink { result.sink.now ≡ sink.old }
         ensures same_sink { result.sink.ghost_name ≡ sink.entry.ghost_name }
         ensures empty { result.end ≡ 0 }
+        ensures told { told K.written result ≡ K.written sink.old }
     {
         Buffered {
             sink,
@@ -103,6 +104,19 @@ impl<'a, K: Sink> Buffered<'a, K> {
         self.start = 0;
         self.end = 0;
         Ok(())
+    }
+
+    // Writes what was kept back, and ends the sink.
+    pub(crate) fn close(&mut self) -> Result<(), Failed>
+        ensures told { Keeps (told K.written self.old) (told K.written self.new) }
+        ensures whole { OnOk result (Keeps (told K.written self.old) (K.written self.new.sink.now)) }
+        ensures cause { HasCause (K.faults self.old.sink.now) (K.faults self.new.sink.now) result }
+        ensures ended { OnOk result (Rose (K.ends self.old.sink.now) (K.ends self.new.sink.now)) }
+        ensures ends_kept { OnErr result (K.ends self.new.sink.now ≡ K.ends self.old.sink.now) }
+        ensures same_sink { self.new.sink.ghost_name ≡ self.old.sink.ghost_name }
+    {
+        self.flush()?;
+        self.sink.finish()
     }
 
     // Writes what was kept back, where there is no room behind it.
@@ -154,7 +168,6 @@ impl<K: Sink> Sink for Buffered<'_, K> {
     }
 
     fn finish(&mut self) -> Result<(), Failed> {
-        self.flush()?;
-        self.sink.finish()
+        self.close()
     }
 }

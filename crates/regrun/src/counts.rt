@@ -13,6 +13,9 @@ pub struct Counts {
 }
 
 impl Counts {
+    ghost use Rattle.std.specs.Prelude.{◌≡◌};
+    ghost use Rattle.regrun.specs.Endings.{added};
+
     pub(crate) fn new() -> Counts {
         Counts {
             events: 0,
@@ -32,7 +35,9 @@ impl Counts {
     }
 
     // Counts these too.
-    pub(crate) fn add(&mut self, other: &Counts) {
+    pub(crate) fn add(&mut self, other: &Counts)
+        ensures { self.new ≡ added self.old other.now }
+    {
         self.events = self.events.saturating_add(other.events);
         self.differences = self.differences.saturating_add(other.differences);
         self.errors = self.errors.saturating_add(other.errors);

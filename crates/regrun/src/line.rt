@@ -7,7 +7,7 @@ ghost use Rattle.rl_access.specs.Operation.{IsMapIn};
 use crate::Counts;
 use crate::perform::perform;
 use crate::recorder::Writing;
-use crate::resolve::{block_at, map_asked, mem_at, op_of};
+use crate::resolve::{block_asked, map_asked, mem_at, op_of};
 use crate::texts::{LineRefusal, put_sequence_begin, put_sequence_end};
 use rl_access::{Model, Tally, burst_read, burst_write};
 use rl_bus::{Adapter, Adapters, Device};
@@ -253,19 +253,6 @@ fn read_burst<D: Device, K: Sink>(
     };
     log_burst_read(m, d, a, mem, through, first, count, out, counts)?;
     Ok(None)
-}
-
-// The block that is asked for: none stands for the whole chip. None where it isn't there.
-fn block_asked(model: &Model, path: &Option<Path>) -> Option<Option<u32>>
-    ensures { IfSome result (λ block. IfSome block (λ b. b < model.now.chip.blocks)) }
-{
-    match path {
-        None => Some(None),
-        Some(path) => match block_at(model, path) {
-            Some(number) => Some(Some(number)),
-            None => None,
-        },
-    }
 }
 
 // Runs a line that is a sequence, with the lines around its events.

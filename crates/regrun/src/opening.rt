@@ -1,10 +1,12 @@
 // The parts of a session, from its description.
-ghost use Rattle.std.specs.Prelude.{◌≡◌, ◌<◌, ◌^◌, map, length, IfOk};
+ghost use Rattle.std.specs.Prelude.{◌≡◌, ◌≢◌, ◌<◌, ◌^◌, map, length, Ok, Err, IfOk, IfErr};
 ghost use Rattle.rl_bus.specs.Standing.{Standing, kinds_of};
 ghost use Rattle.rl_map.specs.Maps.{IsBuiltWith};
 ghost use Rattle.rl_access.specs.Model.{IsReady};
 ghost use Rattle.rl_bench.specs.Flaws.{AreFlawsOf};
 ghost use Rattle.regrun.specs.Opened.{IsOpened};
+ghost use Rattle.regrun.specs.Refusals.{description_refused_text};
+ghost use Rattle.regrun.specs.Session.{opening_after};
 
 use rl_access::Model;
 use rl_bench::Bench;
@@ -33,6 +35,8 @@ fn kinds_of(alloc: Global, adapters: &Adapters) -> Result<Vec<AdapterKind>, Allo
 pub(crate) fn described(alloc: Global, head: &[u8], adapters: &Adapters) -> Result<Desc, DescFault>
     requires few { length (map standing adapters.now.items) < 2 ^ 32 }
     ensures kinds { IfOk result (λ desc. desc.layout.kinds ≡ kinds_of (map standing adapters.now.items)) }
+    ensures read { IfOk result (λ desc. opening_after (Ok head.now) (kinds_of (map standing adapters.now.items)) ≡ Ok desc) }
+    ensures refused { IfErr result (λ fault. fault ≢ DescFault.Memory → opening_after (Ok head.now) (kinds_of (map standing adapters.now.items)) ≡ Err (description_refused_text fault)) }
     ensures built_with { IfOk result (λ desc. IsBuiltWith desc.layout desc.chip) }
     ensures flaws { IfOk result (λ desc. AreFlawsOf desc.chip desc.layout desc.flaws) }
 {

@@ -3,7 +3,9 @@ ghost use Rattle.std.specs.Prelude.{◌≡◌, ◌≢◌, ◌≤◌, map, true, 
 ghost use Rattle.rl_bus.specs.Causes.{Rose};
 ghost use Rattle.rl_access.specs.Model.{IsReady, IsSameChip};
 ghost use Rattle.regrun.specs.Causes.{IsCaused};
+ghost use Rattle.regrun.specs.Endings.{end_status, IsCounted, PlayEnds};
 ghost use Rattle.regrun.specs.Said.{IsToRun};
+ghost use Rattle.regrun.specs.Statuses.{is_complete};
 
 use crate::buffered::Buffered;
 use crate::line::run_line;
@@ -41,6 +43,7 @@ fn take_line<S: Source, K: Sink>(
     requires going { lines.old.refused ≡ false }
     ensures found { lines.new.found ≡ true }
     ensures going { IfOk result (λ got. got ≢ Got.TooLong → lines.new.refused ≡ false) }
+    ensures broken { IfErr result (λ status. is_complete status ≡ false) }
     ensures source_later { S.faults source.old ≤ S.faults source.new }
     ensures sink_later { K.faults out.old.sink.now ≤ K.faults out.new.sink.now }
     ensures cause { IfErr result (λ status. IsCaused status (S.faults source.old) (S.faults source.new) (K.faults out.old.sink.now) (K.faults out.new.sink.now)) }
@@ -75,8 +78,7 @@ fn what_is_said(alloc: Global, number: u64, got: Got, line: &[u8]) -> Option<Sai
 
 // The status at the end of a script.
 fn status_at_end(counts: &Counts) -> Status
-    ensures passed { result ≢ Status.Found → result ≡ Status.Passed }
-    ensures found { result ≢ Status.Passed → result ≡ Status.Found }
+    ensures { result ≡ end_status counts.now }
 {
     if counts.differences == 0 && counts.errors == 0 {
         Status::Passed
@@ -87,6 +89,7 @@ fn status_at_end(counts: &Counts) -> Status
 
 // Ends a script whose lines were all run.
 fn end<K: Sink>(counts: &Counts, out: &mut Buffered<'_, K>) -> Status
+    ensures counted { IsCounted result counts.now }
     ensures sink_later { K.faults out.old.sink.now ≤ K.faults out.new.sink.now }
     ensures cause { IsCaused result 0 0 (K.faults out.old.sink.now) (K.faults out.new.sink.now) }
     ensures ends_kept { K.ends out.new.sink.now ≡ K.ends out.old.sink.now }
@@ -100,6 +103,7 @@ fn end<K: Sink>(counts: &Counts, out: &mut Buffered<'_, K>) -> Status
 
 // Ends a script at a line that is refused.
 fn refuse<K: Sink>(number: u64, refusal: LineRefusal, out: &mut Buffered<'_, K>) -> Status
+    ensures counted { (counts : Counts) → IsCounted result counts }
     ensures sink_later { K.faults out.old.sink.now ≤ K.faults out.new.sink.now }
     ensures cause { IsCaused result 0 0 (K.faults out.old.sink.now) (K.faults out.new.sink.now) }
     ensures ends_kept { K.ends out.new.sink.now ≡ K.ends out.old.sink.now }
@@ -125,6 +129,7 @@ fn run_said<D: Device, K: Sink>(
     ensures ready { IsReady model.new (map standing adapters.new.items) (D.state device.new) }
     ensures parts { IsSameChip model.old model.new }
     ensures next { result ≡ Turn.Next → IsToRun said.now }
+    ensures counted { (status : Status) (total : Counts) → result ≡ Turn.Stop status → IsCounted status total }
     ensures sink_later { K.faults out.old.sink.now ≤ K.faults out.new.sink.now }
     ensures cause { (status : Status) → result ≡ Turn.Stop status → IsCaused status 0 0 (K.faults out.old.sink.now) (K.faults out.new.sink.now) }
     ensures ends_kept { K.ends out.new.sink.now ≡ K.ends out.old.sink.now }
@@ -163,6 +168,7 @@ fn play_line<S: Source, D: Device, K: Sink>(
     ensures found { lines.new.found ≡ true }
     ensures going { result ≡ Turn.Next → lines.new.refused ≡ false }
     ensures last { result ≡ Turn.Next → number ≤ 1000000 }
+    ensures counted { (status : Status) → result ≡ Turn.Stop status → IsCounted status counts.new }
     ensures source_later { S.faults source.old ≤ S.faults source.new }
     ensures sink_later { K.faults out.old.sink.now ≤ K.faults out.new.sink.now }
     ensures cause { (status : Status) → result ≡ Turn.Stop status → IsCaused status (S.faults source.old) (S.faults source.new) (K.faults out.old.sink.now) (K.faults out.new.sink.now) }
@@ -200,6 +206,7 @@ pub(crate) fn play_lines<S: Source, D: Device, K: Sink>(
     requires going { lines.old.refused ≡ false }
     ensures ready { IsReady model.new (map standing adapters.new.items) (D.state device.new) }
     ensures parts { IsSameChip model.old model.new }
+    ensures counted { IsCounted result counts.new }
     ensures source_later { S.faults source.old ≤ S.faults source.new }
     ensures sink_later { K.faults out.old.sink.now ≤ K.faults out.new.sink.now }
     ensures cause { IsCaused result (S.faults source.old) (S.faults source.new) (K.faults out.old.sink.now) (K.faults out.new.sink.now) }
@@ -254,6 +261,9 @@ pub fn play<S: Source, K: Sink, D: Device>(
     requires going { lines.old.refused ≡ false }
     ensures ready { IsReady model.new (map standing adapters.new.items) (D.state device.new) }
     ensures parts { IsSameChip model.old model.new }
+
+    // The status goes by what happened in this call, and the counts rise by it.
+    ensures ends { PlayEnds result counts.old counts.new }
 
     // No fault is made up.
     ensures source_later { S.faults source.old ≤ S.faults source.new }

@@ -1,14 +1,16 @@
 // The names in a line, as numbers of the model.
-ghost use Rattle.std.specs.Prelude.{◌≡◌, ◌<◌, true, length, IfSome};
+ghost use Rattle.std.specs.Prelude.{◌≡◌, ◌<◌, true, false, length, IfSome};
 ghost use Rattle.rl_access.specs.Operation.{IsMapIn, HasNumbers};
 ghost use Rattle.regrun.specs.Operations.{is_single};
+ghost use Rattle.regrun.specs.Named.{map_asked, reg_named, field_named, mem_named, block_named, block_asked, kind_named, op_named, is_on_memory, is_on_field, is_off_bus};
 
 use rl_access::{Model, Op};
 use rl_script::{Ident, Line, Path};
 
 // The map that is asked for, if one is. None where it isn't there.
 pub(crate) fn map_asked(model: &Model, name: &Option<Ident>) -> Option<Option<u32>>
-    ensures { IfSome result (IsMapIn (length model.now.layout.maps)) }
+    ensures named { result ≡ map_asked model.now.layout name.now }
+    ensures in_range { IfSome result (IsMapIn (length model.now.layout.maps)) }
 {
     match name {
         None => Some(None),
@@ -20,37 +22,43 @@ pub(crate) fn map_asked(model: &Model, name: &Option<Ident>) -> Option<Option<u3
 }
 
 fn reg_at(model: &Model, path: &Path) -> Option<u32>
-    ensures { IfSome result (λ n. n < length model.now.chip.regs) }
+    ensures named { result ≡ reg_named model.now.chip path.now }
+    ensures in_range { IfSome result (λ n. n < length model.now.chip.regs) }
 {
     model.chip().reg_by_path(path.text())
 }
 
 fn field_at(model: &Model, path: &Path) -> Option<u32>
-    ensures { IfSome result (λ n. n < length model.now.chip.fields) }
+    ensures named { result ≡ field_named model.now.chip path.now }
+    ensures in_range { IfSome result (λ n. n < length model.now.chip.fields) }
 {
     model.chip().field_by_path(path.text())
 }
 
 pub(crate) fn mem_at(model: &Model, path: &Path) -> Option<u32>
-    ensures { IfSome result (λ n. n < length model.now.chip.mems) }
+    ensures named { result ≡ mem_named model.now.chip path.now }
+    ensures in_range { IfSome result (λ n. n < length model.now.chip.mems) }
 {
     model.chip().mem_by_path(path.text())
 }
 
-pub(crate) fn block_at(model: &Model, path: &Path) -> Option<u32>
-    ensures { IfSome result (λ n. n < model.now.chip.blocks) }
+fn block_at(model: &Model, path: &Path) -> Option<u32>
+    ensures named { result ≡ block_named model.now.chip path.now }
+    ensures in_range { IfSome result (λ n. n < model.now.chip.blocks) }
 {
     model.chip().block_by_path(path.text())
 }
 
 fn kind_named(model: &Model, name: &Ident) -> Option<u32>
-    ensures { IfSome result (λ n. n < length model.now.chip.kinds) }
+    ensures named { result ≡ kind_named model.now.chip name.now }
+    ensures in_range { IfSome result (λ n. n < length model.now.chip.kinds) }
 {
     model.chip().kind_by_name(name.text())
 }
 
 // The operation of a line on a register over the bus, if the names are there.
 fn bus_op(model: &Model, line: &Line) -> Option<Op>
+    ensures named { is_on_memory line.now ≡ false → is_on_field line.now ≡ false → is_off_bus line.now ≡ false → result ≡ op_named model.now line.now }
     ensures numbers { IfSome result (HasNumbers model.now.chip (length model.now.layout.maps)) }
     ensures single { IfSome result (λ op. is_single op ≡ true) }
 {
@@ -88,6 +96,7 @@ fn bus_op(model: &Model, line: &Line) -> Option<Op>
 
 // The operation of a line on a register by the backdoor or on the model alone, or a reset.
 fn back_op(model: &Model, line: &Line) -> Option<Op>
+    ensures named { is_on_memory line.now ≡ false → is_on_field line.now ≡ false → result ≡ op_named model.now line.now }
     ensures numbers { IfSome result (HasNumbers model.now.chip (length model.now.layout.maps)) }
     ensures single { IfSome result (λ op. is_single op ≡ true) }
 {
@@ -121,6 +130,7 @@ fn back_op(model: &Model, line: &Line) -> Option<Op>
 
 // The operation of a line on a field.
 fn field_op(model: &Model, line: &Line) -> Option<Op>
+    ensures named { is_on_memory line.now ≡ false → result ≡ op_named model.now line.now }
     ensures numbers { IfSome result (HasNumbers model.now.chip (length model.now.layout.maps)) }
     ensures single { IfSome result (λ op. is_single op ≡ true) }
 {
@@ -159,6 +169,7 @@ fn field_op(model: &Model, line: &Line) -> Option<Op>
 
 // The operation of a line, if its names are there.
 pub(crate) fn op_of(model: &Model, line: &Line) -> Option<Op>
+    ensures named { result ≡ op_named model.now line.now }
     ensures numbers { IfSome result (HasNumbers model.now.chip (length model.now.layout.maps)) }
     ensures single { IfSome result (λ op. is_single op ≡ true) }
 {
@@ -215,5 +226,19 @@ pub(crate) fn op_of(model: &Model, line: &Line) -> Option<Op>
             })
         }
         _ => field_op(model, line),
+    }
+}
+
+// The block that a sequence goes over: none stands for the whole chip. None where it isn't there.
+pub(crate) fn block_asked(model: &Model, path: &Option<Path>) -> Option<Option<u32>>
+    ensures named { result ≡ block_asked model.now.chip path.now }
+    ensures in_range { IfSome result (λ block. IfSome block (λ b. b < model.now.chip.blocks)) }
+{
+    match path {
+        None => Some(None),
+        Some(path) => match block_at(model, path) {
+            Some(number) => Some(Some(number)),
+            None => None,
+        },
     }
 }

@@ -6,12 +6,18 @@ ghost use Rattle.rl_bench.specs.Flaws.{AreFlawsOf};
 ghost use Rattle.rl_bench.specs.State.{bench_state};
 ghost use Rattle.rl_bus.specs.Standing.{kinds_of};
 ghost use Rattle.regrun.specs.Causes.{IsCaused};
+ghost use Rattle.regrun.specs.Endings.{IsCounted};
+ghost use Rattle.regrun.specs.Session.{opening_of};
+ghost use Rattle.regrun.specs.Soak.{soak_text, soak_line_text};
+ghost use Rattle.regrun.specs.Statuses.{is_complete};
+ghost use Rattle.regrun.specs.Telling.{Tells, IsSoakTold, SoakTells};
+ghost use Rattle.regrun.specs.Told.{told};
 
 use crate::buffered::Buffered;
 use crate::opening::open;
 use crate::playing::play_lines;
 use crate::soak::{mirror_sum, put_soak_line, soak_session};
-use crate::top::open_session;
+use crate::top::{fresh_lines, open_session};
 use crate::{Counts, Status};
 use rl_access::Model;
 use rl_bench::Bench;
@@ -89,6 +95,7 @@ fn run_quietly(
     requires going { lines.old.refused ≡ false }
     ensures ready { IsReady model.new (map standing adapters.new.items) (Some (bench_state bench.new)) }
     ensures parts { IsSameChip model.old model.new }
+    ensures counted { IsCounted result counts.new }
     ensures cause { IsCaused result 0 0 0 0 }
 {
     let mut quiet = Quiet {};
@@ -98,21 +105,24 @@ fn run_quietly(
     )
 }
 
-// Writes the line of a soak.
+// Writes the line of a soak that came to its end.
 fn put_line<K: Sink>(
+    status: Status,
     out: &mut Buffered<'_, K>,
     n: u64,
     counts: &Counts,
     sum: u64,
-) -> Result<(), Status>
+) -> Status
+    requires { is_complete status ≡ true }
+    ensures tells { Tells result status (told K.written out.old) (told K.written out.new) (soak_line_text n counts.now sum) }
     ensures sink_later { K.faults out.old.sink.now ≤ K.faults out.new.sink.now }
-    ensures cause { IfErr result (λ status. IsCaused status 0 0 (K.faults out.old.sink.now) (K.faults out.new.sink.now)) }
+    ensures cause { IsCaused result 0 0 (K.faults out.old.sink.now) (K.faults out.new.sink.now) }
     ensures ends_kept { K.ends out.new.sink.now ≡ K.ends out.old.sink.now }
     ensures same_sink { out.new.sink.ghost_name ≡ out.old.sink.ghost_name }
 {
     match put_soak_line(out, n, counts, sum) {
-        Ok(()) => Ok(()),
-        Err(Failed) => Err(Status::SinkFault),
+        Ok(()) => status,
+        Err(Failed) => Status::SinkFault,
     }
 }
 
@@ -132,6 +142,7 @@ fn soak_desc<K: Sink>(
     requires found { lines.old.found ≡ true }
     requires going { lines.old.refused ≡ false }
     ensures kinds { kinds_of (map standing adapters.new.items) ≡ kinds_of (map standing adapters.old.items) }
+    ensures tells { IsSoakTold n result (told K.written out.old) (told K.written out.new) }
     ensures sink_later { K.faults out.old.sink.now ≤ K.faults out.new.sink.now }
     ensures cause { IsCaused result 0 0 (K.faults out.old.sink.now) (K.faults out.new.sink.now) }
     ensures ends_kept { K.ends out.new.sink.now ≡ K.ends out.old.sink.now }
@@ -154,10 +165,7 @@ fn soak_desc<K: Sink>(
         return status;
     }
     let sum = mirror_sum(model.mirror(), model.chip().regs());
-    if let Err(fault) = put_line(out, n, &counts, sum) {
-        return fault;
-    }
-    status
+    put_line(status, out, n, &counts, sum)
 }
 
 // Makes the session of a number, runs it and writes one line.
@@ -169,6 +177,7 @@ pub(crate) fn put_soak<K: Sink>(
 ) -> Status
     requires few { length (map standing adapters.old.items) < 2 ^ 32 }
     ensures kinds { kinds_of (map standing adapters.new.items) ≡ kinds_of (map standing adapters.old.items) }
+    ensures tells { SoakTells n (opening_of (soak_text n) (kinds_of (map standing adapters.old.items))) result (told K.written out.old) (told K.written out.new) }
     ensures sink_later { K.faults out.old.sink.now ≤ K.faults out.new.sink.now }
     ensures cause { IsCaused result 0 0 (K.faults out.old.sink.now) (K.faults out.new.sink.now) }
     ensures ends_kept { K.ends out.new.sink.now ≡ K.ends out.old.sink.now }
@@ -177,7 +186,7 @@ pub(crate) fn put_soak<K: Sink>(
     let Ok(bytes) = soak_session(alloc, n) else {
         return Status::Memory;
     };
-    let Ok(mut lines) = LineReader::build(alloc) else {
+    let Ok(mut lines) = fresh_lines(alloc) else {
         return Status::Memory;
     };
     let mut source = Text { bytes, at: 0 };

@@ -1,11 +1,22 @@
 // All that the program does.
-ghost use Rattle.std.specs.Prelude.{◌≡◌, ◌≢◌, ◌≤◌, ◌<◌, ◌^◌, ◌↔◌, [], None, map, length, true, false, string_bytes, OnOk, IfOk, IfErr};
+ghost use Rattle.std.specs.Prelude.{◌≡◌, ◌≢◌, ℕ, ◌≤◌, ◌<◌, ◌^◌, ◌↔◌, List, [], None, Some, Ok, map, length, true, false, string_bytes, OnOk, IfOk, IfErr, IfSome};
+ghost use Rattle.std.specs.Io.KnownBytes.{Keeps};
+ghost use Rattle.std.specs.declared.option.Option.{Option};
 ghost use Rattle.rl_bus.specs.Causes.{Rose};
 ghost use Rattle.rl_bus.specs.Standing.{kinds_of};
 ghost use Rattle.regrun.specs.Causes.{IsCaused};
+ghost use Rattle.regrun.specs.Endings.{Writes, MapEnds, SoakEnds};
+ghost use Rattle.regrun.specs.Refusals.{description_refused_text};
+ghost use Rattle.regrun.specs.Session.{head_of, opening_after, opening_of};
+ghost use Rattle.regrun.specs.Soak.{soak_text};
 ghost use Rattle.regrun.specs.Statuses.{is_complete};
+ghost use Rattle.regrun.specs.Telling.{Tells, Stops, MapTells, SoakTells};
+ghost use Rattle.regrun.specs.Told.{told};
 ghost use Rattle.regrun.specs.Words.{task_built};
+ghost use Rattle.rl_bus.specs.declared.op.AdapterKind.{AdapterKind};
+ghost use Rattle.rl_map.specs.LayoutText.{layout_text};
 ghost use Rattle.rl_map.specs.Maps.{IsBuiltWith};
+ghost use Rattle.rl_report.specs.Reading.{input_of};
 ghost use Rattle.rl_bench.specs.Flaws.{AreFlawsOf};
 
 use crate::buffered::Buffered;
@@ -19,10 +30,20 @@ use crate::{Counts, Status};
 use rl_bus::{Adapter, Adapters};
 use rl_desc::{Desc, DescFault};
 use rl_report::{Failed, Head, HeadFault, LineReader, Sink, Source, put_all};
-use std::alloc::Global;
+use std::alloc::{AllocError, Global};
+
+// A reader that has taken nothing yet.
+pub(crate) fn fresh_lines(alloc: Global) -> Result<LineReader, AllocError>
+    ensures input { IfOk result (λ lines. (left : Option (List ℕ)) → input_of lines left ≡ left) }
+    ensures first { IfOk result (λ lines. lines.asked ≡ false) }
+    ensures going { IfOk result (λ lines. lines.refused ≡ false) }
+{
+    LineReader::build(alloc)
+}
 
 // Ends a session that is refused, with this last line.
 fn refuse<K: Sink>(line: &[u8], out: &mut Buffered<'_, K>) -> Status
+    ensures tells { Tells result Status.Refused (told K.written out.old) (told K.written out.new) line.now }
     ensures sink_later { K.faults out.old.sink.now ≤ K.faults out.new.sink.now }
     ensures cause { IsCaused result 0 0 (K.faults out.old.sink.now) (K.faults out.new.sink.now) }
     ensures ends_kept { K.ends out.new.sink.now ≡ K.ends out.old.sink.now }
@@ -45,18 +66,40 @@ fn read_head<S: Source, K: Sink>(
     requires first { lines.old.asked ≡ false }
     requires going { lines.old.refused ≡ false }
     ensures found { OnOk result ((lines.new.found ≡ true) × (lines.new.refused ≡ false)) }
+    ensures head { OnOk result (IfSome (input_of lines.old (S.left source.old)) (λ bytes. head_of bytes ≡ Ok head.new.items)) }
+    ensures told { OnOk result (Keeps (told K.written out.old) (told K.written out.new)) }
+    ensures stops { IfErr result (λ status. IfSome (input_of lines.old (S.left source.old))
+        (λ bytes. (kinds : List AdapterKind) → Stops (opening_of bytes kinds) status (told K.written out.old) (told K.written out.new))) }
     ensures source_later { S.faults source.old ≤ S.faults source.new }
     ensures sink_later { K.faults out.old.sink.now ≤ K.faults out.new.sink.now }
     ensures cause { IfErr result (λ status. IsCaused status (S.faults source.old) (S.faults source.new) (K.faults out.old.sink.now) (K.faults out.new.sink.now)) }
     ensures ends_kept { K.ends out.new.sink.now ≡ K.ends out.old.sink.now }
     ensures same_sink { out.new.sink.ghost_name ≡ out.old.sink.ghost_name }
 {
-    match lines.read_head(source, head) {
-        Ok(Head::Found) => Ok(()),
-        Ok(Head::Missing) => Err(refuse(b"refused session: no separator\n", out)),
-        Ok(Head::TooLong) => Err(refuse(b"refused session: description too long\n", out)),
-        Err(HeadFault::Source) => Err(Status::SourceFault),
-        Err(HeadFault::Memory) => Err(Status::Memory),
+    let answer = match lines.read_head(source, head) {
+        Ok(answer) => answer,
+        Err(HeadFault::Source) => return Err(Status::SourceFault),
+        Err(HeadFault::Memory) => return Err(Status::Memory),
+    };
+    match answer {
+        Head::Found => Ok(()),
+        Head::Missing => Err(refuse(b"refused session: no separator\n", out)),
+        Head::TooLong => Err(refuse(b"refused session: description too long\n", out)),
+    }
+}
+
+// Ends a session whose description is refused.
+fn refuse_description<K: Sink>(fault: &DescFault, out: &mut Buffered<'_, K>) -> Status
+    requires { fault.now ≢ DescFault.Memory }
+    ensures tells { Tells result Status.Refused (told K.written out.old) (told K.written out.new) (description_refused_text fault.now) }
+    ensures sink_later { K.faults out.old.sink.now ≤ K.faults out.new.sink.now }
+    ensures cause { IsCaused result 0 0 (K.faults out.old.sink.now) (K.faults out.new.sink.now) }
+    ensures ends_kept { K.ends out.new.sink.now ≡ K.ends out.old.sink.now }
+    ensures same_sink { out.new.sink.ghost_name ≡ out.old.sink.ghost_name }
+{
+    match put_description_refused(out, fault) {
+        Ok(()) => Status::Refused,
+        Err(Failed) => Status::SinkFault,
     }
 }
 
@@ -71,6 +114,9 @@ fn read_desc<K: Sink>(
     ensures kinds { IfOk result (λ desc. desc.layout.kinds ≡ kinds_of (map standing adapters.now.items)) }
     ensures built_with { IfOk result (λ desc. IsBuiltWith desc.layout desc.chip) }
     ensures flaws { IfOk result (λ desc. AreFlawsOf desc.chip desc.layout desc.flaws) }
+    ensures opening { IfOk result (λ desc. opening_after (Ok head.now) (kinds_of (map standing adapters.now.items)) ≡ Ok desc) }
+    ensures told { OnOk result (Keeps (told K.written out.old) (told K.written out.new)) }
+    ensures stops { IfErr result (λ status. Stops (opening_after (Ok head.now) (kinds_of (map standing adapters.now.items))) status (told K.written out.old) (told K.written out.new)) }
     ensures sink_later { K.faults out.old.sink.now ≤ K.faults out.new.sink.now }
     ensures cause { IfErr result (λ status. IsCaused status 0 0 (K.faults out.old.sink.now) (K.faults out.new.sink.now)) }
     ensures ends_kept { K.ends out.new.sink.now ≡ K.ends out.old.sink.now }
@@ -83,10 +129,7 @@ fn read_desc<K: Sink>(
     if fault == DescFault::Memory {
         return Err(Status::Memory);
     }
-    match put_description_refused(out, &fault) {
-        Ok(()) => Err(Status::Refused),
-        Err(Failed) => Err(Status::SinkFault),
-    }
+    Err(refuse_description(&fault, out))
 }
 
 // Reads a session up to its separator, and its description, or ends it.
@@ -104,6 +147,11 @@ pub(crate) fn open_session<S: Source, K: Sink>(
     ensures kinds { IfOk result (λ desc. desc.layout.kinds ≡ kinds_of (map standing adapters.now.items)) }
     ensures built_with { IfOk result (λ desc. IsBuiltWith desc.layout desc.chip) }
     ensures flaws { IfOk result (λ desc. AreFlawsOf desc.chip desc.layout desc.flaws) }
+    ensures opening { IfOk result (λ desc. IfSome (input_of lines.old (S.left source.old))
+        (λ bytes. opening_of bytes (kinds_of (map standing adapters.now.items)) ≡ Ok desc)) }
+    ensures told { OnOk result (Keeps (told K.written out.old) (told K.written out.new)) }
+    ensures stops { IfErr result (λ status. IfSome (input_of lines.old (S.left source.old))
+        (λ bytes. Stops (opening_of bytes (kinds_of (map standing adapters.now.items))) status (told K.written out.old) (told K.written out.new))) }
     ensures source_later { S.faults source.old ≤ S.faults source.new }
     ensures sink_later { K.faults out.old.sink.now ≤ K.faults out.new.sink.now }
     ensures cause { IfErr result (λ status. IsCaused status (S.faults source.old) (S.faults source.new) (K.faults out.old.sink.now) (K.faults out.new.sink.now)) }
@@ -161,18 +209,34 @@ fn run<S: Source, K: Sink>(
 ) -> Status
     requires few { length (map standing adapters.old.items) < 2 ^ 32 }
     ensures kinds { kinds_of (map standing adapters.new.items) ≡ kinds_of (map standing adapters.old.items) }
+    ensures ends { IfSome (S.left source.old) (λ bytes. IfErr (opening_of bytes (kinds_of (map standing adapters.old.items))) (λ line. Tells result Status.Refused (told K.written out.old) (told K.written out.new) line)) }
     ensures source_later { S.faults source.old ≤ S.faults source.new }
     ensures sink_later { K.faults out.old.sink.now ≤ K.faults out.new.sink.now }
     ensures cause { IsCaused result (S.faults source.old) (S.faults source.new) (K.faults out.old.sink.now) (K.faults out.new.sink.now) }
     ensures ends_kept { K.ends out.new.sink.now ≡ K.ends out.old.sink.now }
     ensures same_sink { out.new.sink.ghost_name ≡ out.old.sink.ghost_name }
 {
-    let Ok(mut lines) = LineReader::build(alloc) else {
+    let Ok(mut lines) = fresh_lines(alloc) else {
         return Status::Memory;
     };
     match open_session(alloc, &mut lines, source, out, adapters) {
         Ok(desc) => run_session(alloc, desc, &mut lines, source, out, adapters),
         Err(status) => status,
+    }
+}
+
+// Writes where the items of a description stand.
+fn put_description<K: Sink>(desc: &Desc, out: &mut Buffered<'_, K>) -> Status
+    requires { IsBuiltWith desc.now.layout desc.now.chip }
+    ensures tells { Tells result Status.Passed (told K.written out.old) (told K.written out.new) (layout_text desc.now.chip desc.now.layout) }
+    ensures sink_later { K.faults out.old.sink.now ≤ K.faults out.new.sink.now }
+    ensures cause { IsCaused result 0 0 (K.faults out.old.sink.now) (K.faults out.new.sink.now) }
+    ensures ends_kept { K.ends out.new.sink.now ≡ K.ends out.old.sink.now }
+    ensures same_sink { out.new.sink.ghost_name ≡ out.old.sink.ghost_name }
+{
+    match put_layout(out, &desc.chip, &desc.layout) {
+        Ok(()) => Status::Passed,
+        Err(Failed) => Status::SinkFault,
     }
 }
 
@@ -184,23 +248,21 @@ fn show_layout<S: Source, K: Sink>(
     adapters: &Adapters,
 ) -> Status
     requires few { length (map standing adapters.now.items) < 2 ^ 32 }
+    ensures tells { IfSome (S.left source.old) (λ bytes. MapTells (opening_of bytes (kinds_of (map standing adapters.now.items))) result (told K.written out.old) (told K.written out.new)) }
     ensures source_later { S.faults source.old ≤ S.faults source.new }
     ensures sink_later { K.faults out.old.sink.now ≤ K.faults out.new.sink.now }
     ensures cause { IsCaused result (S.faults source.old) (S.faults source.new) (K.faults out.old.sink.now) (K.faults out.new.sink.now) }
     ensures ends_kept { K.ends out.new.sink.now ≡ K.ends out.old.sink.now }
     ensures same_sink { out.new.sink.ghost_name ≡ out.old.sink.ghost_name }
 {
-    let Ok(mut lines) = LineReader::build(alloc) else {
+    let Ok(mut lines) = fresh_lines(alloc) else {
         return Status::Memory;
     };
     let desc = match open_session(alloc, &mut lines, source, out, adapters) {
         Ok(desc) => desc,
         Err(status) => return status,
     };
-    match put_layout(out, &desc.chip, &desc.layout) {
-        Ok(()) => Status::Passed,
-        Err(Failed) => Status::SinkFault,
-    }
+    put_description(&desc, out)
 }
 
 // Writes what is kept back, and ends the output of a run that came to its last line.
@@ -211,10 +273,12 @@ fn finish<K: Sink>(status: Status, out: &mut Buffered<'_, K>) -> Status
     ensures cause { result ≡ Status.SinkFault → status ≢ Status.SinkFault → Rose (K.faults out.old.sink.now) (K.faults out.new.sink.now) }
     ensures ended { is_complete result ≡ true → Rose (K.ends out.old.sink.now) (K.ends out.new.sink.now) }
     ensures not_ended { is_complete result ≡ false → K.ends out.new.sink.now ≡ K.ends out.old.sink.now }
+    ensures told { Keeps (told K.written out.old) (told K.written out.new) }
+    ensures whole { is_complete result ≡ true → Keeps (told K.written out.old) (K.written out.new.sink.now) }
     ensures same_sink { out.new.sink.ghost_name ≡ out.old.sink.ghost_name }
 {
     if status.is_complete() {
-        return match out.finish() {
+        return match out.close() {
             Ok(()) => status,
             Err(Failed) => Status::SinkFault,
         };
@@ -224,6 +288,32 @@ fn finish<K: Sink>(status: Status, out: &mut Buffered<'_, K>) -> Status
         let _ = out.flush();
     }
     status
+}
+
+// Does what the words ask for. What is kept back isn't written yet.
+fn perform_task<S: Source, K: Sink>(
+    alloc: Global,
+    task: Built,
+    source: &mut S,
+    out: &mut Buffered<'_, K>,
+    adapters: &mut Adapters,
+) -> Status
+    requires few { length (map standing adapters.old.items) < 2 ^ 32 }
+    ensures kinds { kinds_of (map standing adapters.new.items) ≡ kinds_of (map standing adapters.old.items) }
+    ensures run { task ≡ Built.Run → IfSome (S.left source.old) (λ bytes. IfErr (opening_of bytes (kinds_of (map standing adapters.old.items))) (λ line. Tells result Status.Refused (told K.written out.old) (told K.written out.new) line)) }
+    ensures map { task ≡ Built.Map → IfSome (S.left source.old) (λ bytes. MapTells (opening_of bytes (kinds_of (map standing adapters.old.items))) result (told K.written out.old) (told K.written out.new)) }
+    ensures soak { (n : ℕ) → task ≡ Built.Soak n → SoakTells n (opening_of (soak_text n) (kinds_of (map standing adapters.old.items))) result (told K.written out.old) (told K.written out.new) }
+    ensures source_later { S.faults source.old ≤ S.faults source.new }
+    ensures sink_later { K.faults out.old.sink.now ≤ K.faults out.new.sink.now }
+    ensures cause { IsCaused result (S.faults source.old) (S.faults source.new) (K.faults out.old.sink.now) (K.faults out.new.sink.now) }
+    ensures ends_kept { K.ends out.new.sink.now ≡ K.ends out.old.sink.now }
+    ensures same_sink { out.new.sink.ghost_name ≡ out.old.sink.ghost_name }
+{
+    match task {
+        Built::Run => run(alloc, source, out, adapters),
+        Built::Map => show_layout(alloc, source, out, adapters),
+        Built::Soak(n) => put_soak(alloc, n, out, adapters),
+    }
 }
 
 /// Does all that the program does, by its words.
@@ -246,6 +336,15 @@ pub fn regrun<S: Source, K: Sink>(
     ensures words { (result ≡ Status.Words) ↔ (task_built (map string_bytes words.now) ≡ None) }
     ensures untouched { result ≡ Status.Words → (source.new ≡ source.old) × (sink.new ≡ sink.old) × (adapters.new ≡ adapters.old) }
 
+    // Where the source tells its bytes: what the session's opening says of the text and of the status.
+    ensures run { task_built (map string_bytes words.now) ≡ Some Built.Run → IfSome (S.left source.old)
+        (λ bytes. IfErr (opening_of bytes (kinds_of (map standing adapters.old.items)))
+        (λ line. Writes result Status.Refused (K.written sink.old) (K.written sink.new) line)) }
+    ensures map { task_built (map string_bytes words.now) ≡ Some Built.Map → IfSome (S.left source.old)
+        (λ bytes. MapEnds (opening_of bytes (kinds_of (map standing adapters.old.items))) result (K.written sink.old) (K.written sink.new)) }
+    ensures soak { (n : ℕ) → task_built (map string_bytes words.now) ≡ Some (Built.Soak n)
+        → SoakEnds n (opening_of (soak_text n) (kinds_of (map standing adapters.old.items))) result (K.written sink.old) (K.written sink.new) }
+
     // No fault is made up.
     ensures source_later { S.faults source.old ≤ S.faults source.new }
     ensures sink_later { K.faults sink.old ≤ K.faults sink.new }
@@ -262,10 +361,6 @@ pub fn regrun<S: Source, K: Sink>(
         return Status::Words;
     };
     let mut out = Buffered::new(sink);
-    let status = match task {
-        Built::Run => run(alloc, source, &mut out, adapters),
-        Built::Map => show_layout(alloc, source, &mut out, adapters),
-        Built::Soak(n) => put_soak(alloc, n, &mut out, adapters),
-    };
+    let status = perform_task(alloc, task, source, &mut out, adapters);
     finish(status, &mut out)
 }

@@ -1,5 +1,5 @@
 -- Locations of memories.
-use Rattle.std.proofs.Common.{◌≡◌, ℕ, ◌*◌, ◌^◌, ◌<◌, ◌≤◌, Bool, length, Some, sym, ap, ◌∙◌, subst, arith}
+use Rattle.std.proofs.Common.{◌≡◌, ℕ, ◌*◌, ◌^◌, ◌<◌, ◌≤◌, Bool, Some, sym, ap, ◌∙◌, subst}
 use Rattle.rl_policy.specs.Bits.{from_bits}
 use Rattle.rl_policy.proofs.BitLemmas.{from_bits-lt}
 use Rattle.rl_model.specs.Rows.{ChipData}
@@ -10,6 +10,7 @@ use Rattle.rl_split.specs.Access.{IsChoice, all_bytes}
 use Rattle.rl_access.specs.Access.{IsPlaceFor}
 use Rattle.rl_access.specs.Model.{ModelData, IsModel}
 use Rattle.rl_access.specs.Operation.{location_size}
+use Rattle.rl_access.specs.Rules.{low_bytes}
 use Rattle.rl_access.proofs.Bytes.{bytes_bits, below_digits}
 use Rattle.rl_access.proofs.Places.{size_is, place_size, all_chosen}
 
@@ -29,3 +30,7 @@ location_chosen m mem place bytes chosen ok there e some all =
 
 pub location_digits : (m : ModelData) (mem place value : ℕ) → IsModel m → IsPlaceFor m (item.Mem mem) place → value < 256 ^ (place_at m.layout place).bytes → value < 16 ^ (2 * location_size m.chip mem)
 location_digits m mem place value ok there low = below_digits (location_size m.chip mem) value (subst (λ n. value < 256 ^ n) (place_size m (item.Mem mem) place ok there) low)
+
+-- the lowest bytes of a word
+pub taken_low : (c : ChipData) (mem bytes value word : ℕ) → bytes_of c (item.Mem mem) ≡ Some bytes → value ≡ low_bytes bytes word → value ≡ low_bytes (location_size c mem) word
+taken_low c mem bytes value word e is = is ∙ ap (λ n. low_bytes n word) (sym (size_is c (item.Mem mem) bytes e))

@@ -43,3 +43,7 @@ pub record IsDone (s new : Scene) (op : Op) (place : ℕ) (event : Event) : Type
 -- the operation is refused by its first cause, or done
 abbrev pub Performs : Scene → Scene → Op → Event → Type 0
 Performs s new op event = MatchResult (grant s.model op) (λ place. IsDone s new op place event) (λ why. IsRefused s new op why event)
+
+-- an operation that meets no adapter and no device, beside any of them
+abbrev pub PerformsAlone : ModelData → ModelData → Op → Event → Type 0
+PerformsAlone m new op event = (adapters : List Standing) (errors : ℕ) (device : Option State) → Performs (scene m adapters errors device) (scene new adapters errors device) op event

@@ -3,8 +3,12 @@ pub mod Model
 pub mod Operation
 pub mod Event
 pub mod HandsOver
+pub mod Runs
 pub mod Items
 pub mod Access
 pub mod Rules
 pub mod Call
+pub mod Backdoor
+pub mod Observed
 pub mod Tally
+pub mod Wishes

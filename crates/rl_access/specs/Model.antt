@@ -9,6 +9,7 @@ use Rattle.rl_map.specs.Layout.{LayoutData, IsSound as IsLayout}
 use Rattle.rl_map.specs.Maps.{IsBuiltWith}
 use Rattle.rl_map.specs.Tables.{setup_of}
 use Rattle.rl_mirror.specs.Mirror.{MirrorData, IsMirrorOf}
+use Rattle.rl_mirror.specs.Reachable.{IsReachable}
 use Rattle.rl_access.specs.declared.predictor.Gathered.{Gathered}
 use Rattle.rl_access.specs.Gathering.{IsPredictorOf}
 
@@ -26,6 +27,8 @@ pub record IsModel (m : ModelData) : Type 0 where
   pub layout : IsLayout m.layout
   pub built : IsBuiltWith m.layout m.chip
   pub mirror : IsMirrorOf m.chip m.mirror
+  -- an update reaches the desired values
+  pub reach : IsReachable m.chip m.mirror
   pub predictor : IsPredictorOf m.layout m.gathered
 
 -- a device that tells its state has the model's chip and layout, with any flaws

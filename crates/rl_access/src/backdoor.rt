@@ -1,9 +1,13 @@
 //! Accesses that bypass the bus.
-ghost use Rattle.std.specs.Prelude.{◌≡◌, ◌*◌, ◌<◌, ◌≤◌, ◌^◌, length, option_map};
+ghost use Rattle.std.specs.Prelude.{◌≡◌, ◌*◌, ◌<◌, ◌≤◌, ◌^◌, List, length, option_map, if◌then◌else◌};
+ghost use Rattle.rl_bus.specs.Standing.{Standing};
 ghost use Rattle.rl_bus.specs.State.{poked, hw_set, reset_by};
 ghost use Rattle.rl_bus.specs.declared.table.Cell.TheVariants as cell;
 ghost use Rattle.rl_mirror.specs.Fields.{size_of, count_of, fields_of};
-ghost use Rattle.rl_mirror.specs.Prediction.{shown};
+ghost use Rattle.rl_mirror.specs.Mirror.{marks_in};
+ghost use Rattle.rl_mirror.specs.Prediction.{shown, left_by_read, written};
+ghost use Rattle.rl_access.specs.Backdoor.{IsFound, IsReadBehind};
+ghost use Rattle.rl_access.specs.Call.{scene, Performs};
 ghost use Rattle.rl_access.specs.Event.{EventFits};
 ghost use Rattle.rl_access.specs.Model.{IsDeviceOf, IsSameChip};
 ghost use Rattle.rl_access.specs.Rules.{taking_raw};
@@ -20,7 +24,8 @@ use rl_model::Item;
 fn sampled<D: Device>(m: &Model, d: &D, reg: u32) -> u64
     requires device { IsDeviceOf m.now (D.state d.now) }
     requires reg { reg < length m.now.chip.regs }
-    ensures { result < 16 ^ (2 * size_of m.now.chip reg) }
+    ensures found { IsFound m.now (D.state d.now) reg result }
+    ensures digits { result < 16 ^ (2 * size_of m.now.chip reg) }
 {
     let bits = d.peek(Cell::Reg { reg });
     owned(m.chip(), reg, bits)
@@ -33,6 +38,22 @@ fn value_shown(m: &Model, reg: u32, bits: u64) -> u64
     ensures digits { result < 16 ^ (2 * size_of m.now.chip reg) }
 {
     shown(m.chip(), reg, bits)
+}
+
+/// What is left of these bits by a read of the register.
+fn value_left(m: &Model, reg: u32, bits: u64) -> u64
+    requires { reg < length m.now.chip.regs }
+    ensures { result ≡ left_by_read (fields_of m.now.chip reg) bits }
+{
+    left_by_read(m.chip(), reg, bits)
+}
+
+/// What is left of these bits by a write of the register, with the mirror's spent marks.
+fn value_written(m: &Model, reg: u32, bits: u64, value: u64) -> u64
+    requires { reg < length m.now.chip.regs }
+    ensures { result ≡ written (fields_of m.now.chip reg) (marks_in m.now.chip m.now.mirror.spent reg) bits value }
+{
+    m.mirror().written(m.chip(), reg, bits, value)
 }
 
 /// Deposits bits in a register of the device.
@@ -76,13 +97,14 @@ pub fn back_write<D: Device>(m: &mut Model, d: &mut D, reg: u32, value: u64) -> 
     ensures parts { IsSameChip m.old m.new }
     ensures fits { EventFits m.new result }
     ensures later { D.errors d.old ≤ D.errors d.new }
+    ensures performs { (adapters : List Standing) → Performs (scene m.old adapters (D.errors d.old) (D.state d.old)) (scene m.new adapters (D.errors d.new) (D.state d.new)) (Op.BackWrite reg value) result }
 {
     let op = Op::BackWrite { reg, value };
     let item = Item::Reg(reg);
     match m.fitting(item, value, m.by_backdoor(item)) {
         Ok(_) => {
             let sampled = sampled(m, d, reg);
-            let word = m.mirror().written(m.chip(), reg, sampled, value);
+            let word = value_written(m, reg, sampled, value);
             deposit(m, d, reg, word);
             m.predict_raw(reg, word);
             m.event(op, reg, End::Done, Trace::new(), 0)
@@ -98,13 +120,14 @@ fn sample<D: Device>(m: &mut Model, d: &mut D, reg: u32, check: bool) -> (u64, u
     requires reg { reg < length m.old.chip.regs }
     ensures device { IsDeviceOf m.new (D.state d.new) }
     ensures parts { IsSameChip m.old m.new }
+    ensures behind { IsReadBehind m.old m.new (D.state d.old) (D.state d.new) check reg result.0 result.1 }
     ensures value { result.0 < 16 ^ (2 * size_of m.old.chip reg) }
     ensures differ { result.1 < 2 ^ count_of m.old.chip reg }
     ensures later { D.errors d.old ≤ D.errors d.new }
 {
     let sampled = sampled(m, d, reg);
     let value = value_shown(m, reg, sampled);
-    let left = left_by_read(m.chip(), reg, sampled);
+    let left = value_left(m, reg, sampled);
     deposit(m, d, reg, left);
     let differ = m.differ(check, reg, value);
     m.predict_read(reg, value, u64::MAX);
@@ -119,6 +142,7 @@ fn sample_register<D: Device>(m: &mut Model, d: &mut D, reg: u32) -> Event
     ensures parts { IsSameChip m.old m.new }
     ensures fits { EventFits m.new result }
     ensures later { D.errors d.old ≤ D.errors d.new }
+    ensures performs { (adapters : List Standing) → Performs (scene m.old adapters (D.errors d.old) (D.state d.old)) (scene m.new adapters (D.errors d.new) (D.state d.new)) (Op.BackRead reg) result }
 {
     let op = Op::BackRead { reg };
     match m.by_backdoor(Item::Reg(reg)) {
@@ -138,6 +162,7 @@ fn check_sample<D: Device>(m: &mut Model, d: &mut D, reg: u32) -> Event
     ensures parts { IsSameChip m.old m.new }
     ensures fits { EventFits m.new result }
     ensures later { D.errors d.old ≤ D.errors d.new }
+    ensures performs { (adapters : List Standing) → Performs (scene m.old adapters (D.errors d.old) (D.state d.old)) (scene m.new adapters (D.errors d.new) (D.state d.new)) (Op.BackCheck reg) result }
 {
     let op = Op::BackCheck { reg };
     match m.by_backdoor(Item::Reg(reg)) {
@@ -158,6 +183,7 @@ pub fn back_read<D: Device>(m: &mut Model, d: &mut D, reg: u32, check: bool) -> 
     ensures parts { IsSameChip m.old m.new }
     ensures fits { EventFits m.new result }
     ensures later { D.errors d.old ≤ D.errors d.new }
+    ensures performs { (adapters : List Standing) → Performs (scene m.old adapters (D.errors d.old) (D.state d.old)) (scene m.new adapters (D.errors d.new) (D.state d.new)) (if check then Op.BackCheck reg else Op.BackRead reg) result }
 {
     if check {
         check_sample(m, d, reg)
@@ -174,13 +200,14 @@ pub fn peek<D: Device>(m: &mut Model, d: &mut D, reg: u32) -> Event
     ensures parts { IsSameChip m.old m.new }
     ensures fits { EventFits m.new result }
     ensures later { D.errors d.old ≤ D.errors d.new }
+    ensures performs { (adapters : List Standing) → Performs (scene m.old adapters (D.errors d.old) (D.state d.old)) (scene m.new adapters (D.errors d.new) (D.state d.new)) (Op.Peek reg) result }
 {
     let op = Op::Peek { reg };
     match m.by_backdoor(Item::Reg(reg)) {
         Ok(_) => {
-            let value = sampled(m, d, reg);
-            m.predict_raw(reg, value);
-            m.event(op, reg, End::Value { value }, Trace::new(), 0)
+            let bits = sampled(m, d, reg);
+            m.predict_raw(reg, bits);
+            m.event(op, reg, End::Value { value: bits }, Trace::new(), 0)
         }
         Err(why) => m.refuse(op, reg, why),
     }
@@ -194,6 +221,7 @@ pub fn poke<D: Device>(m: &mut Model, d: &mut D, reg: u32, value: u64) -> Event
     ensures parts { IsSameChip m.old m.new }
     ensures fits { EventFits m.new result }
     ensures later { D.errors d.old ≤ D.errors d.new }
+    ensures performs { (adapters : List Standing) → Performs (scene m.old adapters (D.errors d.old) (D.state d.old)) (scene m.new adapters (D.errors d.new) (D.state d.new)) (Op.Poke reg value) result }
 {
     let op = Op::Poke { reg, value };
     let item = Item::Reg(reg);
@@ -215,6 +243,7 @@ pub fn hw<D: Device>(m: &mut Model, d: &mut D, field: u32, value: u64) -> Event
     ensures parts { IsSameChip m.old m.new }
     ensures fits { EventFits m.new result }
     ensures later { D.errors d.old ≤ D.errors d.new }
+    ensures performs { (adapters : List Standing) → Performs (scene m.old adapters (D.errors d.old) (D.state d.old)) (scene m.new adapters (D.errors d.new) (D.state d.new)) (Op.Hw field value) result }
 {
     let shape = m.field(field);
     let op = Op::Hw { field, value };
@@ -236,6 +265,7 @@ pub fn reset<D: Device>(m: &mut Model, d: &mut D, kind: u32) -> Event
     ensures parts { IsSameChip m.old m.new }
     ensures fits { EventFits m.new result }
     ensures later { D.errors d.old ≤ D.errors d.new }
+    ensures performs { (adapters : List Standing) → Performs (scene m.old adapters (D.errors d.old) (D.state d.old)) (scene m.new adapters (D.errors d.new) (D.state d.new)) (Op.Reset kind) result }
 {
     reset_device(m, d, kind);
     m.reset(kind);

@@ -1,9 +1,15 @@
 //! Bursts over consecutive locations of a memory.
-ghost use Rattle.std.specs.Prelude.{◌≡◌, ◌+◌, ◌^◌, ◌<◌, map as each, length, IfOk, Ok, None, true};
+ghost use Rattle.std.specs.Prelude.{◌≡◌, ◌+◌, ◌^◌, ◌<◌, [], ◌∷◌, map as each, length, nat_lt, IfOk, OnOk, OnErr, Ok, None, true};
+ghost use Rattle.std.specs.List.{list_all};
 ghost use Rattle.rl_bus.specs.Causes.{HasCause};
+ghost use Rattle.rl_access.specs.Call.{scene};
 ghost use Rattle.rl_access.specs.Event.{EventFits};
+ghost use Rattle.rl_access.specs.HandsOver.{HandsOver};
 ghost use Rattle.rl_access.specs.Model.{IsReady};
-ghost use Rattle.rl_access.specs.Operation.{IsMapIn, HasNumbers, register_of, has_end};
+ghost use Rattle.rl_access.specs.Operation.{IsMapIn, HasNumbers, register_of, has_end, location_size};
+ghost use Rattle.rl_access.specs.Rules.{grant, only_where, memory_event, quiet};
+ghost use Rattle.rl_access.specs.Runs.{IsBurst, IsRun, no_tally, write_grant, writes_of, reads_of};
+ghost use Rattle.rl_access.specs.Tally.{counted, is_bus_error};
 ghost use Rattle.rl_access.specs.declared.event.End.TheVariants as end;
 
 use crate::event::{End, Event, Op, Refused, Tally};
@@ -22,6 +28,9 @@ fn hand_over<R: Recorder>(
     tally: &mut Tally,
 ) -> Result<(), Failed>
     requires fits { EventFits m.now event.now }
+    ensures taken { OnOk result (R.takes rec.old m.now event.now rec.new) }
+    ensures counted { OnOk result (tally.new ≡ counted tally.old event.now) }
+    ensures broken { OnErr result (R.breaks rec.old m.now event.now rec.new) }
     ensures cause { HasCause (R.faults rec.old) (R.faults rec.new) result }
     ensures steady { R.steady rec.new ≡ R.steady rec.old }
 {
@@ -30,11 +39,19 @@ fn hand_over<R: Recorder>(
     Ok(())
 }
 
+fn is_bus_error(end: End) -> bool
+    ensures { result ≡ is_bus_error end }
+{
+    matches!(end, End::BusError { .. })
+}
+
 // A refused burst hands over one event of the burst.
 fn refuse_burst<R: Recorder>(m: &Model, op: Op, why: Refused, rec: &mut R) -> Result<Tally, Failed>
     requires numbers { HasNumbers m.now.chip (length m.now.layout.maps) op }
     requires register { register_of m.now.chip op ≡ None }
     requires ends { has_end op (end.Refused why) ≡ true }
+    ensures handed { HandsOver R.takes R.breaks rec.old (record { model = m.now; event = memory_event op [] (quiet (end.Refused why) m.now) } ∷ []) rec.new result }
+    ensures tally { IfOk result (λ tally. tally ≡ counted no_tally (memory_event op [] (quiet (end.Refused why) m.now))) }
     ensures cause { HasCause (R.faults rec.old) (R.faults rec.new) result }
     ensures steady { R.steady rec.new ≡ R.steady rec.old }
 {
@@ -61,6 +78,7 @@ pub fn burst_write<D: Device, R: Recorder>(
     requires map { IsMapIn (length m.old.layout.maps) map }
     ensures model { m.new ≡ m.old }
     ensures ready { IsReady m.new (each standing a.new.items) (D.state d.new) }
+    ensures hands_over { IsBurst R.takes R.breaks rec.old rec.new (scene m.old (each standing a.old.items) (D.errors d.old) (D.state d.old)) (scene m.new (each standing a.new.items) (D.errors d.new) (D.state d.new)) (write_grant m.old mem map first values.now) (Op.BurstWrite mem map first (length values.now)) (writes_of mem map first values.now) result }
     ensures cause { HasCause (R.faults rec.old) (R.faults rec.new) result }
     ensures steady { R.steady rec.new ≡ R.steady rec.old }
 {
@@ -83,7 +101,8 @@ pub fn burst_write<D: Device, R: Recorder>(
 // Granted where the location's bytes hold each value.
 fn all_fitting(m: &Model, mem: u32, values: &[u64], grant: Grant) -> Grant
     requires { mem < length m.now.chip.mems }
-    ensures { IfOk result (λ p. grant ≡ Ok p) }
+    ensures grant { result ≡ only_where grant (list_all (λ v. nat_lt v (256 ^ location_size m.now.chip mem)) values.now) Refused.TooWide }
+    ensures before { IfOk result (λ p. grant ≡ Ok p) }
 {
     let all = values
         .iter()
@@ -107,6 +126,7 @@ fn write_locations<D: Device, R: Recorder>(
     requires small { first + length values.now < 2 ^ 64 }
     ensures model { m.new ≡ m.old }
     ensures ready { IsReady m.new (each standing a.new.items) (D.state d.new) }
+    ensures run { IsRun R.takes R.breaks rec.old rec.new (scene m.old (each standing a.old.items) (D.errors d.old) (D.state d.old)) (scene m.new (each standing a.new.items) (D.errors d.new) (D.state d.new)) (writes_of mem map first values.now) result }
     ensures cause { HasCause (R.faults rec.old) (R.faults rec.new) result }
     ensures steady { R.steady rec.new ≡ R.steady rec.old }
 {
@@ -114,7 +134,7 @@ fn write_locations<D: Device, R: Recorder>(
     for (k, value) in values.iter().enumerate() {
         let event = mem_write(m, d, a, mem, map, first + k as u64, *value);
         hand_over(m, &event, rec, &mut tally)?;
-        if matches!(event.end, End::BusError { .. }) {
+        if is_bus_error(event.end) {
             return Ok(tally);
         }
     }
@@ -138,6 +158,7 @@ pub fn burst_read<D: Device, R: Recorder>(
     requires map { IsMapIn (length m.old.layout.maps) map }
     ensures model { m.new ≡ m.old }
     ensures ready { IsReady m.new (each standing a.new.items) (D.state d.new) }
+    ensures hands_over { IsBurst R.takes R.breaks rec.old rec.new (scene m.old (each standing a.old.items) (D.errors d.old) (D.state d.old)) (scene m.new (each standing a.new.items) (D.errors d.new) (D.state d.new)) (grant m.old (Op.BurstRead mem map first count)) (Op.BurstRead mem map first count) (reads_of mem map first count) result }
     ensures cause { HasCause (R.faults rec.old) (R.faults rec.new) result }
     ensures steady { R.steady rec.new ≡ R.steady rec.old }
 {
@@ -170,6 +191,7 @@ fn read_locations<D: Device, R: Recorder>(
     requires small { first + count < 2 ^ 64 }
     ensures model { m.new ≡ m.old }
     ensures ready { IsReady m.new (each standing a.new.items) (D.state d.new) }
+    ensures run { IsRun R.takes R.breaks rec.old rec.new (scene m.old (each standing a.old.items) (D.errors d.old) (D.state d.old)) (scene m.new (each standing a.new.items) (D.errors d.new) (D.state d.new)) (reads_of mem map first count) result }
     ensures cause { HasCause (R.faults rec.old) (R.faults rec.new) result }
     ensures steady { R.steady rec.new ≡ R.steady rec.old }
 {
@@ -177,7 +199,7 @@ fn read_locations<D: Device, R: Recorder>(
     for index in first..first + count {
         let event = mem_read(m, d, a, mem, map, index);
         hand_over(m, &event, rec, &mut tally)?;
-        if matches!(event.end, End::BusError { .. }) {
+        if is_bus_error(event.end) {
             return Ok(tally);
         }
     }

@@ -1,9 +1,11 @@
 //! Accesses to one field, and desired values.
 ghost use Rattle.std.specs.Prelude.{◌≡◌, ◌+◌, ◌<◌, ◌≤◌, map as each, length, true};
+ghost use Rattle.rl_access.specs.Call.{Performs, PerformsAlone, scene};
 ghost use Rattle.rl_access.specs.Event.{EventFits, IsEndWithin};
 ghost use Rattle.rl_access.specs.Model.{IsReady, IsSameChip};
 ghost use Rattle.rl_access.specs.Operation.{IsMapIn, field_digits, ends_with_value};
-ghost use Rattle.rl_access.specs.Rules.{end_in_field};
+ghost use Rattle.rl_access.specs.Rules.{end_in_field, forgetting_field};
+ghost use Rattle.rl_access.specs.declared.event.Op.TheVariants as op;
 
 use crate::engine::{read, write_as};
 use crate::event::{End, Event, Op};
@@ -29,6 +31,7 @@ pub fn field_write<D: Device>(
     ensures ready { IsReady m.new (each standing a.new.items) (D.state d.new) }
     ensures parts { IsSameChip m.old m.new }
     ensures fits { EventFits m.new result }
+    ensures performs { Performs (scene m.old (each standing a.old.items) (D.errors d.old) (D.state d.old)) (scene m.new (each standing a.new.items) (D.errors d.new) (D.state d.new)) (op.FieldWrite field map value) result }
 {
     let reg = m.field(field).reg;
     let place = m.place_of(Item::Reg(reg), map);
@@ -40,9 +43,7 @@ pub fn field_write<D: Device>(
     match m.fitting_field(field, value, m.way(place, true)) {
         Ok(place) => {
             let access = m.field_written(field, place, value);
-            if !m.is_narrow(field, place, true) {
-                m.forget(place);
-            }
+            forget_around(m, field, place, true);
             write_as(m, d, a, op, &access, End::Done)
         }
         Err(why) => m.refuse(op, reg, why),
@@ -63,6 +64,7 @@ pub fn field_read<D: Device>(
     ensures ready { IsReady m.new (each standing a.new.items) (D.state d.new) }
     ensures parts { IsSameChip m.old m.new }
     ensures fits { EventFits m.new result }
+    ensures performs { Performs (scene m.old (each standing a.old.items) (D.errors d.old) (D.state d.old)) (scene m.new (each standing a.new.items) (D.errors d.new) (D.state d.new)) (op.FieldRead field map) result }
 {
     let shape = m.field(field);
     let place = m.place_of(Item::Reg(shape.reg), map);
@@ -73,14 +75,23 @@ pub fn field_read<D: Device>(
     match m.way(place, false) {
         Ok(place) => {
             let access = m.field_read(field, place);
-            if !m.is_narrow(field, place, false) {
-                m.forget(place);
-            }
+            forget_around(m, field, place, false);
             let done = read(m, d, a, &access, false);
             let end = part_of(&shape, done.end);
             m.event(op, shape.reg, end, done.trace, 0)
         }
         Err(why) => m.refuse(op, shape.reg, why),
+    }
+}
+
+// Forgets what was gathered of the place, unless the access reaches the field's bytes alone.
+fn forget_around(m: &mut Model, field: u32, place: u32, write: bool)
+    requires field { field < length m.old.chip.fields }
+    requires place { place < length m.old.layout.places }
+    ensures { m.new ≡ forgetting_field m.old field place write }
+{
+    if !m.is_narrow(field, place, write) {
+        m.forget(place);
     }
 }
 
@@ -106,6 +117,7 @@ pub fn set(m: &mut Model, field: u32, value: u64) -> Event
     requires field { field < length m.old.chip.fields }
     ensures fits { EventFits m.new result }
     ensures parts { IsSameChip m.old m.new }
+    ensures performs { PerformsAlone m.old m.new (op.Set field value) result }
 {
     let reg = m.field(field).reg;
     let op = Op::Set { field, value };
@@ -122,6 +134,7 @@ pub fn set(m: &mut Model, field: u32, value: u64) -> Event
 pub fn show(m: &Model, reg: u32) -> Event
     requires reg { reg < length m.now.chip.regs }
     ensures fits { EventFits m.now result }
+    ensures performs { PerformsAlone m.now m.now (op.Show reg) result }
 {
     m.event(Op::Show { reg }, reg, End::Done, Trace::new(), 0)
 }

@@ -1,8 +1,10 @@
 //! Accesses to registers over the bus.
-ghost use Rattle.std.specs.Prelude.{◌<◌, map as each, length};
+ghost use Rattle.std.specs.Prelude.{◌<◌, map as each, length, if◌then◌else◌};
+ghost use Rattle.rl_access.specs.Call.{Performs, scene};
 ghost use Rattle.rl_access.specs.Event.{EventFits};
 ghost use Rattle.rl_access.specs.Model.{IsReady, IsSameChip};
 ghost use Rattle.rl_access.specs.Operation.{IsMapIn};
+ghost use Rattle.rl_access.specs.declared.event.Op.TheVariants as op;
 
 use crate::engine::{read_as, write_as};
 use crate::event::{End, Event, Op};
@@ -25,6 +27,7 @@ pub fn front_write<D: Device>(
     ensures ready { IsReady m.new (each standing a.new.items) (D.state d.new) }
     ensures parts { IsSameChip m.old m.new }
     ensures fits { EventFits m.new result }
+    ensures performs { Performs (scene m.old (each standing a.old.items) (D.errors d.old) (D.state d.old)) (scene m.new (each standing a.new.items) (D.errors d.new) (D.state d.new)) (op.Write reg map value) result }
 {
     let place = m.place_of(Item::Reg(reg), map);
     let op = Op::Write {
@@ -56,6 +59,7 @@ pub fn front_read<D: Device>(
     ensures ready { IsReady m.new (each standing a.new.items) (D.state d.new) }
     ensures parts { IsSameChip m.old m.new }
     ensures fits { EventFits m.new result }
+    ensures performs { Performs (scene m.old (each standing a.old.items) (D.errors d.old) (D.state d.old)) (scene m.new (each standing a.new.items) (D.errors d.new) (D.state d.new)) (op.Read reg map) result }
 {
     let place = m.place_of(Item::Reg(reg), map);
     let op = Op::Read {
@@ -86,6 +90,7 @@ fn mirror_register<D: Device>(
     ensures ready { IsReady m.new (each standing a.new.items) (D.state d.new) }
     ensures parts { IsSameChip m.old m.new }
     ensures fits { EventFits m.new result }
+    ensures performs { Performs (scene m.old (each standing a.old.items) (D.errors d.old) (D.state d.old)) (scene m.new (each standing a.new.items) (D.errors d.new) (D.state d.new)) (op.Mirror reg map) result }
 {
     let place = m.place_of(Item::Reg(reg), map);
     let op = Op::Mirror {
@@ -116,6 +121,7 @@ fn check_register<D: Device>(
     ensures ready { IsReady m.new (each standing a.new.items) (D.state d.new) }
     ensures parts { IsSameChip m.old m.new }
     ensures fits { EventFits m.new result }
+    ensures performs { Performs (scene m.old (each standing a.old.items) (D.errors d.old) (D.state d.old)) (scene m.new (each standing a.new.items) (D.errors d.new) (D.state d.new)) (op.Check reg map) result }
 {
     let place = m.place_of(Item::Reg(reg), map);
     let op = Op::Check {
@@ -148,6 +154,7 @@ pub fn mirror<D: Device>(
     ensures ready { IsReady m.new (each standing a.new.items) (D.state d.new) }
     ensures parts { IsSameChip m.old m.new }
     ensures fits { EventFits m.new result }
+    ensures performs { Performs (scene m.old (each standing a.old.items) (D.errors d.old) (D.state d.old)) (scene m.new (each standing a.new.items) (D.errors d.new) (D.state d.new)) (if check then op.Check reg map else op.Mirror reg map) result }
 {
     if check {
         check_register(m, d, a, reg, map)

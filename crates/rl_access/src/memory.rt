@@ -1,16 +1,20 @@
 //! Accesses to the locations of memories.
-ghost use Rattle.std.specs.Prelude.{◌≡◌, ◌*◌, ◌<◌, ◌≤◌, ◌^◌, map as each, length, option_map, All, true, false};
+ghost use Rattle.std.specs.Prelude.{◌≡◌, ℕ, ◌*◌, ◌<◌, ◌≤◌, ◌^◌, map as each, List, length, option_map, All, true, false};
 ghost use Rattle.rl_bus.specs.Wire.{Fits};
+ghost use Rattle.rl_bus.specs.Standing.{Standing};
 ghost use Rattle.rl_bus.specs.State.{poked};
 ghost use Rattle.rl_bus.specs.declared.table.Cell.TheVariants as cell;
 ghost use Rattle.rl_split.specs.Access.{all_bytes, kind_of, bus_bytes_of, ops_of};
 ghost use Rattle.rl_split.specs.Lists.{ops_in};
-ghost use Rattle.rl_access.specs.Access.{IsPlaceFor, HasBytes};
-ghost use Rattle.rl_access.specs.Items.{HasCauses};
+ghost use Rattle.rl_access.specs.declared.event.End.TheVariants as end;
+ghost use Rattle.rl_access.specs.Access.{IsPlaceFor, HasBytes, IsWholeTrace};
+ghost use Rattle.rl_access.specs.Backdoor.{IsFoundAt};
+ghost use Rattle.rl_access.specs.Call.{scene, Performs};
+ghost use Rattle.rl_access.specs.Items.{AreSent, port_for, adapter_for, failed_at};
 ghost use Rattle.rl_access.specs.Event.{EventFits, ItemFits, IsEndWithin};
-ghost use Rattle.rl_access.specs.Model.{IsDeviceOf, IsReady};
+ghost use Rattle.rl_access.specs.Model.{ModelData, IsDeviceOf, IsReady};
 ghost use Rattle.rl_access.specs.Operation.{IsMapIn, ends_done, ends_with_value, location_size};
-ghost use Rattle.rl_access.specs.Rules.{memory_size, value_differs, location_value};
+ghost use Rattle.rl_access.specs.Rules.{memory_size, value_differs, location_value, location_bytes, or_error, quiet};
 ghost use Rattle.rl_model.specs.declared.rows.Item.TheVariants as item;
 
 use crate::engine::{answers_of, operations, send};
@@ -59,6 +63,35 @@ fn location_value(m: &Model, mem: u32, place: u32, index: u32, words: &Words, tr
     join(m.layout(), place, index, chosen, words, &answers)
 }
 
+fn end_of_write(trace: &Trace) -> End
+    ensures end { (m : ModelData) → result ≡ (or_error (failed_at trace.now) m (quiet end.Done m)).end }
+    ensures ends { ends_done result ≡ true }
+    ensures within { (digits : ℕ) → IsEndWithin digits result }
+{
+    match trace.failed_at() {
+        None => End::Done,
+        Some(word) => End::BusError { word },
+    }
+}
+
+fn end_of_read(m: &Model, mem: u32, place: u32, index: u32, words: &Words, trace: &Trace) -> End
+    requires mem { mem < length m.now.chip.mems }
+    requires place { IsPlaceFor m.now (item.Mem mem) place }
+    requires index { index < memory_size m.now.chip mem }
+    requires words { ops_in words.now ≡ ops_of m.now.layout place index (all_bytes (location_size m.now.chip mem)) 0 false }
+    requires whole { IsWholeTrace (length words.now) trace.now }
+    ensures end { result ≡ (or_error (failed_at trace.now) m.now (quiet (end.Value (location_value m.now mem place index trace.now)) m.now)).end }
+    ensures ends { ends_with_value result ≡ true }
+    ensures within { IsEndWithin (2 * location_size m.now.chip mem) result }
+{
+    match trace.failed_at() {
+        None => End::Value {
+            value: location_value(m, mem, place, index, words, trace),
+        },
+        Some(word) => End::BusError { word },
+    }
+}
+
 fn write_location<D: Device>(
     m: &Model,
     d: &mut D,
@@ -75,17 +108,15 @@ fn write_location<D: Device>(
     requires small { index < 65536 }
     requires value { value < 256 ^ location_size m.now.chip mem }
     ensures ready { IsReady m.now (each standing a.new.items) (D.state d.new) }
+    ensures sent { AreSent (adapter_for m.now.layout place) (port_for m.now.layout place) (ops_of m.now.layout place index (location_bytes m.now mem) value true) result.trace (each standing a.old.items) (each standing a.new.items) (D.errors d.old) (D.errors d.new) (D.state d.old) (D.state d.new) }
+    ensures end { result.end ≡ (or_error (failed_at result.trace) m.now (quiet end.Done m.now)).end }
     ensures items { All (ItemFits m.now.layout) result.trace }
     ensures ends { ends_done result.end ≡ true }
     ensures within { IsEndWithin (2 * location_size m.now.chip mem) result.end }
-    ensures cause { HasCauses (D.errors d.old) (D.errors d.new) result.trace }
 {
     let words = location_words(m, mem, place, index as u32, value, true);
     let trace = send(m, d, a, place, &words);
-    let end = match trace.failed_at() {
-        None => End::Done,
-        Some(word) => End::BusError { word },
-    };
+    let end = end_of_write(&trace);
     Reached { trace, end }
 }
 
@@ -103,20 +134,16 @@ fn read_location<D: Device>(
     requires index { index < memory_size m.now.chip mem }
     requires small { index < 65536 }
     ensures ready { IsReady m.now (each standing a.new.items) (D.state d.new) }
+    ensures sent { AreSent (adapter_for m.now.layout place) (port_for m.now.layout place) (ops_of m.now.layout place index (location_bytes m.now mem) 0 false) result.trace (each standing a.old.items) (each standing a.new.items) (D.errors d.old) (D.errors d.new) (D.state d.old) (D.state d.new) }
+    ensures end { result.end ≡ (or_error (failed_at result.trace) m.now (quiet (end.Value (location_value m.now mem place index result.trace)) m.now)).end }
     ensures items { All (ItemFits m.now.layout) result.trace }
     ensures ends { ends_with_value result.end ≡ true }
     ensures within { IsEndWithin (2 * location_size m.now.chip mem) result.end }
-    ensures cause { HasCauses (D.errors d.old) (D.errors d.new) result.trace }
 {
     let index = index as u32;
     let words = location_words(m, mem, place, index, 0, false);
     let trace = send(m, d, a, place, &words);
-    let end = match trace.failed_at() {
-        None => End::Value {
-            value: location_value(m, mem, place, index, &words, &trace),
-        },
-        Some(word) => End::BusError { word },
-    };
+    let end = end_of_read(m, mem, place, index, &words, &trace);
     Reached { trace, end }
 }
 
@@ -136,6 +163,7 @@ pub fn mem_write<D: Device>(
     ensures model { m.new ≡ m.old }
     ensures ready { IsReady m.new (each standing a.new.items) (D.state d.new) }
     ensures fits { EventFits m.new result }
+    ensures performs { Performs (scene m.old (each standing a.old.items) (D.errors d.old) (D.state d.old)) (scene m.new (each standing a.new.items) (D.errors d.new) (D.state d.new)) (Op.MemWrite mem map index value) result }
 {
     let item = Item::Mem(mem);
     let place = m.place_of(item, map);
@@ -170,6 +198,7 @@ pub fn mem_read<D: Device>(
     ensures model { m.new ≡ m.old }
     ensures ready { IsReady m.new (each standing a.new.items) (D.state d.new) }
     ensures fits { EventFits m.new result }
+    ensures performs { Performs (scene m.old (each standing a.old.items) (D.errors d.old) (D.state d.old)) (scene m.new (each standing a.new.items) (D.errors d.new) (D.state d.new)) (Op.MemRead mem map index) result }
 {
     let place = m.place_of(Item::Mem(mem), map);
     let op = Op::MemRead {
@@ -202,6 +231,7 @@ pub fn mem_check<D: Device>(
     ensures model { m.new ≡ m.old }
     ensures ready { IsReady m.new (each standing a.new.items) (D.state d.new) }
     ensures fits { EventFits m.new result }
+    ensures performs { Performs (scene m.old (each standing a.old.items) (D.errors d.old) (D.state d.old)) (scene m.new (each standing a.new.items) (D.errors d.new) (D.state d.new)) (Op.MemCheck mem map index value) result }
 {
     let item = Item::Mem(mem);
     let place = m.place_of(item, map);
@@ -237,7 +267,8 @@ fn location_sampled<D: Device>(m: &Model, d: &D, mem: u32, index: u32) -> u64
     requires device { IsDeviceOf m.now (D.state d.now) }
     requires mem { mem < length m.now.chip.mems }
     requires index { index < memory_size m.now.chip mem }
-    ensures { result < 16 ^ (2 * location_size m.now.chip mem) }
+    ensures found { IsFoundAt m.now (D.state d.now) mem index result }
+    ensures digits { result < 16 ^ (2 * location_size m.now.chip mem) }
 {
     let bits = d.peek(Cell::Loc { mem, index });
     take(bits, 0, 8 * m.chip().bytes(Item::Mem(mem)))
@@ -262,6 +293,7 @@ pub fn mem_peek<D: Device>(m: &mut Model, d: &mut D, mem: u32, index: u64) -> Ev
     ensures model { m.new ≡ m.old }
     ensures device { d.new ≡ d.old }
     ensures fits { EventFits m.new result }
+    ensures performs { (adapters : List Standing) → Performs (scene m.old adapters (D.errors d.old) (D.state d.old)) (scene m.new adapters (D.errors d.new) (D.state d.new)) (Op.MemPeek mem index) result }
 {
     let op = Op::MemPeek { mem, index };
     match m.at_location(mem, index, m.by_backdoor(Item::Mem(mem))) {
@@ -281,6 +313,7 @@ pub fn mem_poke<D: Device>(m: &mut Model, d: &mut D, mem: u32, index: u64, value
     ensures device { IsDeviceOf m.new (D.state d.new) }
     ensures fits { EventFits m.new result }
     ensures later { D.errors d.old ≤ D.errors d.new }
+    ensures performs { (adapters : List Standing) → Performs (scene m.old adapters (D.errors d.old) (D.state d.old)) (scene m.new adapters (D.errors d.new) (D.state d.new)) (Op.MemPoke mem index value) result }
 {
     let op = Op::MemPoke { mem, index, value };
     let item = Item::Mem(mem);

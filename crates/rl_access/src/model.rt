@@ -13,13 +13,14 @@ ghost use Rattle.rl_access.specs.Access.{IsAccessOn, IsPlaceFor, IsFieldIn};
 ghost use Rattle.rl_access.specs.Event.{EventFits, ItemFits, IsEndWithin, IsTold};
 ghost use Rattle.rl_access.specs.Gathering.{IsNothingGathered};
 ghost use Rattle.rl_access.specs.Model.{IsModel};
+ghost use Rattle.rl_access.specs.Observed.{observing};
 ghost use Rattle.rl_access.specs.Operation.{reg_of, HasNumbers, register_of, has_end, digits_of, IsMapIn};
 ghost use Rattle.rl_access.specs.Rules.{forgetting, map_of_place, register_event, memory_event, quiet, whole, field_alone, field_written, field_read, is_alone};
 
 use crate::access::Access;
 use crate::event::{End, Event, Op, Refused};
 use crate::predictor::Predictor;
-use crate::trace::Trace;
+use crate::trace::{Trace, TraceItem};
 use rl_map::Layout;
 use rl_mirror::Mirror;
 use rl_model::{Chip, Field, Item};
@@ -116,6 +117,21 @@ impl Model {
         if self.layout.explicit(self.layout.port_of(place)) {
             self.predictor.forget(place);
         }
+    }
+
+    /// The predictor sees an item.
+    pub(crate) fn observe(&mut self, item: &TraceItem)
+        requires { item.now.port < length self.old.layout.ports }
+        ensures { self.new ≡ observing self.old item.now }
+    {
+        self.predictor.observe(
+            &self.chip,
+            &self.layout,
+            &mut self.mirror,
+            item.port,
+            &item.op,
+            &item.answer,
+        );
     }
 
     /// Takes a write as done.

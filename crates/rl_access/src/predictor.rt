@@ -1,9 +1,19 @@
 //! The predictor that watches the bus.
-ghost use Rattle.std.specs.Prelude.{◌≡◌, ◌<◌, length, slice_set, IfOk};
-ghost use Rattle.rl_access.specs.Gathering.{IsPredictorOf, IsNothingGathered, no_words};
+ghost use Rattle.std.specs.Prelude.{◌≡◌, ◌<◌, ◌≤◌, ◌&&◌, length, slice_set, IfOk, IfSome};
+ghost use Rattle.rl_map.specs.Layout.{IsLocation, place_at, words_of};
+ghost use Rattle.rl_map.specs.Maps.{IsBuiltWith};
+ghost use Rattle.rl_mirror.specs.Mirror.{IsMirrorOf};
+ghost use Rattle.rl_mirror.specs.Reachable.{IsReachable};
+ghost use Rattle.rl_split.specs.Access.{IsChoice, all_bytes};
+ghost use Rattle.rl_access.specs.Gathering.{IsPredictorOf, IsNothingGathered, IsRegisterPlace, no_words, gathered_at, is_next, same_direction, emptied, appended, gathered_with};
+ghost use Rattle.rl_access.specs.Observed.{as_register, watched_place, is_whole, value_gathered, reg_in, predicted, taken_in, observed};
 
+use crate::model::all_bytes;
+use rl_bus::{Answer, BusOp};
 use rl_map::Layout;
-use rl_split::Answers;
+use rl_mirror::Mirror;
+use rl_model::{Chip, Item};
+use rl_split::{Answers, join, split};
 use std::alloc::{AllocError, Global};
 
 /// The words of a place that were seen so far, all of one direction.
@@ -38,6 +48,134 @@ impl Gathered {
             words: Answers::new(),
         }
     }
+
+    // Whether an operation is at the address of the next word of the place.
+    fn awaits(&self, layout: &Layout, place: u32, op: &BusOp) -> bool
+        requires location { IsLocation layout.now place 0 }
+        requires shorter { length self.now.words < length (words_of layout.now place 0) }
+        ensures { result ≡ is_next layout.now place op.now self.now }
+    {
+        layout.word(place, 0, self.words.len()).address == op.address
+    }
+
+    // Whether it also has the direction of the words so far.
+    fn goes_on(&self, layout: &Layout, place: u32, op: &BusOp) -> bool
+        requires location { IsLocation layout.now place 0 }
+        requires shorter { length self.now.words < length (words_of layout.now place 0) }
+        ensures { result ≡ (same_direction self.now.write op.now.write && is_next layout.now place op.now self.now) }
+    {
+        self.write == op.write && self.awaits(layout, place, op)
+    }
+
+    // Empties the list before a word of the other direction, or at another address.
+    fn make_way(&mut self, layout: &Layout, place: u32, op: &BusOp)
+        requires location { IsLocation layout.now place 0 }
+        requires shorter { length self.old.words < length (words_of layout.now place 0) }
+        ensures emptied { self.new ≡ emptied layout.now place op.now self.old }
+        ensures shorter { length self.new.words < length (words_of layout.now place 0) }
+    {
+        if !self.goes_on(layout, place, op) {
+            *self = Gathered::new();
+        }
+    }
+
+    // Appends the next word, and drops any other one.
+    fn append(&mut self, layout: &Layout, place: u32, op: &BusOp, word: u64)
+        requires location { IsLocation layout.now place 0 }
+        requires shorter { length self.old.words < length (words_of layout.now place 0) }
+        requires few { length (words_of layout.now place 0) ≤ 8 }
+        ensures appended { self.new ≡ appended layout.now place op.now word self.old }
+        ensures most { length self.new.words ≤ length (words_of layout.now place 0) }
+    {
+        if self.awaits(layout, place, op) {
+            self.write = op.write;
+            self.words.push(word);
+        }
+    }
+
+    // Takes the write or the read that the words make as done.
+    fn predict(&self, chip: &Chip, layout: &Layout, mirror: &mut Mirror, place: u32)
+        requires built_with { IsBuiltWith layout.now chip.now }
+        requires mirror { IsMirrorOf chip.now mirror.old }
+        requires place { IsRegisterPlace layout.now place }
+        requires whole { length self.now.words ≡ length (words_of layout.now place 0) }
+        ensures predicted { mirror.new ≡ predicted chip.now layout.now place self.now mirror.old }
+        ensures mirror { IsMirrorOf chip.now mirror.new }
+        ensures reach { IsReachable chip.now mirror.old → IsReachable chip.now mirror.new }
+    {
+        let reg = register_at(chip, layout, place);
+        let value = self.value(chip, layout, place);
+        if self.write {
+            mirror.predict_write(chip, reg, value, u64::MAX);
+        } else {
+            mirror.predict_read(chip, reg, value, u64::MAX);
+        }
+    }
+
+    // The value that the words bring.
+    fn value(&self, chip: &Chip, layout: &Layout, place: u32) -> u64
+        requires built_with { IsBuiltWith layout.now chip.now }
+        requires place { IsRegisterPlace layout.now place }
+        requires whole { length self.now.words ≡ length (words_of layout.now place 0) }
+        ensures { result ≡ value_gathered layout.now place self.now }
+    {
+        let _ = layout.places();
+        let chosen = bytes_of_place(chip, layout, place);
+        let words = split(layout, place, 0, chosen, 0, false);
+        join(layout, place, 0, chosen, &words, &self.words)
+    }
+}
+
+/// The bytes of a register at a place: one bit for each.
+pub(crate) fn bytes_of_place(chip: &Chip, layout: &Layout, place: u32) -> u8
+    requires built_with { IsBuiltWith layout.now chip.now }
+    requires place { IsRegisterPlace layout.now place }
+    ensures bytes { result ≡ all_bytes (place_at layout.now place).bytes }
+    ensures choice { IsChoice (place_at layout.now place).bytes result }
+{
+    let reg = register_at(chip, layout, place);
+    all_bytes(chip.bytes(Item::Reg(reg)))
+}
+
+// The register of a place.
+fn register_at(chip: &Chip, layout: &Layout, place: u32) -> u32
+    requires built_with { IsBuiltWith layout.now chip.now }
+    requires place { IsRegisterPlace layout.now place }
+    ensures reg { result ≡ reg_in (place_at layout.now place).item }
+    ensures in_range { result < length chip.now.regs }
+{
+    let _ = chip.regs();
+    match layout.item(place) {
+        Item::Reg(reg) => reg,
+        Item::Mem(_) => 0,
+    }
+}
+
+// The place, where a register stands there.
+fn as_register(layout: &Layout, place: u32) -> Option<u32>
+    requires { place < length layout.now.places }
+    ensures register { result ≡ as_register (place_at layout.now place).item place }
+    ensures there { IfSome result (IsRegisterPlace layout.now) }
+{
+    match layout.item(place) {
+        Item::Reg(_) => Some(place),
+        Item::Mem(_) => None,
+    }
+}
+
+// The place of an item.
+fn watched_place(layout: &Layout, port: u32, op: &BusOp) -> Option<u32>
+    requires { port < length layout.now.ports }
+    ensures watched { result ≡ watched_place layout.now port op.now }
+    ensures there { IfSome result (IsRegisterPlace layout.now) }
+{
+    if !layout.explicit(port) {
+        return None;
+    }
+    match layout.find(port, op.address, op.write) {
+        None => None,
+        Some(here) => as_register(layout, here.place),
+    }
 }
 
 impl Predictor {
@@ -59,5 +197,92 @@ impl Predictor {
         ensures { self.new ≡ slice_set self.old place no_words }
     {
         self.lists[place as usize] = Gathered::new();
+    }
+
+    /// Takes an item that was seen on a port.
+    ///
+    /// The words of a register under an explicit root are gathered in order. The last one predicts once, a
+    /// write or a read of the whole register. A failed item, a word of the other direction or one at another
+    /// address empties what was gathered of its place.
+    pub fn observe(
+        &mut self,
+        chip: &Chip,
+        layout: &Layout,
+        mirror: &mut Mirror,
+        port: u32,
+        op: &BusOp,
+        answer: &Answer,
+    )
+        requires port { port < length layout.now.ports }
+        requires built_with { IsBuiltWith layout.now chip.now }
+        requires predictor { IsPredictorOf layout.now self.old }
+        requires mirror { IsMirrorOf chip.now mirror.old }
+        ensures gathered { self.new ≡ (observed chip.now layout.now port op.now answer.now self.old mirror.old).gathered }
+        ensures predicted { mirror.new ≡ (observed chip.now layout.now port op.now answer.now self.old mirror.old).mirror }
+        ensures predictor { IsPredictorOf layout.now self.new }
+        ensures mirror { IsMirrorOf chip.now mirror.new }
+        ensures reach { IsReachable chip.now mirror.old → IsReachable chip.now mirror.new }
+    {
+        if let Some(place) = watched_place(layout, port, op) {
+            if answer.failed {
+                self.forget_at(layout, place);
+            } else {
+                let word = if op.write { op.word } else { answer.word };
+                self.take_in(chip, layout, mirror, place, op, word);
+            }
+        }
+    }
+
+    // The same where the layout is at hand.
+    fn forget_at(&mut self, layout: &Layout, place: u32)
+        requires predictor { IsPredictorOf layout.now self.old }
+        requires place { IsRegisterPlace layout.now place }
+        ensures forgotten { self.new ≡ slice_set self.old place no_words }
+        ensures predictor { IsPredictorOf layout.now self.new }
+    {
+        let _ = layout.words(place);
+        self.forget(place);
+    }
+
+    // Gathers a word, and predicts where it was the last one of its place.
+    fn take_in(
+        &mut self,
+        chip: &Chip,
+        layout: &Layout,
+        mirror: &mut Mirror,
+        place: u32,
+        op: &BusOp,
+        word: u64,
+    )
+        requires built_with { IsBuiltWith layout.now chip.now }
+        requires predictor { IsPredictorOf layout.now self.old }
+        requires mirror { IsMirrorOf chip.now mirror.old }
+        requires place { IsRegisterPlace layout.now place }
+        ensures gathered { self.new ≡ (taken_in chip.now layout.now place (gathered_with layout.now place op.now word (gathered_at self.old place)) self.old mirror.old).gathered }
+        ensures predicted { mirror.new ≡ (taken_in chip.now layout.now place (gathered_with layout.now place op.now word (gathered_at self.old place)) self.old mirror.old).mirror }
+        ensures predictor { IsPredictorOf layout.now self.new }
+        ensures mirror { IsMirrorOf chip.now mirror.new }
+        ensures reach { IsReachable chip.now mirror.old → IsReachable chip.now mirror.new }
+    {
+        if self.gather(layout, place, op, word) {
+            self.lists[place as usize].predict(chip, layout, mirror, place);
+            self.forget(place);
+        }
+    }
+
+    // Gathers a word, and tells whether the list has all words of its place.
+    fn gather(&mut self, layout: &Layout, place: u32, op: &BusOp, word: u64) -> bool
+        requires predictor { IsPredictorOf layout.now self.old }
+        requires place { IsRegisterPlace layout.now place }
+        ensures gathered { self.new ≡ slice_set self.old place (gathered_with layout.now place op.now word (gathered_at self.old place)) }
+        ensures whole { result ≡ is_whole layout.now place (gathered_with layout.now place op.now word (gathered_at self.old place)) }
+        ensures most { length (gathered_with layout.now place op.now word (gathered_at self.old place)).words ≤ length (words_of layout.now place 0) }
+    {
+        let _ = layout.places();
+        let all = layout.words(place);
+        let list = &mut self.lists[place as usize];
+        list.make_way(layout, place, op);
+        list.append(layout, place, op, word);
+        list.words.len() == all
     }
 }

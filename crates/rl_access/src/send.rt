@@ -11,7 +11,8 @@ use crate::trace::{Trace, TraceItem};
 use rl_bus::{Adapter, Adapters, BusOp, Device, exchange};
 use rl_split::Words;
 
-fn send_one<D: Device>(
+/// Sends one operation through the adapter of that number.
+pub(crate) fn send_one<D: Device>(
     device: &mut D,
     adapters: &mut Adapters,
     which: u32,

@@ -1,14 +1,19 @@
 //! Bringing a register to its desired value.
 ghost use Rattle.std.specs.Prelude.{◌<◌, map as each, length};
+ghost use Rattle.rl_mirror.specs.Reachable.{UpdateBrings};
+ghost use Rattle.rl_access.specs.Call.{Performs, scene};
 ghost use Rattle.rl_access.specs.Event.{EventFits};
-ghost use Rattle.rl_access.specs.Model.{IsReady, IsSameChip};
+ghost use Rattle.rl_access.specs.Model.{IsModel, IsReady, IsSameChip};
 ghost use Rattle.rl_access.specs.Operation.{IsMapIn};
+ghost use Rattle.rl_access.specs.Wishes.{BringsWishes};
+ghost use Rattle.rl_access.specs.declared.event.Op.TheVariants as op;
 
 use crate::engine::write_as;
 use crate::event::{End, Event, Op};
 use crate::model::Model;
 use crate::trace::Trace;
 use rl_bus::{Adapter, Adapters, Device};
+use rl_mirror::law::update_brings;
 use rl_model::Item;
 
 /// Brings a register to its desired value by one write of the whole register, where some field has another
@@ -26,6 +31,8 @@ pub fn update<D: Device>(
     ensures ready { IsReady m.new (each standing a.new.items) (D.state d.new) }
     ensures parts { IsSameChip m.old m.new }
     ensures fits { EventFits m.new result }
+    ensures performs { Performs (scene m.old (each standing a.old.items) (D.errors d.old) (D.state d.old)) (scene m.new (each standing a.new.items) (D.errors d.new) (D.state d.new)) (op.Update reg map) result }
+    ensures wishes { BringsWishes m.old m.new reg result.end }
 {
     let place = m.place_of(Item::Reg(reg), map);
     let op = Op::Update {
@@ -34,6 +41,7 @@ pub fn update<D: Device>(
     };
     match m.way(place, true) {
         Ok(place) if m.needs_update(reg) => {
+            law_of_update(m);
             let word = m.update_word_of(reg);
             let access = m.whole(reg, place, word);
             m.forget(place);
@@ -42,4 +50,13 @@ pub fn update<D: Device>(
         Ok(_) => m.event(op, reg, End::Nothing, Trace::new(), 0),
         Err(why) => m.refuse(op, reg, why),
     }
+}
+
+// It does nothing; its contract is the law of update, at this model.
+fn law_of_update(m: &Model)
+    ensures known { IsModel m.now }
+    ensures law { UpdateBrings m.now.chip }
+{
+    let _ = m.chip();
+    update_brings();
 }

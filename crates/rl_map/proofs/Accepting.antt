@@ -41,10 +41,10 @@ lt_true a b h = grind (arith, nat_tests)
 lt_same : (a : ℕ) → nat_lt a a ≡ false
 lt_same a = grind (arith, nat_tests)
 
-at_first : {X : Type 0} (p : X → Bool) (xs : List X) (n : ℕ) → position_or_len p xs ≡ n → n < length xs → position p xs ≡ Some n
+pub at_first : {X : Type 0} (p : X → Bool) (xs : List X) (n : ℕ) → position_or_len p xs ≡ n → n < length xs → position p xs ≡ Some n
 at_first p xs n e low = ap (λ t. cond t (Some (position_or_len p xs)) None) (lt_true _ _ (omega (arith, e))) ∙ ap Some e
 
-at_none : {X : Type 0} (p : X → Bool) (xs : List X) → position_or_len p xs ≡ length xs → position p xs ≡ None
+pub at_none : {X : Type 0} (p : X → Bool) (xs : List X) → position_or_len p xs ≡ length xs → position p xs ≡ None
 at_none p xs e = ap (λ n. cond (nat_lt n (length xs)) (Some (position_or_len p xs)) None) e ∙ ap (λ t. cond t (Some (position_or_len p xs)) None) (lt_same (length xs))
 
 not_true : (b : Bool) → (b ≡ true → ⊥) → b ≡ false
@@ -175,6 +175,12 @@ module _ (chip : ChipData) (maps : List MapRow) (ports : List PortRow) (earlier 
 
   pub own_fine : first_cause own ≡ None → None ≡ own_fault chip maps ports earlier words part
   own_fine h = sym (first_cause-of (row_at array.Place (length earlier)) own ∙ ap (λ o. option_map (λ c. Bad c (row_at array.Place (length earlier))) o) h)
+
+  pub own_met : (cause : MapCause) (spot : Spot) (e : MapFault) → first_cause own ≡ Some cause → e ≡ Bad cause spot → spot ≡ row_at array.Place (length earlier)
+      → Some e ≡ own_fault chip maps ports earlier words part
+  own_met cause spot e h made at =
+      ap Some (made ∙ ap (Bad cause) at)
+      ∙ sym (first_cause-of (row_at array.Place (length earlier)) own ∙ ap (λ o. option_map (λ c. Bad c (row_at array.Place (length earlier))) o) h)
 
 pub seat_is : (maps : List MapRow) (ports : List PortRow) (row : PlaceRow) (map : MapRow) (port : PortRow) (path : List Level)
     → row.map < length maps → row.port < length ports → map ≡ get_or maps row.map map → port ≡ get_or ports row.port port → path ≡ map.path → placed_at row path port ≡ placed_in maps ports row

@@ -25,7 +25,8 @@ use Rattle.rl_map.specs.Words.{no_word}
 use Rattle.rl_map.specs.Layout.{LayoutData, no_map, no_port, no_place, place_at, port_at, path_of, location_of, words_of, row_of, has_right, key_of, IsLocation, IsRowOf, IsAscending, IsSound}
 use Rattle.rl_map.specs.Maps.{location_rows, place_rows, all_rows, IsBuiltWith}
 use Rattle.rl_map.specs.Faults.{is_above, is_askew, is_unaligned}
-use Rattle.rl_map.specs.Building.{IsPortRow, AreTables, IsPlaceRow, ArePlaces, placed_in, rows_of_all, rows_clash, NoRowsClash}
+use Rattle.rl_map.specs.Locations.{AreStraight}
+use Rattle.rl_map.specs.Building.{IsPortRow, AreTables, IsPlaceRow, IsSeated, ArePlaces, path_in, placed_in, rows_of_all, rows_clash, NoRowsClash}
 use Rattle.rl_map.proofs.Lists.{filter_same}
 use Rattle.rl_map.proofs.Lookups.{default_any}
 use Rattle.rl_map.proofs.Growing.{none_of}
@@ -34,11 +35,11 @@ use Rattle.rl_map.proofs.Sound.{IsTested, NoneClash, KeepsOrder, may_not, all_ro
 
 -- ---- what the tests say
 
-or_false : (a b : Bool) → (a || b) ≡ false → (a ≡ false) × (b ≡ false)
+pub or_false : (a b : Bool) → (a || b) ≡ false → (a ≡ false) × (b ≡ false)
 or_false true b e = cc
 or_false false b e = (refl, e)
 
-aligned_from : (b : Bool) (x : ℕ) → (b && not (x == 0)) ≡ false → b ≡ true → x ≡ 0
+pub aligned_from : (b : Bool) (x : ℕ) → (b && not (x == 0)) ≡ false → b ≡ true → x ≡ 0
 aligned_from true x e f = by (x == 0) refl e
   where
     by : (t : Bool) → (x == 0) ≡ t → not t ≡ false → x ≡ 0
@@ -50,11 +51,17 @@ straight_step : (w l : Bool) (x : ℕ) → (not w && (l && not (x == 0))) ≡ fa
 straight_step true l x e f g = cc
 straight_step false l x e f g = aligned_from l x e g
 
-straight_from : (path : List Level) (a : Access) → is_askew a path ≡ false → IsAligned a path
+pub straight_from : (path : List Level) (a : Access) → is_askew a path ≡ false → IsAligned a path
 straight_from [] a e = tt
 straight_from (level ∷ up) a e =
     let h = or_false (not a.word && (level.word && not (a.address % a.bytes == 0))) (is_askew (through a level) up) e in
     (straight_step a.word level.word (a.address % a.bytes) h.0, straight_from up (through a level) h.1)
+
+pub straight_of : (maps : List MapRow) (ports : List PortRow) (p : PlaceRow) → IsSeated (placed_in maps ports p) → AreStraight (path_in maps p) (location_of p 0) p.size
+straight_of maps ports p seated index byte low low_byte =
+    let test = is_unaligned (placed_in maps ports p) in
+    let h = none_of (test index) p.bytes (none_of (λ i. list_any (test i) (range_with_len 0 p.bytes)) p.size seated.straight index low) byte low_byte in
+    straight_from (path_in maps p) (access_of (location_of p index) byte) (or_false _ _ h).1
 
 -- ---- the layout
 

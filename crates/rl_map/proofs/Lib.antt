@@ -28,3 +28,7 @@ pub mod Folding
 pub mod Sharing
 pub mod Finding
 pub mod Exactly
+pub mod Even
+pub mod Keeping
+pub mod EvenTests
+pub mod Linking

@@ -8,6 +8,7 @@ use Rattle.std.proofs.lemmas.List.Sorted.{All-permutation}
 use Rattle.rl_model.specs.Rows.{ChipData}
 use Rattle.rl_bus.specs.declared.table.WordRow.{WordRow}
 use Rattle.rl_map.specs.declared.path.Level.{Level}
+use Rattle.rl_map.specs.declared.word.Word.{Word}
 use Rattle.rl_map.specs.declared.rows.MapRow.{MapRow}
 use Rattle.rl_map.specs.declared.rows.PortRow.{PortRow}
 use Rattle.rl_map.specs.declared.rows.PlaceRow.{PlaceRow}
@@ -81,17 +82,13 @@ append_twice [] ys zs = refl
 append_twice (x ∷ xs) ys zs = ap (λ us. x ∷ us) (append_twice xs ys zs)
 
 -- the rows of one location more
-pub location_more : (maps : List MapRow) (ports : List PortRow) (number : ℕ) (p : PlaceRow) (i : ℕ) (old rows rows' : List WordRow) (map : MapRow) (port : PortRow) (path : List Level)
-    → p.map < length maps → p.port < length ports → map ≡ get_or maps p.map map → port ≡ get_or ports p.port port → path ≡ map.path
+pub location_more : (maps : List MapRow) (ports : List PortRow) (number : ℕ) (p : PlaceRow) (i : ℕ) (old rows rows' : List WordRow) (words : List Word)
     → rows ≡ old ++ flat_map (location_rows_of maps ports number p) (range_with_len 0 i)
-    → rows' ≡ rows ++ mapped (word_row p number i) (item_words path port.base (location_of p i))
+    → rows' ≡ rows ++ mapped (word_row p number i) words → words ≡ item_words (path_in maps p) (port_for ports p).base (location_of p i)
     → rows' ≡ old ++ flat_map (location_rows_of maps ports number p) (range_with_len 0 (i + 1))
-location_more maps ports number p i old rows rows' map port path low_m low_p a b e was now =
+location_more maps ports number p i old rows rows' words was now e =
     let f = location_rows_of maps ports number p in
-    let path_is : path ≡ path_in maps p = e ∙ ap (λ (m : MapRow). m.path) (read_is maps p.map map no_map low_m a) in
-    let port_is : port ≡ port_for ports p = read_is ports p.port port no_port low_p b in
-    now ∙ ap (λ x. rows ++ mapped (word_row p number i) (item_words x port.base (location_of p i))) path_is
-    ∙ ap (λ x. rows ++ mapped (word_row p number i) (item_words (path_in maps p) x.base (location_of p i))) port_is
+    now ∙ ap (λ ws. rows ++ mapped (word_row p number i) ws) e
     ∙ ap (λ x. x ++ f i) was
     ∙ append_twice old (flat_map f (range_with_len 0 i)) (f i)
     ∙ ap (λ x. old ++ x) (sym (flat_more f i))

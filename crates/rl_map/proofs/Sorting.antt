@@ -1,5 +1,5 @@
 -- Rows by port and address.
-use Rattle.std.proofs.Common.{◌≡◌, ℕ, zero, suc, ◌+◌, ◌*◌, ◌^◌, ◌<◌, ◌≤◌, inl, inr, Bool, true, false, ◌&&◌, ◌==◌, List, [], ◌∷◌, ◌++◌, length, take, drop, nat_lt, nat_le, refl, sym, ap, ◌∙◌, arith, eq-eqb, eqb-true}
+use Rattle.std.proofs.Common.{◌≡◌, ℕ, zero, suc, ◌+◌, ◌*◌, ◌^◌, ◌<◌, ◌≤◌, ◌-◌, ◌⊎◌, inl, inr, Bool, true, false, ◌&&◌, ◌==◌, List, [], ◌∷◌, ◌++◌, length, get_or, subst, take, drop, nat_lt, nat_le, refl, sym, ap, ◌∙◌, arith, eq-eqb, eqb-true}
 use Rattle.std.specs.Prelude.{filter, All}
 use Rattle.std.specs.List.{AllByRecursion, AllWithin}
 use Rattle.std.proofs.lemmas.Bool.{cases_lt}
@@ -12,6 +12,7 @@ use Rattle.rl_bus.specs.declared.table.Cell.TheVariants as cell
 use Rattle.rl_bus.specs.Setup.{stands_at}
 use Rattle.rl_map.specs.Layout.{key_of}
 use Rattle.rl_map.proofs.Lists.{filter_none, filter_all, filter_same, all_below, all_from}
+use Rattle.rl_map.proofs.Lookups.{default_any}
 
 -- ---- a key tells port and address
 
@@ -117,3 +118,24 @@ group_is rows key start n p =
     append_none : {X : Type 0} (xs : List X) → xs ++ [] ≡ xs
     append_none [] = refl
     append_none (x ∷ xs) = ap (λ ys. x ∷ ys) (append_none xs)
+
+-- ---- rows that stand in order already
+
+abbrev pub AscendBelow : List WordRow → ℕ → Type 0
+AscendBelow rows k = (i j : ℕ) (d : WordRow) → i ≤ j → j < k → key_of (get_or rows i d) ≤ key_of (get_or rows j d)
+
+pub ascend_more : (rows : List WordRow) (k low high : ℕ) (x y : WordRow) → 1 ≤ k → k < length rows → AscendBelow rows k
+    → high ≡ key_of (get_or rows k x) → low ≡ key_of (get_or rows (k - 1) y) → low ≤ high → AscendBelow rows (k + 1)
+ascend_more rows k low high x y some in_k was a b less i j d le lt = at (cases_lt j k) (cases_lt i k)
+  where
+    at : (j < k) ⊎ (k ≤ j) → (i < k) ⊎ (k ≤ i) → key_of (get_or rows i d) ≤ key_of (get_or rows j d)
+    at (inl h) g = was i j d le h
+    at (inr h) (inl g) =
+        let here : j ≡ k = omega arith in
+        let before = was i (k - 1) d (omega arith) (omega arith) in
+        let high_is = a ∙ ap key_of (default_any rows k x d in_k) in
+        let low_is = b ∙ ap key_of (default_any rows (k - 1) y d (omega arith)) in
+        subst (λ n. key_of (get_or rows i d) ≤ key_of (get_or rows n d)) (sym here) (omega (arith, before, high_is, low_is))
+    at (inr h) (inr g) =
+        let same : i ≡ j = omega arith in
+        subst (λ n. key_of (get_or rows i d) ≤ key_of (get_or rows n d)) same (omega arith)

@@ -9,6 +9,8 @@ pub mod Faults
 pub mod Tables
 pub mod LayoutText
 pub mod Building
+pub mod Locations
+pub mod Links
 pub mod Laws
 pub mod Steps
 pub mod Clashes

@@ -1,9 +1,11 @@
 //! Whether the addresses of a place are those that its port's adapter takes.
-ghost use Rattle.std.specs.Prelude.{◌≡◌, ◌<◌, ◌≤◌, ◌^◌, ℕ, length};
+ghost use Rattle.std.specs.Prelude.{◌≡◌, ◌+◌, ◌<◌, ◌≤◌, ◌^◌, ℕ, length, true};
 ghost use Rattle.std.specs.List.{list_any, range_with_len};
 ghost use Rattle.rl_map.specs.Level.{IsPath};
 ghost use Rattle.rl_map.specs.Building.{placed_at};
 ghost use Rattle.rl_map.specs.Faults.{is_above, is_unaligned, some_byte};
+ghost use Rattle.rl_map.specs.Layout.{location_of};
+ghost use Rattle.rl_map.specs.Locations.{AreStraight};
 
 use crate::path::Level;
 use crate::rows::{PlaceRow, PortRow, location};
@@ -46,13 +48,40 @@ fn is_location_above(row: &PlaceRow, path: &[Level], port: &PortRow, index: u32)
     false
 }
 
+/// Whether the first two locations of an item are straight on the way of each byte, so that all of them
+/// stand evenly.
+fn is_even(row: &PlaceRow, path: &[Level]) -> bool
+    requires path { IsPath path.now }
+    requires size { row.now.bytes ≤ 8 }
+    ensures { result ≡ true → AreStraight path.now (location_of row.now 0) 2 }
+{
+    for byte in 0..row.bytes {
+        if location(row, 0).is_askew(path, byte) || location(row, 1).is_askew(path, byte) {
+            return false;
+        }
+    }
+    true
+}
+
+/// The first location that has to be tested for an address above: the last one, where all stand evenly.
+fn first_to_test(row: &PlaceRow, path: &[Level]) -> u32
+    requires path { IsPath path.now }
+    requires size { row.now.bytes ≤ 8 }
+    requires locations { 1 ≤ row.now.size }
+    ensures even { 0 < result → AreStraight path.now (location_of row.now 0) 2 }
+    ensures last { 0 < result → result + 1 ≡ row.now.size }
+{
+    if is_even(row, path) { row.size - 1 } else { 0 }
+}
+
 /// Whether a word of a place stands above the adapter's last address.
 pub(crate) fn is_place_above(row: &PlaceRow, path: &[Level], port: &PortRow) -> bool
     requires path { IsPath path.now }
     requires size { row.now.bytes ≤ 8 }
+    requires locations { 1 ≤ row.now.size }
     ensures { result ≡ some_byte (placed_at row.now path.now port.now) (is_above (placed_at row.now path.now port.now)) }
 {
-    for index in 0..row.size {
+    for index in first_to_test(row, path)..row.size {
         if is_location_above(row, path, port, index) {
             return true;
         }
@@ -74,14 +103,15 @@ fn is_location_unaligned(row: &PlaceRow, path: &[Level], port: &PortRow, index: 
     false
 }
 
-/// Whether a word of a place stands at an address that isn't aligned.
+/// Whether a word of a place stands at an address that isn't aligned. Where the first two locations stand
+/// aligned, all do.
 pub(crate) fn is_place_unaligned(row: &PlaceRow, path: &[Level], port: &PortRow) -> bool
     requires path { IsPath path.now }
     requires size { row.now.bytes ≤ 8 }
     requires width { 0 < port.now.bytes }
     ensures { result ≡ some_byte (placed_at row.now path.now port.now) (is_unaligned (placed_at row.now path.now port.now)) }
 {
-    for index in 0..row.size {
+    for index in 0..row.size.min(2) {
         if is_location_unaligned(row, path, port, index) {
             return true;
         }

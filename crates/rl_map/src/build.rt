@@ -7,9 +7,10 @@ ghost use Rattle.rl_map.specs.Clashes.{first_fault};
 
 use crate::fault::{MapCause, MapFault, refusal, row_at};
 use crate::layout::Layout;
+use crate::links::ItemLinks;
 use crate::maps::add_maps;
 use crate::parts::{MapNode, PlacePart};
-use crate::places::add_places;
+use crate::places::{Placing, add_places};
 use crate::shared::{Shared, first_shared, sort_rows};
 use rl_bus::AdapterKind;
 use rl_model::{Array, Chip};
@@ -54,9 +55,19 @@ impl Layout {
     {
         let tables = add_maps(alloc, maps, kinds)?;
         let (map_rows, ports) = tables;
-        let mut place_rows = Vec::new(alloc);
-        let mut rows = Vec::new(alloc);
-        let refused = add_places(chip, &map_rows, &ports, &mut place_rows, &mut rows, places)?;
+        let mut placing = Placing {
+            places: Vec::new(alloc),
+            links: ItemLinks::new(alloc),
+            rows: Vec::new(alloc),
+            words: Vec::new(alloc),
+        };
+        let refused = add_places(chip, &map_rows, &ports, &mut placing, places)?;
+        let Placing {
+            places: place_rows,
+            links,
+            mut rows,
+            words,
+        } = placing;
         sort_rows(&mut rows)?;
         let shared = first_shared(&place_rows, &rows);
         if let Some(fault) = first_fault(shared, refused) {
@@ -68,6 +79,8 @@ impl Layout {
             ports,
             kinds: Vec::from_slice(alloc, kinds)?,
             rows,
+            words,
+            links,
         })
     }
 }

@@ -1,11 +1,10 @@
 //! Words by address.
-ghost use Rattle.std.specs.Prelude.{◌≡◌, ◌<◌, ◌≤◌, ◌*◌, ◌+◌, ◌^◌, ℕ, List, length, filter, find, position, bytes_eq, ◌&&◌, All, if◌then◌else◌};
+ghost use Rattle.std.specs.Prelude.{◌≡◌, ◌<◌, ◌≤◌, ◌*◌, ◌+◌, ◌^◌, ℕ, List, length, filter, find, position, bytes_eq, All, if◌then◌else◌};
 ghost use Rattle.rl_bus.specs.Setup.{stands_at};
-ghost use Rattle.rl_map.specs.Layout.{key_of, index_of, is_in, same_item, lets_through, IsAscending};
+ghost use Rattle.rl_map.specs.Layout.{key_of, index_of, is_in, lets_through, IsAscending};
 
-use crate::rows::{MapRow, PlaceRow};
+use crate::rows::MapRow;
 use rl_bus::{Cell, WordRow};
-use rl_model::Item;
 
 /// The place of a row in the order by port and address.
 pub(crate) fn key(row: &WordRow) -> u128
@@ -76,22 +75,6 @@ pub(crate) fn is_in(wanted: Option<u32>, map: u32) -> bool
         None => true,
         Some(wanted) => map == wanted,
     }
-}
-
-pub(crate) fn same_item(a: Item, b: Item) -> bool
-    ensures { result ≡ same_item a b }
-{
-    match (a, b) {
-        (Item::Reg(a), Item::Reg(b)) | (Item::Mem(a), Item::Mem(b)) => a == b,
-        (Item::Reg(_), Item::Mem(_)) | (Item::Mem(_), Item::Reg(_)) => false,
-    }
-}
-
-/// The number of the first place of an item, or of its place in the given map.
-pub(crate) fn place_number(places: &[PlaceRow], item: Item, map: Option<u32>) -> Option<usize>
-    ensures { result ≡ position (λ p. same_item p.item item && is_in map p.map) places.now }
-{
-    places.iter().position(|place| same_item(place.item, item) && is_in(map, place.map))
 }
 
 /// The number of the map with a name.

@@ -3,7 +3,9 @@ ghost use Rattle.std.specs.Prelude.{◌≡◌, ◌+◌, ◌^◌, ◌<◌, ◌≤
 ghost use Rattle.rl_map.specs.Layout.{map_at, port_at, place_at, seat_at, words_of, has_right, found, words_found, standing, place_of, map_named, IsLocation, IsHere, IsSound};
 ghost use Rattle.rl_map.specs.Partition.{IsWordOn};
 
-use crate::find::{count_through, first_through, index_of, map_number, place_number, rows_at};
+use crate::find::{count_through, first_through, index_of, map_number, rows_at};
+use crate::kept::PlaceWords;
+use crate::links::ItemLinks;
 use crate::rows::{Here, MapRow, PlaceRow, PortRow, location};
 use crate::seat::Seat;
 use crate::word::{Word, Words};
@@ -22,6 +24,9 @@ pub struct Layout {
     pub(crate) ports: Vec<PortRow>,
     pub(crate) kinds: Vec<AdapterKind>,
     pub(crate) rows: Vec<WordRow>,
+    /// The words of each place.
+    pub(crate) words: Vec<PlaceWords>,
+    pub(crate) links: ItemLinks,
 }
 
 impl Model for Layout {
@@ -32,8 +37,12 @@ impl Model for Layout {
     ghost view = { λ l. record { maps = l.maps.items; places = l.places.items; ports = l.ports.items; kinds = l.kinds.items; rows = l.rows.items } };
 
     ghost use Rattle.rl_map.specs.Layout.{IsSound};
+    ghost use Rattle.rl_map.specs.Locations.{AreKept};
+    ghost use Rattle.rl_map.specs.Links.{AreLinked};
 
-    ghost invariant = { λ l. IsSound (record { maps = l.maps.items; places = l.places.items; ports = l.ports.items; kinds = l.kinds.items; rows = l.rows.items }) };
+    ghost invariant = { λ l. IsSound (record { maps = l.maps.items; places = l.places.items; ports = l.ports.items; kinds = l.kinds.items; rows = l.rows.items })
+        × AreKept (record { maps = l.maps.items; places = l.places.items; ports = l.ports.items; kinds = l.kinds.items; rows = l.rows.items }) l.words.items
+        × AreLinked l.places.items l.links.lasts.items l.links.before.items };
 }
 
 impl Layout {
@@ -56,9 +65,8 @@ impl Layout {
         ensures some { 0 < result }
         ensures few { result ≤ 8 }
     {
-        let row = &self.places[place as usize];
-        let map = &self.maps[row.map as usize];
-        location(row, 0).count(map.path.levels())
+        let kept = &self.words[place as usize];
+        kept.count()
     }
 
     /// The `k`-th word of a location in the order in which they are sent.
@@ -68,7 +76,8 @@ impl Layout {
         ensures word { slice_get (words_of self.now place index) k ≡ Some result }
         ensures on { IsWordOn (port_at self.now (place_at self.now place).port).kind (port_at self.now (place_at self.now place).port).bytes result }
     {
-        self.location_words(place, index).get(k as usize)
+        let kept = &self.words[place as usize];
+        kept.word(index, k)
     }
 
     /// What stands at an address of a port for reads, or for writes.
@@ -117,10 +126,7 @@ impl Layout {
         ensures place { result ≡ place_of self.now item map }
         ensures there { IfSome result (λ p. (p < length self.now.places) × ((place_at self.now p).item ≡ item)) }
     {
-        match place_number(&self.places, item, map) {
-            None => None,
-            Some(number) => Some(number as u32),
-        }
+        self.links.place_of(&self.places, item, map)
     }
 
     /// The register or memory that stands at a place.
@@ -241,10 +247,8 @@ impl Layout {
         ensures words { result ≡ words_of self.now place index }
         ensures on { All (IsWordOn (port_at self.now (place_at self.now place).port).kind (port_at self.now (place_at self.now place).port).bytes) result }
     {
-        let row = &self.places[place as usize];
-        let map = &self.maps[row.map as usize];
-        let port = &self.ports[row.port as usize];
-        location(row, index).words(map.path.levels(), port.base)
+        let kept = &self.words[place as usize];
+        kept.location(index)
     }
 
     /// The words of all locations of all places by port and address, those of one address by place,

@@ -9,8 +9,10 @@ mod address;
 mod build;
 mod fault;
 mod find;
+mod kept;
 pub mod laws;
 mod layout;
+mod links;
 mod maps;
 mod name;
 mod parts;
@@ -19,6 +21,8 @@ mod places;
 mod rows;
 mod seat;
 mod shared;
+#[cfg(test)]
+mod tests;
 mod word;
 
 pub use fault::{MapCause, MapFault};

@@ -8,6 +8,8 @@ ghost use Rattle.rl_map.specs.Seat.{AddressesFit};
 ghost use Rattle.rl_map.specs.Words.{item_words};
 ghost use Rattle.rl_map.specs.Layout.{has_right, cell_of, word_row, location_of};
 ghost use Rattle.rl_map.specs.Faults.{is_same_place};
+ghost use Rattle.rl_map.specs.Links.{AreLinked};
+ghost use Rattle.rl_map.specs.Locations.{AreStraight, AreLocations, AreWordsOf};
 ghost use Rattle.rl_map.specs.declared.fault.MapFault.{MapFault};
 ghost use Rattle.rl_map.specs.Maps.{item_at, place_row};
 ghost use Rattle.rl_map.specs.Steps.{Tells, there_checks, fifo_checks, word_checks, own_checks, place_of_part, own_fault, own_faults, accepted};
@@ -15,7 +17,9 @@ ghost use Rattle.rl_map.specs.Building.{AreTables, IsPlacedIn, IsPlaceRow, IsSea
 
 use crate::address::{is_place_above, is_place_unaligned};
 use crate::fault::{MapCause, MapFault, refusal, row_at};
-use crate::find::{map_number, same_item};
+use crate::find::map_number;
+use crate::kept::PlaceWords;
+use crate::links::ItemLinks;
 use crate::parts::PlacePart;
 use crate::path::Level;
 use crate::rows::{MapRow, PlaceRow, PortRow, location};
@@ -106,52 +110,47 @@ fn push_words(
     Ok(())
 }
 
-/// Adds the rows of a location.
-fn push_location(
-    rows: &mut Vec<WordRow>,
-    place: &PlaceRow,
-    number: u32,
-    index: u32,
-    path: &[Level],
-    base: u64,
-) -> Result<(), AllocError>
-    requires path { IsPath path.now }
-    requires size { place.now.bytes ≤ 8 }
-    requires fits { AddressesFit path.now base (location_of place.now index) }
-    ensures { OnOk result (rows.new.items ≡ rows.old.items ++ map (word_row place.now number index) (item_words path.now base (location_of place.now index))) }
-{
-    let words = location(place, index).words(path, base);
-    push_words(rows, place, number, index, words.as_slice())
-}
-
-/// Adds the rows of all locations of a place.
+/// Adds the rows of all locations of a place, and gives its words.
 fn push_place(
     rows: &mut Vec<WordRow>,
     place: &PlaceRow,
     number: u32,
     maps: &[MapRow],
     ports: &[PortRow],
-) -> Result<(), AllocError>
+) -> Result<PlaceWords, AllocError>
     requires map { place.now.map < length maps.now }
     requires port { place.now.port < length ports.now }
     requires path { IsPath (path_in maps.now place.now) }
-    requires size { place.now.bytes ≤ 8 }
+    requires some { 1 ≤ place.now.bytes }
+    requires most { place.now.bytes ≤ 8 }
+    requires locations { 1 ≤ place.now.size }
     requires fits { (index : ℕ) → index < place.now.size → AddressesFit (path_in maps.now place.now) (port_for ports.now place.now).base (location_of place.now index) }
-    ensures { OnOk result (rows.new.items ≡ rows.old.items ++ rows_of maps.now ports.now number place.now) }
+    requires straight { AreStraight (path_in maps.now place.now) (location_of place.now 0) place.now.size }
+    ensures rows { OnOk result (rows.new.items ≡ rows.old.items ++ rows_of maps.now ports.now number place.now) }
+    ensures words { IfOk result (AreLocations (path_in maps.now place.now) (port_for ports.now place.now).base (location_of place.now 0) place.now.size) }
 {
     let map = &maps[place.map as usize];
     let port = &ports[place.port as usize];
+    let kept = PlaceWords::of(
+        &location(place, 0),
+        place.size,
+        map.path.levels(),
+        port.base,
+    );
     for index in 0..place.size {
-        push_location(rows, place, number, index, map.path.levels(), port.base)?;
+        let words = kept.location(index);
+        push_words(rows, place, number, index, words.as_slice())?;
     }
-    Ok(())
+    Ok(kept)
 }
 
 /// Whether the map and the item of a row have a place already.
-fn is_placed(places: &[PlaceRow], row: &PlaceRow) -> bool
+fn is_placed(places: &[PlaceRow], links: &ItemLinks, row: &PlaceRow) -> bool
+    requires linked { AreLinked places.now links.now.lasts.items links.now.before.items }
+    requires few { length places.now ≤ 4096 }
     ensures { result ≡ list_any (λ q. is_same_place q row.now) places.now }
 {
-    places.iter().any(|place| place.map == row.map && same_item(place.item, row.item))
+    links.place_of(places, row.item, Some(row.map)).is_some()
 }
 
 /// The row of a place, if its map and its item are there.
@@ -203,6 +202,7 @@ fn check_fifo(row: &PlaceRow) -> Result<(), MapCause>
 fn check_words(row: &PlaceRow, path: &[Level], port: &PortRow, words: usize) -> Result<(), MapCause>
     requires path { IsPath path.now }
     requires size { row.now.bytes ≤ 8 }
+    requires some { 1 ≤ row.now.size }
     requires locations { row.now.size ≤ 65536 }
     requires width { 0 < port.now.bytes }
     requires words { words ≤ 1048576 }
@@ -229,10 +229,12 @@ fn checked_place(
     maps: &[MapRow],
     ports: &[PortRow],
     places: &[PlaceRow],
+    links: &ItemLinks,
     words: usize,
     part: &PlacePart,
 ) -> Result<PlaceRow, MapCause>
     requires tables { (kinds : List Kind) × AreTables kinds maps.now ports.now }
+    requires linked { AreLinked places.now links.now.lasts.items links.now.before.items }
     requires words { words ≤ 1048576 }
     ensures few { OnOk result (length places.now < 4096) }
     ensures row { IfOk result (IsPlaceRow chip.now maps.now ports.now) }
@@ -244,7 +246,7 @@ fn checked_place(
         return Err(MapCause::TooMany);
     }
     let row = place_row(chip, maps, part)?;
-    if is_placed(places, &row) {
+    if is_placed(places, links, &row) {
         return Err(MapCause::PlacedTwice);
     }
     check_fifo(&row)?;
@@ -254,51 +256,76 @@ fn checked_place(
     Ok(row)
 }
 
-/// Adds a place and its rows, or says why it is refused.
+/// The places that were added so far, with their links, the rows of their words and what is kept of the words.
+#[derive(Drop)]
+pub(crate) struct Placing {
+    pub(crate) places: Vec<PlaceRow>,
+    pub(crate) links: ItemLinks,
+    pub(crate) rows: Vec<WordRow>,
+    pub(crate) words: Vec<PlaceWords>,
+}
+
+/// Adds a place, its rows and its words, or says why it is refused.
 fn add_place(
     chip: &Chip,
     maps: &[MapRow],
     ports: &[PortRow],
-    places: &mut Vec<PlaceRow>,
-    rows: &mut Vec<WordRow>,
+    placing: &mut Placing,
     part: &PlacePart,
 ) -> Result<Option<MapFault>, AllocError>
     requires tables { (kinds : List Kind) × AreTables kinds maps.now ports.now }
-    requires places { ArePlaces chip.now maps.now ports.now places.old.items rows.old.items }
-    ensures places { OnOk result (ArePlaces chip.now maps.now ports.now places.new.items rows.new.items) }
-    ensures fault { IfOk result (λ refused. refused ≡ own_fault chip.now maps.now ports.now places.old.items (length rows.old.items) part.now) }
-    ensures added { IfOk result (λ refused. refused ≡ None → places.new.items ≡ places.old.items ++ place_row chip.now maps.now part.now ∷ []) }
-    ensures kept { IfOk result (λ refused. (fault : MapFault) → refused ≡ Some fault → places.new.items ≡ places.old.items) }
+    requires places { ArePlaces chip.now maps.now ports.now placing.old.places.items placing.old.rows.items }
+    requires words { AreWordsOf maps.now ports.now placing.old.places.items placing.old.words.items }
+    requires links { AreLinked placing.old.places.items placing.old.links.lasts.items placing.old.links.before.items }
+    ensures places { OnOk result (ArePlaces chip.now maps.now ports.now placing.new.places.items placing.new.rows.items) }
+    ensures words { OnOk result (AreWordsOf maps.now ports.now placing.new.places.items placing.new.words.items) }
+    ensures links { OnOk result (AreLinked placing.new.places.items placing.new.links.lasts.items placing.new.links.before.items) }
+    ensures fault { IfOk result (λ refused. refused ≡ own_fault chip.now maps.now ports.now placing.old.places.items (length placing.old.rows.items) part.now) }
+    ensures added { IfOk result (λ refused. refused ≡ None → placing.new.places.items ≡ placing.old.places.items ++ place_row chip.now maps.now part.now ∷ []) }
+    ensures kept { IfOk result (λ refused. (fault : MapFault) → refused ≡ Some fault → placing.new.places.items ≡ placing.old.places.items) }
 {
-    let number = places.len() as u32;
-    let words = rows.len();
-    match checked_place(chip, maps, ports, places, words, part) {
+    let number = placing.places.len() as u32;
+    let count = placing.rows.len();
+    match checked_place(
+        chip,
+        maps,
+        ports,
+        &placing.places,
+        &placing.links,
+        count,
+        part,
+    ) {
         Err(cause) => Ok(Some(refusal(row_at(Array::Place, number), cause))),
         Ok(row) => {
-            push_place(rows, &row, number, maps, ports)?;
-            places.push(row)?;
+            let words = push_place(&mut placing.rows, &row, number, maps, ports)?;
+            placing.words.push(words)?;
+            placing.links.push(&placing.places, &row)?;
+            placing.places.push(row)?;
             Ok(None)
         }
     }
 }
 
-/// Adds all places and their rows, up to the first that is refused.
+/// Adds all places up to the first that is refused.
 pub(crate) fn add_places(
     chip: &Chip,
     maps: &[MapRow],
     ports: &[PortRow],
-    places: &mut Vec<PlaceRow>,
-    rows: &mut Vec<WordRow>,
+    placing: &mut Placing,
     parts: &[PlacePart],
 ) -> Result<Option<MapFault>, AllocError>
     requires tables { (kinds : List Kind) × AreTables kinds maps.now ports.now }
-    requires places { ArePlaces chip.now maps.now ports.now places.old.items rows.old.items }
-    ensures places { OnOk result (ArePlaces chip.now maps.now ports.now places.new.items rows.new.items) }
-    ensures fault { IfOk result (λ refused. refused ≡ own_faults chip.now maps.now ports.now places.old.items (length rows.old.items) parts.now) }
-    ensures accepted { OnOk result (places.new.items ≡ places.old.items ++ accepted chip.now maps.now ports.now places.old.items (length rows.old.items) parts.now) }
+    requires places { ArePlaces chip.now maps.now ports.now placing.old.places.items placing.old.rows.items }
+    requires words { AreWordsOf maps.now ports.now placing.old.places.items placing.old.words.items }
+    requires links { AreLinked placing.old.places.items placing.old.links.lasts.items placing.old.links.before.items }
+    ensures places { OnOk result (ArePlaces chip.now maps.now ports.now placing.new.places.items placing.new.rows.items) }
+    ensures words { OnOk result (AreWordsOf maps.now ports.now placing.new.places.items placing.new.words.items) }
+    ensures links { OnOk result (AreLinked placing.new.places.items placing.new.links.lasts.items placing.new.links.before.items) }
+    ensures fault { IfOk result (λ refused. refused ≡ own_faults chip.now maps.now ports.now placing.old.places.items (length placing.old.rows.items) parts.now) }
+    ensures accepted { OnOk result (placing.new.places.items ≡ placing.old.places.items ++ accepted chip.now maps.now ports.now placing.old.places.items (length placing.old.rows.items) parts.now) }
 {
     for part in parts {
-        let refused = add_place(chip, maps, ports, places, rows, part)?;
+        let refused = add_place(chip, maps, ports, placing, part)?;
         if refused.is_some() {
             return Ok(refused);
         }

@@ -101,6 +101,17 @@ impl Location {
     ghost use Rattle.rl_map.specs.Faults.{is_askew};
     ghost use Rattle.rl_map.specs.Seat.{access_of, seat_of, AddressesFit};
 
+    /// Another location of the same item.
+    pub(crate) fn at(&self, index: u32) -> Location
+        ensures { result ≡ record self.now { index = index } }
+    {
+        Location {
+            bytes: self.bytes,
+            offset: self.offset,
+            index,
+        }
+    }
+
     /// The byte of the root's access that a byte of the item is, by a path.
     pub(crate) fn climb(&self, path: &[Level], byte: u64) -> Access
         requires path { IsPath path.now }

@@ -137,12 +137,27 @@ pub(crate) fn first_shared(places: &[PlaceRow], rows: &[WordRow]) -> Option<Shar
     best
 }
 
+/// Whether rows stand in order by port and address.
+fn is_ascending(rows: &[WordRow]) -> bool
+    ensures { result ≡ true → IsAscending rows.now }
+{
+    for k in 1..rows.len() {
+        if key(&rows[k]) < key(&rows[k - 1]) {
+            return false;
+        }
+    }
+    true
+}
+
 /// Puts rows in order by port and address; those of one address stay as they are.
 pub(crate) fn sort_rows(rows: &mut Vec<WordRow>) -> Result<(), AllocError>
     ensures moved { IsPermutation rows.old.items rows.new.items }
     ensures ascending { OnOk result (IsAscending rows.new.items) }
     ensures stable { IsStableByKey key_of nat_cmp rows.old.items rows.new.items }
 {
+    if is_ascending(rows) {
+        return Ok(());
+    }
     rows.sort_by_key(|row| key(row))?;
     Ok(())
 }

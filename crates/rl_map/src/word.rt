@@ -1,7 +1,8 @@
 //! The words of an item: the bytes that one bus item carries.
-ghost use Rattle.std.specs.Prelude.{◌≡◌, ℕ, ◌+◌, ◌^◌, ◌<◌, ◌≤◌, ◌==◌, if◌then◌else◌, List, [], ◌∷◌, ◌++◌, length, take, slice_get, Some, IsTrue, ◌↔◌};
+ghost use Rattle.std.specs.Prelude.{◌≡◌, ℕ, ◌+◌, ◌^◌, ◌<◌, ◌≤◌, ◌==◌, if◌then◌else◌, List, [], ◌∷◌, ◌++◌, ◌*◌, length, take, slice_get, Some, IsTrue, ◌↔◌, All};
 ghost use Rattle.std.specs.List.{list_any};
 ghost use Rattle.rl_map.specs.Words.{byte_at, address_at, word_of, words_below, seats_of, item_words, words_with};
+ghost use Rattle.rl_map.specs.Locations.{all_further};
 ghost use Rattle.rl_map.specs.Level.{IsPath};
 ghost use Rattle.rl_map.specs.Seat.{AddressesFit, slots};
 
@@ -19,6 +20,23 @@ pub struct Word {
     pub address: u64,
     pub lanes: u8,
     pub bytes: [u8; 8],
+}
+
+impl Word {
+    ghost use Rattle.rl_map.specs.Locations.{further};
+
+    /// The same word so many steps further.
+    pub(crate) fn further(&self, index: u32, step: u64) -> Word
+        requires { self.now.address + index * step < 2 ^ 64 }
+        ensures { result ≡ further (index * step) self.now }
+    {
+        Word {
+            order: self.order,
+            address: self.address + u64::from(index) * step,
+            lanes: self.lanes,
+            bytes: self.bytes,
+        }
+    }
 }
 
 /// The byte at a lane of the word with an order.
@@ -110,13 +128,15 @@ impl Words {
     }
 
     pub(crate) fn len(&self) -> usize
-        ensures { result ≡ length self.now }
+        ensures count { result ≡ length self.now }
+        ensures few { result ≤ 8 }
     {
         self.len
     }
 
     pub(crate) fn as_slice(&self) -> &[Word]
-        ensures { result.now ≡ self.now }
+        ensures words { result.now ≡ self.now }
+        ensures few { length result.now ≤ 8 }
     {
         &self.words[..self.len]
     }
@@ -143,6 +163,18 @@ impl Words {
             }
         }
         unreachable!()
+    }
+
+    /// These words so many steps further.
+    pub(crate) fn further(&self, index: u32, step: u64) -> Words
+        requires { All (λ w. w.address + index * step < 2 ^ 64) self.now }
+        ensures { result ≡ all_further (index * step) self.now }
+    {
+        let mut words = Words::new();
+        for word in self.as_slice() {
+            words.push(word.further(index, step));
+        }
+        words
     }
 
     fn push(&mut self, word: Word)

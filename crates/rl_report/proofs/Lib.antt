@@ -1,4 +1,6 @@
+pub mod EventLemmas
 pub mod LineLemmas
+pub mod ListingLemmas
 pub mod OpeningLemmas
 pub mod NumberLemmas
 pub mod PieceLemmas

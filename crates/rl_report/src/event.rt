@@ -1,10 +1,13 @@
 // The text of an event.
-ghost use Rattle.std.specs.Prelude.{◌≡◌, ◌+◌, ◌*◌, ◌^◌, ◌<◌, ◌≤◌, [], ◌∷◌, false, length, IfSome};
+ghost use Rattle.std.specs.Prelude.{◌≡◌, ◌+◌, ◌*◌, ◌^◌, ◌<◌, ◌≤◌, [], ◌∷◌, true, false, length, flat_map, ◌&&◌, IfSome};
 ghost use Rattle.rl_bus.specs.Causes.{HasCause};
-ghost use Rattle.rl_mirror.specs.Fields.{field_of, size_of};
+ghost use Rattle.rl_policy.specs.Bits.{bit};
+ghost use Rattle.rl_model.specs.Chip.{HasItem, IsSound, path_of_item};
+ghost use Rattle.rl_map.specs.Layout.{port_at};
+ghost use Rattle.rl_mirror.specs.Fields.{field_of, first_of, count_of, size_of};
 ghost use Rattle.rl_access.specs.Event.{EventFits, ItemFits};
 ghost use Rattle.rl_access.specs.Operation.{HasNumbers, IsMapIn, register_of, reg_of, location_size, field_digits, digits_of};
-ghost use Rattle.rl_report.specs.EventText.{number_text, why_text, ends_as_reset_of};
+ghost use Rattle.rl_report.specs.EventText.{number_text, map_text, kind_text, reg_text, field_text, mem_text, burst_text, op_text, why_text, end_text, name_text, names_text, is_show, is_done, is_check, has_differ, desired_text, differ_text, after_text, is_refused, rest_text, result_text, event_line, way_text, answer_text, word_of, transfer_text, item_line, event_text, ends_as_reset_of, is_on_register};
 ghost use Rattle.rl_report.specs.Numbers.{padded};
 ghost use Rattle.rl_report.specs.Pieces.{Puts, joined};
 
@@ -32,6 +35,7 @@ fn put_number<K: Sink>(sink: &mut K, n: Option<u64>) -> Result<(), Failed>
 // Writes a map that may be missing.
 fn put_map<K: Sink>(sink: &mut K, model: &Model, through: Option<u32>) -> Result<(), Failed>
     requires { IsMapIn (length model.now.layout.maps) through }
+    ensures bytes { Puts (K.written sink.old) (K.written sink.new) (map_text model.now.layout through) result }
     ensures cause { HasCause (K.faults sink.old) (K.faults sink.new) result }
     ensures ends_kept { K.ends sink.new ≡ K.ends sink.old }
     ensures same_target { K.target sink.new ≡ K.target sink.old }
@@ -39,8 +43,32 @@ fn put_map<K: Sink>(sink: &mut K, model: &Model, through: Option<u32>) -> Result
     let Some(number) = through else {
         return Ok(());
     };
-    put_all(sink, b" @")?;
-    put_all(sink, model.layout().map_name(number))
+    let pieces: [&[u8]; 2] = [b" @", model.layout().map_name(number)];
+    put_pieces(sink, &pieces)
+}
+
+// The path of an item.
+fn path_of(model: &Model, item: Item) -> &[u8]
+    requires { HasItem model.now.chip item }
+    ensures { result.now ≡ path_of_item model.now.chip item }
+{
+    model.chip().path(item)
+}
+
+// The name of a field.
+fn name_of(model: &Model, field: u32) -> &[u8]
+    requires { field < length model.now.chip.fields }
+    ensures { result.now ≡ (field_of model.now.chip field).name }
+{
+    model.chip().field_name(field)
+}
+
+// The name of a reset kind.
+fn kind_name(model: &Model, kind: u32) -> &[u8]
+    requires { kind < length model.now.chip.kinds }
+    ensures { result.now ≡ kind_text model.now.chip kind }
+{
+    model.chip().kind_name(kind)
 }
 
 // Writes an operation on a register.
@@ -54,12 +82,13 @@ fn put_reg<K: Sink>(
 ) -> Result<(), Failed>
     requires reg { reg < length model.now.chip.regs }
     requires through { IsMapIn (length model.now.layout.maps) through }
+    ensures bytes { Puts (K.written sink.old) (K.written sink.new) (reg_text model.now verb.now reg value through) result }
     ensures cause { HasCause (K.faults sink.old) (K.faults sink.new) result }
     ensures ends_kept { K.ends sink.new ≡ K.ends sink.old }
     ensures same_target { K.target sink.new ≡ K.target sink.old }
 {
     put_all(sink, verb)?;
-    put_all(sink, model.chip().path(Item::Reg(reg)))?;
+    put_all(sink, path_of(model, Item::Reg(reg)))?;
     put_number(sink, value)?;
     put_map(sink, model, through)
 }
@@ -75,15 +104,15 @@ fn put_field<K: Sink>(
 ) -> Result<(), Failed>
     requires field { field < length model.now.chip.fields }
     requires through { IsMapIn (length model.now.layout.maps) through }
+    ensures bytes { Puts (K.written sink.old) (K.written sink.new) (field_text model.now verb.now field value through) result }
     ensures cause { HasCause (K.faults sink.old) (K.faults sink.new) result }
     ensures ends_kept { K.ends sink.new ≡ K.ends sink.old }
     ensures same_target { K.target sink.new ≡ K.target sink.old }
 {
-    let chip = model.chip();
     put_all(sink, verb)?;
-    put_all(sink, chip.path(Item::Reg(chip.field(field).reg)))?;
+    put_all(sink, path_of(model, Item::Reg(register_with(model, field))))?;
     put_all(sink, b".")?;
-    put_all(sink, chip.field_name(field))?;
+    put_all(sink, name_of(model, field))?;
     put_number(sink, value)?;
     put_map(sink, model, through)
 }
@@ -100,12 +129,13 @@ fn put_mem<K: Sink>(
 ) -> Result<(), Failed>
     requires mem { mem < length model.now.chip.mems }
     requires through { IsMapIn (length model.now.layout.maps) through }
+    ensures bytes { Puts (K.written sink.old) (K.written sink.new) (mem_text model.now verb.now mem index value through) result }
     ensures cause { HasCause (K.faults sink.old) (K.faults sink.new) result }
     ensures ends_kept { K.ends sink.new ≡ K.ends sink.old }
     ensures same_target { K.target sink.new ≡ K.target sink.old }
 {
     put_all(sink, verb)?;
-    put_all(sink, model.chip().path(Item::Mem(mem)))?;
+    put_all(sink, path_of(model, Item::Mem(mem)))?;
     put_number(sink, Some(index))?;
     put_number(sink, value)?;
     put_map(sink, model, through)
@@ -123,22 +153,25 @@ fn put_burst<K: Sink>(
 ) -> Result<(), Failed>
     requires mem { mem < length model.now.chip.mems }
     requires through { IsMapIn (length model.now.layout.maps) through }
+    ensures bytes { Puts (K.written sink.old) (K.written sink.new) (burst_text model.now verb.now mem first count through) result }
     ensures cause { HasCause (K.faults sink.old) (K.faults sink.new) result }
     ensures ends_kept { K.ends sink.new ≡ K.ends sink.old }
     ensures same_target { K.target sink.new ≡ K.target sink.old }
 {
     let mut buffer = Buffer::new();
-    let pieces: [&[u8]; 2] = [b" count ", buffer.format(count).as_bytes()];
     put_all(sink, verb)?;
-    put_all(sink, model.chip().path(Item::Mem(mem)))?;
+    put_all(sink, path_of(model, Item::Mem(mem)))?;
     put_number(sink, Some(first))?;
-    put_pieces(sink, &pieces)?;
+    put_all(sink, b" count ")?;
+    put_all(sink, buffer.format(count).as_bytes())?;
     put_map(sink, model, through)
 }
 
 // Writes an operation on a register, in canonical spelling.
 fn put_reg_op<K: Sink>(sink: &mut K, model: &Model, op: Op) -> Result<(), Failed>
-    requires { HasNumbers model.now.chip (length model.now.layout.maps) op }
+    requires numbers { HasNumbers model.now.chip (length model.now.layout.maps) op }
+    requires on_register { is_on_register op ≡ true }
+    ensures bytes { Puts (K.written sink.old) (K.written sink.new) (op_text model.now op) result }
     ensures cause { HasCause (K.faults sink.old) (K.faults sink.new) result }
     ensures ends_kept { K.ends sink.new ≡ K.ends sink.old }
     ensures same_target { K.target sink.new ≡ K.target sink.old }
@@ -161,13 +194,14 @@ fn put_reg_op<K: Sink>(sink: &mut K, model: &Model, op: Op) -> Result<(), Failed
             put_reg(sink, model, b"other-write ", reg, Some(value), map)
         }
         Op::OtherRead { reg, map } => put_reg(sink, model, b"other-read ", reg, None, map),
-        _ => Ok(()),
+        _ => unreachable!(),
     }
 }
 
 // Writes an operation in canonical spelling.
 fn put_op<K: Sink>(sink: &mut K, model: &Model, op: Op) -> Result<(), Failed>
     requires { HasNumbers model.now.chip (length model.now.layout.maps) op }
+    ensures bytes { Puts (K.written sink.old) (K.written sink.new) (op_text model.now op) result }
     ensures cause { HasCause (K.faults sink.old) (K.faults sink.new) result }
     ensures ends_kept { K.ends sink.new ≡ K.ends sink.old }
     ensures same_target { K.target sink.new ≡ K.target sink.old }
@@ -211,8 +245,8 @@ fn put_op<K: Sink>(sink: &mut K, model: &Model, op: Op) -> Result<(), Failed>
             count,
         } => { put_burst(sink, model, b"burst-read ", mem, first, count, map) }
         Op::Reset { kind } => {
-            put_all(sink, b"reset ")?;
-            put_all(sink, model.chip().kind_name(kind))
+            let pieces: [&[u8]; 2] = [b"reset ", kind_name(model, kind)];
+            put_pieces(sink, &pieces)
         }
         _ => put_reg_op(sink, model, op),
     }
@@ -352,9 +386,10 @@ fn put_value<K: Sink>(sink: &mut K, text: &[u8], value: u64, count: u32) -> Resu
     put_pieces(sink, &pieces)
 }
 
-// Writes how an operation ended, but for a refusal.
+// Writes how an operation ended.
 fn put_end<K: Sink>(sink: &mut K, model: &Model, event: &Event) -> Result<(), Failed>
     requires { EventFits model.now event.now }
+    ensures bytes { Puts (K.written sink.old) (K.written sink.new) (end_text (digits_of model.now.chip event.now.op) event.now.end) result }
     ensures cause { HasCause (K.faults sink.old) (K.faults sink.new) result }
     ensures ends_kept { K.ends sink.new ≡ K.ends sink.old }
     ensures same_target { K.target sink.new ≡ K.target sink.old }
@@ -369,50 +404,130 @@ fn put_end<K: Sink>(sink: &mut K, model: &Model, event: &Event) -> Result<(), Fa
             let pieces: [&[u8]; 2] = [b": bus error at word ", buffer.format(word).as_bytes()];
             put_pieces(sink, &pieces)
         }
-        End::Refused { .. } => Ok(()),
+        End::Refused { why } => {
+            let pieces: [&[u8]; 2] = [b": refused ", why_text(why)];
+            put_pieces(sink, &pieces)
+        }
     }
 }
 
 // The desired value is told.
-fn shows_desired(op: Op, end: End) -> bool {
-    matches!(op, Op::Set { .. } | Op::Show { .. }) && end == End::Done
+fn shows_desired(op: Op, end: End) -> bool
+    ensures { result ≡ (is_show op && is_done end) }
+{
+    matches!(op, Op::Set { .. } | Op::Show { .. }) && matches!(end, End::Done)
 }
 
 // The operation compares.
-fn is_check(op: Op) -> bool {
+fn is_check(op: Op) -> bool
+    ensures { result ≡ is_check op }
+{
     matches!(
         op,
         Op::Check { .. } | Op::BackCheck { .. } | Op::MemCheck { .. }
     )
 }
 
-// Writes the names of the differing fields of a register.
-fn put_differ<K: Sink>(sink: &mut K, model: &Model, reg: u32, differ: u64) -> Result<(), Failed>
-    requires { reg < length model.now.chip.regs }
+// A comparison found something.
+fn has_differ(event: &Event) -> bool
+    ensures { result ≡ has_differ event.now }
+{
+    is_check(event.op) && event.differ != 0
+}
+
+// The bit of a differing field is set.
+fn has_mark(differ: u64, place: u32) -> bool
+    requires { place < 64 }
+    ensures { result ≡ bit differ place }
+{
+    differ >> place & 1 == 1
+}
+
+// Writes the name of a register's field, where it differs.
+fn put_name<K: Sink>(
+    sink: &mut K,
+    model: &Model,
+    reg: u32,
+    differ: u64,
+    place: u32,
+) -> Result<(), Failed>
+    requires reg { reg < length model.now.chip.regs }
+    requires place { place < count_of model.now.chip reg }
+    ensures bytes { Puts (K.written sink.old) (K.written sink.new) (name_text model.now.chip reg differ place) result }
     ensures cause { HasCause (K.faults sink.old) (K.faults sink.new) result }
     ensures ends_kept { K.ends sink.new ≡ K.ends sink.old }
     ensures same_target { K.target sink.new ≡ K.target sink.old }
 {
-    let chip = model.chip();
-    let (first, count) = fields_with(model, reg);
-    put_all(sink, b" differ")?;
-    for k in 0..count {
-        if differ >> k & 1 == 1 {
-            put_all(sink, b" ")?;
-            put_all(sink, chip.field_name(first + k))?;
-        }
+    let (first, _) = fields_with(model, reg);
+    if !has_mark(differ, place) {
+        return Ok(());
+    }
+    let pieces: [&[u8]; 2] = [b" ", name_of(model, first + place)];
+    put_pieces(sink, &pieces)
+}
+
+// Writes the names of the differing fields of a register.
+fn put_names<K: Sink>(sink: &mut K, model: &Model, reg: u32, differ: u64) -> Result<(), Failed>
+    requires reg { reg < length model.now.chip.regs }
+    ensures bytes { Puts (K.written sink.old) (K.written sink.new) (names_text model.now.chip reg differ) result }
+    ensures cause { HasCause (K.faults sink.old) (K.faults sink.new) result }
+    ensures ends_kept { K.ends sink.new ≡ K.ends sink.old }
+    ensures same_target { K.target sink.new ≡ K.target sink.old }
+{
+    let (_, count) = fields_with(model, reg);
+    for place in 0..count {
+        put_name(sink, model, reg, differ, place)?;
     }
     Ok(())
+}
+
+// Writes which fields of a register differ, if any.
+fn put_differ<K: Sink>(sink: &mut K, model: &Model, event: &Event, reg: u32) -> Result<(), Failed>
+    requires reg { reg < length model.now.chip.regs }
+    ensures bytes { Puts (K.written sink.old) (K.written sink.new) (differ_text model.now.chip event.now reg) result }
+    ensures cause { HasCause (K.faults sink.old) (K.faults sink.new) result }
+    ensures ends_kept { K.ends sink.new ≡ K.ends sink.old }
+    ensures same_target { K.target sink.new ≡ K.target sink.old }
+{
+    if !has_differ(event) {
+        return Ok(());
+    }
+    put_all(sink, b" differ")?;
+    put_names(sink, model, reg, event.differ)
 }
 
 // The first of a register's fields, and how many they are.
 fn fields_with(model: &Model, reg: u32) -> (u32, u32)
     requires { reg < length model.now.chip.regs }
+    ensures first { result.0 ≡ first_of model.now.chip reg }
+    ensures count { result.1 ≡ count_of model.now.chip reg }
     ensures within { result.0 + result.1 ≤ length model.now.chip.fields }
     ensures few { result.1 ≤ 64 }
+    ensures bound { result.0 + result.1 < 2 ^ 32 }
+    ensures sound { IsSound model.now.chip }
 {
     let chip = model.chip();
     (chip.first_field(reg), chip.field_count(reg))
+}
+
+// Writes the desired value, where the operation shows it.
+fn put_desired<K: Sink>(sink: &mut K, model: &Model, event: &Event, reg: u32) -> Result<(), Failed>
+    requires reg { reg < length model.now.chip.regs }
+    requires desired { event.now.desired < 16 ^ (2 * size_of model.now.chip reg) }
+    ensures bytes { Puts (K.written sink.old) (K.written sink.new) (desired_text model.now.chip event.now reg) result }
+    ensures cause { HasCause (K.faults sink.old) (K.faults sink.new) result }
+    ensures ends_kept { K.ends sink.new ≡ K.ends sink.old }
+    ensures same_target { K.target sink.new ≡ K.target sink.old }
+{
+    if !shows_desired(event.op, event.end) {
+        return Ok(());
+    }
+    put_value(
+        sink,
+        b" desired 0x",
+        event.desired,
+        register_digits(model, reg),
+    )
 }
 
 // Writes what is believed of the register of an event.
@@ -420,43 +535,69 @@ fn put_register<K: Sink>(sink: &mut K, model: &Model, event: &Event, reg: u32) -
     requires reg { reg < length model.now.chip.regs }
     requires mirrored { event.now.mirrored < 16 ^ (2 * size_of model.now.chip reg) }
     requires desired { event.now.desired < 16 ^ (2 * size_of model.now.chip reg) }
+    ensures bytes { Puts (K.written sink.old) (K.written sink.new) (after_text model.now.chip event.now (Some reg)) result }
     ensures cause { HasCause (K.faults sink.old) (K.faults sink.new) result }
     ensures ends_kept { K.ends sink.new ≡ K.ends sink.old }
     ensures same_target { K.target sink.new ≡ K.target sink.old }
 {
-    let digits = register_digits(model, reg);
-    if shows_desired(event.op, event.end) {
-        put_value(sink, b" desired 0x", event.desired, digits)?;
+    let digits = Digits::padded(event.mirrored, register_digits(model, reg));
+    put_desired(sink, model, event, reg)?;
+    put_all(sink, b" mirror 0x")?;
+    put_all(sink, digits.text())?;
+    put_differ(sink, model, event, reg)
+}
+
+// Writes what is known after an operation that wasn't refused.
+fn put_after<K: Sink>(sink: &mut K, model: &Model, event: &Event) -> Result<(), Failed>
+    requires { EventFits model.now event.now }
+    ensures bytes { Puts (K.written sink.old) (K.written sink.new) (after_text model.now.chip event.now (register_of model.now.chip event.now.op)) result }
+    ensures cause { HasCause (K.faults sink.old) (K.faults sink.new) result }
+    ensures ends_kept { K.ends sink.new ≡ K.ends sink.old }
+    ensures same_target { K.target sink.new ≡ K.target sink.old }
+{
+    match register_of(model, event.op) {
+        Some(reg) => put_register(sink, model, event, reg),
+        None if has_differ(event) => put_all(sink, b" differ"),
+        None => Ok(()),
     }
-    put_value(sink, b" mirror 0x", event.mirrored, digits)?;
-    if is_check(event.op) && event.differ != 0 {
-        put_differ(sink, model, reg, event.differ)?;
+}
+
+fn is_refused(end: End) -> bool
+    ensures { result ≡ is_refused end }
+{
+    matches!(end, End::Refused { .. })
+}
+
+// Writes what stands after an operation: nothing where that is refused.
+fn put_rest<K: Sink>(sink: &mut K, model: &Model, event: &Event) -> Result<(), Failed>
+    requires { EventFits model.now event.now }
+    ensures bytes { Puts (K.written sink.old) (K.written sink.new) (rest_text model.now.chip event.now) result }
+    ensures cause { HasCause (K.faults sink.old) (K.faults sink.new) result }
+    ensures ends_kept { K.ends sink.new ≡ K.ends sink.old }
+    ensures same_target { K.target sink.new ≡ K.target sink.old }
+{
+    if is_refused(event.end) {
+        return Ok(());
     }
-    Ok(())
+    put_after(sink, model, event)
 }
 
 // Writes what came of an operation.
 fn put_result<K: Sink>(sink: &mut K, model: &Model, event: &Event) -> Result<(), Failed>
     requires { EventFits model.now event.now }
+    ensures bytes { Puts (K.written sink.old) (K.written sink.new) (result_text model.now.chip event.now) result }
     ensures cause { HasCause (K.faults sink.old) (K.faults sink.new) result }
     ensures ends_kept { K.ends sink.new ≡ K.ends sink.old }
     ensures same_target { K.target sink.new ≡ K.target sink.old }
 {
-    if let End::Refused { why } = event.end {
-        let pieces: [&[u8]; 2] = [b": refused ", why_text(why)];
-        return put_pieces(sink, &pieces);
-    }
     put_end(sink, model, event)?;
-    match register_of(model, event.op) {
-        Some(reg) => put_register(sink, model, event, reg),
-        None if is_check(event.op) && event.differ != 0 => put_all(sink, b" differ"),
-        None => Ok(()),
-    }
+    put_rest(sink, model, event)
 }
 
 /// Writes the line of an event: the operation in canonical spelling, and what came of it.
 pub fn write_event_line<K: Sink>(sink: &mut K, model: &Model, event: &Event) -> Result<(), Failed>
     requires { EventFits model.now event.now }
+    ensures bytes { Puts (K.written sink.old) (K.written sink.new) (event_line model.now event.now) result }
     ensures cause { HasCause (K.faults sink.old) (K.faults sink.new) result }
     ensures ends_kept { K.ends sink.new ≡ K.ends sink.old }
     ensures same_target { K.target sink.new ≡ K.target sink.old }
@@ -466,36 +607,42 @@ pub fn write_event_line<K: Sink>(sink: &mut K, model: &Model, event: &Event) -> 
     put_all(sink, b"\n")
 }
 
-fn way_text(write: bool) -> &'static [u8] {
+fn way_text(write: bool) -> &'static [u8]
+    ensures { result.now ≡ way_text write }
+{
     if write { b" w 0x" } else { b" r 0x" }
 }
 
-fn answer_text(failed: bool) -> &'static [u8] {
+fn answer_text(failed: bool) -> &'static [u8]
+    ensures { result.now ≡ answer_text failed }
+{
     if failed { b" error\n" } else { b" ok\n" }
 }
 
-/// Writes the line of a bus item: its port's map, address, word, byte enables, tag and answer.
-/// The word of a read is that of the answer.
-pub fn write_item<K: Sink>(sink: &mut K, model: &Model, item: &TraceItem) -> Result<(), Failed>
+// The word that an item carried: of a read the answer's.
+fn word_of(item: &TraceItem) -> u64
+    ensures { result ≡ word_of item.now }
+{
+    if item.op.write {
+        item.op.word
+    } else {
+        item.answer.word
+    }
+}
+
+// Writes the address, the word, the byte enables and the tag of an item.
+fn put_transfer<K: Sink>(sink: &mut K, model: &Model, item: &TraceItem) -> Result<(), Failed>
     requires { ItemFits model.now.layout item.now }
+    ensures bytes { Puts (K.written sink.old) (K.written sink.new) (transfer_text (port_at model.now.layout item.now.port).bytes item.now) result }
     ensures cause { HasCause (K.faults sink.old) (K.faults sink.new) result }
     ensures ends_kept { K.ends sink.new ≡ K.ends sink.old }
     ensures same_target { K.target sink.new ≡ K.target sink.old }
 {
-    let layout = model.layout();
-    let bytes = layout.port_bytes(item.port);
+    let bytes = model.layout().port_bytes(item.port);
     let address = Digits::hex(item.op.address);
-    let word = if item.op.write {
-        item.op.word
-    } else {
-        item.answer.word
-    };
-    let word = Digits::padded(word, 2 * bytes);
+    let word = Digits::padded(word_of(item), 2 * bytes);
     let lanes = Digits::lanes(item.op.lanes, item.op.bytes);
     let mut tag = Buffer::new();
-    put_all(sink, b"  ")?;
-    put_all(sink, layout.map_name(layout.port_map(item.port)))?;
-    put_all(sink, way_text(item.op.write))?;
     let pieces: [&[u8]; 7] = [
         address.text(),
         b" 0x",
@@ -505,20 +652,48 @@ pub fn write_item<K: Sink>(sink: &mut K, model: &Model, item: &TraceItem) -> Res
         b" #",
         tag.format(item.tag).as_bytes(),
     ];
-    put_pieces(sink, &pieces)?;
+    put_pieces(sink, &pieces)
+}
+
+/// Writes the line of a bus item: its port's map, address, word, byte enables, tag and answer.
+/// The word of a read is that of the answer.
+pub fn write_item<K: Sink>(sink: &mut K, model: &Model, item: &TraceItem) -> Result<(), Failed>
+    requires { ItemFits model.now.layout item.now }
+    ensures bytes { Puts (K.written sink.old) (K.written sink.new) (item_line model.now.layout item.now) result }
+    ensures cause { HasCause (K.faults sink.old) (K.faults sink.new) result }
+    ensures ends_kept { K.ends sink.new ≡ K.ends sink.old }
+    ensures same_target { K.target sink.new ≡ K.target sink.old }
+{
+    let layout = model.layout();
+    put_all(sink, b"  ")?;
+    put_all(sink, layout.map_name(layout.port_map(item.port)))?;
+    put_all(sink, way_text(item.op.write))?;
+    put_transfer(sink, model, item)?;
     put_all(sink, answer_text(item.answer.failed))
+}
+
+// Writes the lines of an event's items.
+fn put_items<K: Sink>(sink: &mut K, model: &Model, event: &Event) -> Result<(), Failed>
+    requires { EventFits model.now event.now }
+    ensures bytes { Puts (K.written sink.old) (K.written sink.new) (flat_map (item_line model.now.layout) event.now.trace) result }
+    ensures cause { HasCause (K.faults sink.old) (K.faults sink.new) result }
+    ensures ends_kept { K.ends sink.new ≡ K.ends sink.old }
+    ensures same_target { K.target sink.new ≡ K.target sink.old }
+{
+    for k in 0..event.trace.len() {
+        write_item(sink, model, &event.trace.item(k))?;
+    }
+    Ok(())
 }
 
 /// Writes an event: its line, and a line for each item that it sent. It takes no memory.
 pub fn write_event<K: Sink>(sink: &mut K, model: &Model, event: &Event) -> Result<(), Failed>
     requires { EventFits model.now event.now }
+    ensures bytes { Puts (K.written sink.old) (K.written sink.new) (event_text model.now event.now) result }
     ensures cause { HasCause (K.faults sink.old) (K.faults sink.new) result }
     ensures ends_kept { K.ends sink.new ≡ K.ends sink.old }
     ensures same_target { K.target sink.new ≡ K.target sink.old }
 {
     write_event_line(sink, model, event)?;
-    for k in 0..event.trace.len() {
-        write_item(sink, model, &event.trace.item(k))?;
-    }
-    Ok(())
+    put_items(sink, model, event)
 }

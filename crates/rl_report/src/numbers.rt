@@ -1,7 +1,7 @@
 // Numbers as text, with no memory taken.
-ghost use Rattle.std.specs.Prelude.{◌≡◌, ◌^◌, ◌<◌, ◌≤◌, length};
+ghost use Rattle.std.specs.Prelude.{◌≡◌, ◌+◌, ◌/◌, ◌%◌, ◌^◌, ◌<◌, ◌≤◌};
 ghost use Rattle.rl_policy.specs.Numbers.{hex_digits};
-ghost use Rattle.rl_report.specs.Numbers.{padded, digits_if};
+ghost use Rattle.rl_report.specs.Numbers.{padded, digits_if, lanes_text};
 
 use rl_policy::spell;
 use std::marker::Model;
@@ -61,7 +61,7 @@ impl Digits {
     /// The byte enables of a word of so many bytes: a digit for each, the highest byte first.
     pub fn lanes(lanes: u8, bytes: u8) -> Digits
         requires { bytes ≤ 8 }
-        ensures { length result ≡ bytes }
+        ensures { result ≡ lanes_text bytes lanes }
     {
         let mut text = [0u8; 16];
         for k in 0..bytes {
@@ -83,6 +83,7 @@ impl Digits {
 
 fn lane_digit(lanes: u8, lane: u8) -> u8
     requires { lane < 8 }
+    ensures { result ≡ 48 + lanes / 2 ^ lane % 2 }
 {
     b'0' + (lanes >> lane & 1)
 }

@@ -1,1 +1,4 @@
+pub mod Bashed
 pub mod Going
+pub mod Planned
+pub mod Walked

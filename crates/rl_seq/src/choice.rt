@@ -1,16 +1,21 @@
 //! Which registers, memories, places and bits a sequence goes over.
-ghost use Rattle.std.specs.Prelude.{◌<◌, length, IfSome};
+ghost use Rattle.std.specs.Prelude.{◌≡◌, ◌<◌, ◌||◌, ◌&&◌, not, length, IfSome};
 ghost use Rattle.rl_model.specs.Chip.{HasItem};
+ghost use Rattle.rl_map.specs.Layout.{place_at, has_right};
+ghost use Rattle.rl_mirror.specs.Compared.{is_compared};
+ghost use Rattle.rl_policy.specs.Bits.{is_within};
+ghost use Rattle.rl_seq.specs.Choice.{is_tested, is_reg_tested, is_place, is_same, is_bit_compared, places_of, has_writable_field, is_read_only, turned_round};
 
 use bitflags::Flags;
 use rl_map::Layout;
-use rl_model::{Chip, Item, Rights, Skip};
+use rl_model::{Chip, Field, Item, Rights, Skip};
 use rl_policy::{Policy, mask, write_only};
 
 /// Whether the item is within the block, and no exclusion names it.
 pub(crate) fn is_tested(chip: &Chip, item: Item, block: Option<u32>, skip: Skip) -> bool
     requires item { HasItem chip.now item }
     requires block { IfSome block (λ b. b < chip.now.blocks) }
+    ensures { result ≡ is_tested chip.now item block skip.bits }
 {
     let inside = match block {
         None => true,
@@ -23,6 +28,7 @@ pub(crate) fn is_tested(chip: &Chip, item: Item, block: Option<u32>, skip: Skip)
 pub(crate) fn is_reg_tested(chip: &Chip, reg: u32, block: Option<u32>, skip: Skip) -> bool
     requires reg { reg < length chip.now.regs }
     requires block { IfSome block (λ b. b < chip.now.blocks) }
+    ensures { result ≡ is_reg_tested chip.now reg block skip.bits }
 {
     let item = Item::Reg(reg);
     is_tested(chip, item, block, skip) && is_tested(chip, item, block, Skip::NO_REG_TESTS)
@@ -31,18 +37,50 @@ pub(crate) fn is_reg_tested(chip: &Chip, reg: u32, block: Option<u32>, skip: Ski
 /// Whether the place is the item's, and has the right to read where `reads`, to write where `writes`.
 pub(crate) fn is_place(layout: &Layout, place: u32, item: Item, reads: bool, writes: bool) -> bool
     requires { place < length layout.now.places }
+    ensures { result ≡ is_place layout.now place item reads writes }
 {
     let rights = layout.rights(place);
-    let may_read = !reads || rights.contains(Rights::READ);
-    let may_write = !writes || rights.contains(Rights::WRITE);
-    layout.item(place) == item && may_read && may_write
+    let of_item = is_of(layout, place, item);
+    let may_read = is_allowed(rights, reads, false);
+    let may_write = is_allowed(rights, writes, true);
+    of_item && may_read && may_write
+}
+
+fn is_of(layout: &Layout, place: u32, item: Item) -> bool
+    requires { place < length layout.now.places }
+    ensures { result ≡ is_same (place_at layout.now place).item item }
+{
+    match (layout.item(place), item) {
+        (Item::Reg(a), Item::Reg(b)) => a == b,
+        (Item::Mem(a), Item::Mem(b)) => a == b,
+        _ => false,
+    }
+}
+
+// The right of a direction is there, or isn't asked for.
+fn is_allowed(rights: Rights, asked: bool, write: bool) -> bool
+    ensures { result ≡ (not asked || has_right rights write) }
+{
+    !asked || has_right(rights, write)
+}
+
+fn has_right(rights: Rights, write: bool) -> bool
+    ensures { result ≡ has_right rights write }
+{
+    if write {
+        rights.contains(Rights::WRITE)
+    } else {
+        rights.contains(Rights::READ)
+    }
 }
 
 /// How many places the item has.
-pub(crate) fn places_of(layout: &Layout, item: Item) -> u32 {
+pub(crate) fn places_of(layout: &Layout, item: Item) -> u32
+    ensures { result ≡ places_of layout.now item }
+{
     let mut count = 0;
     for place in 0..layout.places() {
-        if layout.item(place) == item {
+        if is_of(layout, place, item) {
             count += 1;
         }
     }
@@ -50,35 +88,56 @@ pub(crate) fn places_of(layout: &Layout, item: Item) -> u32 {
 }
 
 /// Whether the bit belongs to a field that checks compare.
-pub(crate) fn is_compared(chip: &Chip, reg: u32, bit: u32) -> bool
+pub(crate) fn is_bit_compared(chip: &Chip, reg: u32, bit: u32) -> bool
     requires { reg < length chip.now.regs }
+    ensures { result ≡ is_bit_compared chip.now reg bit }
 {
     let first = chip.first_field(reg);
-    for field in first..first + chip.field_count(reg) {
-        let shape = chip.field(field);
-        if shape.lsb <= bit && bit - shape.lsb < shape.width {
-            return shape.compare && !write_only(shape.policy);
-        }
-    }
-    false
-}
-
-/// Whether the register has a field that isn't RO.
-pub(crate) fn has_writable_field(chip: &Chip, reg: u32) -> bool
-    requires { reg < length chip.now.regs }
-{
-    let first = chip.first_field(reg);
-    for field in first..first + chip.field_count(reg) {
-        if chip.field(field).policy != Policy::Ro {
+    for k in 0..chip.field_count(reg) {
+        if is_compared_in(&chip.field(first + k), bit) {
             return true;
         }
     }
     false
 }
 
+// Whether the bit belongs to the field, and checks compare it.
+fn is_compared_in(field: &Field, bit: u32) -> bool
+    ensures { result ≡ (is_within field.now.lsb field.now.width bit && is_compared field.now) }
+{
+    covers(field, bit) && field.compare && !write_only(field.policy)
+}
+
+fn covers(field: &Field, bit: u32) -> bool
+    ensures { result ≡ is_within field.now.lsb field.now.width bit }
+{
+    field.lsb <= bit && bit - field.lsb < field.width
+}
+
+/// Whether the register has a field that isn't RO.
+pub(crate) fn has_writable_field(chip: &Chip, reg: u32) -> bool
+    requires { reg < length chip.now.regs }
+    ensures { result ≡ has_writable_field chip.now reg }
+{
+    let first = chip.first_field(reg);
+    for k in 0..chip.field_count(reg) {
+        if !is_read_only(chip.field(first + k).policy) {
+            return true;
+        }
+    }
+    false
+}
+
+fn is_read_only(policy: Policy) -> bool
+    ensures { result ≡ is_read_only policy }
+{
+    matches!(policy, Policy::Ro)
+}
+
 /// The value with all bits of the item's bytes turned round.
 pub(crate) fn inverted(chip: &Chip, item: Item, value: u64) -> u64
     requires { HasItem chip.now item }
+    ensures { result ≡ turned_round chip.now item value }
 {
     !value & mask(8 * chip.bytes(item))
 }

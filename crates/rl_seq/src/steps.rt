@@ -1,8 +1,13 @@
 //! The steps of the sequences: one operation each, which is handed to the recorder and counted.
-ghost use Rattle.std.specs.Prelude.{◌≡◌, ◌<◌, map, length};
+ghost use Rattle.std.specs.Prelude.{◌≡◌, ◌<◌, List, map, length, Some, OnOk, OnErr};
 ghost use Rattle.rl_bus.specs.Causes.{HasCause};
+ghost use Rattle.rl_bus.specs.Standing.{Standing};
+ghost use Rattle.rl_access.specs.Call.{scene};
+ghost use Rattle.rl_access.specs.declared.event.Op.TheVariants as op;
 ghost use Rattle.rl_access.specs.Model.{IsDeviceOf, IsReady, IsSameChip};
 ghost use Rattle.rl_access.specs.Event.{EventFits};
+ghost use Rattle.rl_access.specs.Tally.{counted};
+ghost use Rattle.rl_seq.specs.Plan.{Walks, step, stop};
 
 use rl_access::{
     Event, Model, Recorder, Tally, back_read, back_write, front_write, mem_check, mem_write,
@@ -18,6 +23,9 @@ fn hand_over<R: Recorder>(
     tally: &mut Tally,
 ) -> Result<(), Failed>
     requires fits { EventFits m.now event.now }
+    ensures taken { OnOk result (R.takes rec.old m.now event.now rec.new) }
+    ensures counted { OnOk result (tally.new ≡ counted tally.old event.now) }
+    ensures broken { OnErr result (R.breaks rec.old m.now event.now rec.new) }
     ensures cause { HasCause (R.faults rec.old) (R.faults rec.new) result }
     ensures steady { R.steady rec.new ≡ R.steady rec.old }
 {
@@ -36,6 +44,7 @@ pub(crate) fn reset_all<D: Device, R: Recorder>(
     requires device { IsDeviceOf m.old (D.state d.old) }
     ensures device { IsDeviceOf m.new (D.state d.new) }
     ensures parts { IsSameChip m.old m.new }
+    ensures walks { (adapters : List Standing) → Walks R.takes R.breaks rec.old rec.new (scene m.old adapters (D.errors d.old) (D.state d.old)) (scene m.new adapters (D.errors d.new) (D.state d.new)) tally.old tally.new (step (op.Reset 0) stop) result }
     ensures cause { HasCause (R.faults rec.old) (R.faults rec.new) result }
     ensures steady { R.steady rec.new ≡ R.steady rec.old }
 {
@@ -60,6 +69,7 @@ pub(crate) fn write_at<D: Device, R: Recorder>(
     requires map { at < length m.old.layout.maps }
     ensures ready { IsReady m.new (map standing a.new.items) (D.state d.new) }
     ensures parts { IsSameChip m.old m.new }
+    ensures walks { Walks R.takes R.breaks rec.old rec.new (scene m.old (map standing a.old.items) (D.errors d.old) (D.state d.old)) (scene m.new (map standing a.new.items) (D.errors d.new) (D.state d.new)) tally.old tally.new (step (op.Write reg (Some at) value) stop) result }
     ensures cause { HasCause (R.faults rec.old) (R.faults rec.new) result }
     ensures steady { R.steady rec.new ≡ R.steady rec.old }
 {
@@ -82,6 +92,7 @@ pub(crate) fn check_at<D: Device, R: Recorder>(
     requires map { at < length m.old.layout.maps }
     ensures ready { IsReady m.new (map standing a.new.items) (D.state d.new) }
     ensures parts { IsSameChip m.old m.new }
+    ensures walks { Walks R.takes R.breaks rec.old rec.new (scene m.old (map standing a.old.items) (D.errors d.old) (D.state d.old)) (scene m.new (map standing a.new.items) (D.errors d.new) (D.state d.new)) tally.old tally.new (step (op.Check reg (Some at)) stop) result }
     ensures cause { HasCause (R.faults rec.old) (R.faults rec.new) result }
     ensures steady { R.steady rec.new ≡ R.steady rec.old }
 {
@@ -101,6 +112,7 @@ pub(crate) fn back_check<D: Device, R: Recorder>(
     requires reg { reg < length m.old.chip.regs }
     ensures device { IsDeviceOf m.new (D.state d.new) }
     ensures parts { IsSameChip m.old m.new }
+    ensures walks { (adapters : List Standing) → Walks R.takes R.breaks rec.old rec.new (scene m.old adapters (D.errors d.old) (D.state d.old)) (scene m.new adapters (D.errors d.new) (D.state d.new)) tally.old tally.new (step (op.BackCheck reg) stop) result }
     ensures cause { HasCause (R.faults rec.old) (R.faults rec.new) result }
     ensures steady { R.steady rec.new ≡ R.steady rec.old }
 {
@@ -121,6 +133,7 @@ pub(crate) fn back_write_value<D: Device, R: Recorder>(
     requires reg { reg < length m.old.chip.regs }
     ensures device { IsDeviceOf m.new (D.state d.new) }
     ensures parts { IsSameChip m.old m.new }
+    ensures walks { (adapters : List Standing) → Walks R.takes R.breaks rec.old rec.new (scene m.old adapters (D.errors d.old) (D.state d.old)) (scene m.new adapters (D.errors d.new) (D.state d.new)) tally.old tally.new (step (op.BackWrite reg value) stop) result }
     ensures cause { HasCause (R.faults rec.old) (R.faults rec.new) result }
     ensures steady { R.steady rec.new ≡ R.steady rec.old }
 {
@@ -145,6 +158,7 @@ pub(crate) fn mem_write_at<D: Device, R: Recorder>(
     requires map { at < length m.old.layout.maps }
     ensures ready { IsReady m.new (map standing a.new.items) (D.state d.new) }
     ensures parts { IsSameChip m.old m.new }
+    ensures walks { Walks R.takes R.breaks rec.old rec.new (scene m.old (map standing a.old.items) (D.errors d.old) (D.state d.old)) (scene m.new (map standing a.new.items) (D.errors d.new) (D.state d.new)) tally.old tally.new (step (op.MemWrite mem (Some at) index value) stop) result }
     ensures cause { HasCause (R.faults rec.old) (R.faults rec.new) result }
     ensures steady { R.steady rec.new ≡ R.steady rec.old }
 {
@@ -169,6 +183,7 @@ pub(crate) fn mem_check_at<D: Device, R: Recorder>(
     requires map { at < length m.old.layout.maps }
     ensures ready { IsReady m.new (map standing a.new.items) (D.state d.new) }
     ensures parts { IsSameChip m.old m.new }
+    ensures walks { Walks R.takes R.breaks rec.old rec.new (scene m.old (map standing a.old.items) (D.errors d.old) (D.state d.old)) (scene m.new (map standing a.new.items) (D.errors d.new) (D.state d.new)) tally.old tally.new (step (op.MemCheck mem (Some at) index value) stop) result }
     ensures cause { HasCause (R.faults rec.old) (R.faults rec.new) result }
     ensures steady { R.steady rec.new ≡ R.steady rec.old }
 {

@@ -1,6 +1,6 @@
-use Rattle.std.proofs.Common.{arith, ◌∙◌, refl}
+use Rattle.std.proofs.Common.{arith, ◌∙◌}
 use Rattle.rl_map.specs.LayoutText.{place_text}
-use Rattle.regrun.proofs.ListingLemmas.{all_left, less_left, left_stopped, none_left, no_number}
+use Rattle.regrun.proofs.ListingLemmas.{less_left, left_stopped, none_left, no_number}
 use Rattle.regrun.proofs.LayoutLemmas.{next_place}
 use Rattle.regrun.proofs.layout_text.put_places.Goals as goal
 

@@ -1,5 +1,5 @@
 -- The places from the next one on are left.
-use Rattle.std.proofs.Common.{◌≡◌, ◌-◌, ◌≤◌, length}
+use Rattle.std.proofs.Common.{◌≡◌, ◌-◌, ◌≤◌}
 use Rattle.std.specs.List.{flat_map, range_with_len}
 use Rattle.rl_map.specs.LayoutText.{place_text}
 use Rattle.regrun.specs.LayoutPieces.{places_text}

@@ -1,7 +1,6 @@
-use Rattle.std.proofs.Common.{arith, ◌∙◌, ◌≡◌, ◌<◌, ◌≤◌, length}
-use Rattle.rl_map.specs.Layout.{IsLocation, words_of, place_at, port_at, map_at}
-use Rattle.rl_map.specs.LayoutText.{word_text}
-use Rattle.regrun.proofs.ListingLemmas.{less_left, left_stopped, none_left, no_item}
+use Rattle.std.proofs.Common.{arith, ◌∙◌}
+use Rattle.rl_map.specs.Layout.{words_of, place_at, port_at, map_at}
+use Rattle.regrun.proofs.ListingLemmas.{less_left, left_stopped}
 use Rattle.regrun.proofs.LayoutLemmas.{next_word}
 use Rattle.regrun.proofs.layout_text.put_words.Goals as goal
 

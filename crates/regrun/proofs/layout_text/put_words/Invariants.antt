@@ -1,5 +1,5 @@
 -- The words from the next one on are left.
-use Rattle.std.proofs.Common.{◌≡◌, ◌≤◌, drop, length}
+use Rattle.std.proofs.Common.{◌≡◌, ◌≤◌, drop}
 use Rattle.std.specs.List.{flat_map}
 use Rattle.rl_map.specs.Layout.{words_of, place_at, port_at, map_at}
 use Rattle.rl_map.specs.LayoutText.{word_text}

@@ -1,4 +1,3 @@
-use Rattle.std.proofs.Common.{arith}
 use Rattle.regrun.proofs.HexLemmas.{sixteen}
 use Rattle.regrun.proofs.soak.put_soak_line.Goals as goal
 

@@ -1,4 +1,3 @@
-use Rattle.std.proofs.Common.{refl}
 use Rattle.regrun.specs.Soak.{soak_text}
 use Rattle.regrun.proofs.ListingLemmas.{pushed_thrice}
 use Rattle.regrun.proofs.soak.soak_session.Goals as goal

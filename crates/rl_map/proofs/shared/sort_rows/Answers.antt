@@ -1,5 +1,5 @@
 use Rattle.std.proofs.Common.{rules}
-use Rattle.std.proofs.lemmas.List.Sorted.{answers_always, IsNonDecreasingBy-from_sort_by_key}
+use Rattle.std.proofs.lemmas.List.Sorted.{answers_always, IsPermutation-refl, IsNonDecreasingBy-from_sort_by_key}
 use Rattle.rl_map.specs.Layout.{key_of}
 use Rattle.rl_map.proofs.shared.sort_rows.Goals as goal
 
@@ -8,3 +8,6 @@ returns-clause-ascending c = IsNonDecreasingBy-from_sort_by_key key_of _ c.in_ok
 
 pub returns-clause-stable : goal.returns-clause-stable
 returns-clause-stable c = c.in_ok-sort_by_key.ensures.stable key_of (answers_always _ _ _ (λ f a r g h. search rules))
+
+pub returns-then-is_ascending-clause-moved : goal.returns-then-is_ascending-clause-moved
+returns-then-is_ascending-clause-moved c = IsPermutation-refl _

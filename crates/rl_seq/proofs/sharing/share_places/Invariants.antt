@@ -1,7 +1,15 @@
-use Rattle.rl_seq.proofs.Going.{IsGoingBy}
+use Rattle.rl_seq.specs.Tests.{share_place}
+use Rattle.rl_seq.specs.Plan.{each_below}
+use Rattle.rl_seq.proofs.Going.{IsGoingBy, scene_by}
+use Rattle.rl_seq.proofs.Planned.{Walked}
 use Rattle.rl_seq.proofs.sharing.share_places.Given as goal
 
 abbrev pub invariant-loop-place : goal.invariant-loop-place
-invariant-loop-place g l =
-    IsGoingBy (λ b. (goal.Adapter-dyn g (b.vtable, b.value)).standing b.value) l.fn.m l.m l.a.items (g.D.Device.state l.d)
-    (g.R.Recorder.faults l.fn.rec) (g.R.Recorder.faults l.rec) (g.R.Recorder.steady l.fn.rec) (g.R.Recorder.steady l.rec)
+invariant-loop-place g l = record {
+  going : IsGoingBy (λ b. (goal.Adapter-dyn g (b.vtable, b.value)).standing b.value) l.fn.m l.m l.a.items (g.D.Device.state l.d)
+      (g.R.Recorder.faults l.fn.rec) (g.R.Recorder.faults l.rec) (g.R.Recorder.steady l.fn.rec) (g.R.Recorder.steady l.rec);
+  walked : Walked g.R.Recorder.takes l.fn.rec l.rec
+      (scene_by (λ b. (goal.Adapter-dyn g (b.vtable, b.value)).standing b.value) l.fn.m l.fn.a.items (g.D.Device.errors l.fn.d) (g.D.Device.state l.fn.d))
+      (scene_by (λ b. (goal.Adapter-dyn g (b.vtable, b.value)).standing b.value) l.m l.a.items (g.D.Device.errors l.d) (g.D.Device.state l.d))
+      l.fn.tally l.tally (each_below l.place (share_place l.fn.m.chip l.fn.m.layout l.reg));
+}

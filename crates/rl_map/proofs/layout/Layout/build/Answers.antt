@@ -3,6 +3,8 @@ use Rattle.rl_map.specs.Layout.{IsSound}
 use Rattle.rl_map.specs.Building.{ArePlaces, AreRowsOf, NoRowsClash}
 use Rattle.rl_map.proofs.Placing.{rows_in}
 use Rattle.rl_map.proofs.Closing.{built, built_sound}
+use Rattle.rl_map.specs.Locations.{AreWordsOf}
+use Rattle.rl_map.proofs.Keeping.{kept_built}
 use Rattle.rl_map.proofs.Folding.{none_least}
 use Rattle.std.proofs.lemmas.Result.{err_from_is_err_and}
 use Rattle.rl_map.specs.Clashes.{IsLeast, IsMade}
@@ -12,15 +14,15 @@ use Rattle.rl_map.proofs.layout.Layout.build.Goals as goal
 pub first_shared-shared-requires-clause-rows : goal.first_shared-shared-requires-clause-rows
 first_shared-shared-requires-clause-rows c =
     subst (λ x. AreRowsOf x c.deref-4.result.now) (sym c.deref-3.ensures.value)
-    (subst (λ y. AreRowsOf c.add_places.new.places.items y) (sym c.deref-4.ensures.value)
-    (rows_in c.args.chip.now c.deref.result.now c.deref-2.result.now c.add_places.new.places.items c.add_places.new.rows.items c.sort_rows.new.rows.items c.in_ok-refused.ensures.places c.in_ok-sort_rows.ensures.moved))
+    (subst (λ y. AreRowsOf c.add_places.new.placing.places.items y) (sym c.deref-4.ensures.value)
+    (rows_in c.args.chip.now c.deref.result.now c.deref-2.result.now c.add_places.new.placing.places.items c.add_places.new.placing.rows.items c.sort_rows.new.rows.items c.in_ok-refused.ensures.places c.in_ok-sort_rows.ensures.moved))
 
 pub invariant_of-result : goal.invariant_of-result
 invariant_of-result c =
     let maps = c.in_ok-tables.tables.0.items in
     let ports = c.in_ok-tables.tables.1.items in
-    let places = c.add_places.new.places.items in
-    let first = c.add_places.new.rows.items in
+    let places = c.add_places.new.placing.places.items in
+    let first = c.add_places.new.placing.rows.items in
     let rows = c.sort_rows.new.rows.items in
     let p : ArePlaces c.args.chip.now maps ports places first =
     subst (λ m. ArePlaces c.args.chip.now m ports places first) c.deref.ensures.value
@@ -29,11 +31,17 @@ invariant_of-result c =
     subst (λ x. NoRowsClash x rows) c.deref-3.ensures.value
     (subst (λ y. NoRowsClash c.deref-3.result.now y) c.deref-4.ensures.value (none_least c.deref-3.result.now c.deref-4.result.now c.first_shared-shared.result c.first_shared-shared.ensures.least (none_shared c.first_shared-shared.result c.in_ok-refused.refused _ c.first_fault.ensures c.in_default.is))) in
     let sorted = c.in_ok-sort_rows.ensures in
-    subst (λ k. IsSound (built maps places ports k rows)) (sym c.in_ok-from_slice.ensures.items)
-    (built_sound c.args.chip.now maps places ports c.args.kinds.now first rows c.in_ok-tables.ensures.tables p c.requires sorted.moved sorted.ascending sorted.stable none)
+    let kepts = c.add_places.new.placing.words.items in
+    let words : AreWordsOf maps ports places kepts =
+    subst (λ m. AreWordsOf m ports places kepts) c.deref.ensures.value (subst (λ q. AreWordsOf c.deref.result.now q places kepts) c.deref-2.ensures.value c.in_ok-refused.ensures.words) in (
+      subst (λ k. IsSound (built maps places ports k rows)) (sym c.in_ok-from_slice.ensures.items)
+          (built_sound c.args.chip.now maps places ports c.args.kinds.now first rows c.in_ok-tables.ensures.tables p c.requires sorted.moved sorted.ascending sorted.stable none),
+      kept_built maps places ports _ rows kepts words,
+      c.in_ok-refused.ensures.links,
+    )
 
 pub returns-clause-sound : goal.returns-clause-sound
-returns-clause-sound c = invariant_of-result c
+returns-clause-sound c = (invariant_of-result c).0
 
 pub returns-in_err-tables-clause-exact : goal.returns-in_err-tables-clause-exact
 returns-in_err-tables-clause-exact c =
@@ -46,8 +54,8 @@ returns-in-Some-clause-exact c =
     let chip = c.args.chip.now in
     let maps = c.in_ok-tables.tables.0.items in
     let ports = c.in_ok-tables.tables.1.items in
-    let places = c.add_places.new.places.items in
-    let first = c.add_places.new.rows.items in
+    let places = c.add_places.new.placing.places.items in
+    let first = c.add_places.new.placing.rows.items in
     let rows = c.sort_rows.new.rows.items in
     let p : ArePlaces chip maps ports places first =
     subst (λ m. ArePlaces chip m ports places first) c.deref.ensures.value
@@ -59,13 +67,13 @@ returns-in-Some-clause-exact c =
         maps_are = c.in_ok-tables.ensures.maps;
         ports_are = c.in_ok-tables.ensures.ports;
         rows_are = accepted_by chip c.args.places.now c.deref.result.now maps c.deref-2.result.now ports _ places _ c.deref.ensures.value c.deref-2.ensures.value
-            c.new-place_rows.ensures.items c.new-rows.ensures.items c.in_ok-refused.ensures.accepted;
+            c.new.ensures.items c.new-3.ensures.items c.in_ok-refused.ensures.accepted;
       };
       tables = c.in_ok-tables.ensures.tables;
       few = c.requires;
       placed = p;
       refused_is = refused_by chip c.args.places.now c.deref.result.now maps c.deref-2.result.now ports _ _ _ c.deref.ensures.value c.deref-2.ensures.value
-          c.new-place_rows.ensures.items c.new-rows.ensures.items c.in_ok-refused.ensures.fault;
+          c.new.ensures.items c.new-3.ensures.items c.in_ok-refused.ensures.fault;
       moved = sorted.moved;
       ascending = sorted.ascending;
       stable = sorted.stable;
@@ -82,8 +90,8 @@ returns-clause-exact c =
     let chip = c.args.chip.now in
     let maps = c.in_ok-tables.tables.0.items in
     let ports = c.in_ok-tables.tables.1.items in
-    let places = c.add_places.new.places.items in
-    let first = c.add_places.new.rows.items in
+    let places = c.add_places.new.placing.places.items in
+    let first = c.add_places.new.placing.rows.items in
     let rows = c.sort_rows.new.rows.items in
     let p : ArePlaces chip maps ports places first =
     subst (λ m. ArePlaces chip m ports places first) c.deref.ensures.value
@@ -95,13 +103,13 @@ returns-clause-exact c =
         maps_are = c.in_ok-tables.ensures.maps;
         ports_are = c.in_ok-tables.ensures.ports;
         rows_are = accepted_by chip c.args.places.now c.deref.result.now maps c.deref-2.result.now ports _ places _ c.deref.ensures.value c.deref-2.ensures.value
-            c.new-place_rows.ensures.items c.new-rows.ensures.items c.in_ok-refused.ensures.accepted;
+            c.new.ensures.items c.new-3.ensures.items c.in_ok-refused.ensures.accepted;
       };
       tables = c.in_ok-tables.ensures.tables;
       few = c.requires;
       placed = p;
       refused_is = refused_by chip c.args.places.now c.deref.result.now maps c.deref-2.result.now ports _ _ _ c.deref.ensures.value c.deref-2.ensures.value
-          c.new-place_rows.ensures.items c.new-rows.ensures.items c.in_ok-refused.ensures.fault;
+          c.new.ensures.items c.new-3.ensures.items c.in_ok-refused.ensures.fault;
       moved = sorted.moved;
       ascending = sorted.ascending;
       stable = sorted.stable;

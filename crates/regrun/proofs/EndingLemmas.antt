@@ -1,0 +1,227 @@
+-- What a run has told, and what of it was written.
+use Rattle.std.proofs.Common.{◌≡◌, ◌≢◌, ℕ, ◌≤◌, arith, slice_range, OnOk, Bool, true, false, if◌then◌else◌, List, [], ◌∷◌, ◌++◌, Result, Ok, Err, IfErr, IfSome, Some, None, refl, sym, ap, subst, ◌∙◌, append_assoc, append-nil}
+use Rattle.std.specs.declared.option.Option.{Option}
+use Rattle.std.specs.Io.KnownBytes.{Appends, Keeps, append_known}
+use Rattle.std.proofs.lemmas.Bool.{true≢false}
+use Rattle.rl_bus.specs.declared.op.AdapterKind.{AdapterKind}
+use Rattle.rl_desc.specs.Data.{DescData}
+use Rattle.rl_map.specs.LayoutText.{layout_text}
+use Rattle.rl_report.specs.Pieces.{AppendsFront}
+use Rattle.regrun.specs.declared.counts.Counts.{Counts}
+use Rattle.regrun.specs.declared.status.Status.{Status}
+use Rattle.regrun.specs.declared.status.Status.TheVariants.{Passed, Found, Refused, SinkFault}
+use Rattle.regrun.specs.Endings.{Writes, MapEnds, SoakEnds, is_clean, end_status, IsCounted}
+use Rattle.regrun.specs.Session.{opening_of, refusal_of, map_text, map_status}
+use Rattle.regrun.specs.Soak.{soak_line_text}
+use Rattle.regrun.specs.Statuses.{is_complete}
+use Rattle.regrun.specs.Telling.{Tells, Stops, MapTells, IsSoakTold, SoakTells}
+use Rattle.regrun.proofs.BufferLemmas.{keeps_trans, keeps_then_appends}
+
+-- ---- known bytes
+
+pub keeps_nothing : (a b : Option (List ℕ)) → Keeps a b → Appends a b []
+keeps_nothing None b h = tt
+keeps_nothing (Some xs) None h = absurd h
+keeps_nothing (Some xs) (Some ys) h = h ∙ sym (append-nil xs)
+
+pub front_none : (a b : Option (List ℕ)) (text : List ℕ) → Keeps a b → AppendsFront a b text
+front_none a b text h = record { front = []; rest = text; split = refl; appended = keeps_nothing a b h }
+
+pub front_all : (a b : Option (List ℕ)) (text : List ℕ) → Appends a b text → AppendsFront a b text
+front_all a b text h = record { front = text; rest = []; split = append-nil text; appended = h }
+
+pub front_later : (a b c : Option (List ℕ)) (text : List ℕ) → Keeps a b → AppendsFront b c text → AppendsFront a c text
+front_later a b c text h f = record { front = f.front; rest = f.rest; split = f.split; appended = keeps_then_appends a b c f.front h f.appended }
+
+-- nothing is kept back
+pub append_none : (a : Option (List ℕ)) → append_known a [] ≡ a
+append_none None = refl
+append_none (Some xs) = ap Some (append-nil xs)
+
+pub on_ok : {T E : Type 0} (r : Result T E) (P : Type 0) → P → OnOk r P
+on_ok (Ok x) P h = h
+on_ok (Err e) P h = tt
+
+pub none_kept : (bytes : List ℕ) (start end : ℕ) → start ≤ end → end ≡ 0 → slice_range bytes start end ≡ []
+none_kept bytes start end ordered none =
+    let first : start ≡ 0 = omega arith in
+    ap (λ e. slice_range bytes start e) none ∙ ap (λ s. slice_range bytes s 0) first
+
+pub keeps_on_ok : {T E : Type 0} (r : Result T E) (a b c : Option (List ℕ)) → Keeps a b → OnOk r (Keeps b c) → OnOk r (Keeps a c)
+keeps_on_ok (Ok x) a b c h k = keeps_trans a b c h k
+keeps_on_ok (Err e) a b c h k = tt
+
+-- the bytes that were told are written, where nothing is kept back
+pub keeps_when_empty : (a b c : Option (List ℕ)) (kept : List ℕ) → Keeps a (append_known b kept) → kept ≡ [] → Keeps b c → Keeps a c
+keeps_when_empty a b c kept told none written = keeps_trans a b c (subst (Keeps a) (ap (append_known b) none ∙ append_none b) told) written
+
+appends_keeps : (a b c : Option (List ℕ)) (text : List ℕ) → Appends a b text → Keeps b c → Appends a c text
+appends_keeps None b c text h k = tt
+appends_keeps (Some xs) None c text h k = absurd h
+appends_keeps (Some xs) (Some ys) None text h k = absurd k
+appends_keeps (Some xs) (Some ys) (Some zs) text h k = k ∙ h
+
+joined_front : (xs ts w kept front rest text : List ℕ) → w ++ kept ≡ ts → ts ≡ xs ++ front → front ++ rest ≡ text → w ++ (kept ++ rest) ≡ xs ++ text
+joined_front xs ts w kept front rest text told grown split =
+    sym (append_assoc w kept rest) ∙ ap (λ l. l ++ rest) told ∙ ap (λ l. l ++ rest) grown ∙ append_assoc xs front rest ∙ ap (λ l. xs ++ l) split
+
+-- a front of what was told, where some of it is kept back
+held_front : (old told new : Option (List ℕ)) (kept front rest text : List ℕ) → front ++ rest ≡ text → Appends old told front → Keeps told (append_known new kept)
+    → Appends old (append_known new (kept ++ rest)) text
+held_front None told new kept front rest text split grown held = tt
+held_front (Some xs) None new kept front rest text split grown held = absurd grown
+held_front (Some xs) (Some ts) None kept front rest text split grown held = absurd held
+held_front (Some xs) (Some ts) (Some w) kept front rest text split grown held = joined_front xs ts w kept front rest text held grown split
+
+-- ---- what a run told
+
+pub tells_all : (status : Status) (old new : Option (List ℕ)) (text : List ℕ) → Appends old new text → Tells status status old new text
+tells_all status old new text h = record { whole = λ e. (refl, h); part = front_all old new text h }
+
+pub tells_front : (status expected : Status) (old new : Option (List ℕ)) (text : List ℕ) → is_complete status ≡ false → AppendsFront old new text → Tells status expected old new text
+tells_front status expected old new text broken f = record { whole = λ e. absurd (true≢false (sym e ∙ broken)); part = f }
+
+pub tells_none : (status expected : Status) (old new : Option (List ℕ)) (text : List ℕ) → is_complete status ≡ false → Keeps old new → Tells status expected old new text
+tells_none status expected old new text broken h = tells_front status expected old new text broken (front_none old new text h)
+
+pub tells_later : (status expected : Status) (old mid new : Option (List ℕ)) (text : List ℕ) → Keeps old mid → Tells status expected mid new text → Tells status expected old new text
+tells_later status expected old mid new text h t = record {
+  whole = λ e. let w = t.whole e in (w.0, keeps_then_appends old mid new text h w.1);
+  part = front_later old mid new text h t.part;
+}
+
+-- ---- a session that ended before its script
+
+pub stops_refused : (opening : Result DescData (List ℕ)) (line : List ℕ) (status : Status) (old new : Option (List ℕ)) → opening ≡ Err line → Tells status Refused old new line → Stops opening status old new
+stops_refused opening line status old new e t =
+    subst (λ o. Stops o status old new) (sym e) (record { refused = λ c. refl; tells = t })
+
+pub stops_early : (opening : Result DescData (List ℕ)) (status : Status) (old new : Option (List ℕ)) → is_complete status ≡ false → Keeps old new → Stops opening status old new
+stops_early opening status old new broken h = record { refused = λ c. absurd (true≢false (sym c ∙ broken)); tells = tells_none status Refused old new (refusal_of opening) broken h }
+
+pub stops_later : (opening : Result DescData (List ℕ)) (status : Status) (old mid new : Option (List ℕ)) → Keeps old mid → Stops opening status mid new → Stops opening status old new
+stops_later opening status old mid new h s = record { refused = s.refused; tells = tells_later status Refused old mid new (refusal_of opening) h s.tells }
+
+-- with the line of a refused opening
+pub stops_line : (opening : Result DescData (List ℕ)) (line : List ℕ) (status : Status) (old new : Option (List ℕ)) → opening ≡ Err line → Stops opening status old new → Tells status Refused old new line
+stops_line opening line status old new e s = subst (λ l. Tells status Refused old new l) (ap refusal_of e) s.tells
+
+no_front : (front rest : List ℕ) → front ++ rest ≡ [] → front ≡ []
+no_front [] rest h = refl
+no_front (x ∷ front) rest h = absurd (cc)
+
+front_of_none : (old new : Option (List ℕ)) (text : List ℕ) → AppendsFront old new [] → AppendsFront old new text
+front_of_none old new text f = record { front = f.front; rest = text; split = ap (λ l. l ++ text) (no_front f.front f.rest f.split); appended = f.appended }
+
+pub stops_map : (opening : Result DescData (List ℕ)) (status : Status) (old new : Option (List ℕ)) → Stops opening status old new → Tells status (map_status opening) old new (map_text opening)
+stops_map (Ok desc) status old new s = record {
+  whole = λ c. let e = s.refused c in absurd (cc);
+  part = front_of_none old new (layout_text desc.chip desc.layout) s.tells.part;
+}
+stops_map (Err line) status old new s = s.tells
+
+-- ---- what is written in the end
+
+not_sink_fault : (status : Status) → is_complete status ≡ true → status ≢ SinkFault
+not_sink_fault status c e = true≢false (sym c ∙ ap is_complete e)
+
+pub writes_told : (status result expected : Status) (old told new : Option (List ℕ)) (kept text : List ℕ) → (result ≢ SinkFault → result ≡ status) → Keeps told (append_known new kept)
+    → (is_complete result ≡ true → Keeps told new) → Tells status expected old told text → Writes result expected old new text
+writes_told status result expected old told new kept text same held whole t = record {
+  whole = λ c. let is : result ≡ status = same (not_sink_fault result c) in
+      let w = t.whole (subst (λ s. is_complete s ≡ true) is c) in
+      (is ∙ w.0, appends_keeps old told new text w.1 (whole c));
+  part = record { rest = kept ++ t.part.rest; whole = held_front old told new kept t.part.front t.part.rest text t.part.split t.part.appended held };
+}
+
+pub counted_kept : (status result : Status) (counts : Counts) → (result ≢ SinkFault → result ≡ status) → IsCounted status counts → IsCounted result counts
+counted_kept status result counts same h = record {
+  passed = λ e. h.passed (sym (same (not_sink_fault result (ap is_complete e))) ∙ e);
+  found = λ e. h.found (sym (same (not_sink_fault result (ap is_complete e))) ∙ e);
+}
+
+pub counted_other : (status : Status) (counts : Counts) → status ≢ Passed → status ≢ Found → IsCounted status counts
+counted_other status counts p f = record { passed = λ e. absurd (p e); found = λ e. absurd (f e) }
+
+pub counted_none : (status : Status) (counts : Counts) → is_complete status ≡ false → IsCounted status counts
+counted_none status counts broken = record {
+  passed = λ e. absurd (true≢false (sym (ap is_complete e) ∙ broken));
+  found = λ e. absurd (true≢false (sym (ap is_complete e) ∙ broken));
+}
+
+only_clean : (b : Bool) → (if b then Passed else Found) ≡ Passed → b ≡ true
+only_clean true e = refl
+only_clean false e = absurd (cc)
+
+not_clean : (b : Bool) → (if b then Passed else Found) ≡ Found → b ≡ false
+not_clean true e = absurd (cc)
+not_clean false e = refl
+
+-- a status that goes by the counts at the end of a script
+pub counted_end : (status : Status) (counts : Counts) → status ≡ end_status counts → IsCounted status counts
+counted_end status counts is = record { passed = λ e. only_clean (is_clean counts) (sym is ∙ e); found = λ e. not_clean (is_clean counts) (sym is ∙ e) }
+
+-- ---- the line of a number
+
+pub soak_later : (n : ℕ) (status : Status) (old mid new : Option (List ℕ)) → Keeps old mid → IsSoakTold n status mid new → IsSoakTold n status old new
+soak_later n status old mid new h (counts, sum, counted, t) = (counts, sum, counted, tells_later status status old mid new (soak_line_text n counts sum) h t)
+
+pub soak_none : (n : ℕ) (status : Status) (old new : Option (List ℕ)) → is_complete status ≡ false → Keeps old new → IsSoakTold n status old new
+soak_none n status old new broken h =
+    let counts : Counts = record { events = 0; differences = 0; errors = 0 } in
+    (counts, 0, counted_none status counts broken, tells_none status status old new (soak_line_text n counts 0) broken h)
+
+counted_by : (status result : Status) (counts : Counts) → (is_complete result ≡ true → result ≡ status) → IsCounted status counts → IsCounted result counts
+counted_by status result counts same h = record {
+  passed = λ e. h.passed (sym (same (ap is_complete e)) ∙ e);
+  found = λ e. h.found (sym (same (ap is_complete e)) ∙ e);
+}
+
+pub soak_ends : (n : ℕ) (status result : Status) (counts : Counts) (sum : ℕ) (old new : Option (List ℕ)) → IsCounted status counts → Tells result status old new (soak_line_text n counts sum) → IsSoakTold n result old new
+soak_ends n status result counts sum old new h t =
+    (counts, sum, counted_by status result counts (λ c. (t.whole c).0) h, record { whole = λ c. (refl, (t.whole c).1); part = t.part })
+
+pub soak_open : (n : ℕ) (opening : Result DescData (List ℕ)) (desc : DescData) (status : Status) (old new : Option (List ℕ)) → opening ≡ Ok desc → IsSoakTold n status old new → SoakTells n opening status old new
+soak_open n opening desc status old new is t = subst (λ o. SoakTells n o status old new) (sym is) t
+
+pub soak_early : (n : ℕ) (opening : Result DescData (List ℕ)) (status : Status) (old new : Option (List ℕ)) → is_complete status ≡ false → Keeps old new → SoakTells n opening status old new
+soak_early n (Ok desc) status old new broken h = soak_none n status old new broken h
+soak_early n (Err line) status old new broken h = tells_none status Refused old new line broken h
+
+incomplete : (b : Bool) → (b ≡ true → ⊥) → b ≡ false
+incomplete true h = absurd (h refl)
+incomplete false h = refl
+
+pub soak_stops : (n : ℕ) (opening : Result DescData (List ℕ)) (status : Status) (old new : Option (List ℕ)) → Stops opening status old new → SoakTells n opening status old new
+soak_stops n (Ok desc) status old new s =
+    let broken : is_complete status ≡ false = incomplete (is_complete status) (λ c. let e = s.refused c in cc) in
+    let counts : Counts = record { events = 0; differences = 0; errors = 0 } in
+    (counts, 0, counted_none status counts broken, tells_front status status old new (soak_line_text n counts 0) broken (front_of_none old new (soak_line_text n counts 0) s.tells.part))
+soak_stops n (Err line) status old new s = s.tells
+
+-- ---- what is written of it
+
+pub soak_written : (n : ℕ) (opening : Result DescData (List ℕ)) (status result : Status) (old told new : Option (List ℕ)) (kept : List ℕ) → (result ≢ SinkFault → result ≡ status) → Keeps told (append_known new kept)
+    → (is_complete result ≡ true → Keeps told new) → SoakTells n opening status old told → SoakEnds n opening result old new
+soak_written n (Ok desc) status result old told new kept same held whole (counts, sum, counted, t) =
+    let w = writes_told status result status old told new kept (soak_line_text n counts sum) same held whole t in
+    (counts, sum, counted_kept status result counts same counted, record { whole = λ c. (refl, (w.whole c).1); part = w.part })
+soak_written n (Err line) status result old told new kept same held whole t = writes_told status result Refused old told new kept line same held whole t
+
+pub map_written : (left : Option (List ℕ)) (kinds : List AdapterKind) (status result : Status) (old told new : Option (List ℕ)) (kept : List ℕ) → (result ≢ SinkFault → result ≡ status) → Keeps told (append_known new kept)
+    → (is_complete result ≡ true → Keeps told new) → IfSome left (λ bytes. MapTells (opening_of bytes kinds) status old told) → IfSome left (λ bytes. MapEnds (opening_of bytes kinds) result old new)
+map_written None kinds status result old told new kept same held whole t = tt
+map_written (Some bytes) kinds status result old told new kept same held whole t =
+    let opening = opening_of bytes kinds in
+    writes_told status result (map_status opening) old told new kept (map_text opening) same held whole t
+
+refusal_written : (opening : Result DescData (List ℕ)) (status result : Status) (old told new : Option (List ℕ)) (kept : List ℕ) → (result ≢ SinkFault → result ≡ status) → Keeps told (append_known new kept)
+    → (is_complete result ≡ true → Keeps told new) → IfErr opening (λ line. Tells status Refused old told line) → IfErr opening (λ line. Writes result Refused old new line)
+refusal_written (Ok desc) status result old told new kept same held whole t = tt
+refusal_written (Err line) status result old told new kept same held whole t = writes_told status result Refused old told new kept line same held whole t
+
+pub run_written : (left : Option (List ℕ)) (kinds : List AdapterKind) (status result : Status) (old told new : Option (List ℕ)) (kept : List ℕ) → (result ≢ SinkFault → result ≡ status) → Keeps told (append_known new kept)
+    → (is_complete result ≡ true → Keeps told new) → IfSome left (λ bytes. IfErr (opening_of bytes kinds) (λ line. Tells status Refused old told line))
+    → IfSome left (λ bytes. IfErr (opening_of bytes kinds) (λ line. Writes result Refused old new line))
+run_written None kinds status result old told new kept same held whole t = tt
+run_written (Some bytes) kinds status result old told new kept same held whole t = refusal_written (opening_of bytes kinds) status result old told new kept same held whole t

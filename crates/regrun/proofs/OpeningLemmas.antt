@@ -1,0 +1,133 @@
+-- What the opening of a session gives, where its source tells its bytes.
+use Rattle.std.proofs.Common.{◌≡◌, ℕ, false, List, [], drop, codes, Result, Ok, Err, IfOk, IfErr, Some, None, IfSome, refl, sym, ap, subst, ◌∙◌}
+use Rattle.std.specs.declared.option.Option.{Option}
+use Rattle.std.specs.Io.KnownBytes.{Keeps, prepend_known}
+use Rattle.rl_bus.specs.declared.op.AdapterKind.{AdapterKind}
+use Rattle.rl_map.specs.LayoutText.{layout_text}
+use Rattle.rl_desc.specs.Data.{DescData}
+use Rattle.rl_report.specs.declared.opening.Head.{Head}
+use Rattle.rl_report.specs.declared.opening.Head.TheVariants.{Found, Missing, TooLong}
+use Rattle.rl_report.specs.Opening.{HeadIs}
+use Rattle.rl_report.specs.Reading.{Reading, input_of}
+use Rattle.regrun.specs.declared.status.Status.{Status}
+use Rattle.regrun.specs.declared.status.Status.TheVariants.{Passed, Refused}
+use Rattle.regrun.specs.Session.{head_of, opening_after, opening_of}
+use Rattle.regrun.specs.Statuses.{is_complete}
+use Rattle.regrun.specs.Telling.{Tells, Stops, MapTells}
+use Rattle.regrun.proofs.EndingLemmas.{stops_refused, stops_early, stops_later, stops_map, tells_later}
+use Rattle.regrun.proofs.SessionLemmas.{found_head, missing_head, long_head, opening_refused, opening_found}
+
+-- ---- the head
+
+pub head_is_found : (input : Option (List ℕ)) (answer : Head) (head : List ℕ) (new : Reading) (left : Option (List ℕ)) → answer ≡ Found → IfSome input (λ bytes. HeadIs bytes answer head new left) → IfSome input (λ bytes. head_of bytes ≡ Ok head)
+head_is_found None answer head new left is h = tt
+head_is_found (Some bytes) answer head new left is h = found_head bytes head new left (rw is at h)
+
+pub head_is_missing : (input : Option (List ℕ)) (answer : Head) (head : List ℕ) (new : Reading) (left : Option (List ℕ)) → answer ≡ Missing → IfSome input (λ bytes. HeadIs bytes answer head new left)
+    → IfSome input (λ bytes. head_of bytes ≡ Err (codes "refused session: no separator\n"))
+head_is_missing None answer head new left is h = tt
+head_is_missing (Some bytes) answer head new left is h = let m = rw is at h in missing_head bytes m.0 m.1
+
+pub head_is_long : (input : Option (List ℕ)) (answer : Head) (head : List ℕ) (new : Reading) (left : Option (List ℕ)) → answer ≡ TooLong → IfSome input (λ bytes. HeadIs bytes answer head new left)
+    → IfSome input (λ bytes. head_of bytes ≡ Err (codes "refused session: description too long\n"))
+head_is_long None answer head new left is h = tt
+head_is_long (Some bytes) answer head new left is h = let m = rw is at h in long_head bytes m.0 m.1
+
+-- ---- a session that ended at its head
+
+pub stops_at_head : (input : Option (List ℕ)) (line : List ℕ) (status : Status) (old new : Option (List ℕ)) → IfSome input (λ bytes. head_of bytes ≡ Err line) → Tells status Refused old new line
+    → IfSome input (λ bytes. (kinds : List AdapterKind) → Stops (opening_of bytes kinds) status old new)
+stops_at_head None line status old new h t = tt
+stops_at_head (Some bytes) line status old new h t = λ kinds. stops_refused (opening_of bytes kinds) line status old new (opening_refused bytes line kinds h) t
+
+pub stops_before_head : (input : Option (List ℕ)) (status : Status) (old new : Option (List ℕ)) → is_complete status ≡ false → Keeps old new
+    → IfSome input (λ bytes. (kinds : List AdapterKind) → Stops (opening_of bytes kinds) status old new)
+stops_before_head None status old new broken h = tt
+stops_before_head (Some bytes) status old new broken h = λ kinds. stops_early (opening_of bytes kinds) status old new broken h
+
+-- ---- the description
+
+pub stops_for : (input : Option (List ℕ)) (kinds : List AdapterKind) (status : Status) (old new : Option (List ℕ)) → IfSome input (λ bytes. (kinds : List AdapterKind) → Stops (opening_of bytes kinds) status old new)
+    → IfSome input (λ bytes. Stops (opening_of bytes kinds) status old new)
+stops_for None kinds status old new h = tt
+stops_for (Some bytes) kinds status old new h = h kinds
+
+stops_at_desc : (input : Option (List ℕ)) (head : List ℕ) (kinds : List AdapterKind) (status : Status) (old mid new : Option (List ℕ)) → IfSome input (λ bytes. head_of bytes ≡ Ok head) → Keeps old mid
+    → Stops (opening_after (Ok head) kinds) status mid new → IfSome input (λ bytes. Stops (opening_of bytes kinds) status old new)
+stops_at_desc None head kinds status old mid new found same s = tt
+stops_at_desc (Some bytes) head kinds status old mid new found same s =
+    subst (λ o. Stops o status old new) (sym (opening_found bytes head kinds found)) (stops_later (opening_after (Ok head) kinds) status old mid new same s)
+
+pub desc_stops : (input : Option (List ℕ)) (head : List ℕ) (kinds : List AdapterKind) (r : Result DescData Status) (old mid new : Option (List ℕ)) → IfSome input (λ bytes. head_of bytes ≡ Ok head) → Keeps old mid
+    → IfErr r (λ status. Stops (opening_after (Ok head) kinds) status mid new) → IfErr r (λ status. IfSome input (λ bytes. Stops (opening_of bytes kinds) status old new))
+desc_stops input head kinds (Ok desc) old mid new found same s = tt
+desc_stops input head kinds (Err status) old mid new found same s = stops_at_desc input head kinds status old mid new found same s
+
+opens_at : (input : Option (List ℕ)) (head : List ℕ) (kinds : List AdapterKind) (desc : DescData) → IfSome input (λ bytes. head_of bytes ≡ Ok head) → opening_after (Ok head) kinds ≡ Ok desc
+    → IfSome input (λ bytes. opening_of bytes kinds ≡ Ok desc)
+opens_at None head kinds desc found is = tt
+opens_at (Some bytes) head kinds desc found is = opening_found bytes head kinds found ∙ is
+
+pub desc_opens : (input : Option (List ℕ)) (head : List ℕ) (kinds : List AdapterKind) (r : Result DescData Status) → IfSome input (λ bytes. head_of bytes ≡ Ok head)
+    → IfOk r (λ desc. opening_after (Ok head) kinds ≡ Ok desc) → IfOk r (λ desc. IfSome input (λ bytes. opening_of bytes kinds ≡ Ok desc))
+desc_opens input head kinds (Ok desc) found is = opens_at input head kinds desc found is
+desc_opens input head kinds (Err status) found is = tt
+
+-- ---- from a reader that was just built
+
+prepended : (left : Option (List ℕ)) → prepend_known [] left ≡ left
+prepended None = refl
+prepended (Some xs) = refl
+
+pub fresh_input : (r : Reading) → r ≡ record { pending = []; line = []; asked = false; found = false; refused = false; ended = false; closed = false } → (left : Option (List ℕ)) → input_of r left ≡ left
+fresh_input r is = λ left. ap (λ r. input_of r left) is ∙ prepended left
+
+pub from_fresh : (lines : Reading) (left : Option (List ℕ)) (P : List ℕ → Type 0) → ((left : Option (List ℕ)) → input_of lines left ≡ left) → IfSome (input_of lines left) P → IfSome left P
+from_fresh lines left P fresh h = subst (λ o. IfSome o P) (fresh left) h
+
+-- ---- what becomes of it
+
+pub runs_open : (left : Option (List ℕ)) (kinds : List AdapterKind) (desc : DescData) (status : Status) (old new : Option (List ℕ)) → IfSome left (λ bytes. opening_of bytes kinds ≡ Ok desc)
+    → IfSome left (λ bytes. IfErr (opening_of bytes kinds) (λ line. Tells status Refused old new line))
+runs_open None kinds desc status old new is = tt
+runs_open (Some bytes) kinds desc status old new is = rw is tt
+
+run_refused : (opening : Result DescData (List ℕ)) (status : Status) (old new : Option (List ℕ)) → Stops opening status old new → IfErr opening (λ line. Tells status Refused old new line)
+run_refused (Ok desc) status old new s = tt
+run_refused (Err line) status old new s = s.tells
+
+pub runs_refused : (left : Option (List ℕ)) (kinds : List AdapterKind) (status : Status) (old new : Option (List ℕ)) → IfSome left (λ bytes. Stops (opening_of bytes kinds) status old new)
+    → IfSome left (λ bytes. IfErr (opening_of bytes kinds) (λ line. Tells status Refused old new line))
+runs_refused None kinds status old new s = tt
+runs_refused (Some bytes) kinds status old new s = run_refused (opening_of bytes kinds) status old new s
+
+-- before anything else: want of memory
+pub runs_early : (left : Option (List ℕ)) (kinds : List AdapterKind) (status : Status) (old new : Option (List ℕ)) → is_complete status ≡ false → Keeps old new
+    → IfSome left (λ bytes. Stops (opening_of bytes kinds) status old new)
+runs_early None kinds status old new broken h = tt
+runs_early (Some bytes) kinds status old new broken h = stops_early (opening_of bytes kinds) status old new broken h
+
+pub maps_refused : (left : Option (List ℕ)) (kinds : List AdapterKind) (status : Status) (old new : Option (List ℕ)) → IfSome left (λ bytes. Stops (opening_of bytes kinds) status old new)
+    → IfSome left (λ bytes. MapTells (opening_of bytes kinds) status old new)
+maps_refused None kinds status old new s = tt
+maps_refused (Some bytes) kinds status old new s = stops_map (opening_of bytes kinds) status old new s
+
+map_open : (opening : Result DescData (List ℕ)) (desc : DescData) (status : Status) (old new : Option (List ℕ)) → opening ≡ Ok desc → Tells status Passed old new (layout_text desc.chip desc.layout) → MapTells opening status old new
+map_open opening desc status old new is t = subst (λ o. MapTells o status old new) (sym is) t
+
+pub maps_open : (left : Option (List ℕ)) (kinds : List AdapterKind) (desc : DescData) (status : Status) (old mid new : Option (List ℕ)) → IfSome left (λ bytes. opening_of bytes kinds ≡ Ok desc) → Keeps old mid
+    → Tells status Passed mid new (layout_text desc.chip desc.layout) → IfSome left (λ bytes. MapTells (opening_of bytes kinds) status old new)
+maps_open None kinds desc status old mid new is same t = tt
+maps_open (Some bytes) kinds desc status old mid new is same t = map_open (opening_of bytes kinds) desc status old new is (tells_later status Passed old mid new (layout_text desc.chip desc.layout) same t)
+
+-- ---- a session in memory
+
+pub of_text : (lines : Reading) (bytes text : List ℕ) (P : List ℕ → Type 0) → ((left : Option (List ℕ)) → input_of lines left ≡ left) → bytes ≡ text → IfSome (input_of lines (Some (drop 0 bytes))) P → P text
+of_text lines bytes text P fresh is h =
+    let h1 : IfSome (Some (drop 0 bytes)) P = subst (λ o. IfSome o P) (fresh (Some (drop 0 bytes))) h in
+    subst P is h1
+
+pub fresh_inputs : {E : Type 0} (r : Result Reading E) → IfOk r (λ r. r ≡ record { pending = []; line = []; asked = false; found = false; refused = false; ended = false; closed = false })
+    → IfOk r (λ lines. (left : Option (List ℕ)) → input_of lines left ≡ left)
+fresh_inputs (Ok r) is = fresh_input r is
+fresh_inputs (Err e) is = tt

@@ -1,0 +1,61 @@
+-- How a run ends, and what is written then.
+use Rattle.std.specs.Prelude.{◌≡◌, ◌==◌, ℕ, ◌+◌, ◌-◌, ◌^◌, min, List, Bool, true, ◌&&◌, if◌then◌else◌, false, Option, Result, Ok, Err}
+use Rattle.std.specs.Io.KnownBytes.{Appends, append_known}
+use Rattle.rl_desc.specs.Data.{DescData}
+use Rattle.regrun.specs.declared.counts.Counts.{Counts}
+use Rattle.regrun.specs.declared.status.Status.{Status}
+use Rattle.regrun.specs.declared.status.Status.TheVariants.{Passed, Found, Refused}
+use Rattle.regrun.specs.Session.{map_text, map_status}
+use Rattle.regrun.specs.Soak.{soak_line_text}
+use Rattle.regrun.specs.Statuses.{is_complete}
+
+-- ---- the whole text, or a front of it
+
+-- What is there now is a front of what was there and the text.
+pub record HoldsFront (old new : Option (List ℕ)) (text : List ℕ) : Type 0 where
+  pub rest : List ℕ
+  pub whole : Appends old (append_known new rest) text
+
+-- A run that came to its last line has this status and wrote the whole text; any other one wrote a front of it.
+pub record Writes (status expected : Status) (old new : Option (List ℕ)) (text : List ℕ) : Type 0 where
+  pub whole : is_complete status ≡ true → (status ≡ expected) × Appends old new text
+  pub part : HoldsFront old new text
+
+-- ---- the status by the counts
+
+-- nothing differed, and nothing failed on the bus
+abbrev pub is_clean : Counts → Bool
+is_clean counts = counts.differences == 0 && counts.errors == 0
+
+-- at the end of a script
+abbrev pub end_status : Counts → Status
+end_status counts = if is_clean counts then Passed else Found
+
+-- A status that goes by the counts goes by these.
+pub record IsCounted (status : Status) (counts : Counts) : Type 0 where
+  pub passed : status ≡ Passed → is_clean counts ≡ true
+  pub found : status ≡ Found → is_clean counts ≡ false
+
+-- the sum of two counts, at most the end of 64 bits
+abbrev pub both : ℕ → ℕ → ℕ
+both a b = min (a + b) (2 ^ 64 - 1)
+
+abbrev pub added : Counts → Counts → Counts
+added a b = record { events = both a.events b.events; differences = both a.differences b.differences; errors = both a.errors b.errors }
+
+-- The lines that were left ended by the counts of what happened, and the counts rose by these.
+pub record PlayEnds (status : Status) (before after : Counts) : Type 0 where
+  pub own : Counts
+  pub risen : after ≡ added before own
+  pub counted : IsCounted status own
+
+-- ---- by the words
+
+abbrev pub MapEnds : Result DescData (List ℕ) → Status → (old new : Option (List ℕ)) → Type 0
+MapEnds opening status old new = Writes status (map_status opening) old new (map_text opening)
+
+-- the one line of a number, or the refusal of its description
+abbrev pub SoakEnds : ℕ → Result DescData (List ℕ) → Status → (old new : Option (List ℕ)) → Type 0
+SoakEnds n (Ok desc) status old new =
+    (counts : Counts) × (sum : ℕ) × IsCounted status counts × Writes status status old new (soak_line_text n counts sum)
+SoakEnds n (Err line) status old new = Writes status Refused old new line

@@ -1,0 +1,173 @@
+-- A call that was refused, or that sent nothing, performed its operation.
+use Rattle.std.proofs.Common.{◌≡◌, ℕ, ◌≤◌, Bool, true, false, if◌then◌else◌, List, [], Option, None, Some, option_map, Ok, Err, MatchResult, refl, sym, ap, ◌∙◌, subst, arith}
+use Rattle.std.proofs.lemmas.List.{set-get_or}
+use Rattle.rl_bus.specs.Standing.{Standing, standing_at, nobody}
+use Rattle.rl_bus.specs.State.{State, poked, hw_set, reset_by}
+use Rattle.rl_bus.specs.declared.op.BusOp.{BusOp}
+use Rattle.rl_bus.specs.declared.table.Cell.TheVariants as cell
+use Rattle.rl_mirror.specs.Compared.{differ}
+use Rattle.rl_mirror.specs.Fields.{fields_of}
+use Rattle.rl_mirror.specs.Mirror.{marks_in}
+use Rattle.rl_mirror.specs.Prediction.{written, shown, left_by_read, predict_read, reset}
+use Rattle.rl_access.specs.declared.event.End.{End}
+use Rattle.rl_access.specs.declared.event.End.TheVariants as end
+use Rattle.rl_access.specs.declared.event.Event.{Event}
+use Rattle.rl_access.specs.declared.event.Op.{Op}
+use Rattle.rl_access.specs.declared.event.Op.TheVariants as op
+use Rattle.rl_access.specs.declared.event.Refused.{Refused}
+use Rattle.rl_access.specs.declared.trace.TraceItem.{TraceItem}
+use Rattle.rl_access.specs.Backdoor.{IsFound, IsReadBehind}
+use Rattle.rl_access.specs.Items.{AreItemsOf, HasCauses, items_of, state_after_all, moved_on_by_all, port_for, adapter_for}
+use Rattle.rl_access.specs.Model.{ModelData}
+use Rattle.rl_access.specs.Operation.{reg_of}
+use Rattle.rl_access.specs.Rules.{Grant, quiet, taking_raw, every_field, owned_of, back_written, back_value, back_left, back_outcome, grant, named, sends, outcome, Outcome, register_event, memory_event, event_at, event_of, refused_event, IsSampled, device_after}
+use Rattle.rl_access.specs.Call.{Scene, scene, IsRefused, IsDone, Performs}
+
+-- ---- refused
+
+pub refused_performs : (s : Scene) (op : Op) (why : Refused) (event : Event) → grant s.model op ≡ Err why → event ≡ refused_event s.model (named s.model op) why → Performs s s op event
+refused_performs s op why event refused e =
+    subst (λ r. MatchResult r (λ place. IsDone s s op place event) (λ w. IsRefused s s op w event)) (sym refused) (record { event_is = e; unchanged = refl })
+
+-- ---- done
+
+pub done_performs : (s new : Scene) (op : Op) (place : ℕ) (event : Event) → grant s.model op ≡ Ok place → IsDone s new op place event → Performs s new op event
+done_performs s new op place event granted done = subst (λ r. MatchResult r (λ p. IsDone s new op p event) (λ w. IsRefused s new op w event)) (sym granted) done
+
+trace_at : (reg : Option ℕ) (op : Op) (items : List TraceItem) (o : Outcome) → (event_at reg op items o).trace ≡ items
+trace_at None op items o = refl
+trace_at (Some reg) op items o = refl
+
+no_items : (s : Standing) (d : State) (port : ℕ) (ops : List BusOp) (items : List TraceItem) → ops ≡ [] → items ≡ [] → items ≡ items_of s d port ops
+no_items s d port ops items none empty = empty ∙ sym (ap (items_of s d port) none)
+
+are_none : (s : Standing) (port : ℕ) (ops : List BusOp) (items : List TraceItem) → ops ≡ [] → items ≡ [] → AreItemsOf s port ops items
+are_none s port ops items none empty = subst (λ os. AreItemsOf s port os items) (sym none) (subst (AreItemsOf s port []) (sym empty) tt)
+
+stand_still : (all : List Standing) (which : ℕ) (items : List TraceItem) → items ≡ [] → all ≡ moved_on_by_all all which items
+stand_still all which items empty = sym (ap (moved_on_by_all all which) empty ∙ set-get_or all which nobody)
+
+no_causes : (before now : ℕ) (items : List TraceItem) → items ≡ [] → before ≤ now → HasCauses before now items
+no_causes before now items empty later = subst (HasCauses before now) (sym empty) (record { later = later; failed = λ none. absurd (let no : false ≡ true = none in cc) })
+
+-- one that sends nothing: adapters stay as they are
+pub quiet_performs : (m new : ModelData) (errors later : ℕ) (told after : Option State) (op : Op) (place sampled : ℕ) (event : Event) → grant m op ≡ Ok place → sends m op place ≡ []
+    → event ≡ event_of m (named m op) [] (outcome m op place sampled []) → new ≡ (outcome m op place sampled []).model → errors ≤ later
+    → ((d : State) → told ≡ Some d → IsSampled d op sampled) → after ≡ option_map (device_after m op sampled []) told
+    → (adapters : List Standing) → Performs (scene m adapters errors told) (scene new adapters later after) op event
+quiet_performs m new errors later told after op place sampled event granted nothing is_event is_model causes found goes adapters =
+    let empty : event.trace ≡ [] = ap (λ (e : Event). e.trace) is_event ∙ trace_at _ (named m op) [] (outcome m op place sampled []) in
+    done_performs (scene m adapters errors told) (scene new adapters later after) op place event granted (record {
+      sampled = sampled;
+      items = are_none (standing_at adapters (adapter_for m.layout place)) (port_for m.layout place) (sends m op place) event.trace nothing empty;
+      adapters = stand_still adapters (adapter_for m.layout place) event.trace empty;
+      cause = no_causes errors later event.trace empty causes;
+      event_is = subst (λ t. event ≡ event_of m (named m op) t (outcome m op place sampled t)) (sym empty) is_event;
+      model = subst (λ t. new ≡ (outcome m op place sampled t).model) (sym empty) is_model;
+      found = found;
+      answers = λ d at. no_items (standing_at adapters (adapter_for m.layout place)) d (port_for m.layout place) (sends m op place) event.trace nothing empty;
+      goes = subst (λ t. after ≡ option_map (device_after m op sampled t) told) (sym empty) goes;
+    })
+
+-- ---- one condition after another
+
+pub then_only : (next : Grant → Grant) (first before now r : Grant) → before ≡ first → now ≡ next before → now ≡ r → next first ≡ r
+then_only next first before now r e more is = ap next (sym e) ∙ sym more ∙ is
+
+-- ---- the event of an operation that sent nothing
+
+told_event : (op : Op) (reg : ℕ) (items : List TraceItem) (o good : Outcome) (event : Event) → event ≡ register_event op reg items o → items ≡ [] → o ≡ good → event ≡ register_event op reg [] good
+told_event op reg items o good event e empty same = e ∙ ap (λ t. register_event op reg t o) empty ∙ ap (register_event op reg []) same
+
+pub told_memory_event : (op : Op) (items : List TraceItem) (o good : Outcome) (event : Event) → event ≡ memory_event op items o → items ≡ [] → o ≡ good → event ≡ memory_event op [] good
+told_memory_event op items o good event e empty same = e ∙ ap (λ t. memory_event op t o) empty ∙ ap (memory_event op []) same
+
+ended_with : (end : End) (m new : ModelData) → m ≡ new → quiet end m ≡ quiet end new
+ended_with end m new e = ap (quiet end) e
+
+as_it_was : (told : Option State) → told ≡ option_map (λ d. state_after_all d []) told
+as_it_was None = refl
+as_it_was (Some d) = refl
+
+-- ---- the backdoor of a register
+
+pub poke_performs : (m new : ModelData) (errors later : ℕ) (told after : Option State) (reg value place : ℕ) (items : List TraceItem) (event : Event) → grant m (op.Poke reg value) ≡ Ok place
+    → after ≡ option_map (λ d. poked d (cell.Reg reg) value) told → new ≡ taking_raw m reg value → items ≡ [] → event ≡ register_event (op.Poke reg value) reg items (quiet end.Done new) → errors ≤ later
+    → (adapters : List Standing) → Performs (scene m adapters errors told) (scene new adapters later after) (op.Poke reg value) event
+poke_performs m new errors later told after reg value place items event granted goes taken empty is_event causes =
+    quiet_performs m new errors later told after (op.Poke reg value) place 0 event granted refl
+    (told_event (op.Poke reg value) reg items (quiet end.Done new) (quiet end.Done (taking_raw m reg value)) event is_event empty (ended_with end.Done new (taking_raw m reg value) taken))
+    taken causes (λ d at. tt) goes
+
+pub peek_performs : (m new : ModelData) (errors : ℕ) (told : Option State) (reg value place : ℕ) (items : List TraceItem) (event : Event) → grant m (op.Peek reg) ≡ Ok place
+    → IsFound m told reg value → new ≡ taking_raw m reg value → items ≡ [] → event ≡ register_event (op.Peek reg) reg items (quiet (end.Value value) new)
+    → (adapters : List Standing) → Performs (scene m adapters errors told) (scene new adapters errors told) (op.Peek reg) event
+peek_performs m new errors told reg value place items event granted f taken empty is_event =
+    let now : new ≡ taking_raw m reg (owned_of m reg f.sampled) = taken ∙ ap (taking_raw m reg) f.value_is in
+    let same : quiet (end.Value value) new ≡ quiet (end.Value (owned_of m reg f.sampled)) (taking_raw m reg (owned_of m reg f.sampled)) =
+    ap (λ v. quiet (end.Value v) new) f.value_is ∙ ended_with (end.Value (owned_of m reg f.sampled)) new (taking_raw m reg (owned_of m reg f.sampled)) now in
+    quiet_performs m new errors errors told told (op.Peek reg) place f.sampled event granted refl
+    (told_event (op.Peek reg) reg items (quiet (end.Value value) new) (quiet (end.Value (owned_of m reg f.sampled)) (taking_raw m reg (owned_of m reg f.sampled))) event is_event empty same)
+    now (omega arith) f.found (as_it_was told)
+
+pub back_write_performs : (m new : ModelData) (errors later : ℕ) (told after : Option State) (reg value found word place : ℕ) (items : List TraceItem) (event : Event) → grant m (op.BackWrite reg value) ≡ Ok place
+    → IsFound m told reg found → word ≡ written (fields_of m.chip reg) (marks_in m.chip m.mirror.spent reg) found value
+    → after ≡ option_map (λ d. poked d (cell.Reg reg) word) told → new ≡ taking_raw m reg word → items ≡ [] → event ≡ register_event (op.BackWrite reg value) reg items (quiet end.Done new) → errors ≤ later
+    → (adapters : List Standing) → Performs (scene m adapters errors told) (scene new adapters later after) (op.BackWrite reg value) event
+back_write_performs m new errors later told after reg value found word place items event granted f is_word goes taken empty is_event causes =
+    let is : word ≡ back_written m reg value f.sampled = is_word ∙ ap (λ b. written (fields_of m.chip reg) (marks_in m.chip m.mirror.spent reg) b value) f.value_is in
+    let now : new ≡ taking_raw m reg (back_written m reg value f.sampled) = taken ∙ ap (taking_raw m reg) is in
+    quiet_performs m new errors later told after (op.BackWrite reg value) place f.sampled event granted refl
+    (told_event (op.BackWrite reg value) reg items (quiet end.Done new) (quiet end.Done (taking_raw m reg (back_written m reg value f.sampled))) event is_event empty (ended_with end.Done new (taking_raw m reg (back_written m reg value f.sampled)) now))
+    now causes f.found (subst (λ w. after ≡ option_map (λ d. poked d (cell.Reg reg) w) told) is goes)
+
+-- what is read is shown, and what the read leaves is deposited
+pub read_behind : (m new : ModelData) (told after : Option State) (check : Bool) (reg bits value left marked : ℕ) → IsFound m told reg bits → value ≡ shown (fields_of m.chip reg) bits → left ≡ left_by_read (fields_of m.chip reg) bits
+    → after ≡ option_map (λ d. poked d (cell.Reg reg) left) told → marked ≡ (if check then differ m.chip reg value m.mirror else 0) → new ≡ record m { mirror = predict_read m.chip reg value every_field m.mirror }
+    → IsReadBehind m new told after check reg value marked
+read_behind m new told after check reg bits value left marked f is_value is_left goes is_marked is_new =
+    let made : ℕ → Outcome = λ v. record { end = end.Value v; model = record m { mirror = predict_read m.chip reg v every_field m.mirror }; differ = if check then differ m.chip reg v m.mirror else 0 } in
+    let now : value ≡ back_value m reg f.sampled = is_value ∙ ap (shown (fields_of m.chip reg)) f.value_is in
+    let after_it : left ≡ back_left m reg f.sampled = is_left ∙ ap (left_by_read (fields_of m.chip reg)) f.value_is in
+    record {
+      sampled = f.sampled;
+      found = f.found;
+      outcome = ap (λ x. record { end = end.Value value; model = x; differ = marked }) is_new
+          ∙ ap (λ x. record { end = end.Value value; model = record m { mirror = predict_read m.chip reg value every_field m.mirror }; differ = x }) is_marked
+          ∙ ap made now;
+      goes = subst (λ w. after ≡ option_map (λ d. poked d (cell.Reg reg) w) told) after_it goes;
+    }
+
+pub back_read_performs : (m new : ModelData) (errors later : ℕ) (told after : Option State) (reg value differ place : ℕ) (items : List TraceItem) (event : Event) → grant m (op.BackRead reg) ≡ Ok place
+    → IsReadBehind m new told after false reg value differ → items ≡ [] → event ≡ register_event (op.BackRead reg) reg items (record { end = end.Value value; model = new; differ = differ }) → errors ≤ later
+    → (adapters : List Standing) → Performs (scene m adapters errors told) (scene new adapters later after) (op.BackRead reg) event
+back_read_performs m new errors later told after reg value differ place items event granted r empty is_event causes =
+    quiet_performs m new errors later told after (op.BackRead reg) place r.sampled event granted refl
+    (told_event (op.BackRead reg) reg items (record { end = end.Value value; model = new; differ = differ }) (back_outcome m false reg r.sampled) event is_event empty r.outcome)
+    (ap (λ (o : Outcome). o.model) r.outcome) causes r.found r.goes
+
+pub back_check_performs : (m new : ModelData) (errors later : ℕ) (told after : Option State) (reg value differ place : ℕ) (items : List TraceItem) (event : Event) → grant m (op.BackCheck reg) ≡ Ok place
+    → IsReadBehind m new told after true reg value differ → items ≡ [] → event ≡ register_event (op.BackCheck reg) reg items (record { end = end.Value value; model = new; differ = differ }) → errors ≤ later
+    → (adapters : List Standing) → Performs (scene m adapters errors told) (scene new adapters later after) (op.BackCheck reg) event
+back_check_performs m new errors later told after reg value differ place items event granted r empty is_event causes =
+    quiet_performs m new errors later told after (op.BackCheck reg) place r.sampled event granted refl
+    (told_event (op.BackCheck reg) reg items (record { end = end.Value value; model = new; differ = differ }) (back_outcome m true reg r.sampled) event is_event empty r.outcome)
+    (ap (λ (o : Outcome). o.model) r.outcome) causes r.found r.goes
+
+-- ---- the hardware and a reset
+
+pub hw_performs : (m : ModelData) (errors later : ℕ) (told after : Option State) (field value reg place : ℕ) (items : List TraceItem) (event : Event) → grant m (op.Hw field value) ≡ Ok place
+    → after ≡ option_map (λ d. hw_set d field value) told → reg ≡ reg_of m.chip field → items ≡ [] → event ≡ register_event (op.Hw field value) reg items (quiet end.Done m) → errors ≤ later
+    → (adapters : List Standing) → Performs (scene m adapters errors told) (scene m adapters later after) (op.Hw field value) event
+hw_performs m errors later told after field value reg place items event granted goes is_reg empty is_event causes =
+    quiet_performs m m errors later told after (op.Hw field value) place 0 event granted refl
+    (told_event (op.Hw field value) (reg_of m.chip field) items (quiet end.Done m) (quiet end.Done m) event (is_event ∙ ap (λ r. register_event (op.Hw field value) r items (quiet end.Done m)) is_reg) empty refl)
+    refl causes (λ d at. tt) goes
+
+pub reset_performs : (m new : ModelData) (errors later : ℕ) (told after : Option State) (kind : ℕ) (items : List TraceItem) (event : Event)
+    → after ≡ option_map (λ d. reset_by d kind) told → new ≡ record m { mirror = reset m.chip kind m.mirror } → items ≡ [] → event ≡ memory_event (op.Reset kind) items (quiet end.Done new) → errors ≤ later
+    → (adapters : List Standing) → Performs (scene m adapters errors told) (scene new adapters later after) (op.Reset kind) event
+reset_performs m new errors later told after kind items event goes taken empty is_event causes =
+    quiet_performs m new errors later told after (op.Reset kind) 0 0 event refl refl
+    (told_memory_event (op.Reset kind) items (quiet end.Done new) (quiet end.Done new) event is_event empty refl)
+    taken causes (λ d at. tt) goes

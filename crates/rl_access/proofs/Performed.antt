@@ -1,0 +1,162 @@
+-- From what a call's parts promise to what the call performs.
+use Rattle.std.proofs.Common.{◌≡◌, ℕ, List, [], Bool, true, false, Option, None, Some, option_map, Ok, Err, MatchResult, refl, sym, ap, ◌∙◌, subst, arith}
+use Rattle.std.proofs.lemmas.List.{set-get_or}
+use Rattle.rl_bus.specs.Standing.{Standing, nobody, standing_at}
+use Rattle.rl_bus.specs.State.{State}
+use Rattle.rl_bus.specs.declared.op.BusOp.{BusOp}
+use Rattle.rl_access.specs.declared.access.Access.{Access}
+use Rattle.rl_access.specs.declared.event.End.{End}
+use Rattle.rl_access.specs.declared.event.End.TheVariants as end
+use Rattle.rl_access.specs.declared.event.Event.{Event}
+use Rattle.rl_access.specs.declared.event.Op.{Op}
+use Rattle.rl_access.specs.declared.event.Refused.{Refused}
+use Rattle.rl_access.specs.declared.trace.TraceItem.{TraceItem}
+use Rattle.rl_access.specs.Call.{Scene, scene, IsRefused, IsDone, Performs}
+use Rattle.rl_access.specs.Items.{AreItemsOf, AreSent, HasCauses, items_of, state_after_all, port_for, adapter_for}
+use Rattle.rl_access.specs.Model.{ModelData}
+use Rattle.rl_access.specs.Operation.{register_of}
+use Rattle.rl_access.specs.Rules.{Grant, Outcome, grant, named, sends, outcome, event_at, event_of, register_event, quiet, access_ops, write_outcome, read_outcome, IsSampled, device_after}
+
+-- ---- by the grant
+
+pub performs_done : (s new : Scene) (op : Op) (place : ℕ) (event : Event) → grant s.model op ≡ Ok place → IsDone s new op place event → Performs s new op event
+performs_done s new op place event granted done =
+    subst (λ (g : Grant). MatchResult g (λ p. IsDone s new op p event) (λ why. IsRefused s new op why event)) (sym granted) done
+
+pub performs_refused : (s new : Scene) (op : Op) (why : Refused) (event : Event) → grant s.model op ≡ Err why → IsRefused s new op why event → Performs s new op event
+performs_refused s new op why event refused is =
+    subst (λ (g : Grant). MatchResult g (λ p. IsDone s new op p event) (λ w. IsRefused s new op w event)) (sym refused) is
+
+-- an operation on a register that was refused
+pub refused_register : (m : ModelData) (op told : Op) (reg : ℕ) (why : Refused) (event : Event) (adapters : List Standing) (errors : ℕ) (device : Option State) →
+    grant m op ≡ Err why → told ≡ named m op → register_of m.chip (named m op) ≡ Some reg → event ≡ register_event told reg [] (quiet (end.Refused why) m) →
+    Performs (scene m adapters errors device) (scene m adapters errors device) op event
+refused_register m op told reg why event adapters errors device refused names register is =
+    performs_refused (scene m adapters errors device) (scene m adapters errors device) op why event refused (record {
+      event_is =
+          is
+          ∙ ap (λ o. register_event o reg [] (quiet (end.Refused why) m)) names
+          ∙ ap (λ r. event_at r (named m op) [] (quiet (end.Refused why) m)) (sym register);
+      unchanged = refl;
+    })
+
+-- ---- what an operation over the bus sends, and what becomes of it
+
+pub record IsOverBus (m : ModelData) (op : Op) (place : ℕ) (reg : ℕ) (ops : List BusOp) (o : List TraceItem → Outcome) : Type 0 where
+  pub sends_are : sends m op place ≡ ops
+  pub outcome_is : (items : List TraceItem) → outcome m op place 0 items ≡ o items
+  pub register : register_of m.chip (named m op) ≡ Some reg
+  pub sampled : (d : State) → IsSampled d op 0
+  pub device : (items : List TraceItem) (d : State) → device_after m op 0 items d ≡ state_after_all d items
+
+goes_on : (f g : State → State) → ((d : State) → f d ≡ g d) → (state : Option State) → option_map f state ≡ option_map g state
+goes_on f g same None = refl
+goes_on f g same (Some d) = ap Some (same d)
+
+pub sent_over_bus : (m new : ModelData) (op told : Op) (place reg : ℕ) (ops : List BusOp) (o : List TraceItem → Outcome) (event : Event) (before now : List Standing) (errors later : ℕ) (state after : Option State) →
+    grant m op ≡ Ok place → told ≡ named m op → IsOverBus m op place reg ops o →
+    AreSent (adapter_for m.layout place) (port_for m.layout place) ops event.trace before now errors later state after →
+    event ≡ register_event told reg event.trace (o event.trace) → new ≡ (o event.trace).model →
+    Performs (scene m before errors state) (scene new now later after) op event
+sent_over_bus m new op told place reg ops o event before now errors later state after granted names is sent event_is model =
+    performs_done (scene m before errors state) (scene new now later after) op place event granted (record {
+      sampled = 0;
+      items = subst (λ all. AreItemsOf (standing_at before (adapter_for m.layout place)) (port_for m.layout place) all event.trace) (sym is.sends_are) sent.items_are;
+      adapters = sent.adapters;
+      cause = sent.cause;
+      event_is =
+          event_is
+          ∙ ap (λ t. register_event t reg event.trace (o event.trace)) names
+          ∙ ap (λ r. event_at r (named m op) event.trace (o event.trace)) (sym is.register)
+          ∙ ap (λ out. event_of m (named m op) event.trace out) (sym (is.outcome_is event.trace));
+      model = model ∙ ap (λ (out : Outcome). out.model) (sym (is.outcome_is event.trace));
+      found = λ d _. is.sampled d;
+      answers = λ d e. sent.run.answers d e ∙ ap (λ all. items_of (standing_at before (adapter_for m.layout place)) d (port_for m.layout place) all) (sym is.sends_are);
+      goes = sent.run.goes ∙ goes_on (λ d. state_after_all d event.trace) (device_after m op 0 event.trace) (λ d. sym (is.device event.trace d)) state;
+    })
+
+-- ---- a write, and a read, of an access
+
+-- the operation is this write, begun from this model
+pub record IsWriteOf (m : ModelData) (op : Op) (place : ℕ) (entry : ModelData) (a : Access) (good : End) : Type 0 where
+  pub over_bus : IsOverBus m op place a.reg (access_ops entry a true) (λ items. write_outcome entry good a items)
+  pub layout_is : entry.layout ≡ m.layout
+  pub place_is : a.place ≡ place
+
+pub write_performs : {before now : List Standing} {errors later : ℕ} {state after : Option State} (m entry new : ModelData) (op told : Op) (place : ℕ) (a : Access) (good : End) (event : Event) →
+    grant m op ≡ Ok place → told ≡ named m op → IsWriteOf m op place entry a good →
+    AreSent (adapter_for entry.layout a.place) (port_for entry.layout a.place) (access_ops entry a true) event.trace before now errors later state after →
+    event ≡ register_event told a.reg event.trace (write_outcome entry good a event.trace) → new ≡ (write_outcome entry good a event.trace).model →
+    Performs (scene m before errors state) (scene new now later after) op event
+write_performs {before} {now} {errors} {later} {state} {after} m entry new op told place a good event granted names is sent event_is model =
+    sent_over_bus m new op told place a.reg (access_ops entry a true) (λ items. write_outcome entry good a items) event before now errors later state after granted names is.over_bus
+    (subst (λ p. AreSent (adapter_for m.layout p) (port_for m.layout p) (access_ops entry a true) event.trace before now errors later state after) is.place_is
+    (subst (λ l. AreSent (adapter_for l a.place) (port_for l a.place) (access_ops entry a true) event.trace before now errors later state after) is.layout_is sent))
+    event_is model
+
+-- the operation is this read, begun from this model
+pub record IsReadOf (m : ModelData) (op : Op) (place : ℕ) (entry : ModelData) (a : Access) (check : Bool) : Type 0 where
+  pub over_bus : IsOverBus m op place a.reg (access_ops entry a false) (λ items. read_outcome entry check a items)
+  pub layout_is : entry.layout ≡ m.layout
+  pub place_is : a.place ≡ place
+
+pub read_performs : {before now : List Standing} {errors later : ℕ} {state after : Option State} (m entry new : ModelData) (op told : Op) (place : ℕ) (a : Access) (check : Bool) (event : Event) →
+    grant m op ≡ Ok place → told ≡ named m op → IsReadOf m op place entry a check →
+    AreSent (adapter_for entry.layout a.place) (port_for entry.layout a.place) (access_ops entry a false) event.trace before now errors later state after →
+    event ≡ register_event told a.reg event.trace (read_outcome entry check a event.trace) → new ≡ (read_outcome entry check a event.trace).model →
+    Performs (scene m before errors state) (scene new now later after) op event
+read_performs {before} {now} {errors} {later} {state} {after} m entry new op told place a check event granted names is sent event_is model =
+    sent_over_bus m new op told place a.reg (access_ops entry a false) (λ items. read_outcome entry check a items) event before now errors later state after granted names is.over_bus
+    (subst (λ p. AreSent (adapter_for m.layout p) (port_for m.layout p) (access_ops entry a false) event.trace before now errors later state after) is.place_is
+    (subst (λ l. AreSent (adapter_for l a.place) (port_for l a.place) (access_ops entry a false) event.trace before now errors later state after) is.layout_is sent))
+    event_is model
+
+-- ---- an operation that sends nothing, and leaves the device
+
+pub record IsQuiet (m : ModelData) (op : Op) (place reg : ℕ) (e : End) (new : ModelData) : Type 0 where
+  pub sends_are : sends m op place ≡ []
+  pub outcome_is : outcome m op place 0 [] ≡ quiet e new
+  pub register : register_of m.chip (named m op) ≡ Some reg
+  pub sampled : (d : State) → IsSampled d op 0
+  pub device : (d : State) → device_after m op 0 [] d ≡ d
+
+no_items : (s : Standing) (port : ℕ) (ops : List BusOp) → ops ≡ [] → AreItemsOf s port ops []
+no_items s port ops none = subst (λ all. AreItemsOf s port all []) (sym none) tt
+
+none_of : (s : Standing) (d : State) (port : ℕ) (ops : List BusOp) → ops ≡ [] → items_of s d port ops ≡ []
+none_of s d port ops none = ap (items_of s d port) none
+
+stays : (f : State → State) → ((d : State) → f d ≡ d) → (state : Option State) → state ≡ option_map f state
+stays f same None = refl
+stays f same (Some d) = ap Some (sym (same d))
+
+no_cause : (errors : ℕ) → HasCauses errors errors []
+no_cause errors = record { later = omega arith; failed = λ h. absurd (cc) }
+
+quiet_event : (m new : ModelData) (op : Op) (place reg : ℕ) (e : End) (before : List Standing) (errors : ℕ) (state : Option State) → IsQuiet m op place reg e new →
+    IsDone (scene m before errors state) (scene new before errors state) op place (register_event (named m op) reg [] (quiet e new))
+quiet_event m new op place reg e before errors state is =
+    record {
+      sampled = 0;
+      items = no_items (standing_at before (adapter_for m.layout place)) (port_for m.layout place) (sends m op place) is.sends_are;
+      adapters = sym (set-get_or before (adapter_for m.layout place) nobody);
+      cause = no_cause errors;
+      event_is = ap (λ r. event_at r (named m op) [] (quiet e new)) (sym is.register) ∙ ap (λ out. event_of m (named m op) [] out) (sym is.outcome_is);
+      model = ap (λ (out : Outcome). out.model) (sym is.outcome_is);
+      found = λ d _. is.sampled d;
+      answers = λ d _. sym (none_of (standing_at before (adapter_for m.layout place)) d (port_for m.layout place) (sends m op place) is.sends_are);
+      goes = stays (device_after m op 0 []) is.device state;
+    }
+
+pub quiet_performs : (m new : ModelData) (op told : Op) (place reg register : ℕ) (e : End) (items : List TraceItem) (event : Event) (before : List Standing) (errors : ℕ) (state : Option State) →
+    grant m op ≡ Ok place → told ≡ named m op → IsQuiet m op place reg e new → register ≡ reg → items ≡ [] → event ≡ register_event told register items (quiet e new) →
+    Performs (scene m before errors state) (scene new before errors state) op event
+quiet_performs m new op told place reg register e items event before errors state granted names is same none event_is =
+    let all : event ≡ register_event (named m op) reg [] (quiet e new) =
+    event_is
+    ∙ ap (λ t. register_event t register items (quiet e new)) names
+    ∙ ap (λ r. register_event (named m op) r items (quiet e new)) same
+    ∙ ap (λ it. register_event (named m op) reg it (quiet e new)) none
+    in
+    subst (λ ev. Performs (scene m before errors state) (scene new before errors state) op ev) (sym all)
+    (performs_done (scene m before errors state) (scene new before errors state) op place (register_event (named m op) reg [] (quiet e new)) granted (quiet_event m new op place reg e before errors state is))

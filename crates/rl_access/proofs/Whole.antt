@@ -1,0 +1,66 @@
+-- What a whole access sends.
+use Rattle.std.proofs.Common.{◌≡◌, ℕ, ◌*◌, ◌^◌, ◌<◌, ◌≤◌, Bool, true, false, not, ◌&&◌, eqb, ltb, List, length, get_or, Some, refl, sym, ap, ◌∙◌, subst, arith}
+use Rattle.std.specs.Prelude.{slice_index}
+use Rattle.std.proofs.lemmas.Bool.Decides.{nat_tests}
+use Rattle.std.proofs.lemmas.List.{length-map}
+use Rattle.std.proofs.lemmas.Option.{slice_get_within}
+use Rattle.rl_policy.specs.Bits.{bit}
+use Rattle.rl_policy.proofs.BitLemmas.{bit-from_bits, bit-mask, same_from_bits}
+use Rattle.rl_model.specs.Rows.{ChipData}
+use Rattle.rl_model.specs.Chip.{bytes_of}
+use Rattle.rl_model.specs.declared.rows.Item.{Item}
+use Rattle.rl_model.specs.declared.rows.Item.TheVariants as item
+use Rattle.rl_map.specs.declared.word.Word.{Word}
+use Rattle.rl_map.specs.Layout.{LayoutData, place_at, words_of, IsSound, IsLocation}
+use Rattle.rl_map.specs.Maps.{IsBuiltWith}
+use Rattle.rl_map.specs.Words.{no_word}
+use Rattle.rl_split.specs.Access.{all_bytes, chosen_lanes, has_chosen, sent_words, op_of, ops_of, sent_of}
+use Rattle.rl_split.proofs.Sending.{all_numbered, filter_all, chosen-lt, small_lanes, byte_in, IsHere, is_here}
+use Rattle.rl_access.specs.Gathering.{IsRegister, IsRegisterPlace}
+use Rattle.rl_access.specs.Observed.{reg_in}
+
+-- where all bytes are chosen, so are all lanes
+lanes_all : (w : Word) (bytes : ℕ) → w.lanes < 2 ^ 8 → ((l : ℕ) → l < 8 → bit w.lanes l ≡ true → slice_index w.bytes l < bytes) → chosen_lanes (all_bytes bytes) w ≡ w.lanes
+lanes_all w bytes small inside =
+    same_from_bits 8 _ _ (chosen-lt (all_bytes bytes) w) small
+    (λ l low. bit-from_bits 8 _ l low ∙ ap (λ t. bit w.lanes l && t) (bit-mask bytes (slice_index w.bytes l)) ∙ by (bit w.lanes l) (slice_index w.bytes l) (inside l low))
+  where
+    by : (on : Bool) (j : ℕ) → (on ≡ true → j < bytes) → (on && ltb j bytes) ≡ on
+    by true j h = let l = h refl in grind (arith, nat_tests)
+    by false j h = refl
+
+-- each word has a byte
+pub all_sent : (l : LayoutData) (place index : ℕ) → IsHere l place index → sent_words (all_bytes (place_at l place).bytes) (words_of l place index) ≡ words_of l place index
+all_sent l place index here =
+    let words = words_of l place index in
+    let bytes = (place_at l place).bytes in
+    let whole : (k : ℕ) → k < length words → chosen_lanes (all_bytes bytes) (get_or words k no_word) ≡ (get_or words k no_word).lanes =
+    λ k inside. lanes_all (get_or words k no_word) bytes (small_lanes _ _ here.port.width (here.words.on k no_word inside).enabled) (λ j low on. byte_in words bytes k j here.words.reach inside low on) in
+    filter_all (has_chosen (all_bytes bytes)) words
+    (all_numbered (λ w. has_chosen (all_bytes bytes) w ≡ true) words no_word (λ k inside. some_chosen (chosen_lanes (all_bytes bytes) (get_or words k no_word)) (omega (arith, whole k inside, (here.words.on k no_word inside).some))))
+  where
+    some_chosen : (x : ℕ) → 0 < x → not (eqb x 0) ≡ true
+    some_chosen x low = grind (arith, nat_tests)
+
+-- a whole access has as many operations as the place has words
+pub whole_count : (l : LayoutData) (place index value : ℕ) (write : Bool) → IsSound l → IsLocation l place index → length (ops_of l place index (all_bytes (place_at l place).bytes) value write) ≡ length (words_of l place index)
+unfolding ops_of sent_of
+whole_count l place index value write sound at =
+    length-map (sent_words (all_bytes (place_at l place).bytes) (words_of l place index)) (op_of l place (all_bytes (place_at l place).bytes) value write)
+    ∙ ap length (all_sent l place index (is_here l place index sound at))
+
+-- ---- a place of a register
+
+pub register_is : (i : Item) (reg : ℕ) → IsRegister i → reg ≡ reg_in i → i ≡ item.Reg reg
+register_is (item.Reg r) reg is e = ap item.Reg (sym e)
+register_is (item.Mem m) reg is e = absurd is
+
+pub first_of_place : (l : LayoutData) (place : ℕ) → IsSound l → place < length l.places → IsLocation l place 0
+first_of_place l place sound inside = let here = sound.each_place place inside in record { place_in = inside; index_in = omega (arith, here.size) }
+
+pub bytes_at : (c : ChipData) (l : LayoutData) (place reg bytes : ℕ) → IsBuiltWith l c → IsRegisterPlace l place → reg ≡ reg_in (place_at l place).item → bytes_of c (item.Reg reg) ≡ Some bytes → (place_at l place).bytes ≡ bytes
+bytes_at c l place reg bytes built there is e =
+    let same : (place_at l place).item ≡ item.Reg reg = register_is (place_at l place).item reg there.register is in
+    let found : bytes_of c (item.Reg reg) ≡ Some (place_at l place).bytes = subst (λ i. bytes_of c i ≡ Some (place_at l place).bytes) same (built place there.inside).0 in
+    let both : Some (place_at l place).bytes ≡ Some bytes = sym found ∙ e in
+    cc

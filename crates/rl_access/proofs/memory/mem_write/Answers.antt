@@ -1,0 +1,18 @@
+use Rattle.std.proofs.Common.{true, refl, sym}
+use Rattle.rl_model.specs.declared.rows.Item.TheVariants as item
+use Rattle.rl_access.specs.Rules.{at_location, fitting, writable}
+use Rattle.rl_access.proofs.BackPerforms.{then_only}
+use Rattle.rl_access.proofs.MemoryPerforms.{way_is, map_is, mem_write_performs}
+use Rattle.rl_access.proofs.memory.mem_write.Goals as goal
+
+pub returns-in-Ok-clause-performs : goal.returns-in-Ok-clause-performs
+returns-in-Ok-clause-performs g c =
+    let m = c.args.m.now in
+    let mem = c.args.mem in
+    let way = way_is m mem c.args.map c.place_of-place.result true c.way.result c.place_of-place.ensures.place c.way.ensures.grant in
+    let may = then_only (writable m mem) _ _ _ _ way c.writable-way.ensures.grant refl in
+    let inside = then_only (at_location m mem c.args.index) _ _ _ _ (sym may) c.at_location.ensures.grant refl in
+    let granted = then_only (fitting m (item.Mem mem) c.args.value) _ _ _ _ (sym inside) c.fitting.ensures.grant c.in-Ok.is in
+    let used = map_is m mem c.args.map c.place_of-place.result c.map_used.result c.place_of-place.ensures.place c.map_used.ensures.map in
+    let done = c.write_location-done in
+    mem_write_performs m _ _ _ _ _ _ mem c.args.index c.args.value c.in-Ok.place c.args.map c.map_used.result done.result.end done.result.trace _ granted used done.ensures.sent done.ensures.end c.memory_event.ensures.event

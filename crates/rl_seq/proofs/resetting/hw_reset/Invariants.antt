@@ -1,7 +1,0 @@
-use Rattle.rl_seq.proofs.Going.{IsGoingBy}
-use Rattle.rl_seq.proofs.resetting.hw_reset.Given as goal
-
-abbrev pub invariant-loop-reg : goal.invariant-loop-reg
-invariant-loop-reg g l =
-    IsGoingBy (λ b. (goal.Adapter-dyn g (b.vtable, b.value)).standing b.value) l.fn.m l.m l.a.items (g.D.Device.state l.d)
-    (g.R.Recorder.faults l.fn.rec) (g.R.Recorder.faults l.rec) (g.R.Recorder.steady l.fn.rec) (g.R.Recorder.steady l.rec)

@@ -1,0 +1,109 @@
+-- Which registers, memories, places and bits a sequence goes over.
+use Rattle.std.specs.Prelude.{ℕ, zero, suc, ◌+◌, ◌-◌, ◌*◌, ◌^◌, ◌%◌, ◌==◌, nat_le, bit_and, Bool, true, false, not, if◌then◌else◌, ◌&&◌, ◌||◌, length, slice_get, unwrap_or, Option, None, Some}
+use Rattle.std.specs.Option.{option_map_or}
+use Rattle.rl_map.specs.Layout.{LayoutData, place_at, has_right}
+use Rattle.rl_model.specs.Chip.{backdoor_of, skip_of, is_inside, path_at, path_of_item}
+use Rattle.rl_model.specs.Rows.{ChipData}
+use Rattle.rl_model.specs.declared.rows.Item.{Item}
+use Rattle.rl_model.specs.declared.rows.Item.TheVariants.{Reg, Mem}
+use Rattle.rl_mirror.specs.Compared.{is_compared}
+use Rattle.rl_mirror.specs.Fields.{field_of, first_of, count_of}
+use Rattle.rl_policy.specs.Bits.{is_within}
+use Rattle.rl_policy.specs.declared.policy.Policy.{Policy}
+use Rattle.rl_policy.specs.declared.policy.Policy.TheVariants.{Ro}
+use Rattle.rl_access.specs.Rules.{item_size}
+
+-- the exclusions, as bits
+abbrev pub no_reg_tests : ℕ
+no_reg_tests = 1
+
+abbrev pub no_reg_hw_reset_test : ℕ
+no_reg_hw_reset_test = 2
+
+abbrev pub no_reg_bit_bash_test : ℕ
+no_reg_bit_bash_test = 4
+
+-- an exclusion names the item
+abbrev pub is_excluded : ChipData → Item → ℕ → Bool
+is_excluded c item skip = option_map_or (λ s. bit_and s.bits skip == skip) (skip_of c item) false
+
+-- the item stands in the block, or no block is named
+abbrev pub is_in_block : ChipData → Item → Option ℕ → Bool
+is_in_block c item None = true
+is_in_block c item (Some block) = is_inside (path_at c block) (path_of_item c item)
+
+abbrev pub is_tested : ChipData → Item → Option ℕ → ℕ → Bool
+is_tested c item block skip = is_in_block c item block && not (is_excluded c item skip)
+
+abbrev pub is_reg_tested : ChipData → ℕ → Option ℕ → ℕ → Bool
+is_reg_tested c reg block skip = is_tested c (Reg reg) block skip && is_tested c (Reg reg) block no_reg_tests
+
+abbrev pub is_same : Item → Item → Bool
+is_same (Reg a) (Reg b) = a == b
+is_same (Mem a) (Mem b) = a == b
+is_same (Reg a) (Mem b) = false
+is_same (Mem a) (Reg b) = false
+
+-- the place is the item's, and has these rights
+abbrev pub is_place : LayoutData → ℕ → Item → (reads writes : Bool) → Bool
+is_place l place item reads writes =
+    let rights = (place_at l place).rights in
+    (is_same (place_at l place).item item && (not reads || has_right rights false)) && (not writes || has_right rights true)
+
+-- for some number below the count
+abbrev pub any_below : ℕ → (ℕ → Bool) → Bool
+any_below zero p = false
+any_below (suc n) p = any_below n p || p n
+
+-- the bit belongs to a field that checks compare
+abbrev pub is_bit_compared : ChipData → (reg bit : ℕ) → Bool
+is_bit_compared c reg bit = any_below (count_of c reg) (λ k.
+    let f = (field_of c (first_of c reg + k)).shape in
+    is_within f.lsb f.width bit && is_compared f)
+
+-- ---- access, shared access and memory walk
+
+abbrev pub no_reg_access_test : ℕ
+no_reg_access_test = 8
+
+abbrev pub no_reg_shared_access_test : ℕ
+no_reg_shared_access_test = 16
+
+abbrev pub no_mem_walk_test : ℕ
+no_mem_walk_test = 32
+
+-- the low bits, as many as the item's bytes have
+abbrev pub low_bits : ChipData → Item → ℕ → ℕ
+low_bits c item v = v % 2 ^ (8 * item_size c item)
+
+-- all of these bits turned round
+abbrev pub turned_round : ChipData → Item → ℕ → ℕ
+turned_round c item v = 2 ^ (8 * item_size c item) - 1 - low_bits c item v
+
+abbrev pub is_read_only : Policy → Bool
+is_read_only Ro = true
+is_read_only _ = false
+
+-- a field of the register isn't RO
+abbrev pub has_writable_field : ChipData → ℕ → Bool
+has_writable_field c reg = any_below (count_of c reg) (λ k. not (is_read_only (field_of c (first_of c reg + k)).shape.policy))
+
+abbrev pub is_accessed : ChipData → ℕ → Option ℕ → Bool
+is_accessed c reg block = (is_reg_tested c reg block no_reg_access_test && unwrap_or (backdoor_of c (Reg reg)) false) && has_writable_field c reg
+
+-- how many numbers below the count
+abbrev pub count_below : ℕ → (ℕ → Bool) → ℕ
+count_below zero p = 0
+count_below (suc n) p = count_below n p + (if p n then 1 else 0)
+
+abbrev pub places_of : LayoutData → Item → ℕ
+places_of l item = count_below (length l.places) (λ k. is_same (place_at l k).item item)
+
+abbrev pub is_shared : ChipData → LayoutData → ℕ → Option ℕ → Bool
+is_shared c l reg block = is_reg_tested c reg block no_reg_shared_access_test && nat_le 2 (places_of l (Reg reg))
+
+abbrev pub is_writable : ChipData → ℕ → Bool
+is_writable c mem = option_map_or (λ m. m.writable) (slice_get c.mems mem) false
+
+abbrev pub is_walked : ChipData → ℕ → Option ℕ → Bool
+is_walked c mem block = is_tested c (Mem mem) block no_mem_walk_test && is_writable c mem
