@@ -1,7 +1,9 @@
 //! The table of commands, each with its operands.
-ghost use Rattle.std.specs.Prelude.{◌≡◌};
-ghost use Rattle.rl_script.specs.Commands.{row_of, line_of, may_count, item_name, command_name, command_named, sequence_name, sequence_named};
+ghost use Rattle.std.specs.Prelude.{◌≡◌, ◌==◌, filter, find, length};
+ghost use Rattle.std.specs.Str.{bytes_eq};
+ghost use Rattle.rl_script.specs.Commands.{row_of, line_of, may_count, item_name, command_name, command_named, commands, sequence_name, sequence_named};
 
+use self::Command::OnItem;
 use crate::line::{Line, Sequence};
 use crate::names::{Ident, Path};
 
@@ -49,35 +51,6 @@ pub(crate) struct Row {
     pub(crate) map: bool,
 }
 
-const COMMANDS: [Command; 26] = [
-    Command::OnItem(Item::Write),
-    Command::OnItem(Item::Read),
-    Command::OnItem(Item::Mirror),
-    Command::OnItem(Item::Check),
-    Command::OnItem(Item::Update),
-    Command::OnItem(Item::OtherWrite),
-    Command::OnItem(Item::OtherRead),
-    Command::OnItem(Item::FieldWrite),
-    Command::OnItem(Item::FieldRead),
-    Command::OnItem(Item::Set),
-    Command::OnItem(Item::Hw),
-    Command::OnItem(Item::Show),
-    Command::OnItem(Item::BackRead),
-    Command::OnItem(Item::BackCheck),
-    Command::OnItem(Item::Peek),
-    Command::OnItem(Item::BackWrite),
-    Command::OnItem(Item::Poke),
-    Command::OnItem(Item::MemWrite),
-    Command::OnItem(Item::MemCheck),
-    Command::OnItem(Item::MemRead),
-    Command::OnItem(Item::BurstRead),
-    Command::OnItem(Item::MemPeek),
-    Command::OnItem(Item::MemPoke),
-    Command::BurstWrite,
-    Command::Reset,
-    Command::Seq,
-];
-
 impl Command {
     pub(crate) fn name(self) -> &'static [u8]
         ensures { result.now ≡ command_name self }
@@ -90,14 +63,61 @@ impl Command {
         }
     }
 
+    /// The commands whose names have so many letters.
+    fn of_length(len: usize) -> &'static [Command]
+        ensures { result.now ≡ filter (λ c. length (command_name c) == len) commands }
+    {
+        match len {
+            2 => &[OnItem(Item::Hw)],
+            3 => &[OnItem(Item::Set), Command::Seq],
+            4 => &[
+                OnItem(Item::Read),
+                OnItem(Item::Show),
+                OnItem(Item::Peek),
+                OnItem(Item::Poke),
+            ],
+            5 => &[OnItem(Item::Write), OnItem(Item::Check), Command::Reset],
+            6 => &[OnItem(Item::Mirror), OnItem(Item::Update)],
+            8 => &[
+                OnItem(Item::MemRead),
+                OnItem(Item::MemPeek),
+                OnItem(Item::MemPoke),
+            ],
+            9 => &[
+                OnItem(Item::BackRead),
+                OnItem(Item::MemWrite),
+                OnItem(Item::MemCheck),
+            ],
+            10 => &[
+                OnItem(Item::OtherRead),
+                OnItem(Item::FieldRead),
+                OnItem(Item::BackCheck),
+                OnItem(Item::BackWrite),
+                OnItem(Item::BurstRead),
+            ],
+            11 => &[
+                OnItem(Item::OtherWrite),
+                OnItem(Item::FieldWrite),
+                Command::BurstWrite,
+            ],
+            _ => &[],
+        }
+    }
+
     pub(crate) fn named(word: &[u8]) -> Option<Command>
         ensures { result ≡ command_named word.now }
     {
-        COMMANDS
-            .iter()
-            .copied()
-            .find(|command| command.name() == word)
+        named_among(Command::of_length(word.len()), word)
     }
+}
+
+fn named_among(commands: &[Command], word: &[u8]) -> Option<Command>
+    ensures { result ≡ find (λ c. bytes_eq (command_name c) word.now) commands.now }
+{
+    commands
+        .iter()
+        .copied()
+        .find(|command| command.name() == word)
 }
 
 impl Item {

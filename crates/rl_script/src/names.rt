@@ -39,6 +39,14 @@ impl Path {
         }
     }
 
+    /// The path that a text is, of which it is known that it is one.
+    pub(crate) fn of_path(text: Vec<u8>) -> Path
+        requires { IsTrue (is_path text.items) }
+        ensures { result ≡ text.items }
+    {
+        Path { text }
+    }
+
     /// The bytes of the path.
     pub fn text(&self) -> &[u8]
         ensures text { result.now ≡ self.now }
@@ -78,6 +86,14 @@ impl Ident {
         } else {
             None
         }
+    }
+
+    /// The name that a text is, of which it is known that it is one.
+    pub(crate) fn of_name(text: Vec<u8>) -> Ident
+        requires { IsTrue (is_name text.items) }
+        ensures { result ≡ text.items }
+    {
+        Ident { text }
     }
 
     /// The bytes of the name.
