@@ -1,6 +1,6 @@
 //! Names, and paths of names.
-ghost use Rattle.std.specs.Prelude.{◌≡◌, count_by};
-ghost use Rattle.std.specs.List.{list_all, slice_split};
+ghost use Rattle.std.specs.Prelude.{◌≡◌, ◌==◌, ◌&&◌, nat_lt, if◌then◌else◌};
+ghost use Rattle.std.specs.List.{list_all};
 ghost use Rattle.rl_script.specs.Names as spec;
 
 use std::marker::Model;
@@ -121,28 +121,48 @@ fn begins_name(byte: u8) -> bool
     byte.is_ascii_alphabetic() || byte == b'_'
 }
 
+fn is_in_name(byte: u8) -> bool
+    ensures { result ≡ spec.is_in_name byte }
+{
+    byte.is_ascii_alphanumeric() || byte == b'_'
+}
+
 fn are_in_name(text: &[u8]) -> bool
     ensures { result ≡ list_all spec.is_in_name text.now }
 {
-    text.iter()
-        .all(|byte| byte.is_ascii_alphanumeric() || *byte == b'_')
+    text.iter().all(|byte| is_in_name(*byte))
 }
 
-#[tactic(auto, unfolding(crate::specs::Names::is_path))]
+/// Whether a byte may stand behind so many bytes of a name.
+fn may_follow(len: usize, byte: u8) -> bool
+    ensures { result ≡ (if len == 0 then spec.begins_name byte else spec.is_in_name byte && nat_lt len 32) }
+{
+    if len == 0 {
+        begins_name(byte)
+    } else {
+        is_in_name(byte) && len < 32
+    }
+}
+
+/// Counts the names on the way, and the bytes of each.
 pub(crate) fn is_path(text: &[u8]) -> bool
     ensures { result ≡ spec.is_path text.now }
 {
-    dots(text) < 9 && are_names(text)
-}
-
-fn dots(text: &[u8]) -> usize
-    ensures { result ≡ count_by spec.is_dot text.now }
-{
-    text.iter().filter(|byte| **byte == b'.').count()
-}
-
-fn are_names(text: &[u8]) -> bool
-    ensures { result ≡ list_all spec.is_name (slice_split spec.is_dot text.now) }
-{
-    text.split(|byte| *byte == b'.').all(is_name)
+    let mut names = 1usize;
+    let mut len = 0;
+    for byte in text {
+        if *byte == b'.' {
+            if len == 0 || names == 9 {
+                return false;
+            }
+            names += 1;
+            len = 0;
+        } else {
+            if !may_follow(len, *byte) {
+                return false;
+            }
+            len += 1;
+        }
+    }
+    len > 0
 }
