@@ -1,7 +1,8 @@
 //! The table of commands, each with its operands.
-ghost use Rattle.std.specs.Prelude.{◌≡◌, ◌==◌, filter, find, length};
+ghost use Rattle.std.specs.Prelude.{◌≡◌, ◌==◌, filter, find, length, ℕ};
 ghost use Rattle.std.specs.Str.{bytes_eq};
-ghost use Rattle.rl_script.specs.Commands.{row_of, line_of, may_count, item_name, command_name, command_named, commands, sequence_name, sequence_named};
+ghost use Rattle.rl_script.specs.declared.command.Kind.TheVariants as Kind;
+ghost use Rattle.rl_script.specs.Commands.{row_of, kind_of, line_of, may_count, item_name, command_name, command_named, commands, sequence_name, sequence_named};
 
 use self::Command::OnItem;
 use crate::line::{Line, Sequence};
@@ -42,6 +43,14 @@ pub(crate) enum Item {
     BurstRead,
     MemPeek,
     MemPoke,
+}
+
+/// What a command is on.
+#[derive(Clone, Copy, Debug, PartialEq, Eq)]
+pub(crate) enum Kind {
+    Register,
+    Field,
+    Memory,
 }
 
 /// What follows the path: so many numbers, and a map where the command takes one.
@@ -180,84 +189,94 @@ impl Item {
         }
     }
 
+    fn kind(self) -> Kind
+        ensures { result ≡ kind_of self }
+    {
+        match self {
+            Item::FieldWrite | Item::FieldRead | Item::Set | Item::Hw => Kind::Field,
+            Item::MemWrite
+            | Item::MemCheck
+            | Item::MemRead
+            | Item::BurstRead
+            | Item::MemPeek
+            | Item::MemPoke => Kind::Memory,
+            _ => Kind::Register,
+        }
+    }
+
     /// What the command says with these operands.
     pub(crate) fn line(self, path: Path, first: u64, second: u64, map: Option<Ident>) -> Line
         ensures { result ≡ line_of self path first second map }
     {
+        match self.kind() {
+            Kind::Register => self.register_line(path, first, map),
+            Kind::Field => self.field_line(path, first, map),
+            Kind::Memory => self.memory_line(path, first, second, map),
+        }
+    }
+
+    fn register_line(self, reg: Path, value: u64, map: Option<Ident>) -> Line
+        requires { kind_of self ≡ Kind.Register }
+        ensures { (second : ℕ) → result ≡ line_of self reg value second map }
+    {
         match self {
-            Item::Write => Line::Write {
-                reg: path,
-                value: first,
-                map,
-            },
-            Item::Read => Line::Read { reg: path, map },
-            Item::Mirror => Line::Mirror { reg: path, map },
-            Item::Check => Line::Check { reg: path, map },
-            Item::Update => Line::Update { reg: path, map },
-            Item::OtherWrite => Line::OtherWrite {
-                reg: path,
-                value: first,
-                map,
-            },
-            Item::OtherRead => Line::OtherRead { reg: path, map },
-            Item::FieldWrite => Line::FieldWrite {
-                field: path,
-                value: first,
-                map,
-            },
-            Item::FieldRead => Line::FieldRead { field: path, map },
-            Item::Set => Line::Set {
-                field: path,
-                value: first,
-            },
-            Item::Hw => Line::Hw {
-                field: path,
-                value: first,
-            },
-            Item::Show => Line::Show { reg: path },
-            Item::BackRead => Line::BackRead { reg: path },
-            Item::BackCheck => Line::BackCheck { reg: path },
-            Item::Peek => Line::Peek { reg: path },
-            Item::BackWrite => Line::BackWrite {
-                reg: path,
-                value: first,
-            },
-            Item::Poke => Line::Poke {
-                reg: path,
-                value: first,
-            },
+            Item::Write => Line::Write { reg, value, map },
+            Item::Read => Line::Read { reg, map },
+            Item::Mirror => Line::Mirror { reg, map },
+            Item::Check => Line::Check { reg, map },
+            Item::Update => Line::Update { reg, map },
+            Item::OtherWrite => Line::OtherWrite { reg, value, map },
+            Item::OtherRead => Line::OtherRead { reg, map },
+            Item::Show => Line::Show { reg },
+            Item::BackRead => Line::BackRead { reg },
+            Item::BackCheck => Line::BackCheck { reg },
+            Item::Peek => Line::Peek { reg },
+            Item::BackWrite => Line::BackWrite { reg, value },
+            Item::Poke => Line::Poke { reg, value },
+            _ => unreachable!(),
+        }
+    }
+
+    fn field_line(self, field: Path, value: u64, map: Option<Ident>) -> Line
+        requires { kind_of self ≡ Kind.Field }
+        ensures { (second : ℕ) → result ≡ line_of self field value second map }
+    {
+        match self {
+            Item::FieldWrite => Line::FieldWrite { field, value, map },
+            Item::FieldRead => Line::FieldRead { field, map },
+            Item::Set => Line::Set { field, value },
+            Item::Hw => Line::Hw { field, value },
+            _ => unreachable!(),
+        }
+    }
+
+    fn memory_line(self, mem: Path, index: u64, value: u64, map: Option<Ident>) -> Line
+        requires { kind_of self ≡ Kind.Memory }
+        ensures { result ≡ line_of self mem index value map }
+    {
+        match self {
             Item::MemWrite => Line::MemWrite {
-                mem: path,
-                index: first,
-                value: second,
+                mem,
+                index,
+                value,
                 map,
             },
             Item::MemCheck => Line::MemCheck {
-                mem: path,
-                index: first,
-                value: second,
+                mem,
+                index,
+                value,
                 map,
             },
-            Item::MemRead => Line::MemRead {
-                mem: path,
-                index: first,
-                map,
-            },
+            Item::MemRead => Line::MemRead { mem, index, map },
             Item::BurstRead => Line::BurstRead {
-                mem: path,
-                first,
-                count: second,
+                mem,
+                first: index,
+                count: value,
                 map,
             },
-            Item::MemPeek => Line::MemPeek {
-                mem: path,
-                index: first,
-            },
-            Item::MemPoke => Line::MemPoke {
-                mem: path,
-                index: first,
-                value: second,
-            },
+            Item::MemPeek => Line::MemPeek { mem, index },
+            Item::MemPoke => Line::MemPoke { mem, index, value },
+            _ => unreachable!(),
         }
     }
 }

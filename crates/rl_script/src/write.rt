@@ -1,7 +1,8 @@
 //! The canonical spelling of a line.
-ghost use Rattle.std.specs.Prelude.{◌≡◌, ◌∷◌, [], ◌++◌, map, IfOk, OnOk};
+ghost use Rattle.std.specs.Prelude.{◌≡◌, ◌∷◌, [], ◌++◌, map, IfOk, OnOk, Some};
 ghost use Rattle.rl_policy.specs.Numbers.{spelled};
-ghost use Rattle.rl_script.specs.Commands.{command_name, sequence_name};
+ghost use Rattle.rl_script.specs.Commands.{command_name, line_kind, sequence_name};
+ghost use Rattle.rl_script.specs.declared.command.Kind.TheVariants as Kind;
 ghost use Rattle.rl_script.specs.Spelling.{spaced, joined, map_words, item_words, burst_words, block_word, words_of_line, spelling, MayBeWritten};
 
 use crate::command::{Command, Item};
@@ -33,6 +34,31 @@ fn put_line(out: &mut Vec<u8>, line: &Line) -> Result<(), AllocError>
 {
     match line {
         Line::Blank => Ok(()),
+        Line::BurstWrite {
+            mem,
+            first,
+            values,
+            map,
+        } => put_burst(out, mem, *first, values.items(), map),
+        Line::Reset { kind } => put_words(out, Command::Reset.name(), kind.text()),
+        Line::Seq { which, block } => put_sequence(out, *which, block),
+        Line::FieldWrite { .. } | Line::FieldRead { .. } | Line::Set { .. } | Line::Hw { .. } =>
+            put_field_line(out, line),
+        Line::MemWrite { .. }
+        | Line::MemCheck { .. }
+        | Line::MemRead { .. }
+        | Line::BurstRead { .. }
+        | Line::MemPeek { .. }
+        | Line::MemPoke { .. } => put_memory_line(out, line),
+        _ => put_register_line(out, line),
+    }
+}
+
+fn put_register_line(out: &mut Vec<u8>, line: &Line) -> Result<(), AllocError>
+    requires { line_kind line.now ≡ Some Kind.Register }
+    ensures { OnOk result (out.new.items ≡ out.old.items ++ joined (words_of_line line.now)) }
+{
+    match line {
         Line::Write { reg, value, map } => put_item(out, Item::Write, reg, &[*value], map),
         Line::Read { reg, map } => put_item(out, Item::Read, reg, &[], map),
         Line::Mirror { reg, map } => put_item(out, Item::Mirror, reg, &[], map),
@@ -46,6 +72,21 @@ fn put_line(out: &mut Vec<u8>, line: &Line) -> Result<(), AllocError>
             map,
         ),
         Line::OtherRead { reg, map } => put_item(out, Item::OtherRead, reg, &[], map),
+        Line::Show { reg } => put_item(out, Item::Show, reg, &[], &None),
+        Line::BackRead { reg } => put_item(out, Item::BackRead, reg, &[], &None),
+        Line::BackCheck { reg } => put_item(out, Item::BackCheck, reg, &[], &None),
+        Line::Peek { reg } => put_item(out, Item::Peek, reg, &[], &None),
+        Line::BackWrite { reg, value } => put_item(out, Item::BackWrite, reg, &[*value], &None),
+        Line::Poke { reg, value } => put_item(out, Item::Poke, reg, &[*value], &None),
+        _ => unreachable!(),
+    }
+}
+
+fn put_field_line(out: &mut Vec<u8>, line: &Line) -> Result<(), AllocError>
+    requires { line_kind line.now ≡ Some Kind.Field }
+    ensures { OnOk result (out.new.items ≡ out.old.items ++ joined (words_of_line line.now)) }
+{
+    match line {
         Line::FieldWrite { field, value, map } => put_item(
             out,
             Item::FieldWrite,
@@ -56,12 +97,15 @@ fn put_line(out: &mut Vec<u8>, line: &Line) -> Result<(), AllocError>
         Line::FieldRead { field, map } => put_item(out, Item::FieldRead, field, &[], map),
         Line::Set { field, value } => put_item(out, Item::Set, field, &[*value], &None),
         Line::Hw { field, value } => put_item(out, Item::Hw, field, &[*value], &None),
-        Line::Show { reg } => put_item(out, Item::Show, reg, &[], &None),
-        Line::BackRead { reg } => put_item(out, Item::BackRead, reg, &[], &None),
-        Line::BackCheck { reg } => put_item(out, Item::BackCheck, reg, &[], &None),
-        Line::Peek { reg } => put_item(out, Item::Peek, reg, &[], &None),
-        Line::BackWrite { reg, value } => put_item(out, Item::BackWrite, reg, &[*value], &None),
-        Line::Poke { reg, value } => put_item(out, Item::Poke, reg, &[*value], &None),
+        _ => unreachable!(),
+    }
+}
+
+fn put_memory_line(out: &mut Vec<u8>, line: &Line) -> Result<(), AllocError>
+    requires { line_kind line.now ≡ Some Kind.Memory }
+    ensures { OnOk result (out.new.items ≡ out.old.items ++ joined (words_of_line line.now)) }
+{
+    match line {
         Line::MemWrite {
             mem,
             index,
@@ -89,14 +133,7 @@ fn put_line(out: &mut Vec<u8>, line: &Line) -> Result<(), AllocError>
             &[*index, *value],
             &None,
         ),
-        Line::BurstWrite {
-            mem,
-            first,
-            values,
-            map,
-        } => put_burst(out, mem, *first, values.items(), map),
-        Line::Reset { kind } => put_words(out, Command::Reset.name(), kind.text()),
-        Line::Seq { which, block } => put_sequence(out, *which, block),
+        _ => unreachable!(),
     }
 }
 
