@@ -12,10 +12,10 @@ use crate::command::{Command, Item};
 use crate::fault::LineFault;
 use crate::line::{Line, Sequence};
 use crate::operands::{
-    block_of, map_if, name_of, number_at, number_if, numbers_at, path_at, word_at,
+    block_of, map_if, name_of, number_at, number_if, numbers_at, path_at, path_of, word_at,
 };
 use crate::values::Values;
-use crate::words::{count_words, next_word};
+use crate::words::{begins_with, count_words, next_word};
 use std::alloc::Global;
 
 const MOST_BYTES: usize = 4096;
@@ -55,25 +55,33 @@ fn read_bytes(alloc: Global, bytes: &[u8]) -> Result<Line, LineFault>
     }
 }
 
+fn is_ascii(byte: u8) -> bool
+    ensures { result ≡ spec.is_ascii byte }
+{
+    matches!(byte, b'\t' | b' '..=b'~')
+}
+
 fn are_ascii(bytes: &[u8]) -> bool
     ensures { result ≡ list_all spec.is_ascii bytes.now }
 {
-    bytes
-        .iter()
-        .all(|byte| matches!(*byte, b'\t' | b' '..=b'~'))
+    // To the end, with no branch in between, so that many bytes are tested at once.
+    bytes.iter().fold(true, |all, byte| all & is_ascii(*byte))
 }
 
-#[tactic(auto, unfolding(crate::specs::Reading::item_of, crate::specs::Reading::item_at))]
+#[tactic(auto, unfolding(crate::specs::Reading::item_of, crate::specs::Reading::item_at, crate::specs::Reading::path_at))]
 fn read_item(alloc: Global, item: Item, text: &[u8]) -> Result<Line, LineFault>
     ensures { Gives (λ line. line) result (item_of item (words_of text.now)) }
 {
     let row = item.row();
-    let words = count_words(text);
+    let Some((word, rest)) = next_word(text) else {
+        return Err(LineFault::WrongCount);
+    };
+    let words = count_words(begins_with(b'@', word), rest);
     let named = row.map && words.has_map;
-    if words.count != 1 + row.numbers + usize::from(named) {
+    if words.count != row.numbers + usize::from(named) {
         return Err(LineFault::WrongCount);
     }
-    let (path, rest) = path_at(alloc, text)?;
+    let path = path_of(alloc, word)?;
     let (first, rest) = number_if(row.numbers >= 1, rest)?;
     let (second, rest) = number_if(row.numbers >= 2, rest)?;
     let map = map_if(alloc, named, rest)?;
@@ -87,7 +95,7 @@ fn read_item(alloc: Global, item: Item, text: &[u8]) -> Result<Line, LineFault>
 fn read_burst_write(alloc: Global, text: &[u8]) -> Result<Line, LineFault>
     ensures { Gives (λ line. line) result (burst_of (words_of text.now)) }
 {
-    let words = count_words(text);
+    let words = count_words(false, text);
     let fixed = 2 + usize::from(words.has_map);
     if words.count <= fixed {
         return Err(LineFault::WrongCount);
@@ -116,7 +124,7 @@ fn read_burst(alloc: Global, count: usize, named: bool, text: &[u8]) -> Result<L
 fn read_reset(alloc: Global, text: &[u8]) -> Result<Line, LineFault>
     ensures { Gives (λ line. line) result (reset_of (words_of text.now)) }
 {
-    if count_words(text).count != 1 {
+    if count_words(false, text).count != 1 {
         return Err(LineFault::WrongCount);
     }
     let (word, _) = word_at(text)?;
@@ -134,7 +142,7 @@ fn read_seq(alloc: Global, text: &[u8]) -> Result<Line, LineFault>
     let Some(which) = Sequence::named(word) else {
         return Err(LineFault::NoSuchCommand);
     };
-    if count_words(rest).count != 1 {
+    if count_words(false, rest).count != 1 {
         return Err(LineFault::WrongCount);
     }
     let (word, _) = word_at(rest)?;
