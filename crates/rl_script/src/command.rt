@@ -1,6 +1,7 @@
 //! The table of commands, each with its operands.
-ghost use Rattle.std.specs.Prelude.{◌≡◌, ◌==◌, filter, find, length, ℕ};
+ghost use Rattle.std.specs.Prelude.{◌≡◌, filter, find, ℕ};
 ghost use Rattle.std.specs.Str.{bytes_eq};
+ghost use Rattle.rl_script.specs.Words.{begins_with};
 ghost use Rattle.rl_script.specs.declared.command.Kind.TheVariants as Kind;
 ghost use Rattle.rl_script.specs.Commands.{row_of, kind_of, line_of, may_count, item_name, command_name, command_named, commands, sequence_name, sequence_named};
 
@@ -72,43 +73,35 @@ impl Command {
         }
     }
 
-    /// The commands whose names have so many letters.
-    fn of_length(len: usize) -> &'static [Command]
-        ensures { result.now ≡ filter (λ c. length (command_name c) == len) commands }
+    /// The commands whose names begin with a letter.
+    fn of_letter(letter: u8) -> &'static [Command]
+        ensures { result.now ≡ filter (λ c. begins_with letter (command_name c)) commands }
     {
-        match len {
-            2 => &[OnItem(Item::Hw)],
-            3 => &[OnItem(Item::Set), Command::Seq],
-            4 => &[
-                OnItem(Item::Read),
-                OnItem(Item::Show),
-                OnItem(Item::Peek),
-                OnItem(Item::Poke),
+        match letter {
+            b'b' => &[
+                OnItem(Item::BackRead),
+                OnItem(Item::BackCheck),
+                OnItem(Item::BackWrite),
+                OnItem(Item::BurstRead),
+                Command::BurstWrite,
             ],
-            5 => &[OnItem(Item::Write), OnItem(Item::Check), Command::Reset],
-            6 => &[OnItem(Item::Mirror), OnItem(Item::Update)],
-            8 => &[
+            b'c' => &[OnItem(Item::Check)],
+            b'f' => &[OnItem(Item::FieldWrite), OnItem(Item::FieldRead)],
+            b'h' => &[OnItem(Item::Hw)],
+            b'm' => &[
+                OnItem(Item::Mirror),
+                OnItem(Item::MemWrite),
+                OnItem(Item::MemCheck),
                 OnItem(Item::MemRead),
                 OnItem(Item::MemPeek),
                 OnItem(Item::MemPoke),
             ],
-            9 => &[
-                OnItem(Item::BackRead),
-                OnItem(Item::MemWrite),
-                OnItem(Item::MemCheck),
-            ],
-            10 => &[
-                OnItem(Item::OtherRead),
-                OnItem(Item::FieldRead),
-                OnItem(Item::BackCheck),
-                OnItem(Item::BackWrite),
-                OnItem(Item::BurstRead),
-            ],
-            11 => &[
-                OnItem(Item::OtherWrite),
-                OnItem(Item::FieldWrite),
-                Command::BurstWrite,
-            ],
+            b'o' => &[OnItem(Item::OtherWrite), OnItem(Item::OtherRead)],
+            b'p' => &[OnItem(Item::Peek), OnItem(Item::Poke)],
+            b'r' => &[OnItem(Item::Read), Command::Reset],
+            b's' => &[OnItem(Item::Set), OnItem(Item::Show), Command::Seq],
+            b'u' => &[OnItem(Item::Update)],
+            b'w' => &[OnItem(Item::Write)],
             _ => &[],
         }
     }
@@ -116,7 +109,10 @@ impl Command {
     pub(crate) fn named(word: &[u8]) -> Option<Command>
         ensures { result ≡ command_named word.now }
     {
-        named_among(Command::of_length(word.len()), word)
+        match word {
+            [letter, ..] => named_among(Command::of_letter(*letter), word),
+            [] => None,
+        }
     }
 }
 
