@@ -1,11 +1,10 @@
 -- A command is looked for among those whose names begin as the word does.
-use Rattle.std.proofs.Common.{◌≡◌, ℕ, Bool, true, false, ◌==◌, List, [], ◌∷◌, length, get_or, ◌≤◌, refl, arith, inl, inr}
+use Rattle.std.proofs.Common.{◌≡◌, ℕ, Bool, true, List, [], ◌∷◌, length, get_or, ◌≤◌, refl, arith, inl, inr}
 use Rattle.std.specs.Prelude.{filter, find}
 use Rattle.std.specs.Str.{bytes_eq}
 use Rattle.std.proofs.lemmas.Bool.{cases_Bool}
 use Rattle.std.proofs.lemmas.Bool.Decides.{nat_tests}
 use Rattle.std.proofs.lemmas.Slice.Eq.{bytes_eq-Decides}
-use Rattle.rl_script.specs.declared.command.Command.{Command}
 use Rattle.rl_script.specs.Words.{begins_with}
 use Rattle.rl_script.specs.Commands.{command_name, command_named, commands}
 

@@ -1,7 +1,7 @@
 -- A path, byte by byte: how many names there are so far, and how many bytes the last has.
 use Rattle.std.proofs.Common.{◌≡◌, ℕ, zero, suc, ◌+◌, ◌<◌, ◌≤◌, Bool, true, false, ◌&&◌, List, [], ◌∷◌, length, drop, get_or, add-one, refl, sym, ap, ◌∙◌, arith, inl, inr, lt-ltb, le-ltb}
 use Rattle.std.specs.Prelude.{nat_le, nat_lt, ◌==◌, if◌then◌else◌}
-use Rattle.std.specs.List.{list_all, slice_split, onto_first}
+use Rattle.std.specs.List.{list_all, slice_split}
 use Rattle.std.proofs.lemmas.Bool.{cases_Bool, le-leb, lt-leb, ltb-false, ltb-true}
 use Rattle.std.proofs.lemmas.Bool.Decides.{nat_tests}
 use Rattle.std.proofs.Math.Seq.{drop-cons}
