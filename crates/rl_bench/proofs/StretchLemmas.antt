@@ -201,8 +201,8 @@ and_no : (b : Bool) (v o : ℕ) → o ≡ cond (b && false) v o
 and_no true v o = refl
 and_no false v o = refl
 
-pub set_is : (words : List WordRow) (beats : List ℕ) (port address i j value p a : ℕ) → length beats ≡ length words → IsStretch (stands_at port address) words i j → beats_of words (cond (ltb i j) (slice_set beats i value) beats) p a ≡ cond (eqb p port && eqb a address && is_some (position (stands_at port address) words)) value (beats_of words beats p a)
-set_is words beats port address i j value p a long s =
+pub set_long : (words : List WordRow) (beats : List ℕ) (port address i j value p a : ℕ) → length beats ≡ length words → IsStretch (stands_at port address) words i j → beats_of words (cond (ltb i j) (slice_set beats i value) beats) p a ≡ cond (eqb p port && eqb a address && is_some (position (stands_at port address) words)) value (beats_of words beats p a)
+set_long words beats port address i j value p a long s =
     ⊎_elim
     (λ (l : i < j).
     let here = stretch_some (stands_at port address) words i j no_word s l in
