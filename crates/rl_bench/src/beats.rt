@@ -10,7 +10,7 @@ ghost use Rattle.rl_bench.specs.Beats.{AreQueuesOf, beats_of, count_for};
 ghost use Rattle.rl_bench.specs.Stretch.{IsStretch};
 ghost use Rattle.std.specs.Prelude.{Bool};
 
-use crate::find::{Stretch, find_word, words_at};
+use crate::find::{Stretch, find_word, words_beside};
 use rl_bus::WordRow;
 use std::alloc::{AllocError, Global};
 
@@ -100,7 +100,7 @@ pub fn queues_of(alloc: Global, words: &[WordRow]) -> Result<Vec<Queue>, AllocEr
     let mut queues = Vec::new(alloc);
     for k in 0..words.len() {
         let word = words[k];
-        let at = words_at(words, word.port, word.address);
+        let at = words_beside(words, k);
         if is_queued(words, at, &word) {
             queues.push(Queue {
                 first: at.first as u32,
