@@ -16,7 +16,7 @@ use Rattle.std.proofs.lemmas.Option.{slice_get-get_or}
 use Rattle.std.proofs.lemmas.List.Sums.{position_or_len_is}
 use Rattle.rl_bench.specs.Stretch.{IsStretch}
 use Rattle.rl_bench.specs.Beats.{beats_of, no_word}
-use Rattle.rl_bench.proofs.BeatLemmas.{set_one}
+use Rattle.rl_bench.proofs.BeatLemmas.{set_one, stands_at_own}
 use Rattle.rl_bench.proofs.RowLemmas.{some_same}
 use Rattle.rl_bench.proofs.ListLemmas.{position_more, element}
 
@@ -201,8 +201,8 @@ and_no : (b : Bool) (v o : ℕ) → o ≡ cond (b && false) v o
 and_no true v o = refl
 and_no false v o = refl
 
-pub set_is : (words : List WordRow) (beats : List ℕ) (port address i j value p a : ℕ) → length beats ≡ length words → IsStretch (stands_at port address) words i j → beats_of words (cond (ltb i j) (slice_set beats i value) beats) p a ≡ cond (eqb p port && eqb a address && is_some (position (stands_at port address) words)) value (beats_of words beats p a)
-set_is words beats port address i j value p a long s =
+pub set_long : (words : List WordRow) (beats : List ℕ) (port address i j value p a : ℕ) → length beats ≡ length words → IsStretch (stands_at port address) words i j → beats_of words (cond (ltb i j) (slice_set beats i value) beats) p a ≡ cond (eqb p port && eqb a address && is_some (position (stands_at port address) words)) value (beats_of words beats p a)
+set_long words beats port address i j value p a long s =
     ⊎_elim
     (λ (l : i < j).
     let here = stretch_some (stands_at port address) words i j no_word s l in
@@ -217,6 +217,37 @@ set_is words beats port address i j value p a long s =
 
 pub other_reg : (f : FieldRow) (reg b : ℕ) → eqb f.reg reg ≡ false → covers f reg b ≡ false
 other_reg f reg b h = and_false (eqb f.reg reg) _ h
+
+-- a word whose neighbours stand at other addresses stands alone
+pub stretch_one : (words : List WordRow) (k : ℕ) (d : WordRow) → IsNonDecreasingBy key_of words → k < length words → ((j : ℕ) → j + 1 ≡ k → key_of (get_or words j d) ≡ key_of (get_or words k d) → ⊥) → (k + 1 < length words → key_of (get_or words k d) ≡ key_of (get_or words (k + 1) d) → ⊥) → IsStretch (stands_at (get_or words k d).port (get_or words k d).address) words k (k + 1)
+stretch_one words k d rise l before behind =
+    stretch_here words w.port w.address k (k + 1) rise (omega arith) (omega (arith, l)) low inside high
+  where
+    w : WordRow
+    w = get_or words k d
+
+    low : (i : ℕ) (e : WordRow) → i < k → key_of (get_or words i e) < w.port * 2 ^ 64 + w.address
+    low i e m =
+        let j = k - 1 in
+        let next : j + 1 ≡ k = omega (arith, m) in
+        let apart = before j next in
+        let up : key_of (get_or words i e) ≤ key_of (get_or words j e) = rise i j e (omega (arith, m)) (omega (arith, l, m)) in
+        let same : key_of (get_or words j e) ≡ key_of (get_or words j d) = ap key_of (any_default words j e d (omega (arith, l, m))) in
+        let over : key_of (get_or words j d) ≤ key_of w = rise j k d (omega (arith, m)) l in
+        omega (arith, up, same, over, apart)
+
+    inside : (i : ℕ) (e : WordRow) → k ≤ i → i < k + 1 → stands_at w.port w.address (get_or words i e) ≡ true
+    inside i e m n =
+        let here : k ≡ i = omega (arith, m, n) in
+        subst (λ i. stands_at w.port w.address (get_or words i e) ≡ true) here
+        (ap (stands_at w.port w.address) (any_default words k e d l) ∙ stands_at_own w)
+
+    high : (e : WordRow) → k + 1 < length words → w.port * 2 ^ 64 + w.address < key_of (get_or words (k + 1) e)
+    high e m =
+        let apart = behind m in
+        let up : key_of w ≤ key_of (get_or words (k + 1) d) = rise k (k + 1) d (omega arith) m in
+        let same : key_of (get_or words (k + 1) d) ≡ key_of (get_or words (k + 1) e) = ap key_of (any_default words (k + 1) d e m) in
+        omega (arith, up, same, apart)
 
 -- what a slice says of the fields holds of the fields
 pub fields_there : (fields : List FieldRow) (i j reg : ℕ) (slice : List FieldRow) → slice ≡ fields → IsStretch (λ f. eqb f.reg reg) slice i j → IsStretch (λ f. eqb f.reg reg) fields i j

@@ -6,4 +6,4 @@ use Rattle.rl_bench.specs.Board.{state_of}
 use Rattle.rl_bench.specs.Tables.{setup_held}
 
 abbrev pub bench_state : Bench → State
-bench_state b = state_of (setup_held b.board.tables) b.cells (beats_of b.board.tables.words.items b.beats.items) b.items
+bench_state b = state_of (setup_held b.board.tables) b.cells (beats_of (setup_held b.board.tables).words b.beats.items) b.items

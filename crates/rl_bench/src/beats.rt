@@ -1,18 +1,22 @@
 //! The beats of a device, with the first word of each address.
-ghost use Rattle.std.specs.Prelude.{◌≡◌, ℕ, ◌<◌, ◌≤◌, ◌^◌, ◌&&◌, ◌==◌, nat_lt, length, slice_index, slice_index_or, slice_set, if◌then◌else◌, IfOk};
+ghost use Rattle.std.specs.Prelude.{◌≡◌, ℕ, ◌<◌, ◌≤◌, ◌^◌, ◌&&◌, ◌==◌, nat_lt, length, false, slice_index, slice_set, if◌then◌else◌, IfOk, replicate};
 ghost use Rattle.std.specs.List.{list_any};
 ghost use Rattle.std.specs.List.Sorted.{IsNonDecreasingBy};
 ghost use Rattle.rl_map.specs.Layout.{key_of};
-ghost use Rattle.rl_bench.specs.declared.beats.Queue.{Queue as Queues};
 ghost use Rattle.std.specs.Prelude.{List};
 ghost use Rattle.rl_bus.specs.declared.table.WordRow.{WordRow as Words};
-ghost use Rattle.rl_bench.specs.Beats.{AreQueuesOf, beats_of};
+ghost use Rattle.rl_bus.specs.Setup.{stands_at};
+ghost use Rattle.rl_bench.specs.Beats.{AreQueuesOf, beats_of, count_for};
+ghost use Rattle.rl_bench.specs.Stretch.{IsStretch};
+ghost use Rattle.std.specs.Prelude.{Bool};
 
-use crate::find::{Stretch, words_at};
+use crate::find::{Stretch, find_word, words_beside};
 use rl_bus::WordRow;
 use std::alloc::{AllocError, Global};
 
-/// An address with more than one word, by its first word, and a place that has a word there.
+/// An address where words queue, by its first word, and a place that has a word there.
+///
+/// Words queue at an address where more than one has the same direction.
 #[derive(Debug, Clone, Copy)]
 pub struct Queue {
     pub first: u32,
@@ -21,34 +25,40 @@ pub struct Queue {
 
 /// The beat of the address where these words stand.
 pub fn beat_at(beats: &[u32], at: Stretch) -> u32
-    requires { at.end ≤ length beats.now }
     ensures { result ≡ (if nat_lt at.first at.end then slice_index beats.now at.first else 0) }
 {
     if at.first < at.end {
-        beats[at.first]
+        beats.get(at.first).copied().unwrap_or(0)
     } else {
         0
     }
 }
 
-/// Sets the beat of the address where these words stand.
-pub fn set_beat(beats: &mut [u32], at: Stretch, value: u32)
-    requires { at.end ≤ length beats.old }
-    ensures { beats.new ≡ (if nat_lt at.first at.end then slice_set beats.old at.first value else beats.old) }
+/// Sets the beat at a row, where the list reaches that far.
+fn set_at(beats: &mut [u32], row: usize, value: u32)
+    ensures { beats.new ≡ slice_set beats.old row value }
 {
-    if at.first < at.end {
-        beats[at.first] = value;
+    if row < beats.len() {
+        beats[row] = value;
     }
 }
 
-/// Sets the beats of a place to 0. Only addresses with more than one word have another beat.
+/// Sets the beat of the address where these words stand.
+pub fn set_beat(beats: &mut [u32], at: Stretch, value: u32)
+    ensures { beats.new ≡ (if nat_lt at.first at.end then slice_set beats.old at.first value else beats.old) }
+{
+    if at.first < at.end {
+        set_at(beats, at.first, value);
+    }
+}
+
+/// Sets the beats of a place to 0. Only where words queue there is another beat.
 pub fn send_back(queues: &[Queue], beats: &mut [u32], place: u32)
-    requires { (i : ℕ) (d : Queues) → i < length queues.now → (slice_index_or queues.now i d).first < length beats.old }
     ensures { (k : ℕ) → slice_index beats.new k ≡ (if list_any (λ q. q.first == k && q.place == place) queues.now then 0 else slice_index beats.old k) }
 {
     for queue in queues {
         if queue.place == place {
-            beats[queue.first as usize] = 0;
+            set_at(beats, queue.first as usize, 0);
         }
     }
 }
@@ -60,7 +70,28 @@ pub fn clear_beats(beats: &mut [u32])
     beats.fill(0);
 }
 
-/// The addresses with more than one word.
+/// A beat of 0 for each word, or none at all where no words queue.
+pub fn first_beats(alloc: Global, words: usize, queues: &[Queue]) -> Result<Vec<u32>, AllocError>
+    ensures { IfOk result (λ beats. beats.items ≡ replicate (if length queues.now == 0 then 0 else words) 0) }
+{
+    let count = if queues.is_empty() { 0 } else { words };
+    vec![in alloc; 0; count]
+}
+
+/// Whether words queue at the address of a word.
+fn is_queued(words: &[WordRow], at: Stretch, word: &WordRow) -> bool
+    requires { IsStretch (stands_at word.now.port word.now.address) words.now at.first at.end }
+    ensures { result ≡ false → (write : Bool) → count_for words.now word.now.port word.now.address write ≤ 1 }
+{
+    if at.end - at.first <= 1 {
+        return false;
+    }
+    let reads = find_word(words, at, word.port, word.address, false, 0);
+    let writes = find_word(words, at, word.port, word.address, true, 0);
+    reads.count > 1 || writes.count > 1
+}
+
+/// The addresses where words queue.
 pub fn queues_of(alloc: Global, words: &[WordRow]) -> Result<Vec<Queue>, AllocError>
     requires rise { IsNonDecreasingBy key_of words.now }
     requires few { length words.now < 2 ^ 32 }
@@ -69,8 +100,8 @@ pub fn queues_of(alloc: Global, words: &[WordRow]) -> Result<Vec<Queue>, AllocEr
     let mut queues = Vec::new(alloc);
     for k in 0..words.len() {
         let word = words[k];
-        let at = words_at(words, word.port, word.address);
-        if at.end - at.first > 1 {
+        let at = words_beside(words, k);
+        if is_queued(words, at, &word) {
             queues.push(Queue {
                 first: at.first as u32,
                 place: word.place,

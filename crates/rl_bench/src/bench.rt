@@ -1,13 +1,13 @@
 //! The device.
 ghost use Rattle.std.specs.Prelude.{◌≡◌, ℕ, ◌+◌, ◌<◌, ◌≤◌, ◌^◌, length, if◌then◌else◌, nat_lt, not, IfOk, replicate, ◌||◌, ◌==◌, slice_index};
 ghost use Rattle.rl_bus.specs.Setup.{is_named};
-ghost use Rattle.rl_bench.specs.Beats.{IsQuiet};
+ghost use Rattle.rl_bench.specs.Beats.{IsQuiet, HasBeats};
 ghost use Rattle.rl_bench.specs.Board.{FitCells, IsSetup, HasRoom};
 ghost use Rattle.rl_bench.specs.Tables.{setup_held};
 
 use crate::access::touch;
 use crate::backdoor::{peek_cell, poke_cell, set_field};
-use crate::beats::{beat_at, clear_beats, queues_of, send_back, set_beat};
+use crate::beats::{beat_at, clear_beats, first_beats, queues_of, send_back, set_beat};
 use crate::board::Board;
 use crate::build::shapes_of;
 use crate::cells::Cells;
@@ -29,9 +29,9 @@ pub struct Bench {
     beats: Vec<u32>,
     items: u64,
     failures: u64,
-    ghost quiet: { IsQuiet board.tables.words.items beats.items },
+    ghost quiet: { IsQuiet (setup_held board.tables).words beats.items },
     ghost fit: { FitCells (setup_held board.tables) cells },
-    ghost beaten: { length beats.items ≡ length board.tables.words.items },
+    ghost beaten: { HasBeats (setup_held board.tables).words beats.items },
 }
 
 // The words at an address, its beat, the word of a direction at the beat, and how many there are.
@@ -62,12 +62,6 @@ fn next_beat(beat: u32, count: usize) -> u32
 }
 
 fn zeros(alloc: Global, count: usize) -> Result<Vec<u64>, AllocError>
-    ensures { IfOk result (λ v. v.items ≡ replicate count 0) }
-{
-    vec![in alloc; 0; count]
-}
-
-fn first_beats(alloc: Global, count: usize) -> Result<Vec<u32>, AllocError>
     ensures { IfOk result (λ v. v.items ≡ replicate count 0) }
 {
     vec![in alloc; 0; count]
@@ -110,15 +104,15 @@ impl Bench {
         ensures { IfOk result (λ b. bench_state b ≡ first_state (setup_held tables) locations) }
     {
         let regs = tables.regs.len();
-        let words = tables.words.len();
         let shapes = shapes_of(alloc, &tables)?;
         let mut cells = Cells {
             bits: zeros(alloc, regs)?,
             marks: zeros(alloc, regs)?,
             locations: zeros(alloc, locations)?,
         };
-        let beats = first_beats(alloc, words)?;
-        let queues = queues_of(alloc, &tables.words)?;
+        let words = tables.words();
+        let queues = queues_of(alloc, words)?;
+        let beats = first_beats(alloc, words.len(), &queues)?;
         let board = Board {
             tables,
             shapes,
@@ -136,12 +130,12 @@ impl Bench {
 
     // The words at an item's address, and the one at the beat.
     fn find(&self, port: u32, op: &BusOp) -> Found
-        ensures at { IsStretch (stands_at port op.now.address) self.now.board.tables.words.items result.at.first result.at.end }
+        ensures at { IsStretch (stands_at port op.now.address) (bench_state self.now).setup.words result.at.first result.at.end }
         ensures beat { result.beat ≡ (bench_state self.now).beats port op.now.address }
         ensures word { result.word ≡ word_at (bench_state self.now) port op.now }
         ensures count { result.count ≡ length (words_at (bench_state self.now).setup port op.now.address op.now.write) }
     {
-        let words = &self.board.tables.words;
+        let words = self.board.tables.words();
         let at = words_at(words, port, op.address);
         let beat = beat_at(&self.beats, at);
         let here = find_word(words, at, port, op.address, op.write, beat);

@@ -15,6 +15,6 @@ pub struct Board {
     pub shapes: Vec<Shape>,
     pub queues: Vec<Queue>,
     ghost sound: { IsSetup (setup_held tables) },
-    ghost queued: { AreQueuesOf tables.words.items queues.items },
+    ghost queued: { AreQueuesOf (setup_held tables).words queues.items },
     ghost shaped: { AreShapesOf (setup_held tables) shapes.items },
 }

@@ -64,6 +64,35 @@ pub fn words_at(words: &[WordRow], port: u32, address: u64) -> Stretch
     }
 }
 
+/// Whether the word at `j` stands at the address of the word at `k`.
+fn same_address(words: &[WordRow], j: usize, k: usize) -> bool
+    requires j { j < length words.now }
+    requires k { k < length words.now }
+    ensures { result ≡ false → (d : Words) → key_of (slice_index_or words.now j d) ≢ key_of (slice_index_or words.now k d) }
+{
+    let word = &words[k];
+    stands_at(&words[j], word.port, word.address)
+}
+
+/// The words at the address of the word at `k`.
+pub fn words_beside(words: &[WordRow], k: usize) -> Stretch
+    requires rise { IsNonDecreasingBy key_of words.now }
+    requires k { k < length words.now }
+    ensures { (d : Words) → IsStretch (stands_at (slice_index_or words.now k d).port (slice_index_or words.now k d).address) words.now result.first result.end }
+{
+    let word = &words[k];
+    if k > 0 && same_address(words, k - 1, k) {
+        return words_at(words, word.port, word.address);
+    }
+    if k + 1 < words.len() && same_address(words, k, k + 1) {
+        return words_at(words, word.port, word.address);
+    }
+    Stretch {
+        first: k,
+        end: k + 1,
+    }
+}
+
 /// The fields of a register.
 pub fn fields_of(fields: &[FieldRow], reg: u32) -> Stretch
     requires { IsNonDecreasingBy (λ f. f.reg) fields.now }

@@ -9,7 +9,7 @@ ghost use Rattle.std.specs.Prelude.{ℕ};
 ghost use Rattle.rl_bench.specs.Flaws.{locations_of, policy_row, reset_row, stuck_row, range_row, nth_of, item_row, deaf_row};
 
 use crate::flaw::Flaw;
-use rl_bus::{FieldRow, ItemRow, MemRow, PolicyRow, RangeRow, ResetRow, StuckRow, WordRow};
+use rl_bus::{FieldRow, ItemRow, MemRow, PolicyRow, RangeRow, ResetRow, StuckRow};
 use rl_map::Layout;
 use rl_model::{Chip, Item, Reset};
 use std::alloc::{AllocError, Global};
@@ -113,13 +113,6 @@ pub(crate) fn port_bytes(alloc: Global, layout: &Layout) -> Result<Vec<u32>, All
         rows.push(layout.port_bytes(port))?;
     }
     Ok(rows)
-}
-
-/// The words of all places.
-pub(crate) fn word_rows(alloc: Global, layout: &Layout) -> Result<Vec<WordRow>, AllocError>
-    ensures { IfOk result (λ v. v.items ≡ layout.now.rows) }
-{
-    layout.rows().to_vec(alloc)
 }
 
 // ---- flaws

@@ -7,13 +7,14 @@ use crate::find::resets_of;
 use crate::flaw::Flaw;
 use crate::rows::{
     deaf_rows, failing_items, field_rows, mem_rows, other_resets, policy_rows, port_bytes,
-    range_rows, reg_bytes, reset_rows, stuck_rows, word_rows,
+    range_rows, reg_bytes, reset_rows, stuck_rows,
 };
 use rl_bus::{Cell, FieldRow, ItemRow, MemRow, PolicyRow, RangeRow, ResetRow, StuckRow, WordRow};
 use rl_map::Layout;
 use rl_model::Chip;
 use rl_policy::Policy;
 use std::alloc::{AllocError, Global};
+use std::rc::Rc;
 
 /// What the device has, and its flaws.
 #[derive(Drop)]
@@ -23,7 +24,8 @@ pub struct Tables {
     pub resets: Vec<ResetRow>,
     pub mems: Vec<MemRow>,
     pub ports: Vec<u32>,
-    pub words: Vec<WordRow>,
+    /// The rows of the layout, shared with it.
+    pub words: Rc<Vec<WordRow>>,
     pub other_policies: Vec<PolicyRow>,
     pub other_resets: Vec<ResetRow>,
     pub stuck: Vec<StuckRow>,
@@ -71,7 +73,7 @@ impl Tables {
             resets: reset_rows(alloc, chip)?,
             mems: mem_rows(alloc, chip)?,
             ports: port_bytes(alloc, layout)?,
-            words: word_rows(alloc, layout)?,
+            words: layout.shared_rows()?,
             other_policies: policy_rows(alloc, flaws)?,
             other_resets: other_resets(alloc, flaws)?,
             stuck: stuck_rows(alloc, flaws)?,
@@ -79,6 +81,13 @@ impl Tables {
             nths: failing_items(alloc, flaws)?,
             deaf: deaf_rows(alloc, flaws)?,
         })
+    }
+
+    /// The words of all places by port and address.
+    pub fn words(&self) -> &[WordRow]
+        ensures { result.now ≡ (setup_held self.now).words }
+    {
+        self.words.as_slice()
     }
 
     /// The policy that a field has in the device.

@@ -1,5 +1,6 @@
 -- Accesses that stand off a multiple of their width, level by level.
 use Rattle.std.proofs.Common.{◌≡◌, ℕ, zero, suc, ◌+◌, ◌%◌, ◌<◌, ◌≤◌, ◌||◌, ◌&&◌, ◌==◌, not, Bool, true, false, List, [], ◌∷◌, length, get_or, drop, refl, sym, ap, ◌∙◌, arith, eqb-true}
+use Rattle.std.specs.List.{list_any}
 use Rattle.rl_map.specs.declared.path.Level.{Level}
 use Rattle.rl_map.specs.declared.seat.Access.{Access}
 use Rattle.rl_map.specs.Access.{through}
@@ -58,6 +59,21 @@ byte_stands a level e = by a.word level.word e
     by true l h = refl
     by false true h = cc
     by false false h = refl
+
+-- without a word-addressed map no access stands askew
+pub never_askew : (path : List Level) (a : Access) → list_any (λ level. level.word) path ≡ false → is_askew a path ≡ false
+never_askew [] a e = refl
+never_askew (level ∷ up) a e =
+    ap (λ t. t || is_askew (through a level) up) (byte_stands a level (first level.word (list_any (λ level. level.word) up) e))
+    ∙ never_askew up (through a level) (rest level.word (list_any (λ level. level.word) up) e)
+  where
+    first : (x y : Bool) → (x || y) ≡ false → x ≡ false
+    first true y h = h
+    first false y h = refl
+
+    rest : (x y : Bool) → (x || y) ≡ false → y ≡ false
+    rest true y h = let bad : ⊥ = cc in absurd bad
+    rest false y h = h
 
 pub word_stands : (a : Access) (level : Level) → not a.word ≡ false → stands_askew a level ≡ false
 word_stands a level e = ap (λ t. t && (level.word && not (a.address % a.bytes == 0))) e

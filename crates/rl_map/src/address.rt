@@ -1,9 +1,9 @@
 //! Whether the addresses of a place are those that its port's adapter takes.
-ghost use Rattle.std.specs.Prelude.{◌≡◌, ◌+◌, ◌<◌, ◌≤◌, ◌^◌, ℕ, length, true};
+ghost use Rattle.std.specs.Prelude.{◌≡◌, ◌+◌, ◌<◌, ◌≤◌, ◌^◌, ◌%◌, ◌==◌, ℕ, length, not, true};
 ghost use Rattle.std.specs.List.{list_any, range_with_len};
 ghost use Rattle.rl_map.specs.Level.{IsPath};
 ghost use Rattle.rl_map.specs.Building.{placed_at};
-ghost use Rattle.rl_map.specs.Faults.{is_above, is_unaligned, some_byte};
+ghost use Rattle.rl_map.specs.Faults.{address_in, is_above, is_unaligned, some_byte};
 ghost use Rattle.rl_map.specs.Layout.{location_of};
 ghost use Rattle.rl_map.specs.Locations.{AreStraight};
 
@@ -21,6 +21,19 @@ fn is_above(row: &PlaceRow, path: &[Level], port: &PortRow, index: u32, byte: u6
     u128::from(port.kind.most_address) < u128::from(port.base) + top.address
 }
 
+/// Whether a byte's address is no multiple of the bus width.
+fn is_off(row: &PlaceRow, path: &[Level], port: &PortRow, index: u32, byte: u64) -> bool
+    requires path { IsPath path.now }
+    requires size { row.now.bytes ≤ 8 }
+    requires byte { byte < row.now.bytes }
+    requires width { 0 < port.now.bytes }
+    ensures { result ≡ not (address_in (placed_at row.now path.now port.now) index byte % port.now.bytes == 0) }
+{
+    let top = location(row, index).climb(path, byte);
+    let address = u128::from(port.base) + top.address;
+    address % u128::from(port.bytes) != 0
+}
+
 /// Whether a byte stands at an address that isn't aligned, at the root or on the way.
 fn is_unaligned(row: &PlaceRow, path: &[Level], port: &PortRow, index: u32, byte: u64) -> bool
     requires path { IsPath path.now }
@@ -29,9 +42,7 @@ fn is_unaligned(row: &PlaceRow, path: &[Level], port: &PortRow, index: u32, byte
     requires width { 0 < port.now.bytes }
     ensures { result ≡ is_unaligned (placed_at row.now path.now port.now) index byte }
 {
-    let top = location(row, index).climb(path, byte);
-    let address = u128::from(port.base) + top.address;
-    port.kind.aligned && address % u128::from(port.bytes) != 0
+    port.kind.aligned && is_off(row, path, port, index, byte)
         || location(row, index).is_askew(path, byte)
 }
 
@@ -71,7 +82,11 @@ fn first_to_test(row: &PlaceRow, path: &[Level]) -> u32
     ensures even { 0 < result → AreStraight path.now (location_of row.now 0) 2 }
     ensures last { 0 < result → result + 1 ≡ row.now.size }
 {
-    if is_even(row, path) { row.size - 1 } else { 0 }
+    if row.size > 1 && is_even(row, path) {
+        row.size - 1
+    } else {
+        0
+    }
 }
 
 /// Whether a word of a place stands above the adapter's last address.

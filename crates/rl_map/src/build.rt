@@ -15,6 +15,7 @@ use crate::shared::{Shared, first_shared, sort_rows};
 use rl_bus::AdapterKind;
 use rl_model::{Array, Chip};
 use std::alloc::Global;
+use std::rc::Rc;
 
 /// The refusal by a shared address, or else the other one.
 fn first_fault(shared: Option<Shared>, refused: Option<MapFault>) -> Option<MapFault>
@@ -78,7 +79,7 @@ impl Layout {
             places: place_rows,
             ports,
             kinds: Vec::from_slice(alloc, kinds)?,
-            rows,
+            rows: Rc::new(alloc, rows)?,
             words,
             links,
         })

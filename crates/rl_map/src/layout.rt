@@ -11,7 +11,9 @@ use crate::seat::Seat;
 use crate::word::{Word, Words};
 use rl_bus::{AdapterKind, WordRow};
 use rl_model::{Item, Rights};
+use std::alloc::AllocError;
 use std::marker::Model;
+use std::rc::Rc;
 
 /// The address maps of a chip, and where its registers and memories stand in them.
 ///
@@ -23,7 +25,8 @@ pub struct Layout {
     pub(crate) places: Vec<PlaceRow>,
     pub(crate) ports: Vec<PortRow>,
     pub(crate) kinds: Vec<AdapterKind>,
-    pub(crate) rows: Vec<WordRow>,
+    /// Shared with the devices that were made of the layout.
+    pub(crate) rows: Rc<Vec<WordRow>>,
     /// The words of each place.
     pub(crate) words: Vec<PlaceWords>,
     pub(crate) links: ItemLinks,
@@ -34,14 +37,14 @@ impl Model for Layout {
 
     ghost Value = { LayoutData };
 
-    ghost view = { λ l. record { maps = l.maps.items; places = l.places.items; ports = l.ports.items; kinds = l.kinds.items; rows = l.rows.items } };
+    ghost view = { λ l. record { maps = l.maps.items; places = l.places.items; ports = l.ports.items; kinds = l.kinds.items; rows = l.rows.value.items } };
 
     ghost use Rattle.rl_map.specs.Layout.{IsSound};
     ghost use Rattle.rl_map.specs.Locations.{AreKept};
     ghost use Rattle.rl_map.specs.Links.{AreLinked};
 
-    ghost invariant = { λ l. IsSound (record { maps = l.maps.items; places = l.places.items; ports = l.ports.items; kinds = l.kinds.items; rows = l.rows.items })
-        × AreKept (record { maps = l.maps.items; places = l.places.items; ports = l.ports.items; kinds = l.kinds.items; rows = l.rows.items }) l.words.items
+    ghost invariant = { λ l. IsSound (record { maps = l.maps.items; places = l.places.items; ports = l.ports.items; kinds = l.kinds.items; rows = l.rows.value.items })
+        × AreKept (record { maps = l.maps.items; places = l.places.items; ports = l.ports.items; kinds = l.kinds.items; rows = l.rows.value.items }) l.words.items
         × AreLinked l.places.items l.links.lasts.items l.links.before.items };
 }
 
@@ -257,5 +260,16 @@ impl Layout {
         ensures { result.now ≡ self.now.rows }
     {
         self.rows.as_slice()
+    }
+
+    /// The table of `rows`, for an owner more: nothing is copied.
+    ///
+    /// # Errors
+    ///
+    /// Want of memory.
+    pub fn shared_rows(&self) -> Result<Rc<Vec<WordRow>>, AllocError>
+        ensures { IfOk result (λ rows. rows.value.items ≡ self.now.rows) }
+    {
+        self.rows.clone()
     }
 }

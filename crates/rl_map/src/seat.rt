@@ -1,4 +1,6 @@
 //! The seat of one byte.
+ghost use Rattle.std.specs.Prelude.{◌≡◌};
+ghost use Rattle.std.specs.List.{list_any};
 
 use crate::path::Level;
 
@@ -94,6 +96,13 @@ impl Access {
     }
 }
 
+/// Whether a map of the path is word-addressed.
+fn has_word_map(path: &[Level]) -> bool
+    ensures { result ≡ list_any (λ level. level.word) path.now }
+{
+    path.iter().any(|level| level.word)
+}
+
 impl Location {
     ghost use Rattle.std.specs.Prelude.{◌≡◌, ◌↔◌, ℕ, ◌<◌, ◌≤◌, ◌^◌, IsTrue};
     ghost use Rattle.rl_map.specs.Level.{IsPath};
@@ -137,6 +146,16 @@ impl Location {
 
     /// Whether a byte-addressed map on the way stands in a word-addressed one off a multiple of its width.
     pub(crate) fn is_askew(&self, path: &[Level], byte: u64) -> bool
+        requires path { IsPath path.now }
+        requires byte_in { byte < self.now.bytes }
+        requires size { self.now.bytes ≤ 8 }
+        ensures { result ≡ is_askew (access_of self.now byte) path.now }
+    {
+        has_word_map(path) && self.meets_askew(path, byte)
+    }
+
+    // The same, level by level.
+    fn meets_askew(&self, path: &[Level], byte: u64) -> bool
         requires path { IsPath path.now }
         requires byte_in { byte < self.now.bytes }
         requires size { self.now.bytes ≤ 8 }

@@ -1,4 +1,5 @@
-use Rattle.std.proofs.Common.{◌∙◌}
+use Rattle.std.proofs.Common.{ap, ◌∙◌}
+use Rattle.std.specs.Prelude.{slice_index}
 use Rattle.rl_bench.proofs.QueueLemmas.{set_step, skip_step}
 use Rattle.rl_bench.proofs.beats.send_back.Goals as goal
 use Rattle.rl_bench.proofs.beats.send_back.Goals.{then-queue-place, else-queue-place}
@@ -10,10 +11,7 @@ loop-queue-preserved c =
     let i = c.loop-queue.queue-index in
     let was = c.loop-queue.invariant in
     let l = c.loop-queue-test.true in
-    record {
-      long = c.if-queue-place.auto.beats ∙ was.long;
-      back = λ k. elim c.if-queue-place.branch [
-        | then-queue-place w ↦ rw w.beats-is (set_step queues c.loop-queue.beats old c.args.place i k _ l w.if-queue-place.true (c.requires i _ l) was.long (was.back k))
-        | else-queue-place w ↦ rw w.beats-is (skip_step queues c.loop-queue.beats old c.args.place i k _ l w.if-queue-place.false (was.back k))
-      ];
-    }
+    λ k. elim c.if-queue-place.branch [
+      | then-queue-place w ↦ ap (λ xs. slice_index xs k) (w.beats-is ∙ w.set_at.ensures) ∙ set_step queues c.loop-queue.beats old c.args.place i k _ l w.if-queue-place.true (was k)
+      | else-queue-place w ↦ ap (λ xs. slice_index xs k) w.beats-is ∙ skip_step queues c.loop-queue.beats old c.args.place i k _ l w.if-queue-place.false (was k)
+    ]

@@ -6,16 +6,16 @@ use Rattle.rl_bench.proofs.bench.Bench.find.Goals as goal
 
 pub returns-clause-at : goal.returns-clause-at
 returns-clause-at c =
-    words_there c.args.self.now.board.tables.words.items c.words_at-at.result.first c.words_at-at.result.end c.args.port c.args.op.now.address _ c.deref.ensures.value c.words_at-at.ensures
+    words_there c.args.self.now.board.tables.words.value.items c.words_at-at.result.first c.words_at-at.result.end c.args.port c.args.op.now.address _ c.words-words.ensures c.words_at-at.ensures
 
 pub returns-clause-beat : goal.returns-clause-beat
 returns-clause-beat c =
     let b = c.args.self.now in
     let at = c.words_at-at.result in
     c.beat_at-beat.ensures
-    ∙ ap (λ beats. cond (ltb at.first at.end) (slice_index beats at.first) 0) c.deref-2.ensures.value
-    ∙ beat_is b.board.tables.words.items b.beats.items c.args.port c.args.op.now.address at.first at.end
-    (words_there b.board.tables.words.items at.first at.end c.args.port c.args.op.now.address _ c.deref.ensures.value c.words_at-at.ensures)
+    ∙ ap (λ beats. cond (ltb at.first at.end) (slice_index beats at.first) 0) c.deref.ensures.value
+    ∙ beat_is b.board.tables.words.value.items b.beats.items c.args.port c.args.op.now.address at.first at.end
+    (words_there b.board.tables.words.value.items at.first at.end c.args.port c.args.op.now.address _ c.words-words.ensures c.words_at-at.ensures)
 
 pub returns-clause-word : goal.returns-clause-word
 returns-clause-word c =
@@ -23,13 +23,13 @@ returns-clause-word c =
     let at = c.words_at-at.result in
     let q = stands_for c.args.port c.args.op.now.address c.args.op.now.write in
     c.find_word-here.ensures.word
-    ∙ ap (λ words. slice_get (filter q words) c.beat_at-beat.result) c.deref-3.ensures.value
-    ∙ ap (slice_get (filter q b.board.tables.words.items))
+    ∙ ap (λ words. slice_get (filter q words) c.beat_at-beat.result) c.words-words.ensures
+    ∙ ap (slice_get (filter q b.board.tables.words.value.items))
     (c.beat_at-beat.ensures
-    ∙ ap (λ beats. cond (ltb at.first at.end) (slice_index beats at.first) 0) c.deref-2.ensures.value
-    ∙ beat_is b.board.tables.words.items b.beats.items c.args.port c.args.op.now.address at.first at.end
-    (words_there b.board.tables.words.items at.first at.end c.args.port c.args.op.now.address _ c.deref.ensures.value c.words_at-at.ensures))
+    ∙ ap (λ beats. cond (ltb at.first at.end) (slice_index beats at.first) 0) c.deref.ensures.value
+    ∙ beat_is b.board.tables.words.value.items b.beats.items c.args.port c.args.op.now.address at.first at.end
+    (words_there b.board.tables.words.value.items at.first at.end c.args.port c.args.op.now.address _ c.words-words.ensures c.words_at-at.ensures))
 
 pub returns-clause-count : goal.returns-clause-count
 returns-clause-count c =
-    c.find_word-here.ensures.count ∙ ap (λ words. length (filter (stands_for c.args.port c.args.op.now.address c.args.op.now.write) words)) c.deref-3.ensures.value
+    c.find_word-here.ensures.count ∙ ap (λ words. length (filter (stands_for c.args.port c.args.op.now.address c.args.op.now.write) words)) c.words-words.ensures

@@ -1,10 +1,11 @@
-use Rattle.std.proofs.Common.{◌≡◌, ℕ, List, length, ap, ◌∙◌, replicate}
+use Rattle.std.proofs.Common.{◌≡◌, ℕ, List, length, refl, ap, ◌∙◌, subst, replicate, cond, eqb}
 use Rattle.rl_bus.specs.Setup.{Setup}
 use Rattle.rl_bus.specs.State.{State, reset_by, first_state}
 use Rattle.rl_bench.specs.Board.{state_of}
-use Rattle.rl_bench.specs.Beats.{beats_of}
+use Rattle.rl_bench.specs.Beats.{beats_of, HasBeats}
 use Rattle.rl_bench.specs.Tables.{setup_held}
 use Rattle.rl_bench.proofs.BeatLemmas.{no_beats}
+use Rattle.rl_bench.proofs.QueueLemmas.{first_beaten}
 use Rattle.rl_bench.proofs.bench.Bench.new.Goals as goal
 
 abbrev start : Setup → List ℕ → List ℕ → List ℕ → State
@@ -17,8 +18,22 @@ returns c =
     let regs : c.len-regs.result ≡ length t.regs = c.len-regs.ensures ∙ c.args.tables.regs.ok.0 in
     let bits : c.in_ok-zeros.field-0.items ≡ replicate (length t.regs) 0 = c.in_ok-zeros.ensures ∙ ap (λ n. replicate n 0) regs in
     let marks : c.in_ok-zeros-2.field-0.items ≡ replicate (length t.regs) 0 = c.in_ok-zeros-2.ensures ∙ ap (λ n. replicate n 0) regs in
-    ap (λ b. state_of t c.reset_cells.new.cells b 0) (ap (λ xs. beats_of t.words xs) c.in_ok-beats.ensures ∙ no_beats t.words c.len-words.result)
+    ap (λ b. state_of t c.reset_cells.new.cells b 0) (ap (λ xs. beats_of t.words xs) c.in_ok-beats.ensures ∙ no_beats t.words _)
     ∙ c.reset_cells.ensures.state (λ p a. 0) 0
     ∙ ap (λ x. reset_by (start t x c.in_ok-zeros-2.field-0.items c.in_ok-zeros-3.field-0.items) 0) bits
     ∙ ap (λ m. reset_by (start t (replicate (length t.regs) 0) m c.in_ok-zeros-3.field-0.items) 0) marks
     ∙ ap (λ l. reset_by (start t (replicate (length t.regs) 0) (replicate (length t.regs) 0) l) 0) c.in_ok-zeros-3.ensures
+
+pub invariant_of-result : goal.invariant_of-result
+invariant_of-result c =
+    let words = c.words-words.result.now in
+    let beats = c.in_ok-beats.beats.items in
+    let queues = c.in_ok-queues.queues.items in
+    let first : beats ≡ replicate (cond (eqb (length queues) 0) 0 (length words)) 0 =
+    c.in_ok-beats.ensures ∙ ap (λ qs. replicate (cond (eqb (length qs) 0) 0 (length words)) 0) c.deref.ensures.value in
+    let none : beats_of (setup_held c.args.tables).words beats ≡ (λ p a. 0) = ap (λ xs. beats_of (setup_held c.args.tables).words xs) first ∙ no_beats (setup_held c.args.tables).words _ in
+    record {
+      quiet = λ p a few. ap (λ (b : ℕ → ℕ → ℕ). b p a) none;
+      fit = c.reset_cells.ensures.fit;
+      beaten = subst (λ ws. HasBeats ws beats) c.words-words.ensures (first_beaten words queues beats (length words) c.in_ok-queues.ensures refl first);
+    }

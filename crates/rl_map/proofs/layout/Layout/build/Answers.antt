@@ -1,9 +1,9 @@
-use Rattle.std.proofs.Common.{sym, ◌∙◌, subst}
+use Rattle.std.proofs.Common.{◌≡◌, sym, ap, ◌∙◌, subst}
 use Rattle.rl_map.specs.Layout.{IsSound}
 use Rattle.rl_map.specs.Building.{ArePlaces, AreRowsOf, NoRowsClash}
 use Rattle.rl_map.proofs.Placing.{rows_in}
 use Rattle.rl_map.proofs.Closing.{built, built_sound}
-use Rattle.rl_map.specs.Locations.{AreWordsOf}
+use Rattle.rl_map.specs.Locations.{AreWordsOf, AreKept}
 use Rattle.rl_map.proofs.Keeping.{kept_built}
 use Rattle.rl_map.proofs.Folding.{none_least}
 use Rattle.std.proofs.lemmas.Result.{err_from_is_err_and}
@@ -32,11 +32,14 @@ invariant_of-result c =
     (subst (λ y. NoRowsClash c.deref-3.result.now y) c.deref-4.ensures.value (none_least c.deref-3.result.now c.deref-4.result.now c.first_shared-shared.result c.first_shared-shared.ensures.least (none_shared c.first_shared-shared.result c.in_ok-refused.refused _ c.first_fault.ensures c.in_default.is))) in
     let sorted = c.in_ok-sort_rows.ensures in
     let kepts = c.add_places.new.placing.words.items in
+    let kinds = c.in_ok-from_slice.field-0.items in
+    let shared : c.in_ok-new.field-0.value.items ≡ rows = ap (λ v. v.items) c.in_ok-new.ensures.ok in
     let words : AreWordsOf maps ports places kepts =
     subst (λ m. AreWordsOf m ports places kepts) c.deref.ensures.value (subst (λ q. AreWordsOf c.deref.result.now q places kepts) c.deref-2.ensures.value c.in_ok-refused.ensures.words) in (
-      subst (λ k. IsSound (built maps places ports k rows)) (sym c.in_ok-from_slice.ensures.items)
-          (built_sound c.args.chip.now maps places ports c.args.kinds.now first rows c.in_ok-tables.ensures.tables p c.requires sorted.moved sorted.ascending sorted.stable none),
-      kept_built maps places ports _ rows kepts words,
+      subst (λ r. IsSound (built maps places ports kinds r)) (sym shared)
+          (subst (λ k. IsSound (built maps places ports k rows)) (sym c.in_ok-from_slice.ensures.items)
+          (built_sound c.args.chip.now maps places ports c.args.kinds.now first rows c.in_ok-tables.ensures.tables p c.requires sorted.moved sorted.ascending sorted.stable none)),
+      subst (λ r. AreKept (built maps places ports kinds r) kepts) (sym shared) (kept_built maps places ports kinds rows kepts words),
       c.in_ok-refused.ensures.links,
     )
 
@@ -120,5 +123,6 @@ returns-clause-exact c =
     } in
     let none = sym c.first_fault.ensures ∙ c.in_default.is in (
       fault_is chip c.args.maps.now c.args.places.now c.args.kinds.now maps ports places first rows c.first_shared-shared.result c.in_ok-refused.refused made ∙ none,
-      whole_is chip c.args.maps.now c.args.places.now c.args.kinds.now maps ports places first rows c.first_shared-shared.result c.in_ok-refused.refused _ made none c.in_ok-from_slice.ensures.items,
+      ap (λ v. built maps places ports c.in_ok-from_slice.field-0.items v.items) c.in_ok-new.ensures.ok
+          ∙ whole_is chip c.args.maps.now c.args.places.now c.args.kinds.now maps ports places first rows c.first_shared-shared.result c.in_ok-refused.refused _ made none c.in_ok-from_slice.ensures.items,
     )

@@ -7,7 +7,7 @@ use Rattle.rl_map.proofs.layout.Layout.seat.Goals as goal
 
 pub seat-requires-clause-fits : goal.seat-requires-clause-fits
 seat-requires-clause-fits c =
-    let l : LayoutData = record { maps = c.self.inside.maps.items; places = c.self.inside.places.items; ports = c.self.inside.ports.items; kinds = c.self.inside.kinds.items; rows = c.self.inside.rows.items } in
+    let l : LayoutData = record { maps = c.self.inside.maps.items; places = c.self.inside.places.items; ports = c.self.inside.ports.items; kinds = c.self.inside.kinds.items; rows = c.self.inside.rows.value.items } in
     let sound : IsSound l = c.self.invariant.0 in
     let there : IsLocation l c.args.place c.args.index = subst (λ v. IsLocation v c.args.place c.args.index) (sym c.self.view_is) c.requires.location in
     let byte_in : c.args.byte < (place_at l c.args.place).bytes = subst (λ v. c.args.byte < (place_at v c.args.place).bytes) (sym c.self.view_is) c.requires.byte in

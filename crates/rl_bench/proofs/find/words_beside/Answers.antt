@@ -1,0 +1,21 @@
+use Rattle.std.proofs.Common.{◌≡◌, ℕ, ◌+◌, ◌-◌, ◌<◌, length, get_or, ap, ◌∙◌, arith}
+use Rattle.rl_map.specs.Layout.{key_of}
+use Rattle.rl_bench.proofs.StretchLemmas.{stretch_one}
+use Rattle.rl_bench.proofs.find.words_beside.Goals as goal
+use Rattle.rl_bench.proofs.find.words_beside.Goals.{else-k-gt0-via-then-k-gt0+else-same_address, else-k-gt0-via-else-k-gt0, else-k-words-via-then-k-words+else-same_address-2, else-k-words-via-else-k-words}
+
+pub returns : goal.returns
+returns c d =
+    let words = c.args.words.now in
+    let k = c.args.k in
+    let before : (j : ℕ) → j + 1 ≡ k → key_of (get_or words j d) ≡ key_of (get_or words k d) → ⊥ = elim c.else-k-gt0.branch [
+      | else-k-gt0-via-then-k-gt0+else-same_address w ↦ λ j e same.
+          let at : k - 1 ≡ j = omega (arith, e) in
+          w.same_address.ensures w.if-same_address.false d (ap (λ n. key_of (get_or words n d)) at ∙ same)
+      | else-k-gt0-via-else-k-gt0 w ↦ λ j e same. omega (arith, e, w.if-k-gt0.false)
+    ] in
+    let behind : k + 1 < length words → key_of (get_or words k d) ≡ key_of (get_or words (k + 1) d) → ⊥ = elim c.else-k-words.branch [
+      | else-k-words-via-then-k-words+else-same_address-2 w ↦ λ m same. w.same_address-then-k-words.ensures w.if-same_address-2.false d same
+      | else-k-words-via-else-k-words w ↦ λ m same. omega (arith, m, w.if-k-words.false)
+    ] in
+    stretch_one words k d c.requires.rise c.requires.k before behind
