@@ -1,5 +1,5 @@
 // Numbers as text, with no memory taken.
-ghost use Rattle.std.specs.Prelude.{◌≡◌, ◌+◌, ◌/◌, ◌%◌, ◌^◌, ◌<◌, ◌≤◌};
+ghost use Rattle.std.specs.Prelude.{◌≡◌, ◌+◌, ◌/◌, ◌%◌, ◌^◌, ◌<◌, ◌≤◌, length, take};
 ghost use Rattle.rl_policy.specs.Numbers.{hex_digits};
 ghost use Rattle.rl_report.specs.Numbers.{padded, digits_if, lanes_text};
 
@@ -71,6 +71,20 @@ impl Digits {
             text,
             len: bytes as usize,
         }
+    }
+
+    // Where the digits stand, in front of bytes that are none of them.
+    pub(crate) fn room(&self) -> &[u8; 16]
+        ensures { take (length self.now) result.now ≡ self.now }
+    {
+        &self.text
+    }
+
+    pub(crate) fn len(&self) -> usize
+        ensures value { result ≡ length self.now }
+        ensures few { result ≤ 16 }
+    {
+        self.len
     }
 
     /// The digits as text.
