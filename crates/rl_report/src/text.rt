@@ -33,17 +33,6 @@ fn copy_behind(bytes: &mut [u8], end: usize, piece: &[u8]) -> usize
     new_end
 }
 
-// Copies so many digits behind a place, where there is room for 16 of them. Answers where they end.
-fn copy_digits(bytes: &mut [u8], end: usize, digits: &[u8; 16], count: usize) -> usize
-    requires room { end + 16 ≤ length bytes.old }
-    requires few { count ≤ 16 }
-    ensures end { result ≡ end + count }
-    ensures front { take result bytes.new ≡ take end bytes.old ++ take count digits.now }
-{
-    copy_behind(bytes, end, digits);
-    end + count
-}
-
 impl Text {
     pub(crate) fn new() -> Text
         ensures { result ≡ [] }
@@ -67,7 +56,7 @@ impl Text {
         ensures text { self.new ≡ self.old ++ digits.now }
         ensures len { length self.new ≤ length self.old + 16 }
     {
-        self.len = copy_digits(&mut self.bytes, self.len, digits.room(), digits.len());
+        self.push(digits.short_text());
     }
 
     pub(crate) fn as_bytes(&self) -> &[u8]
