@@ -35,27 +35,13 @@ fn write_part<K: Sink>(
     sink.write(&bytes[start..end])
 }
 
-// Copies as many bytes as both have. Answers how many.
-fn copy_front(to: &mut [u8], from: &[u8]) -> usize
-    ensures count { result ≡ min (length to.old) (length from.now) }
-    ensures copied { to.new ≡ take result from.now ++ drop result to.old }
-{
-    let count = to.len().min(from.len());
-    to[..count].copy_from_slice(&from[..count]);
-    count
-}
-
-// Copies as many bytes of a piece as there is room for, behind a place. Answers how many.
-fn copy_behind(bytes: &mut [u8], end: usize, piece: &[u8]) -> usize
-    requires room { end < length bytes.old }
-    requires some { 0 < length piece.now }
-    ensures some { 0 < result }
-    ensures within { result ≤ length piece.now }
-    ensures room { end + result ≤ length bytes.old }
+// Copies a piece behind a place, where there is room for it.
+fn copy_behind(bytes: &mut [u8], end: usize, piece: &[u8])
+    requires room { end + length piece.now ≤ length bytes.old }
     ensures before { take end bytes.new ≡ take end bytes.old }
-    ensures copied { slice_range bytes.new end (end + result) ≡ take result piece.now }
+    ensures copied { slice_range bytes.new end (end + length piece.now) ≡ piece.now }
 {
-    copy_front(&mut bytes[end..], piece)
+    bytes[end..end + piece.len()].copy_from_slice(piece);
 }
 
 impl<'a, K: Sink> Buffered<'a, K> {
@@ -134,19 +120,31 @@ impl<'a, K: Sink> Buffered<'a, K> {
         }
     }
 
-    // Keeps as much of the piece back as there is room for. Answers how much.
-    fn keep(&mut self, piece: &[u8]) -> usize
-        requires room { self.old.end < 4096 }
-        requires some { 0 < length piece.now }
-        ensures some { 0 < result }
-        ensures within { result ≤ length piece.now }
-        ensures kept { kept_back self.new ≡ kept_back self.old ++ take result piece.now }
+    // Keeps the piece back, where there is room for it.
+    fn keep(&mut self, piece: &[u8])
+        requires room { self.old.end + length piece.now ≤ 4096 }
+        ensures kept { kept_back self.new ≡ kept_back self.old ++ piece.now }
         ensures sink { self.new.sink.now ≡ self.old.sink.now }
         ensures same_sink { self.new.sink.ghost_name ≡ self.old.sink.ghost_name }
     {
-        let count = copy_behind(&mut self.bytes, self.end, piece);
-        self.end += count;
-        count
+        copy_behind(&mut self.bytes, self.end, piece);
+        self.end += piece.len();
+    }
+
+    // Keeps as much of the piece back as there is room for, once some is made. Answers how much.
+    fn keep_some(&mut self, piece: &[u8]) -> Result<usize, Failed>
+        requires some { 0 < length piece.now }
+        ensures some { IfOk result (λ n. 0 < n) }
+        ensures bound { IfOk result (λ n. n ≤ length piece.now) }
+        ensures bytes { WriteAppends (told K.written self.old) (told K.written self.new) result piece.now }
+        ensures cause { HasCause (K.faults self.old.sink.now) (K.faults self.new.sink.now) result }
+        ensures ends_kept { K.ends self.new.sink.now ≡ K.ends self.old.sink.now }
+        ensures same_sink { self.new.sink.ghost_name ≡ self.old.sink.ghost_name }
+    {
+        self.make_room()?;
+        let count = piece.len().min(ROOM - self.end);
+        self.keep(&piece[..count]);
+        Ok(count)
     }
 }
 
@@ -163,8 +161,11 @@ impl<K: Sink> Sink for Buffered<'_, K> {
     ghost target = { λ b. b.sink.ghost_name };
 
     fn write(&mut self, piece: &[u8]) -> Result<usize, Failed> {
-        self.make_room()?;
-        Ok(self.keep(piece))
+        if piece.len() > ROOM - self.end {
+            return self.keep_some(piece);
+        }
+        self.keep(piece);
+        Ok(piece.len())
     }
 
     fn finish(&mut self) -> Result<(), Failed> {

@@ -1,5 +1,5 @@
 -- An item's word has the digits of its port.
-use Rattle.std.proofs.Common.{◌*◌, ◌^◌, ◌<◌, true, false, if◌then◌else◌, sym, subst, ap}
+use Rattle.std.proofs.Common.{◌*◌, ◌^◌, ◌<◌, true, false, if◌then◌else◌, subst}
 use Rattle.rl_map.specs.Layout.{LayoutData, port_at}
 use Rattle.rl_access.specs.declared.trace.TraceItem.{TraceItem}
 use Rattle.rl_access.specs.Event.{ItemFits}

@@ -1,3 +1,4 @@
+pub mod DigitLemmas
 pub mod EventLemmas
 pub mod LineLemmas
 pub mod ListingLemmas

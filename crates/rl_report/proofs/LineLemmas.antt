@@ -1,10 +1,12 @@
 -- What a line reader hands out, by what it holds.
-use Rattle.std.proofs.Common.{◌≡◌, ℕ, ◌<◌, ◌≤◌, Bool, true, false, cond, eqb, List, [], ◌∷◌, ◌++◌, Some, None, IfSome, length, refl, sym, ap, ◌∙◌, append_assoc, append-nil, length-append, arith}
+use Rattle.std.proofs.Common.{◌≡◌, ℕ, zero, suc, ◌+◌, ◌<◌, ◌≤◌, Bool, true, false, cond, eqb, List, [], ◌∷◌, ◌++◌, Some, None, IfSome, length, take, drop, unwrap_or, refl, sym, ap, ◌∙◌, append_assoc, length-append, arith}
 use Rattle.std.specs.declared.option.Option.{Option}
-use Rattle.std.specs.Io.KnownBytes.{Consumes, IsAtEnd, Keeps, prepend_known}
+use Rattle.std.specs.Io.KnownBytes.{prepend_known}
 use Rattle.std.specs.Io.BufRead.{strip_last}
+use Rattle.std.proofs.lemmas.List.{drop_all}
 use Rattle.std.proofs.lemmas.Bool.{true≢false}
 use Rattle.std.proofs.lemmas.Bool.Decides.{nat_tests}
+use Rattle.memchr.specs.Find.{IsFirstByte, Nowhere, Passes, is_byte}
 use Rattle.rl_report.specs.Lines.{first_line, after_line, lines_of, onto_first, whole_lines, onto_whole}
 use Rattle.rl_report.specs.Reading.{Reading, input_of, HandsLine}
 
@@ -105,3 +107,95 @@ whole_by b bs more false e rest = rw e (ap (onto_whole b) rest)
 pub whole_first : (p more : List ℕ) → whole_lines (first_line p ++ 10 ∷ more) ≡ first_line p ∷ whole_lines more
 whole_first [] more = refl
 whole_first (b ∷ bs) more = whole_by b bs more (eqb b 10) refl (whole_first bs more)
+
+-- ---- how long the first line is
+
+front_by : (b : ℕ) (bs : List ℕ) (t : Bool) → take (length (first_line bs)) bs ≡ first_line bs → take (length (cond t [] (b ∷ first_line bs))) (b ∷ bs) ≡ cond t [] (b ∷ first_line bs)
+front_by b bs true rest = refl
+front_by b bs false rest = ap (λ l. b ∷ l) rest
+
+front : (p : List ℕ) → take (length (first_line p)) p ≡ first_line p
+front [] = refl
+front (b ∷ bs) = front_by b bs (eqb b 10) (front bs)
+
+behind_by : (b : ℕ) (bs : List ℕ) (t : Bool) → drop (length (first_line bs) + 1) bs ≡ after_line bs → drop (length (cond t [] (b ∷ first_line bs)) + 1) (b ∷ bs) ≡ cond t bs (after_line bs)
+behind_by b bs true rest = refl
+behind_by b bs false rest =
+    let count : length (b ∷ first_line bs) + 1 ≡ suc (length (first_line bs) + 1) = omega arith in
+    ap (λ n. drop n (b ∷ bs)) count ∙ rest
+
+behind : (p : List ℕ) → drop (length (first_line p) + 1) p ≡ after_line p
+behind [] = refl
+behind (b ∷ bs) = behind_by b bs (eqb b 10) (behind bs)
+
+short_by : (b : ℕ) (bs : List ℕ) (t : Bool) → length (first_line bs) ≤ length bs → length (cond t [] (b ∷ first_line bs)) ≤ length (b ∷ bs)
+short_by b bs true rest = omega arith
+short_by b bs false rest = omega (arith, rest)
+
+pub first_within : (p : List ℕ) → length (first_line p) ≤ length p
+first_within [] = omega arith
+first_within (b ∷ bs) = short_by b bs (eqb b 10) (first_within bs)
+
+-- the first line stands at the front, and after it and its 10 what is behind it
+pub line_front : (p : List ℕ) (size : ℕ) → size ≡ length (first_line p) → take size p ≡ first_line p
+line_front p size e = ap (λ n. take n p) e ∙ front p
+
+pub line_behind : (p : List ℕ) (size : ℕ) → size ≡ length (first_line p) → drop (size + 1) p ≡ after_line p
+line_behind p size e = ap (λ n. drop (n + 1) p) e ∙ behind p
+
+pub line_within : (p : List ℕ) (size : ℕ) → size ≡ length (first_line p) → size ≤ length p
+line_within p size e = omega (arith, first_within p)
+
+-- a line without a 10 goes on in the bytes behind it
+goes_on_by : (b : ℕ) (bs more : List ℕ) (t : Bool) → (first_line bs ≡ bs → length (first_line (bs ++ more)) ≡ length bs + length (first_line more))
+    → cond t [] (b ∷ first_line bs) ≡ b ∷ bs → length (cond t [] (b ∷ first_line (bs ++ more))) ≡ length (b ∷ bs) + length (first_line more)
+goes_on_by b bs more true rest h = absurd (omega (arith, ap length h))
+goes_on_by b bs more false rest h = let e = rest (cc) in omega (arith, e)
+
+pub goes_on : (p more : List ℕ) → first_line p ≡ p → length (first_line (p ++ more)) ≡ length p + length (first_line more)
+goes_on [] more h = omega arith
+goes_on (b ∷ bs) more h = goes_on_by b bs more (eqb b 10) (goes_on bs more) h
+
+-- a search for a 10 tells how long the first line is
+ten_first : (b : ℕ) (bs : List ℕ) (t : Bool) → t ≡ true → length (cond t [] (b ∷ first_line bs)) ≡ 0
+ten_first b bs true e = refl
+ten_first b bs false e = absurd (true≢false (sym e))
+
+ten_later : (b n : ℕ) (bs : List ℕ) (t : Bool) → (t ≡ true → ⊥) → length (first_line bs) ≡ n → length (cond t [] (b ∷ first_line bs)) ≡ suc n
+ten_later b n bs true e h = absurd (e refl)
+ten_later b n bs false e h = ap suc h
+
+found : (p : List ℕ) (k : ℕ) → k < length p → Nowhere (Passes (is_byte 10) p) 0 k → Passes (is_byte 10) p k → length (first_line p) ≡ k
+found [] k below none here = absurd (omega arith)
+found (b ∷ bs) zero below none here = ten_first b bs (eqb b 10) here
+found (b ∷ bs) (suc k) below none here =
+    ten_later b k bs (eqb b 10) (none 0 (omega arith) (omega arith)) (found bs k (omega arith) (λ j low high. none (suc j) (omega arith) (omega arith)) here)
+
+missed : (p : List ℕ) → Nowhere (Passes (is_byte 10) p) 0 (length p) → length (first_line p) ≡ length p
+missed [] none = refl
+missed (b ∷ bs) none = ten_later b (length bs) bs (eqb b 10) (none 0 (omega arith) (omega arith)) (missed bs (λ j low high. none (suc j) (omega arith) (omega arith)))
+
+pub searched : (p : List ℕ) (at : Option ℕ) → IsFirstByte (is_byte 10) p at → unwrap_or at (length p) ≡ length (first_line p)
+searched p None none = sym (missed p none)
+searched p (Some k) h = sym (found p k h.0.high h.0.before h.1)
+
+-- the first line of what grew by some bytes
+pub grown_line : (old more whole : List ℕ) (size n : ℕ) → whole ≡ old ++ more → first_line old ≡ old → size ≡ length (first_line old) → n ≡ length (first_line more) → size + n ≡ length (first_line whole)
+grown_line old more whole size n grown none size_is n_is = omega (arith, ap length none, ap (λ l. length (first_line l)) grown, goes_on old more none)
+
+-- a reader at its end hands out a last line that has no 10
+last_by : (e : Bool) (p : List ℕ) (a f r k : Bool) (left : Option (List ℕ)) (size : ℕ) → e ≡ true → size ≡ length (first_line p) → length p ≤ size → 0 < length p → size ≤ 4096
+    → IfSome (cond e (Some p) (prepend_known p left)) (λ bytes. HandsLine bytes (record { pending = drop size p; line = strip_last 13 (take size p); asked = a; found = f; refused = r; ended = e; closed = k }) left)
+last_by true p a f r k left size at_end size_is all some short =
+    record {
+      some = some;
+      short = omega arith;
+      line = ap (strip_last 13) (line_front p size size_is);
+      rest = ap Some (drop_all size p all ∙ sym (drop_all (size + 1) p (omega arith)) ∙ line_behind p size size_is);
+      whole = λ going. absurd (true≢false going);
+    }
+last_by false p a f r k left size at_end size_is all some short = absurd (true≢false (sym at_end))
+
+pub hands_last : (old : Reading) (left : Option (List ℕ)) (size : ℕ) → old.ended ≡ true → size ≡ length (first_line old.pending) → length old.pending ≤ size → 0 < length old.pending → size ≤ 4096
+    → IfSome (input_of old left) (λ bytes. HandsLine bytes (record old { pending = drop size old.pending; line = strip_last 13 (take size old.pending) }) left)
+hands_last old left size at_end size_is all some short = last_by old.ended old.pending old.asked old.found old.refused old.closed left size at_end size_is all some short

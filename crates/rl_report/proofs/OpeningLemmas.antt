@@ -1,7 +1,6 @@
 -- How the search for the separator passes lines.
-use Rattle.std.proofs.Common.{◌≡◌, ℕ, ◌+◌, ◌-◌, ◌<◌, ◌≤◌, Bool, true, false, ◌&&◌, cond, eqb, List, [], ◌∷◌, ◌++◌, Option, Some, None, length, take, drop, refl, sym, ap, ◌∙◌, subst, append_assoc, append-nil, length-append, codes, arith}
+use Rattle.std.proofs.Common.{◌≡◌, ℕ, ◌+◌, ◌-◌, ◌<◌, ◌≤◌, Bool, true, false, ◌&&◌, cond, eqb, List, [], ◌∷◌, ◌++◌, Some, None, length, take, drop, refl, sym, ap, ◌∙◌, subst, append_assoc, append-nil, length-append, codes, arith}
 use Rattle.std.proofs.lemmas.Bool.{true≢false}
-use Rattle.std.proofs.lemmas.Bool.Decides.{nat_tests}
 use Rattle.std.proofs.lemmas.List.{take_all, take_at, drop_all, length-take-le}
 use Rattle.std.proofs.lemmas.Slice.Eq.{bytes_eq-Decides}
 use Rattle.std.specs.Io.BufRead.{ends_with_byte}
@@ -10,7 +9,7 @@ use Rattle.rl_report.specs.declared.opening.Part.{Part}
 use Rattle.rl_report.specs.declared.opening.Part.TheVariants.{Separator, Text, End}
 use Rattle.rl_report.specs.Opening.{is_separator, separator_from, IsPart, BeginsWithText}
 use Rattle.rl_report.specs.Lines.{first_line, after_line}
-use Rattle.rl_report.proofs.LineLemmas.{first_of_more, ends_whole, longer}
+use Rattle.rl_report.proofs.LineLemmas.{ends_whole, longer}
 
 -- a byte that begins no separator is passed
 step_by : (at b : ℕ) (bs : List ℕ) (t : Bool) → t ≡ false → cond t (Some at) (separator_from (at + 1) (eqb b 10) bs) ≡ separator_from (at + 1) (eqb b 10) bs

@@ -45,6 +45,36 @@ puts_failed a b x xs r e p = puts_stopped a b (x ++ joined xs) r e (front_before
 -- For `search`: what shows that calls put a text piece by piece.
 pub ruleset by_pieces = (puts_more, puts_last, puts_failed)
 
+-- two pieces that were put as one
+one_of_two : (x y : List ℕ) (xs : List (List ℕ)) → joined (x ∷ y ∷ []) ++ joined xs ≡ joined (x ∷ y ∷ xs)
+unfolding joined
+one_of_two x y xs = append_assoc x (y ++ []) (joined xs) ∙ ap (λ l. x ++ (l ++ joined xs)) (append-nil y)
+
+pub puts_two : {T E : Type 0} (a b c : Option (List ℕ)) (x y : List ℕ) (xs : List (List ℕ)) (r : Result T E) → Appends a b (joined (x ∷ y ∷ [])) → Puts b c (joined xs) r → Puts a c (joined (x ∷ y ∷ xs)) r
+puts_two a b c x y xs r p q = subst (λ l. Puts a c l r) (one_of_two x y xs) (puts_after a b c (joined (x ∷ y ∷ [])) (joined xs) r p q)
+
+pub two_failed : {T E : Type 0} (a b : Option (List ℕ)) (x y : List ℕ) (xs : List (List ℕ)) (r : Result T E) → IsErr r → AppendsFront a b (joined (x ∷ y ∷ [])) → Puts a b (joined (x ∷ y ∷ xs)) r
+two_failed a b x y xs r e p = subst (λ l. Puts a b l r) (one_of_two x y xs) (puts_stopped a b (joined (x ∷ y ∷ []) ++ joined xs) r e (front_before a b (joined (x ∷ y ∷ [])) (joined xs) p))
+
+-- the same bytes
+pub puts_same : {T E : Type 0} (a b : Option (List ℕ)) (xs ys : List ℕ) (r : Result T E) → xs ≡ ys → Puts a b xs r → Puts a b ys r
+puts_same a b xs ys r e p = subst (λ l. Puts a b l r) e p
+
+-- a text to which two pieces were appended
+pub appended_two : (first second third x y : List ℕ) → first ≡ [] → second ≡ first ++ x → third ≡ second ++ y → third ≡ joined (x ∷ y ∷ [])
+unfolding joined
+appended_two first second third x y none d e = e ∙ ap (λ l. l ++ y) (d ∙ ap (λ l. l ++ x) none) ∙ ap (λ l. x ++ l) (sym (append-nil y))
+
+-- a text of three parts, where the second is of seven pieces
+text_of_three : (x a b c d e f g y : List ℕ) → (((((((([] ++ x) ++ a) ++ b) ++ c) ++ d) ++ e) ++ f) ++ g) ++ y ≡ joined (x ∷ joined (a ∷ b ∷ c ∷ d ∷ e ∷ f ∷ g ∷ []) ∷ y ∷ [])
+unfolding joined
+text_of_three x a b c d e f g y = simp (append_assoc, append-nil)
+
+pub appended_nine : (t t1 t2 t3 t4 t5 t6 t7 t8 t9 x a b c d e f g y : List ℕ) → t ≡ [] → t1 ≡ t ++ x → t2 ≡ t1 ++ a → t3 ≡ t2 ++ b → t4 ≡ t3 ++ c → t5 ≡ t4 ++ d → t6 ≡ t5 ++ e → t7 ≡ t6 ++ f → t8 ≡ t7 ++ g → t9 ≡ t8 ++ y
+    → t9 ≡ joined (x ∷ joined (a ∷ b ∷ c ∷ d ∷ e ∷ f ∷ g ∷ []) ∷ y ∷ [])
+appended_nine t t1 t2 t3 t4 t5 t6 t7 t8 t9 x a b c d e f g y h0 h1 h2 h3 h4 h5 h6 h7 h8 h9 =
+    h9 ∙ ap (λ l. l ++ y) (h8 ∙ ap (λ l. l ++ g) (h7 ∙ ap (λ l. l ++ f) (h6 ∙ ap (λ l. l ++ e) (h5 ∙ ap (λ l. l ++ d) (h4 ∙ ap (λ l. l ++ c) (h3 ∙ ap (λ l. l ++ b) (h2 ∙ ap (λ l. l ++ a) (h1 ∙ ap (λ l. l ++ x) h0)))))))) ∙ text_of_three x a b c d e f g y
+
 -- the next of a list of pieces, and the others
 pub next_piece : {A : Type 0} (text : A → List ℕ) (pieces : List A) (i : ℕ) (d : A) → i < length pieces
     → joined (map text (drop i pieces)) ≡ text (get_or pieces i d) ++ joined (map text (drop (i + 1) pieces))

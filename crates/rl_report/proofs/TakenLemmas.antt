@@ -1,18 +1,18 @@
 -- What becomes of the parts before the separator.
-use Rattle.std.proofs.Common.{◌≡◌, ℕ, ◌+◌, ◌-◌, ◌<◌, ◌≤◌, Bool, true, false, ◌&&◌, cond, eqb, List, [], ◌∷◌, ◌++◌, Option, Some, None, IfSome, Result, Ok, Err, OnErr, is_err, length, take, drop, refl, sym, ap, ◌∙◌, subst, append_assoc, append-nil, length-append, ◌⊎◌, inl, inr, arith}
+use Rattle.std.proofs.Common.{◌≡◌, ℕ, ◌+◌, ◌<◌, ◌≤◌, Bool, true, false, ◌&&◌, cond, eqb, List, [], ◌∷◌, ◌++◌, Option, Some, None, IfSome, Result, Ok, Err, OnErr, is_err, length, take, drop, refl, sym, ap, ◌∙◌, subst, append_assoc, append-nil, length-append, ◌⊎◌, inl, inr, arith}
 use Rattle.std.proofs.lemmas.Bool.{true≢false}
-use Rattle.std.proofs.lemmas.List.{take-append-drop, take_all, take_at, length-take-le}
+use Rattle.std.proofs.lemmas.List.{take-append-drop, length-take-le}
 use Rattle.std.proofs.Math.Seq.{drop-append_seam}
 use Rattle.std.specs.Io.KnownBytes.{Keeps, prepend_known}
 use Rattle.std.proofs.lemmas.Bool.{cases_lt}
 use Rattle.rl_report.specs.declared.opening.Head.{Head}
 use Rattle.rl_report.specs.declared.opening.Head.TheVariants.{Missing, TooLong}
-use Rattle.rl_report.specs.Opening.{HeadIs, is_separator, separator_from, separator_at, HasNoHead, FindsHead, TakesNoHead, BeginsWithSeparator, BeginsWithText}
+use Rattle.rl_report.specs.Opening.{HeadIs, is_separator, separator_from, HasNoHead, FindsHead, TakesNoHead, BeginsWithSeparator, BeginsWithText}
 use Rattle.rl_report.specs.Lines.{first_line, after_line}
 use Rattle.rl_report.specs.Reading.{Reading, input_of}
 use Rattle.rl_report.specs.Taken.{Passes, TakesText, TakesNothing}
 use Rattle.rl_report.proofs.LineLemmas.{first_of_more, after_of_more, ends_whole}
-use Rattle.rl_report.proofs.OpeningLemmas.{no_ten, skip, step}
+use Rattle.rl_report.proofs.OpeningLemmas.{no_ten, skip}
 
 -- readings with the same parts
 pub same_reading : (p q l m : List ℕ) (a b c d e f g h i j : Bool) → p ≡ q → l ≡ m → a ≡ b → c ≡ d → e ≡ f → g ≡ h → i ≡ j

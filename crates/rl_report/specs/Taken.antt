@@ -1,5 +1,5 @@
 -- One part of the bytes before the separator.
-use Rattle.std.specs.Prelude.{◌≡◌, ℕ, ◌<◌, ◌≤◌, List, ◌++◌, Bool, true, false, length, Option, Some, IfSome}
+use Rattle.std.specs.Prelude.{◌≡◌, ℕ, ◌<◌, ◌≤◌, List, ◌++◌, Bool, true, false, length, Option, IfSome}
 use Rattle.std.specs.Io.KnownBytes.{prepend_known}
 use Rattle.rl_report.specs.declared.lines.Taken.{Taken}
 use Rattle.rl_report.specs.declared.lines.Taken.TheVariants.{Last, Text, Nothing}

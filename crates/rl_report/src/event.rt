@@ -12,6 +12,7 @@ ghost use Rattle.rl_report.specs.Numbers.{padded};
 ghost use Rattle.rl_report.specs.Pieces.{Puts, joined};
 
 use crate::numbers::Digits;
+use crate::text::Text;
 use crate::{Failed, Sink, put_all, put_pieces};
 use itoa::Buffer;
 use rl_access::{End, Event, Model, Op, Refused, TraceItem};
@@ -27,9 +28,10 @@ fn put_number<K: Sink>(sink: &mut K, n: Option<u64>) -> Result<(), Failed>
     let Some(n) = n else {
         return Ok(());
     };
-    let digits = Digits::hex(n);
-    let pieces: [&[u8]; 2] = [b" 0x", digits.text()];
-    put_pieces(sink, &pieces)
+    let mut text = Text::new();
+    text.push(b" 0x");
+    text.push_digits(&Digits::hex(n));
+    put_all(sink, text.as_bytes())
 }
 
 // Writes a map that may be missing.
@@ -372,18 +374,20 @@ fn digits_of(model: &Model, op: Op) -> u32
 }
 
 // Writes a value, in so many hexadecimal digits, behind a text.
-fn put_value<K: Sink>(sink: &mut K, text: &[u8], value: u64, count: u32) -> Result<(), Failed>
+fn put_value<K: Sink>(sink: &mut K, before: &[u8], value: u64, count: u32) -> Result<(), Failed>
+    requires short { length before.now ≤ 16 }
     requires some { 1 ≤ count }
     requires few { count ≤ 16 }
     requires fits { value < 16 ^ count }
-    ensures bytes { Puts (K.written sink.old) (K.written sink.new) (joined (text.now ∷ padded count value ∷ [])) result }
+    ensures bytes { Puts (K.written sink.old) (K.written sink.new) (joined (before.now ∷ padded count value ∷ [])) result }
     ensures cause { HasCause (K.faults sink.old) (K.faults sink.new) result }
     ensures ends_kept { K.ends sink.new ≡ K.ends sink.old }
     ensures same_target { K.target sink.new ≡ K.target sink.old }
 {
-    let digits = Digits::padded(value, count);
-    let pieces: [&[u8]; 2] = [text, digits.text()];
-    put_pieces(sink, &pieces)
+    let mut text = Text::new();
+    text.push(before);
+    text.push_digits(&Digits::padded(value, count));
+    put_all(sink, text.as_bytes())
 }
 
 // Writes how an operation ended.
@@ -540,10 +544,13 @@ fn put_register<K: Sink>(sink: &mut K, model: &Model, event: &Event, reg: u32) -
     ensures ends_kept { K.ends sink.new ≡ K.ends sink.old }
     ensures same_target { K.target sink.new ≡ K.target sink.old }
 {
-    let digits = Digits::padded(event.mirrored, register_digits(model, reg));
     put_desired(sink, model, event, reg)?;
-    put_all(sink, b" mirror 0x")?;
-    put_all(sink, digits.text())?;
+    put_value(
+        sink,
+        b" mirror 0x",
+        event.mirrored,
+        register_digits(model, reg),
+    )?;
     put_differ(sink, model, event, reg)
 }
 
@@ -608,13 +615,15 @@ pub fn write_event_line<K: Sink>(sink: &mut K, model: &Model, event: &Event) -> 
 }
 
 fn way_text(write: bool) -> &'static [u8]
-    ensures { result.now ≡ way_text write }
+    ensures value { result.now ≡ way_text write }
+    ensures short { length result.now ≤ 8 }
 {
     if write { b" w 0x" } else { b" r 0x" }
 }
 
 fn answer_text(failed: bool) -> &'static [u8]
-    ensures { result.now ≡ answer_text failed }
+    ensures value { result.now ≡ answer_text failed }
+    ensures short { length result.now ≤ 8 }
 {
     if failed { b" error\n" } else { b" ok\n" }
 }
@@ -630,29 +639,23 @@ fn word_of(item: &TraceItem) -> u64
     }
 }
 
-// Writes the address, the word, the byte enables and the tag of an item.
-fn put_transfer<K: Sink>(sink: &mut K, model: &Model, item: &TraceItem) -> Result<(), Failed>
-    requires { ItemFits model.now.layout item.now }
-    ensures bytes { Puts (K.written sink.old) (K.written sink.new) (transfer_text (port_at model.now.layout item.now.port).bytes item.now) result }
-    ensures cause { HasCause (K.faults sink.old) (K.faults sink.new) result }
-    ensures ends_kept { K.ends sink.new ≡ K.ends sink.old }
-    ensures same_target { K.target sink.new ≡ K.target sink.old }
+// Appends an item's way, address, word, byte enables, tag and answer to a text that has nothing.
+fn push_transfer(text: &mut Text, model: &Model, item: &TraceItem)
+    requires fits { ItemFits model.now.layout item.now }
+    requires empty { text.old ≡ [] }
+    ensures { text.new ≡ joined (way_text item.now.op.write ∷ transfer_text (port_at model.now.layout item.now.port).bytes item.now ∷ answer_text item.now.answer.failed ∷ []) }
 {
     let bytes = model.layout().port_bytes(item.port);
-    let address = Digits::hex(item.op.address);
-    let word = Digits::padded(word_of(item), 2 * bytes);
-    let lanes = Digits::lanes(item.op.lanes, item.op.bytes);
     let mut tag = Buffer::new();
-    let pieces: [&[u8]; 7] = [
-        address.text(),
-        b" 0x",
-        word.text(),
-        b" ",
-        lanes.text(),
-        b" #",
-        tag.format(item.tag).as_bytes(),
-    ];
-    put_pieces(sink, &pieces)
+    text.push(way_text(item.op.write));
+    text.push_digits(&Digits::hex(item.op.address));
+    text.push(b" 0x");
+    text.push_digits(&Digits::padded(word_of(item), 2 * bytes));
+    text.push(b" ");
+    text.push_digits(&Digits::lanes(item.op.lanes, item.op.bytes));
+    text.push(b" #");
+    text.push(tag.format(item.tag).as_bytes());
+    text.push(answer_text(item.answer.failed));
 }
 
 /// Writes the line of a bus item: its port's map, address, word, byte enables, tag and answer.
@@ -665,11 +668,11 @@ pub fn write_item<K: Sink>(sink: &mut K, model: &Model, item: &TraceItem) -> Res
     ensures same_target { K.target sink.new ≡ K.target sink.old }
 {
     let layout = model.layout();
+    let mut text = Text::new();
+    push_transfer(&mut text, model, item);
     put_all(sink, b"  ")?;
     put_all(sink, layout.map_name(layout.port_map(item.port)))?;
-    put_all(sink, way_text(item.op.write))?;
-    put_transfer(sink, model, item)?;
-    put_all(sink, answer_text(item.answer.failed))
+    put_all(sink, text.as_bytes())
 }
 
 // Writes the lines of an event's items.

@@ -10,6 +10,7 @@ mod pieces;
 mod sink;
 mod source;
 mod standard;
+mod text;
 
 pub use event::{write_event, write_event_line, write_item};
 pub use lines::{Got, LineReader};

@@ -1,5 +1,5 @@
 // Lines over a source, however it is cut into reads.
-ghost use Rattle.std.specs.Prelude.{◌≡◌, ◌≢◌, ℕ, ◌+◌, ◌-◌, ◌<◌, ◌≤◌, List, [], ◌++◌, Bool, true, false, length, take, drop, slice_range, Option, Some, IfSome, IfNone, IfOk, OnOk, OnErr, Ok, MatchOption, MatchBool, Err, IsTrue, ◌↔◌};
+ghost use Rattle.std.specs.Prelude.{◌≡◌, ◌≢◌, ℕ, ◌+◌, ◌-◌, ◌<◌, ◌≤◌, List, [], ◌++◌, Bool, true, false, length, take, drop, slice_range, Option, Some, IfSome, IfNone, IfOk, OnOk, OnErr, Ok, MatchOption, MatchBool, Err, IsTrue, ◌↔◌, if◌then◌else◌};
 ghost use Rattle.std.specs.Io.KnownBytes.{Consumes, IsAtEnd, Keeps};
 ghost use Rattle.std.specs.Io.BufRead.{strip_last};
 ghost use Rattle.rl_bus.specs.Causes.{HasCause, Rose};
@@ -11,6 +11,7 @@ ghost use Rattle.rl_report.specs.Taken.{Takes};
 
 use crate::opening::{Part, next_part};
 use crate::{Failed, Head, HeadFault, Source};
+use memchr::memchr;
 use std::alloc::{AllocError, Global};
 use std::marker::Model;
 
@@ -47,7 +48,13 @@ pub struct LineReader {
     buffer: Vec<u8>,
     start: usize,
     end: usize,
+    // How long the first line is of what stands between these places.
+    size: usize,
+    // The last line stands in the buffer from here on, and before the next read it is copied.
+    line_start: usize,
+    line_len: usize,
     line: Vec<u8>,
+    copied: bool,
     asked: bool,
     found: bool,
     refused: bool,
@@ -56,14 +63,15 @@ pub struct LineReader {
 }
 
 impl Model for LineReader {
-    ghost use Rattle.std.specs.Prelude.{◌≡◌, ◌≤◌, slice_range, vec_len, vec_capacity};
+    ghost use Rattle.std.specs.Prelude.{◌≡◌, ◌+◌, ◌≤◌, if◌then◌else◌, length, slice_range, take, vec_len};
+    ghost use Rattle.rl_report.specs.Lines.{first_line};
     ghost use Rattle.rl_report.specs.Reading.{Reading};
 
     ghost Value = { Reading };
 
-    ghost view = { λ r. record { pending = slice_range r.buffer.items r.start r.end; line = r.line.items; asked = r.asked; found = r.found; refused = r.refused; ended = r.ended; closed = r.closed } };
+    ghost view = { λ r. record { pending = slice_range r.buffer.items r.start r.end; line = (if r.copied then take r.line_len r.line.items else slice_range r.buffer.items r.line_start (r.line_start + r.line_len)); asked = r.asked; found = r.found; refused = r.refused; ended = r.ended; closed = r.closed } };
 
-    ghost invariant = { λ r. (r.start ≤ r.end) × (r.end ≤ 8192) × (vec_len r.buffer ≡ 8192) × (4096 ≤ vec_capacity r.line) };
+    ghost invariant = { λ r. (r.start ≤ r.end) × (r.end ≤ 8192) × (vec_len r.buffer ≡ 8192) × (vec_len r.line ≡ 4096) × (r.line_len ≤ 4096) × (r.line_start + r.line_len ≤ 8192) × (r.size ≡ length (first_line (slice_range r.buffer.items r.start r.end))) };
 }
 
 // What is answered at the end of an input with no separator, where so many bytes are left and there is room for so many.
@@ -78,28 +86,45 @@ fn missing(left: usize, room: usize) -> Head
     }
 }
 
-// How long the first line is.
-pub(crate) fn line_len(bytes: &[u8]) -> usize
-    ensures within { result ≤ length bytes.now }
-    ensures line { take result bytes.now ≡ first_line bytes.now }
-    ensures rest { drop (result + 1) bytes.now ≡ after_line bytes.now }
+// An empty line comes first. It needs no search.
+fn starts_with_end(bytes: &[u8]) -> bool
+    ensures { IsTrue result → length (first_line bytes.now) ≡ 0 }
 {
-    for (at, byte) in bytes.iter().enumerate() {
-        if *byte == b'\n' {
-            return at;
-        }
+    matches!(bytes, [b'\n', ..])
+}
+
+// How long the first line is.
+fn line_len(bytes: &[u8]) -> usize
+    ensures { result ≡ length (first_line bytes.now) }
+{
+    if starts_with_end(bytes) {
+        return 0;
     }
-    bytes.len()
+    memchr(b'\n', bytes).unwrap_or(bytes.len())
 }
 
 // A line without the carriage return at its end.
 pub(crate) fn without_return(line: &[u8]) -> &[u8]
     ensures value { result.now ≡ strip_last 13 line.now }
+    ensures front { take (length result.now) line.now ≡ result.now }
     ensures shorter { length result.now ≤ length line.now }
 {
     match line {
         [front @ .., b'\r'] => front,
         _ => line,
+    }
+}
+
+// Copies the last line out of the buffer, where that wasn't done.
+fn keep_line(line: &mut [u8], copied: &mut bool, buffer: &[u8], start: usize, len: usize)
+    requires fits { len ≤ length line.old }
+    requires within { start + len ≤ length buffer.now }
+    ensures copied { copied.new ≡ true }
+    ensures line { take len line.new ≡ (if copied.old then take len line.old else slice_range buffer.now start (start + len)) }
+{
+    if !*copied {
+        line[..len].copy_from_slice(&buffer[start..start + len]);
+        *copied = true;
     }
 }
 
@@ -125,7 +150,11 @@ impl LineReader {
             buffer: vec![in alloc; 0; BUFFER]?,
             start: 0,
             end: 0,
-            line: Vec::with_capacity(alloc, MAX_LINE)?,
+            size: 0,
+            line_start: 0,
+            line_len: 0,
+            line: vec![in alloc; 0; MAX_LINE]?,
+            copied: false,
             asked: false,
             found: false,
             refused: false,
@@ -170,7 +199,7 @@ impl LineReader {
     pub fn holds_line(&self) -> bool
         ensures { IsTrue result ↔ HoldsLine self.now }
     {
-        line_len(&self.buffer[self.start..self.end]) < self.end - self.start
+        self.size < self.end - self.start
     }
 
     /// Reads the bytes before the separator, the first line that is `---`.
@@ -224,7 +253,7 @@ impl LineReader {
         ensures held { length self.new.pending ≤ 8192 }
     {
         let room = MAX_HEAD - head.len();
-        match next_part(self.pending(), starts, self.has_ended()) {
+        match next_part(self.pending(), self.first_len(), starts, self.has_ended()) {
             Part::Separator { size } => {
                 self.pass_separator(size);
                 Ok(Taken::Last(Head::Found))
@@ -255,6 +284,13 @@ impl LineReader {
         &self.buffer[self.start..self.end]
     }
 
+    // How long the first line is of what is pending.
+    fn first_len(&self) -> usize
+        ensures { result ≡ length (first_line self.now.pending) }
+    {
+        self.size
+    }
+
     fn has_ended(&self) -> bool
         ensures { result ≡ self.now.ended }
     {
@@ -267,6 +303,7 @@ impl LineReader {
         ensures { self.new ≡ record self.old { pending = drop size self.old.pending } }
     {
         self.start += size;
+        self.size = line_len(&self.buffer[self.start..self.end]);
     }
 
     // Drops the separator's line, of so many bytes.
@@ -274,7 +311,7 @@ impl LineReader {
         requires { size ≤ length self.old.pending }
         ensures { self.new ≡ record self.old { pending = drop size self.old.pending; found = true } }
     {
-        self.start += size;
+        self.pass(size);
         self.found = true;
     }
 
@@ -294,9 +331,8 @@ impl LineReader {
         ensures none_whole { IfNone result (first_line self.old.pending ≡ self.old.pending) }
         ensures going { IfNone result (self.old.ended ≡ false) }
     {
-        let pending = &self.buffer[self.start..self.end];
-        let held = pending.len();
-        let size = line_len(pending);
+        let held = self.end - self.start;
+        let size = self.size;
         if size > MAX_LINE {
             self.refused = true;
             return Some(Got::TooLong);
@@ -324,14 +360,16 @@ impl LineReader {
         ensures { self.new ≡ record self.old { pending = drop taken self.old.pending; line = strip_last 13 (take size self.old.pending) } }
     {
         let line = without_return(&self.buffer[self.start..self.start + size]);
-        self.line.clear();
-        self.line.extend_from_slice(line).unwrap();
-        self.start += taken;
+        self.line_len = line.len();
+        self.line_start = self.start;
+        self.copied = false;
+        self.pass(taken);
     }
 
     // Reads once. What is pending grows, or the end is met.
     fn take_more<S: Source>(&mut self, source: &mut S) -> Result<(), Failed>
         requires short { length self.old.pending ≤ 4096 }
+        requires none_whole { first_line self.old.pending ≡ self.old.pending }
         requires going { self.old.ended ≡ false }
         ensures input { Keeps (input_of self.old (S.left source.old)) (input_of self.new (S.left source.new)) }
         ensures grows { OnOk result (self.new.ended ≡ false → length self.old.pending < length self.new.pending) }
@@ -342,7 +380,20 @@ impl LineReader {
         ensures found { self.new.found ≡ self.old.found }
         ensures cause { HasCause (S.faults source.old) (S.faults source.new) result }
     {
-        let count = refill(&mut self.buffer, &mut self.start, &mut self.end, source)?;
+        keep_line(
+            &mut self.line,
+            &mut self.copied,
+            &self.buffer,
+            self.line_start,
+            self.line_len,
+        );
+        let count = refill(
+            &mut self.buffer,
+            &mut self.start,
+            &mut self.end,
+            &mut self.size,
+            source,
+        )?;
         self.ended = count == 0;
         Ok(())
     }
@@ -351,22 +402,29 @@ impl LineReader {
     pub fn line(&self) -> &[u8]
         ensures { result.now ≡ self.now.line }
     {
-        &self.line
+        if self.copied {
+            return &self.line[..self.line_len];
+        }
+        &self.buffer[self.line_start..self.line_start + self.line_len]
     }
 }
 
-// Reads once, behind what stands between the two places.
+// Reads once, behind the part of a line that stands between the two places, and tells anew how long the first line is.
 fn refill<S: Source>(
     buffer: &mut [u8],
     start: &mut usize,
     end: &mut usize,
+    size: &mut usize,
     source: &mut S,
 ) -> Result<usize, Failed>
     requires ordered { start.old ≤ end.old }
     requires within { end.old ≤ length buffer.old }
     requires apart { end.old ≡ length buffer.old → (0 < start.old) × (end.old - start.old ≤ start.old) }
+    requires none_whole { first_line (slice_range buffer.old start.old end.old) ≡ slice_range buffer.old start.old end.old }
+    requires size { size.old ≡ length (first_line (slice_range buffer.old start.old end.old)) }
     ensures ordered { start.new ≤ end.new }
     ensures within { end.new ≤ length buffer.new }
+    ensures size { size.new ≡ length (first_line (slice_range buffer.new start.new end.new)) }
     ensures grown { IfOk result (λ count. (bytes : List ℕ) × (length bytes ≡ count)
         × (slice_range buffer.new start.new end.new ≡ slice_range buffer.old start.old end.old ++ bytes)
         × Consumes (S.left source.old) (S.left source.new) bytes) }
@@ -379,6 +437,7 @@ fn refill<S: Source>(
     *start = from;
     *end = to;
     let count = read_behind(buffer, to, source)?;
+    *size += line_len(&buffer[to..to + count]);
     *end = to + count;
     Ok(count)
 }

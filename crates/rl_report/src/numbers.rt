@@ -1,26 +1,32 @@
 // Numbers as text, with no memory taken.
-ghost use Rattle.std.specs.Prelude.{◌≡◌, ◌+◌, ◌/◌, ◌%◌, ◌^◌, ◌<◌, ◌≤◌};
+ghost use Rattle.std.specs.Prelude.{◌≡◌, ◌+◌, ◌/◌, ◌%◌, ◌^◌, ◌<◌, ◌≤◌, ◌∷◌, length, drop};
+ghost use Rattle.io.specs.Digits.{hex_digit_ascii};
 ghost use Rattle.rl_policy.specs.Numbers.{hex_digits};
 ghost use Rattle.rl_report.specs.Numbers.{padded, digits_if, lanes_text};
 
 use rl_policy::spell;
 use std::marker::Model;
 
+// The two hexadecimal digits of each byte.
+static PAIRS: [u8; 512] =
+    *b"000102030405060708090a0b0c0d0e0f101112131415161718191a1b1c1d1e1f202122232425262728292a2b2c2d2e2f303132333435363738393a3b3c3d3e3f404142434445464748494a4b4c4d4e4f505152535455565758595a5b5c5d5e5f606162636465666768696a6b6c6d6e6f707172737475767778797a7b7c7d7e7f808182838485868788898a8b8c8d8e8f909192939495969798999a9b9c9d9e9fa0a1a2a3a4a5a6a7a8a9aaabacadaeafb0b1b2b3b4b5b6b7b8b9babbbcbdbebfc0c1c2c3c4c5c6c7c8c9cacbcccdcecfd0d1d2d3d4d5d6d7d8d9dadbdcdddedfe0e1e2e3e4e5e6e7e8e9eaebecedeeeff0f1f2f3f4f5f6f7f8f9fafbfcfdfeff";
+
 /// Up to 16 digits of a number.
 #[derive(Drop)]
 pub struct Digits {
     text: [u8; 16],
-    len: usize,
+    start: usize,
+    end: usize,
 }
 
 impl Model for Digits {
-    ghost use Rattle.std.specs.Prelude.{ℕ, List, take, length, ◌≡◌, ◌≤◌};
+    ghost use Rattle.std.specs.Prelude.{ℕ, List, slice_range, length, ◌≡◌, ◌≤◌};
 
     ghost Value = { List ℕ };
 
-    ghost view = { λ d. take d.len d.text };
+    ghost view = { λ d. slice_range d.text d.start d.end };
 
-    ghost invariant = { λ d. (d.len ≤ 16) × (length d.text ≡ 16) };
+    ghost invariant = { λ d. (d.start ≤ d.end) × (d.end ≤ 16) × (length d.text ≡ 16) };
 }
 
 impl Digits {
@@ -29,8 +35,12 @@ impl Digits {
         ensures { result ≡ hex_digits n }
     {
         let mut text = [0u8; 16];
-        let len = spell(&mut text, n);
-        Digits { text, len }
+        let end = spell(&mut text, n);
+        Digits {
+            text,
+            start: 0,
+            end,
+        }
     }
 
     /// The hexadecimal digits of a number that may be missing.
@@ -41,7 +51,8 @@ impl Digits {
             Some(n) => Digits::hex(n),
             None => Digits {
                 text: [0; 16],
-                len: 0,
+                start: 0,
+                end: 0,
             },
         }
     }
@@ -53,9 +64,11 @@ impl Digits {
         requires fits { n < 16 ^ count }
         ensures { result ≡ padded count n }
     {
-        let mut text = [0u8; 16];
-        let len = io::hex(n, count as usize, &mut text);
-        Digits { text, len }
+        Digits {
+            text: all_digits(n),
+            start: 16 - count as usize,
+            end: 16,
+        }
     }
 
     /// The byte enables of a word of so many bytes: a digit for each, the highest byte first.
@@ -69,16 +82,51 @@ impl Digits {
         }
         Digits {
             text,
-            len: bytes as usize,
+            start: 0,
+            end: bytes as usize,
         }
+    }
+
+    // The digits as text, with how many they are at most.
+    pub(crate) fn short_text(&self) -> &[u8]
+        ensures value { result.now ≡ self.now }
+        ensures few { length result.now ≤ 16 }
+    {
+        &self.text[self.start..self.end]
     }
 
     /// The digits as text.
     pub fn text(&self) -> &[u8]
         ensures { result.now ≡ self.now }
     {
-        &self.text[..self.len]
+        self.short_text()
     }
+}
+
+// Writes the two digits of a byte.
+fn write_pair(text: &mut [u8], at: usize, byte: u64)
+    requires byte { byte < 256 }
+    requires room { at + 2 ≤ length text.old }
+    ensures { drop at text.new ≡ hex_digit_ascii (byte / 16) ∷ hex_digit_ascii (byte % 16) ∷ drop (at + 2) text.old }
+{
+    let from = byte as usize * 2;
+    text[at] = PAIRS[from];
+    text[at + 1] = PAIRS[from + 1];
+}
+
+// The sixteen digits of a number, with zeros in front.
+fn all_digits(n: u64) -> [u8; 16]
+    ensures { result ≡ padded 16 n }
+{
+    let mut text = [0u8; 16];
+    let mut rest = n;
+    let mut at = 16;
+    while at > 0 {
+        at -= 2;
+        write_pair(&mut text, at, rest % 256);
+        rest /= 256;
+    }
+    text
 }
 
 fn lane_digit(lanes: u8, lane: u8) -> u8

@@ -3,7 +3,7 @@ ghost use Rattle.std.specs.Prelude.{◌≡◌, ◌+◌, ◌-◌, ◌<◌, ◌≤
 ghost use Rattle.rl_report.specs.Opening.{is_separator, IsPart};
 ghost use Rattle.rl_report.specs.Lines.{first_line, after_line};
 
-use crate::lines::{line_len, without_return};
+use crate::lines::without_return;
 
 /// What a call of `read_head` found.
 #[derive(Clone, Copy, Debug, PartialEq, Eq)]
@@ -52,11 +52,12 @@ fn is_too_few(size: usize, starts: bool) -> bool
     size == 0 || (starts && size <= 4)
 }
 
-// The part at the front of these bytes. `starts` says that a line begins there, and `ended` that they are the last.
-pub(crate) fn next_part(held: &[u8], starts: bool, ended: bool) -> Part
+// The part at the front of these bytes, whose first line has so many. `starts` says that a line begins there, and
+// `ended` that they are the last.
+pub(crate) fn next_part(held: &[u8], size: usize, starts: bool, ended: bool) -> Part
+    requires { size ≡ length (first_line held.now) }
     ensures { IsPart held.now starts ended result }
 {
-    let size = line_len(held);
     let separator = is_separator(&held[..size], starts);
     if size < held.len() {
         return whole_line(size + 1, separator);

@@ -1,7 +1,7 @@
-use Rattle.std.proofs.Common.{arith, refl, ◌∙◌}
+use Rattle.std.proofs.Common.{arith, ◌∙◌}
 use Rattle.rl_mirror.specs.Fields.{count_of}
 use Rattle.rl_report.specs.EventText.{name_text}
-use Rattle.rl_report.proofs.ListingLemmas.{all_left, less_left, left_stopped, none_left, next_number, no_number}
+use Rattle.rl_report.proofs.ListingLemmas.{less_left, left_stopped, none_left, next_number, no_number}
 use Rattle.rl_report.proofs.event.put_names.Goals as goal
 
 pub loop-place-preserved : goal.loop-place-preserved

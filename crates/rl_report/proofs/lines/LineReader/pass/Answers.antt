@@ -1,4 +1,4 @@
-use Rattle.std.proofs.Common.{◌≡◌, ◌-◌, ◌≤◌, length, drop, slice_range, refl, ap, ◌∙◌, arith}
+use Rattle.std.proofs.Common.{◌≡◌, ◌-◌, ◌≤◌, length, drop, slice_range, ap, ◌∙◌, arith}
 use Rattle.rl_report.proofs.RangeLemmas.{range_less, length_part}
 use Rattle.rl_report.proofs.TakenLemmas.{same_reading}
 use Rattle.rl_report.proofs.lines.LineReader.pass.Goals as goal

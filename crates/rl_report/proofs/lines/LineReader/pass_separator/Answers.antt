@@ -1,14 +1,11 @@
-use Rattle.std.proofs.Common.{◌≡◌, ◌-◌, ◌≤◌, length, drop, slice_range, refl, ap, ◌∙◌, arith}
-use Rattle.rl_report.proofs.RangeLemmas.{range_less, length_part}
+use Rattle.std.proofs.Common.{refl, ap, ◌∙◌}
 use Rattle.rl_report.proofs.TakenLemmas.{same_reading}
 use Rattle.rl_report.proofs.lines.LineReader.pass_separator.Goals as goal
 
 pub returns : goal.returns
 returns c =
-    let i = c.self.inside in
-    let pending : slice_range i.buffer.items i.start i.end ≡ c.args.self.now.pending = ap (λ r. r.pending) c.self.view_is in
-    let held : length (slice_range i.buffer.items i.start i.end) ≡ i.end - i.start = length_part i.buffer.items i.start i.end (omega (arith, i.buffer.ok.0)) (omega arith) in
-    let fits : c.args.size ≤ i.end - i.start = omega (arith, ap length pending, c.requires) in
+    let view = c.self.view_is in
+    let e = c.pass.ensures in
     same_reading _ _ _ _ _ _ _ _ _ _ _ _ _ _
-    (range_less i.buffer.items i.start i.end c.args.size (omega arith) ∙ ap (drop c.args.size) pending)
-    (ap (λ r. r.line) c.self.view_is) (ap (λ r. r.asked) c.self.view_is) refl (ap (λ r. r.refused) c.self.view_is) (ap (λ r. r.ended) c.self.view_is) (ap (λ r. r.closed) c.self.view_is)
+    (ap (λ r. r.pending) view ∙ ap (λ r. r.pending) e) (ap (λ r. r.line) view ∙ ap (λ r. r.line) e) (ap (λ r. r.asked) view ∙ ap (λ r. r.asked) e)
+    refl (ap (λ r. r.refused) view ∙ ap (λ r. r.refused) e) (ap (λ r. r.ended) view ∙ ap (λ r. r.ended) e) (ap (λ r. r.closed) view ∙ ap (λ r. r.closed) e)

@@ -1,4 +1,4 @@
-use Rattle.std.proofs.Common.{refl, arith, ap, length, ◌∙◌, subst, sym}
+use Rattle.std.proofs.Common.{arith, ap, length, ◌∙◌, sym}
 use Rattle.rl_report.specs.Reading.{input_of}
 use Rattle.rl_report.proofs.TakenLemmas.{passes_start, keeps_head, from_err, head_fault_after}
 use Rattle.rl_report.proofs.lines.LineReader.read_head.Goals as goal

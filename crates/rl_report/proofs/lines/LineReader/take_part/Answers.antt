@@ -1,6 +1,5 @@
-use Rattle.std.proofs.Common.{◌≡◌, ◌++◌, length, take, ap, ◌∙◌, subst, arith}
-use Rattle.rl_report.specs.Taken.{TakesText}
-use Rattle.rl_report.proofs.TakenLemmas.{takes_separator, takes_last, takes_too_much, takes_text, same_text}
+use Rattle.std.proofs.Common.{◌++◌, length, take, ap, ◌∙◌, arith}
+use Rattle.rl_report.proofs.TakenLemmas.{takes_separator, takes_last, takes_too_much, same_text}
 use Rattle.rl_report.proofs.lines.LineReader.take_part.Goals as goal
 
 pub returns-in-Separator-clause-took : goal.returns-in-Separator-clause-took

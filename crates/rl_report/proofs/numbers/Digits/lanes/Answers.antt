@@ -1,4 +1,4 @@
-use Rattle.std.proofs.Common.{arith, length-set, ◌∙◌}
+use Rattle.std.proofs.Common.{◌≡◌, ◌-◌, take, arith, length-set, ap, ◌∙◌}
 use Rattle.rl_report.proofs.NumberLemmas.{next_lane, last_lane}
 use Rattle.rl_report.proofs.numbers.Digits.lanes.Goals as goal
 
@@ -13,4 +13,5 @@ loop-k-preserved c =
 pub returns : goal.returns
 returns c =
     let i = c.loop-k.invariant in
-    last_lane c.args.lanes c.args.bytes c.loop-k.k c.loop-k.text (omega arith) (omega arith) i.put
+    let all : c.args.bytes - 0 ≡ c.args.bytes = omega arith in
+    ap (λ n. take n c.loop-k.text) all ∙ last_lane c.args.lanes c.args.bytes c.loop-k.k c.loop-k.text (omega arith) (omega arith) i.put

@@ -1,7 +1,5 @@
-use Rattle.rl_report.proofs.NumberLemmas.{digits_are}
+use Rattle.rl_report.proofs.DigitLemmas.{last_of_all}
 use Rattle.rl_report.proofs.numbers.Digits.padded.Goals as goal
 
 pub returns : goal.returns
-returns c =
-    let h = c.hex-len.ensures in
-    digits_are c.args.n c.args.count c.hex-len.result _ c.requires.some c.requires.few c.requires.fits h.len h.digits
+returns c = last_of_all c.args.count c.args.n c.all_digits.result c.requires.few c.all_digits.ensures

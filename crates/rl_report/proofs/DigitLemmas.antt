@@ -1,0 +1,67 @@
+-- The hexadecimal digits of a number, two at a time.
+use Rattle.std.proofs.Common.{◌≡◌, ℕ, zero, suc, ◌+◌, ◌-◌, ◌*◌, ◌/◌, ◌%◌, ◌<◌, ◌≤◌, Bool, true, ◌&&◌, T, eqb, List, [], ◌∷◌, ◌++◌, length, drop, slice_range, get_or, refl, sym, ap, ◌∙◌, inl, inr, arith, eq-zero-or-pos, eqb→eq, append_assoc, append-nil, length-append}
+use Rattle.std.proofs.lemmas.List.{take_all, drop_all, drop-append-le}
+use lib.Ieee.Fits.{and_l, and_r}
+use Rattle.io.specs.Digits.{hex_digit_ascii, last_digits}
+use Rattle.rl_report.specs.Numbers.{padded}
+use Rattle.rl_report.specs.declared.numbers.TheConstants.{PAIRS}
+
+abbrev are_pairs : ℕ → Bool
+are_pairs zero = true
+are_pairs (suc p) = (eqb (get_or PAIRS (p * 2) 0) (hex_digit_ascii (p / 16)) && eqb (get_or PAIRS (p * 2 + 1) 0) (hex_digit_ascii (p % 16))) && are_pairs p
+
+below : (n p : ℕ) → T (are_pairs n) → p < n → (get_or PAIRS (p * 2) 0 ≡ hex_digit_ascii (p / 16)) × (get_or PAIRS (p * 2 + 1) 0 ≡ hex_digit_ascii (p % 16))
+below zero p t h = absurd (omega arith)
+below (suc n) p t h =
+    elim (eq-zero-or-pos (n - p)) [
+      | inl z ↦ let e : p ≡ n = omega arith in let a = and_l _ (are_pairs n) t in rw e (eqb→eq _ _ (and_l _ _ a), eqb→eq _ _ (and_r _ _ a))
+      | inr g ↦ below n p (and_r _ (are_pairs n) t) (omega arith)
+    ]
+
+-- the two digits of a byte
+pub pairs_at : (p : ℕ) → p < 256 → (get_or PAIRS (p * 2) 0 ≡ hex_digit_ascii (p / 16)) × (get_or PAIRS (p * 2 + 1) 0 ≡ hex_digit_ascii (p % 16))
+pairs_at p h = below 256 p tt h
+
+-- two more digits were written, before those that were
+pub two_more : (at rest : ℕ) (old new : List ℕ) → 2 ≤ at → drop (at - 2) new ≡ hex_digit_ascii (rest % 256 / 16) ∷ hex_digit_ascii (rest % 256 % 16) ∷ drop (at - 2 + 2) old
+    → last_digits 16 (at - 2) (rest / 256) ++ drop (at - 2) new ≡ last_digits 16 at rest ++ drop at old
+two_more zero rest old new h e = absurd (omega arith)
+two_more (suc zero) rest old new h e = absurd (omega arith)
+two_more (suc (suc k)) rest old new h e =
+    let place : suc (suc k) - 2 ≡ k = omega arith in
+    let behind : suc (suc k) - 2 + 2 ≡ suc (suc k) = omega arith in
+    let high : rest % 256 / 16 ≡ rest / 16 % 16 = omega arith in
+    let low : rest % 256 % 16 ≡ rest % 16 = omega arith in
+    let others : rest / 256 ≡ rest / 16 / 16 = omega arith in
+    let todo = last_digits 16 k (rest / 16 / 16) in
+    let done = drop (suc (suc k)) old in
+    ap (λ l. last_digits 16 (suc (suc k) - 2) (rest / 256) ++ l) e
+    ∙ ap (λ n. last_digits 16 n (rest / 256) ++ hex_digit_ascii (rest % 256 / 16) ∷ hex_digit_ascii (rest % 256 % 16) ∷ drop (suc (suc k) - 2 + 2) old) place
+    ∙ ap (λ n. last_digits 16 k n ++ hex_digit_ascii (rest % 256 / 16) ∷ hex_digit_ascii (rest % 256 % 16) ∷ drop (suc (suc k) - 2 + 2) old) others
+    ∙ ap (λ d. todo ++ hex_digit_ascii d ∷ hex_digit_ascii (rest % 256 % 16) ∷ drop (suc (suc k) - 2 + 2) old) high
+    ∙ ap (λ d. todo ++ hex_digit_ascii (rest / 16 % 16) ∷ hex_digit_ascii d ∷ drop (suc (suc k) - 2 + 2) old) low
+    ∙ ap (λ n. todo ++ hex_digit_ascii (rest / 16 % 16) ∷ hex_digit_ascii (rest % 16) ∷ drop n old) behind
+    ∙ sym (append_assoc (todo ++ hex_digit_ascii (rest / 16 % 16) ∷ []) (hex_digit_ascii (rest % 16) ∷ []) done ∙ append_assoc todo (hex_digit_ascii (rest / 16 % 16) ∷ []) (hex_digit_ascii (rest % 16) ∷ done))
+
+len_digits : (k n : ℕ) → length (last_digits 16 k n) ≡ k
+len_digits zero n = refl
+len_digits (suc k) n = let rest = len_digits k (n / 16) in omega (arith, rest, length-append (last_digits 16 k (n / 16)) (hex_digit_ascii (n % 16) ∷ []))
+
+last_of : (m k t n : ℕ) → t ≡ m + k → drop m (last_digits 16 t n) ≡ last_digits 16 k n
+last_of m zero t n e = drop_all m (last_digits 16 t n) (omega (arith, len_digits t n))
+last_of m (suc k) zero n e = absurd (omega arith)
+last_of m (suc k) (suc t) n e =
+    drop-append-le m (last_digits 16 t (n / 16)) (hex_digit_ascii (n % 16) ∷ []) (omega (arith, len_digits t (n / 16)))
+    ∙ ap (λ l. l ++ hex_digit_ascii (n % 16) ∷ []) (last_of m k t (n / 16) (omega arith))
+
+-- the last of sixteen digits
+pub last_of_all : (count n : ℕ) (text : List ℕ) → count ≤ 16 → text ≡ padded 16 n → slice_range text (16 - count) 16 ≡ padded count n
+unfolding padded
+last_of_all count n text few is =
+    let size : length (drop (16 - count) text) ≤ 16 - (16 - count) = omega (arith, ap length (ap (drop (16 - count)) is ∙ last_of (16 - count) count 16 n (omega arith)), len_digits count n) in
+    take_all (16 - (16 - count)) (drop (16 - count) text) size ∙ ap (drop (16 - count)) is ∙ last_of (16 - count) count 16 n (omega arith)
+
+-- the digits that are put, at the start and at the end
+pub none_put : (n : ℕ) (text : List ℕ) → length text ≡ 16 → last_digits 16 16 n ++ drop 16 text ≡ padded 16 n
+unfolding padded
+none_put n text size = ap (λ l. last_digits 16 16 n ++ l) (drop_all 16 text (omega arith)) ∙ append-nil (last_digits 16 16 n)
