@@ -34,7 +34,8 @@ impl Model for Words {
 }
 
 impl Words {
-    pub(crate) fn new() -> Words
+    /// No operation so far.
+    pub fn new() -> Words
         ensures { result ≡ [] }
     {
         Words {
