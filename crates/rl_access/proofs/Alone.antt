@@ -1,9 +1,8 @@
 -- An access to the bytes of one field.
-use Rattle.std.proofs.Common.{◌≡◌, ℕ, ◌+◌, ◌-◌, ◌*◌, ◌^◌, ◌<◌, ◌≤◌, nat_le, nat_lt, length, slice_get, Option, None, Some, option_map, Bool, true, false, cond, refl, sym, ap, ◌∙◌, subst, arith}
+use Rattle.std.proofs.Common.{◌≡◌, ℕ, ◌+◌, ◌-◌, ◌*◌, ◌^◌, ◌<◌, ◌≤◌, nat_le, nat_lt, length, slice_get, Option, None, Some, option_map, false, cond, sym, ap, ◌∙◌, subst, arith}
 use Rattle.std.specs.Option.{option_map_or}
-use Rattle.std.proofs.Math.Nat.{pow-le-pow_right}
 use borrow.Author.Tests.{le-ltb}
-use Rattle.rl_policy.specs.Bits.{bit, from_bits, put_bit, is_within}
+use Rattle.rl_policy.specs.Bits.{bit, from_bits, put_bit}
 use Rattle.rl_policy.proofs.BitLemmas.{from_bits-lt, bit-from_bits, bit-zero}
 use Rattle.rl_model.specs.declared.rows.Field.{Field}
 use Rattle.rl_model.specs.declared.rows.Item.TheVariants as item
@@ -12,7 +11,6 @@ use Rattle.rl_map.specs.Layout.{place_at}
 use Rattle.rl_split.specs.Access.{IsChoice}
 use Rattle.rl_split.specs.Narrow.{bytes_of_field}
 use Rattle.rl_mirror.specs.Fields.{field_of, first_of, size_of}
-use Rattle.rl_access.specs.declared.access.Access.{Access}
 use Rattle.rl_access.specs.Access.{IsAccessOn, IsPlaceFor, IsFieldIn}
 use Rattle.rl_access.specs.Model.{ModelData, IsModel}
 use Rattle.rl_access.specs.Operation.{reg_of}

@@ -1,7 +1,6 @@
 -- The words of a whole access, as a predictor sees them one after another.
-use Rattle.std.proofs.Common.{◌≡◌, ◌⊎◌, ℕ, zero, suc, ◌+◌, ◌*◌, ◌/◌, ◌^◌, ◌<◌, ◌≤◌, Bool, true, false, ◌&&◌, ◌||◌, cond, eqb, ltb, if◌then◌else◌, List, [], ◌∷◌, ◌++◌, length, map, set, get_or, drop, Option, None, Some, is_some, refl, sym, ap, ◌∙◌, subst, inl, inr, arith, eq-eqb, eqb-true, append_assoc}
-use Rattle.std.specs.Prelude.{unwrap_or, slice_index_or}
-use Rattle.std.proofs.lemmas.List.{set-set, set-get_or, get_or-set_same, length-set, length_push, length-map}
+use Rattle.std.proofs.Common.{◌≡◌, ◌⊎◌, ℕ, zero, suc, ◌<◌, Bool, true, false, ◌&&◌, cond, eqb, if◌then◌else◌, List, [], ◌∷◌, ◌++◌, length, map, set, get_or, None, Some, refl, sym, ap, ◌∙◌, inl, inr, arith, eq-eqb}
+use Rattle.std.proofs.lemmas.List.{set-set}
 use Rattle.rl_bus.specs.declared.op.Answer.{Answer}
 use Rattle.rl_bus.specs.declared.op.BusOp.{BusOp}
 use Rattle.rl_model.specs.declared.rows.Item.{Item}
@@ -12,10 +11,8 @@ use Rattle.rl_map.specs.Layout.{LayoutData, place_at, port_at, words_of, row_of,
 use Rattle.rl_map.specs.Words.{words_with, no_word}
 use Rattle.rl_mirror.specs.Mirror.{MirrorData}
 use Rattle.rl_access.specs.declared.predictor.Gathered.{Gathered}
-use Rattle.rl_access.specs.declared.trace.TraceItem.{TraceItem}
 use Rattle.rl_access.specs.Gathering.{no_words, gathered_at, gathered_with, emptied, appended, is_next, same_direction, IsRegister, IsRegisterPlace}
-use Rattle.rl_access.specs.Items.{has_failed}
-use Rattle.rl_access.specs.Observed.{Seen, seen, as_register, register_there, watched_place, word_told, is_whole, predicted, taken_in, observed_at, observed, observed_all}
+use Rattle.rl_access.specs.Observed.{Seen, seen, as_register, register_there, watched_place, word_told, is_whole, predicted, taken_in, observed_at, observed}
 
 -- ---- the place of a word
 

@@ -1,5 +1,5 @@
 -- One operation that is sent alone.
-use Rattle.std.proofs.Common.{◌≡◌, ℕ, ◌+◌, ◌<◌, ◌≤◌, List, [], ◌∷◌, length, Bool, true, false, All, Option, Some, slice_get, refl, sym, ap, ◌∙◌, subst, arith}
+use Rattle.std.proofs.Common.{◌≡◌, ℕ, ◌<◌, List, [], ◌∷◌, length, Bool, true, false, All, Option, Some, slice_get, refl, subst, arith}
 use Rattle.std.proofs.lemmas.List.Elements.{All-head, All-cons}
 use Rattle.std.proofs.lemmas.Option.{get_or_from_slice_get, slice_get_within}
 use Rattle.rl_bus.specs.Causes.{AnswerHasCause}
@@ -11,7 +11,6 @@ use Rattle.rl_bus.specs.declared.op.BusOp.{BusOp}
 use Rattle.rl_map.specs.Layout.{LayoutData, place_at, port_at, IsSound}
 use Rattle.rl_split.specs.Access.{kind_of}
 use Rattle.rl_access.specs.declared.trace.TraceItem.{TraceItem}
-use Rattle.rl_access.specs.Access.{HasBytes}
 use Rattle.rl_access.specs.Event.{ItemFits}
 use Rattle.rl_access.specs.Items.{IsAnswerSmall, item_of, AreItemsOf}
 use Rattle.rl_access.specs.Model.{ModelData}

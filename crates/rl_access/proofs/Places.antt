@@ -1,5 +1,5 @@
 -- Places of items, and what stands at them.
-use Rattle.std.proofs.Common.{◌≡◌, ℕ, zero, ◌+◌, ◌-◌, ◌*◌, ◌^◌, ◌<◌, ◌≤◌, Bool, true, false, List, [], length, replicate, All, Option, None, Some, option_map, IfSome, refl, sym, ap, ◌∙◌, subst, arith}
+use Rattle.std.proofs.Common.{◌≡◌, ℕ, ◌*◌, ◌^◌, ◌<◌, ◌≤◌, true, List, length, replicate, All, Option, None, Some, option_map, refl, sym, ap, ◌∙◌, subst, arith}
 use Rattle.std.specs.Option.{option_map_or}
 use Rattle.std.proofs.lemmas.List.{length-replicate}
 use Rattle.std.proofs.lemmas.List.Elements.{All-replicate, All-get_or}
@@ -12,12 +12,10 @@ use Rattle.rl_map.specs.Layout.{LayoutData, place_at, IsLocation, words_of, IsSo
 use Rattle.rl_split.specs.Access.{IsChoice, all_bytes}
 use Rattle.rl_mirror.specs.Fields.{size_of, count_of}
 use Rattle.rl_mirror.specs.Mirror.{mirrored_of, desired_of}
-use Rattle.rl_access.specs.declared.access.Access.{Access}
 use Rattle.rl_access.specs.declared.event.End.{End}
 use Rattle.rl_access.specs.declared.event.Op.{Op}
 use Rattle.rl_access.specs.declared.event.Event.{Event}
 use Rattle.rl_access.specs.declared.trace.TraceItem.{TraceItem}
-use Rattle.rl_access.specs.declared.predictor.Gathered.{Gathered}
 use Rattle.rl_access.specs.Access.{IsAccessOn, IsPlaceFor}
 use Rattle.rl_access.specs.Event.{EventFits, ItemFits, IsEndWithin, HasValues}
 use Rattle.rl_access.specs.Gathering.{IsPredictorOf, IsNothingGathered, no_words, gathered_at}

@@ -1,8 +1,7 @@
 -- What each call may use, and what is so again after it.
-use Rattle.std.proofs.Common.{◌≡◌, ℕ, ◌<◌, List, length, map, All, Option, None, Some, option_map, get_or, slice_get, refl, sym, ap, ◌∙◌, subst, arith}
+use Rattle.std.proofs.Common.{◌≡◌, ℕ, ◌<◌, List, length, All, Option, None, Some, option_map, refl, sym, ap, ◌∙◌, subst}
 use Rattle.std.proofs.lemmas.List.{length-map}
 use Rattle.std.proofs.lemmas.Option.{get_or_from_slice_get}
-use Rattle.rl_bus.specs.declared.op.AdapterKind.{AdapterKind}
 use Rattle.rl_bus.specs.declared.op.BusOp.{BusOp}
 use Rattle.rl_bus.specs.Device.{IsPortOf}
 use Rattle.rl_bus.specs.Standing.{Standing, kind_in, kinds_of, kind_at, no_kind}
@@ -15,8 +14,8 @@ use Rattle.rl_map.specs.Layout.{LayoutData, place_at, port_at, IsSound}
 use Rattle.rl_map.specs.Tables.{setup_of}
 use Rattle.rl_split.specs.Access.{kind_of}
 use Rattle.rl_access.specs.declared.trace.TraceItem.{TraceItem}
-use Rattle.rl_access.specs.Items.{AreSent, state_after_all, port_for, adapter_for}
-use Rattle.rl_access.specs.Model.{ModelData, IsModel, IsDeviceOf, IsSetupOf, IsReady}
+use Rattle.rl_access.specs.Items.{AreSent, state_after_all}
+use Rattle.rl_access.specs.Model.{ModelData, IsDeviceOf, IsReady}
 use Rattle.rl_access.proofs.Setups.{setup-state_after_all}
 
 row_bytes : PortRow → ℕ

@@ -1,19 +1,18 @@
 -- What a device with the model's chip and layout has.
-use Rattle.std.proofs.Common.{◌≡◌, ℕ, zero, suc, ◌+◌, ◌<◌, List, [], ◌∷◌, length, map, get_or, slice_get, Option, None, Some, option_map, refl, sym, ap, ◌∙◌, subst, arith}
+use Rattle.std.proofs.Common.{◌≡◌, ℕ, zero, suc, ◌+◌, ◌<◌, List, [], ◌∷◌, length, get_or, slice_get, Option, None, Some, option_map, refl, sym, ap, ◌∙◌, subst}
 use Rattle.std.specs.Option.{option_map_or}
 use Rattle.std.proofs.lemmas.List.{length-map}
 use Rattle.rl_bus.specs.declared.table.Cell.{Cell}
 use Rattle.rl_bus.specs.declared.table.Cell.TheVariants.{Reg, Loc}
-use Rattle.rl_bus.specs.declared.table.MemRow.{MemRow}
-use Rattle.rl_bus.specs.Device.{IsCellIn, IsCellOf, IsFieldOf}
+use Rattle.rl_bus.specs.Device.{IsCellOf, IsFieldOf}
 use Rattle.rl_bus.specs.Setup.{Setup, Flaws, mem_of, no_mem}
 use Rattle.rl_bus.specs.State.{State, poked, hw_set, reset_by}
 use Rattle.rl_model.specs.declared.rows.RegRow.{RegRow}
 use Rattle.rl_model.specs.declared.rows.MemRow.{MemRow as Mem}
-use Rattle.rl_model.specs.Rows.{ChipData, FieldSeen}
+use Rattle.rl_model.specs.Rows.{ChipData}
 use Rattle.rl_map.specs.Layout.{LayoutData}
 use Rattle.rl_map.specs.Tables.{setup_of, mem_rows, field_row}
-use Rattle.rl_access.specs.Model.{ModelData, IsDeviceOf, IsSetupOf}
+use Rattle.rl_access.specs.Model.{ModelData, IsDeviceOf}
 use Rattle.rl_access.specs.Rules.{memory_size}
 
 regs_of : (c : ChipData) (l : LayoutData) (flaws : Flaws) → length (setup_of c l flaws).regs ≡ length c.regs

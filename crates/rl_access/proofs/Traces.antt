@@ -1,19 +1,16 @@
 -- What is known of the items of an access.
-use Rattle.std.proofs.Common.{◌≡◌, ℕ, suc, ◌+◌, ◌^◌, ◌<◌, ◌≤◌, Bool, true, false, not, cond, ◌||◌, nat_lt, List, [], ◌∷◌, length, map, All, Option, None, Some, get_or, slice_get, refl, sym, ap, ◌∙◌, subst, arith}
+use Rattle.std.proofs.Common.{◌≡◌, ℕ, suc, ◌+◌, ◌^◌, ◌<◌, ◌≤◌, Bool, true, false, not, cond, ◌||◌, nat_lt, List, [], ◌∷◌, length, All, None, Some, refl, sym, ap, ◌∙◌, subst, arith}
 use Rattle.std.specs.Bool.{MatchBool}
 use Rattle.std.specs.List.{position_or_len}
 use borrow.Author.Tests.{ltb-false}
-use Rattle.std.proofs.lemmas.List.{length-map}
 use Rattle.std.proofs.lemmas.List.Elements.{All-cons, All-head, All-tail, All-map}
-use Rattle.std.proofs.lemmas.Option.{get_or_from_slice_get}
 use Rattle.rl_bus.proofs.Words.{word_below}
 use Rattle.rl_bus.specs.declared.op.AdapterKind.{AdapterKind}
 use Rattle.rl_bus.specs.declared.op.BusOp.{BusOp}
 use Rattle.rl_bus.specs.Standing.{Standing}
 use Rattle.rl_bus.specs.Wire.{Fits}
-use Rattle.rl_map.specs.Layout.{LayoutData, place_at, port_at}
-use Rattle.rl_map.specs.declared.word.Word.{Word}
-use Rattle.rl_split.specs.Access.{bus_bytes_of, op_of, op_for, ops_of, sent_of}
+use Rattle.rl_map.specs.Layout.{LayoutData, port_at}
+use Rattle.rl_split.specs.Access.{bus_bytes_of, op_of, ops_of, sent_of}
 use Rattle.rl_access.specs.declared.trace.TraceItem.{TraceItem}
 use Rattle.rl_access.specs.Access.{HasBytes, IsWholeTrace}
 use Rattle.rl_access.specs.Event.{ItemFits}

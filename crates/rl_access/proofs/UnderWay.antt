@@ -1,5 +1,5 @@
 -- Operations that are sent in order: what holds while none has failed, and what follows at the end.
-use Rattle.std.proofs.Common.{slice_get, All, ◌≡◌, ℕ, ◌+◌, ◌<◌, ◌≤◌, List, [], ◌∷◌, ◌++◌, length, map, set, get_or, drop, Bool, true, false, cond, ◌||◌, Option, None, Some, option_map, refl, sym, ap, ◌∙◌, subst, inl, inr, arith, append_assoc, append-nil}
+use Rattle.std.proofs.Common.{slice_get, All, ◌≡◌, ℕ, ◌+◌, ◌<◌, ◌≤◌, List, [], ◌∷◌, ◌++◌, length, map, set, get_or, drop, Bool, true, false, cond, ◌||◌, Option, None, Some, option_map, refl, sym, ap, ◌∙◌, subst, arith, append_assoc, append-nil}
 use Rattle.std.proofs.lemmas.List.Elements.{All-push}
 use Rattle.std.proofs.lemmas.Option.{get_or_from_slice_get, slice_get_within}
 use Rattle.std.proofs.lemmas.List.{set-set, set-get_or, get_or-set_same, length-set, length_push, drop_more, at_drop_all}
@@ -12,7 +12,7 @@ use Rattle.rl_bus.specs.State.{State, answer_of, state_after}
 use Rattle.rl_bus.specs.declared.op.BusOp.{BusOp}
 use Rattle.rl_access.specs.declared.trace.TraceItem.{TraceItem}
 use Rattle.rl_access.proofs.Setups.{setup-state_after_all}
-use Rattle.rl_access.specs.Items.{IsAnswerSmall, took_item, took_all, moved_on_by_all, item_of, AreItemsOf, has_failed, HasCauses, items_of, state_after_all, IsRun, AreSent}
+use Rattle.rl_access.specs.Items.{IsAnswerSmall, took_item, took_all, moved_on_by_all, item_of, AreItemsOf, has_failed, items_of, state_after_all, AreSent}
 
 all_none : All IsAnswerSmall []
 all_none k d low = absurd (omega arith)

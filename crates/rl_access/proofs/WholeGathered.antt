@@ -1,5 +1,5 @@
 -- From an empty list, the words of a whole access are one prediction.
-use Rattle.std.proofs.Common.{◌≡◌, ◌⊎◌, ℕ, zero, suc, ◌+◌, ◌-◌, ◌*◌, ◌/◌, ◌%◌, ◌^◌, ◌<◌, ◌≤◌, Bool, true, false, ◌&&◌, ◌||◌, eqb, ltb, if◌then◌else◌, List, [], ◌∷◌, ◌++◌, length, map, set, get_or, drop, Option, None, Some, is_some, refl, sym, ap, ◌∙◌, subst, inl, inr, arith, eq-eqb, append_assoc, append-nil, length-drop}
+use Rattle.std.proofs.Common.{◌≡◌, ◌⊎◌, ℕ, suc, ◌+◌, ◌*◌, ◌/◌, ◌%◌, ◌^◌, ◌<◌, ◌≤◌, Bool, true, false, ◌&&◌, ◌||◌, eqb, ltb, if◌then◌else◌, List, [], ◌∷◌, ◌++◌, length, map, set, get_or, drop, Option, None, Some, is_some, refl, sym, ap, ◌∙◌, subst, inl, inr, arith, eq-eqb, append_assoc, append-nil, length-drop}
 use Rattle.std.specs.Prelude.{unwrap_or}
 use Rattle.std.proofs.lemmas.Bool.{cases_lt}
 use Rattle.std.proofs.lemmas.Bool.Decides.{nat_tests}
@@ -12,8 +12,7 @@ use Rattle.rl_bus.specs.declared.table.Lanes.{Lanes}
 use Rattle.rl_bus.specs.Spread.{lane_below, lane_bit, bit_in, spread_bit, gathered_bit}
 use Rattle.rl_model.specs.Rows.{ChipData}
 use Rattle.rl_map.specs.declared.word.Word.{Word}
-use Rattle.rl_map.specs.Layout.{LayoutData, place_at, port_at, words_of, has_right, HasWords, IsSound}
-use Rattle.rl_map.specs.Partition.{have_bit}
+use Rattle.rl_map.specs.Layout.{LayoutData, place_at, port_at, words_of, has_right, HasWords}
 use Rattle.rl_map.specs.Words.{no_word}
 use Rattle.rl_mirror.specs.Mirror.{MirrorData}
 use Rattle.rl_mirror.specs.Prediction.{predict_write, predict_read}
@@ -26,7 +25,7 @@ use Rattle.rl_access.specs.declared.predictor.Gathered.{Gathered}
 use Rattle.rl_access.specs.declared.trace.TraceItem.{TraceItem}
 use Rattle.rl_access.specs.Gathering.{no_words, gathered_at, is_next, IsRegisterPlace}
 use Rattle.rl_access.specs.Items.{has_failed, words_answered}
-use Rattle.rl_access.specs.Observed.{Seen, seen, reg_in, watched_place, word_told, is_whole, value_gathered, predicted, taken_in, observed, observed_all, word_ops, implied, IsWholeAccess, WholeAccessPredicts}
+use Rattle.rl_access.specs.Observed.{Seen, seen, reg_in, word_told, is_whole, predicted, taken_in, observed, observed_all, word_ops, implied, WholeAccessPredicts}
 use Rattle.rl_access.specs.Rules.{every_field}
 use Rattle.rl_access.proofs.Bytes.{bytes_bits}
 use Rattle.rl_access.proofs.Gathers.{watched_is, one_observed}

@@ -1,5 +1,5 @@
 -- What an update brings about.
-use Rattle.std.proofs.Common.{◌≡◌, ◌⊎◌, ℕ, ◌<◌, ◌-◌, ◌^◌, false, length, List, Option, None, Some, refl, sym, ap, ◌∙◌, subst, inl, inr}
+use Rattle.std.proofs.Common.{◌≡◌, ◌⊎◌, ℕ, ◌<◌, ◌-◌, ◌^◌, false, length, List, Option, None, Some, sym, ap, ◌∙◌, subst, inl, inr}
 use Rattle.rl_policy.specs.Reach.{is_one_sided}
 use Rattle.rl_mirror.specs.Fields.{field_of}
 use Rattle.rl_mirror.specs.Mirror.{MirrorData}

@@ -15,7 +15,6 @@ ghost use Rattle.rl_access.specs.Rules.{taking_raw};
 use crate::event::{End, Event, Op, Refused};
 use crate::model::Model;
 use crate::refusal::only_where;
-use crate::trace::Trace;
 use rl_bus::{Cell, Device};
 use rl_mirror::{left_by_read, owned, shown};
 use rl_model::Item;
@@ -107,7 +106,7 @@ pub fn back_write<D: Device>(m: &mut Model, d: &mut D, reg: u32, value: u64) -> 
             let word = value_written(m, reg, sampled, value);
             deposit(m, d, reg, word);
             m.predict_raw(reg, word);
-            m.event(op, reg, End::Done, Trace::new(), 0)
+            m.event(op, reg, End::Done, 0)
         }
         Err(why) => m.refuse(op, reg, why),
     }
@@ -148,7 +147,7 @@ fn sample_register<D: Device>(m: &mut Model, d: &mut D, reg: u32) -> Event
     match m.by_backdoor(Item::Reg(reg)) {
         Ok(_) => {
             let (value, differ) = sample(m, d, reg, false);
-            m.event(op, reg, End::Value { value }, Trace::new(), differ)
+            m.event(op, reg, End::Value { value }, differ)
         }
         Err(why) => m.refuse(op, reg, why),
     }
@@ -168,7 +167,7 @@ fn check_sample<D: Device>(m: &mut Model, d: &mut D, reg: u32) -> Event
     match m.by_backdoor(Item::Reg(reg)) {
         Ok(_) => {
             let (value, differ) = sample(m, d, reg, true);
-            m.event(op, reg, End::Value { value }, Trace::new(), differ)
+            m.event(op, reg, End::Value { value }, differ)
         }
         Err(why) => m.refuse(op, reg, why),
     }
@@ -207,7 +206,7 @@ pub fn peek<D: Device>(m: &mut Model, d: &mut D, reg: u32) -> Event
         Ok(_) => {
             let bits = sampled(m, d, reg);
             m.predict_raw(reg, bits);
-            m.event(op, reg, End::Value { value: bits }, Trace::new(), 0)
+            m.event(op, reg, End::Value { value: bits }, 0)
         }
         Err(why) => m.refuse(op, reg, why),
     }
@@ -229,7 +228,7 @@ pub fn poke<D: Device>(m: &mut Model, d: &mut D, reg: u32, value: u64) -> Event
         Ok(_) => {
             deposit(m, d, reg, value);
             m.predict_raw(reg, value);
-            m.event(op, reg, End::Done, Trace::new(), 0)
+            m.event(op, reg, End::Done, 0)
         }
         Err(why) => m.refuse(op, reg, why),
     }
@@ -251,7 +250,7 @@ pub fn hw<D: Device>(m: &mut Model, d: &mut D, field: u32, value: u64) -> Event
     match m.fitting_field(field, value, grant) {
         Ok(_) => {
             set_by_hardware(m, d, field, value);
-            m.event(op, shape.reg, End::Done, Trace::new(), 0)
+            m.event(op, shape.reg, End::Done, 0)
         }
         Err(why) => m.refuse(op, shape.reg, why),
     }
@@ -269,7 +268,7 @@ pub fn reset<D: Device>(m: &mut Model, d: &mut D, kind: u32) -> Event
 {
     reset_device(m, d, kind);
     m.reset(kind);
-    m.memory_event(Op::Reset { kind }, End::Done, Trace::new(), 0)
+    m.memory_event(Op::Reset { kind }, End::Done)
 }
 
 /// Takes the bits of a register as known: each field takes its part of the value as mirrored and desired value.

@@ -1,5 +1,5 @@
 //! What all accesses over the bus have in common.
-ghost use Rattle.std.specs.Prelude.{◌≡◌, ℕ, ◌<◌, ◌≤◌, ◌*◌, ◌^◌, map, length, All, None, true, false};
+ghost use Rattle.std.specs.Prelude.{◌≡◌, ℕ, ◌<◌, ◌≤◌, ◌*◌, ◌^◌, [], map, length, All, None, true, false};
 ghost use Rattle.rl_bus.specs.Standing.{standing_at};
 ghost use Rattle.rl_bus.specs.Wire.{Fits};
 ghost use Rattle.rl_map.specs.Layout.{IsLocation, place_at};
@@ -20,9 +20,9 @@ use crate::model::Model;
 use crate::send::send_all;
 use crate::trace::Trace;
 use rl_bus::{Adapter, Adapters, Device};
-use rl_split::{Answers, Words, join, split};
+use rl_split::{Answers, Words, join, split_into};
 
-/// The operations of an access to a location of a place.
+/// Lists the operations of an access to a location of a place.
 pub(crate) fn operations(
     m: &Model,
     place: u32,
@@ -30,39 +30,43 @@ pub(crate) fn operations(
     chosen: u8,
     value: u64,
     write: bool,
-) -> Words
+    words: &mut Words,
+)
+    requires empty { words.old ≡ [] }
     requires location { IsLocation m.now.layout place index }
     requires chosen { IsChoice (place_at m.now.layout place).bytes chosen }
     requires value { value < 256 ^ (place_at m.now.layout place).bytes }
-    ensures ops { ops_in result ≡ ops_of m.now.layout place index chosen value write }
-    ensures few { length result ≤ 8 }
-    ensures fits { All (Fits (kind_of m.now.layout place)) (ops_in result) }
-    ensures bytes { HasBytes (bus_bytes_of m.now.layout place) (ops_in result) }
+    ensures ops { ops_in words.new ≡ ops_of m.now.layout place index chosen value write }
+    ensures few { length words.new ≤ 8 }
+    ensures fits { All (Fits (kind_of m.now.layout place)) (ops_in words.new) }
+    ensures bytes { HasBytes (bus_bytes_of m.now.layout place) (ops_in words.new) }
 {
-    split(m.layout(), place, index, chosen, value, write)
+    split_into(m.layout(), place, index, chosen, value, write, words);
 }
 
-/// Sends the operations to the port of a place.
+/// Sends the operations to the port of a place, and leaves the items in a trace, which had none.
 pub(crate) fn send<D: Device>(
     m: &Model,
     d: &mut D,
     a: &mut Adapters,
     place: u32,
     words: &Words,
-) -> Trace
+    trace: &mut Trace,
+)
+    requires empty { trace.old ≡ [] }
     requires place { place < length m.now.layout.places }
     requires ready { IsReady m.now (map standing a.old.items) (D.state d.old) }
     requires few { length words.now ≤ 8 }
     requires fits { All (Fits (kind_of m.now.layout place)) (ops_in words.now) }
     requires bytes { HasBytes (bus_bytes_of m.now.layout place) (ops_in words.now) }
-    ensures sent { AreSent (adapter_for m.now.layout place) (port_for m.now.layout place) (ops_in words.now) result (map standing a.old.items) (map standing a.new.items) (D.errors d.old) (D.errors d.new) (D.state d.old) (D.state d.new) }
+    ensures sent { AreSent (adapter_for m.now.layout place) (port_for m.now.layout place) (ops_in words.now) trace.new (map standing a.old.items) (map standing a.new.items) (D.errors d.old) (D.errors d.new) (D.state d.old) (D.state d.new) }
     ensures ready { IsReady m.now (map standing a.new.items) (D.state d.new) }
-    ensures fit { All (ItemFits m.now.layout) result }
-    ensures whole { IsWholeTrace (length words.now) result }
+    ensures fit { All (ItemFits m.now.layout) trace.new }
+    ensures whole { IsWholeTrace (length words.now) trace.new }
 {
     let port = m.layout().port_of(place);
     let which = m.layout().adapter(port);
-    send_all(d, a, which, port, words)
+    send_all(d, a, which, port, words, trace);
 }
 
 /// The words that the items answered.
@@ -112,10 +116,21 @@ pub(crate) fn write_as<D: Device>(
     ensures parts { IsSameChip m.old m.new }
     ensures fits { EventFits m.new result }
 {
-    let words = operations(m, access.place, 0, access.chosen, access.value, true);
-    let trace = send(m, d, a, access.place, &words);
-    let end = conclude_write(m, access, good, &trace);
-    m.event(op, access.reg, end, trace, 0)
+    let mut event = Event::begun(op);
+    let mut words = Words::new();
+    operations(
+        m,
+        access.place,
+        0,
+        access.chosen,
+        access.value,
+        true,
+        &mut words,
+    );
+    send(m, d, a, access.place, &words, &mut event.trace);
+    let end = conclude_write(m, access, good, &event.trace);
+    m.conclude(access.reg, end, 0, &mut event);
+    event
 }
 
 /// The value that the items of a read brought.
@@ -160,38 +175,33 @@ fn conclude_read(
     }
 }
 
-/// A read of a register: the items, how it ended, and the differing fields.
-#[derive(Drop)]
-pub(crate) struct Reading {
-    pub(crate) trace: Trace,
-    pub(crate) end: End,
-    pub(crate) differ: u64,
-}
-
+/// A read of a register: how it ended, and the differing fields. It leaves the items in a trace, which had none.
 pub(crate) fn read<D: Device>(
     m: &mut Model,
     d: &mut D,
     a: &mut Adapters,
     access: &Access,
     check: bool,
-) -> Reading
+    trace: &mut Trace,
+) -> (End, u64)
+    requires empty { trace.old ≡ [] }
     requires ready { IsReady m.old (map standing a.old.items) (D.state d.old) }
     requires access { IsAccessOn m.old access.now }
     ensures ready { IsReady m.new (map standing a.new.items) (D.state d.new) }
-    ensures sent { AreSent (adapter_for m.old.layout access.now.place) (port_for m.old.layout access.now.place) (access_ops m.old access.now false) result.trace (map standing a.old.items) (map standing a.new.items) (D.errors d.old) (D.errors d.new) (D.state d.old) (D.state d.new) }
-    ensures end { result.end ≡ (read_outcome m.old check access.now result.trace).end }
-    ensures differ { result.differ ≡ (read_outcome m.old check access.now result.trace).differ }
-    ensures model { m.new ≡ (read_outcome m.old check access.now result.trace).model }
-    ensures within { IsValueWithin (256 ^ (place_at m.old.layout access.now.place).bytes) result.end }
-    ensures ends { ends_with_value result.end ≡ true }
-    ensures fields { result.differ < 2 ^ count_of m.old.chip access.now.reg }
+    ensures sent { AreSent (adapter_for m.old.layout access.now.place) (port_for m.old.layout access.now.place) (access_ops m.old access.now false) trace.new (map standing a.old.items) (map standing a.new.items) (D.errors d.old) (D.errors d.new) (D.state d.old) (D.state d.new) }
+    ensures end { result.0 ≡ (read_outcome m.old check access.now trace.new).end }
+    ensures differ { result.1 ≡ (read_outcome m.old check access.now trace.new).differ }
+    ensures model { m.new ≡ (read_outcome m.old check access.now trace.new).model }
+    ensures within { IsValueWithin (256 ^ (place_at m.old.layout access.now.place).bytes) result.0 }
+    ensures ends { ends_with_value result.0 ≡ true }
+    ensures fields { result.1 < 2 ^ count_of m.old.chip access.now.reg }
     ensures parts { IsSameChip m.old m.new }
-    ensures items { All (ItemFits m.old.layout) result.trace }
+    ensures items { All (ItemFits m.old.layout) trace.new }
 {
-    let words = operations(m, access.place, 0, access.chosen, 0, false);
-    let trace = send(m, d, a, access.place, &words);
-    let (end, differ) = conclude_read(m, access, check, &words, &trace);
-    Reading { trace, end, differ }
+    let mut words = Words::new();
+    operations(m, access.place, 0, access.chosen, 0, false, &mut words);
+    send(m, d, a, access.place, &words, trace);
+    conclude_read(m, access, check, &words, trace)
 }
 
 /// A read of a register, told as an operation.
@@ -215,6 +225,8 @@ pub(crate) fn read_as<D: Device>(
     ensures parts { IsSameChip m.old m.new }
     ensures fits { EventFits m.new result }
 {
-    let done = read(m, d, a, access, check);
-    m.event(op, access.reg, done.end, done.trace, done.differ)
+    let mut event = Event::begun(op);
+    let (end, differ) = read(m, d, a, access, check, &mut event.trace);
+    m.conclude(access.reg, end, differ, &mut event);
+    event
 }

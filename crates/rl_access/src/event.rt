@@ -165,6 +165,25 @@ pub struct Event {
     pub differ: u64,
 }
 
+impl Event {
+    ghost use Rattle.std.specs.Prelude.{◌≡◌, []};
+    ghost use Rattle.rl_access.specs.declared.event.End.TheVariants as end;
+
+    /// An operation that has sent nothing yet.
+    pub(crate) fn begun(op: Op) -> Event
+        ensures { result ≡ record { op = op; end = end.Done; trace = []; mirrored = 0; desired = 0; differ = 0 } }
+    {
+        Event {
+            op,
+            end: End::Done,
+            trace: Trace::new(),
+            mirrored: 0,
+            desired: 0,
+            differ: 0,
+        }
+    }
+}
+
 /// What a burst or a sequence did: its steps, the differing fields and memory checks, and the bus errors.
 /// Each count stays at `u64::MAX`.
 #[derive(Clone, Copy, Debug, PartialEq, Eq)]

@@ -10,7 +10,6 @@ ghost use Rattle.rl_access.specs.declared.event.Op.TheVariants as op;
 use crate::engine::{read, write_as};
 use crate::event::{End, Event, Op};
 use crate::model::Model;
-use crate::trace::Trace;
 use rl_bus::{Adapter, Adapters, Device};
 use rl_model::{Field, Item};
 use rl_policy::take;
@@ -76,9 +75,11 @@ pub fn field_read<D: Device>(
         Ok(place) => {
             let access = m.field_read(field, place);
             forget_around(m, field, place, false);
-            let done = read(m, d, a, &access, false);
-            let end = part_of(&shape, done.end);
-            m.event(op, shape.reg, end, done.trace, 0)
+            let mut event = Event::begun(op);
+            let (whole, _) = read(m, d, a, &access, false, &mut event.trace);
+            let end = part_of(&shape, whole);
+            m.conclude(shape.reg, end, 0, &mut event);
+            event
         }
         Err(why) => m.refuse(op, shape.reg, why),
     }
@@ -124,7 +125,7 @@ pub fn set(m: &mut Model, field: u32, value: u64) -> Event
     match m.fitting_field(field, value, Ok(0)) {
         Ok(_) => {
             m.set(field, value);
-            m.event(op, reg, End::Done, Trace::new(), 0)
+            m.event(op, reg, End::Done, 0)
         }
         Err(why) => m.refuse(op, reg, why),
     }
@@ -136,5 +137,5 @@ pub fn show(m: &Model, reg: u32) -> Event
     ensures fits { EventFits m.now result }
     ensures performs { PerformsAlone m.now m.now (op.Show reg) result }
 {
-    m.event(Op::Show { reg }, reg, End::Done, Trace::new(), 0)
+    m.event(Op::Show { reg }, reg, End::Done, 0)
 }

@@ -1,5 +1,5 @@
 //! Accesses to the locations of memories.
-ghost use Rattle.std.specs.Prelude.{◌≡◌, ℕ, ◌*◌, ◌<◌, ◌≤◌, ◌^◌, map as each, List, length, option_map, All, true, false};
+ghost use Rattle.std.specs.Prelude.{◌≡◌, ℕ, ◌*◌, ◌<◌, ◌≤◌, ◌^◌, [], map as each, List, length, option_map, All, true, false};
 ghost use Rattle.rl_bus.specs.Wire.{Fits};
 ghost use Rattle.rl_bus.specs.Standing.{Standing};
 ghost use Rattle.rl_bus.specs.State.{poked};
@@ -26,26 +26,28 @@ use rl_model::Item;
 use rl_policy::take;
 use rl_split::{Words, join};
 
-/// An access to a location: its items, and how it ended.
-#[derive(Drop)]
-struct Reached {
-    trace: Trace,
-    end: End,
-}
-
-/// The operations of an access to a location.
-fn location_words(m: &Model, mem: u32, place: u32, index: u32, value: u64, write: bool) -> Words
+/// Lists the operations of an access to a location.
+fn location_words(
+    m: &Model,
+    mem: u32,
+    place: u32,
+    index: u32,
+    value: u64,
+    write: bool,
+    words: &mut Words,
+)
+    requires empty { words.old ≡ [] }
     requires mem { mem < length m.now.chip.mems }
     requires place { IsPlaceFor m.now (item.Mem mem) place }
     requires index { index < memory_size m.now.chip mem }
     requires value { value < 256 ^ location_size m.now.chip mem }
-    ensures ops { ops_in result ≡ ops_of m.now.layout place index (all_bytes (location_size m.now.chip mem)) value write }
-    ensures few { length result ≤ 8 }
-    ensures fits { All (Fits (kind_of m.now.layout place)) (ops_in result) }
-    ensures bytes { HasBytes (bus_bytes_of m.now.layout place) (ops_in result) }
+    ensures ops { ops_in words.new ≡ ops_of m.now.layout place index (all_bytes (location_size m.now.chip mem)) value write }
+    ensures few { length words.new ≤ 8 }
+    ensures fits { All (Fits (kind_of m.now.layout place)) (ops_in words.new) }
+    ensures bytes { HasBytes (bus_bytes_of m.now.layout place) (ops_in words.new) }
 {
     let chosen = all_bytes(m.chip().bytes(Item::Mem(mem)));
-    operations(m, place, index, chosen, value, write)
+    operations(m, place, index, chosen, value, write, words);
 }
 
 /// The value that the items of a read of a location brought.
@@ -100,7 +102,9 @@ fn write_location<D: Device>(
     place: u32,
     index: u64,
     value: u64,
-) -> Reached
+    trace: &mut Trace,
+) -> End
+    requires empty { trace.old ≡ [] }
     requires ready { IsReady m.now (each standing a.old.items) (D.state d.old) }
     requires mem { mem < length m.now.chip.mems }
     requires place { IsPlaceFor m.now (item.Mem mem) place }
@@ -108,16 +112,16 @@ fn write_location<D: Device>(
     requires small { index < 65536 }
     requires value { value < 256 ^ location_size m.now.chip mem }
     ensures ready { IsReady m.now (each standing a.new.items) (D.state d.new) }
-    ensures sent { AreSent (adapter_for m.now.layout place) (port_for m.now.layout place) (ops_of m.now.layout place index (location_bytes m.now mem) value true) result.trace (each standing a.old.items) (each standing a.new.items) (D.errors d.old) (D.errors d.new) (D.state d.old) (D.state d.new) }
-    ensures end { result.end ≡ (or_error (failed_at result.trace) m.now (quiet end.Done m.now)).end }
-    ensures items { All (ItemFits m.now.layout) result.trace }
-    ensures ends { ends_done result.end ≡ true }
-    ensures within { IsEndWithin (2 * location_size m.now.chip mem) result.end }
+    ensures sent { AreSent (adapter_for m.now.layout place) (port_for m.now.layout place) (ops_of m.now.layout place index (location_bytes m.now mem) value true) trace.new (each standing a.old.items) (each standing a.new.items) (D.errors d.old) (D.errors d.new) (D.state d.old) (D.state d.new) }
+    ensures end { result ≡ (or_error (failed_at trace.new) m.now (quiet end.Done m.now)).end }
+    ensures items { All (ItemFits m.now.layout) trace.new }
+    ensures ends { ends_done result ≡ true }
+    ensures within { IsEndWithin (2 * location_size m.now.chip mem) result }
 {
-    let words = location_words(m, mem, place, index as u32, value, true);
-    let trace = send(m, d, a, place, &words);
-    let end = end_of_write(&trace);
-    Reached { trace, end }
+    let mut words = Words::new();
+    location_words(m, mem, place, index as u32, value, true, &mut words);
+    send(m, d, a, place, &words, trace);
+    end_of_write(trace)
 }
 
 fn read_location<D: Device>(
@@ -127,24 +131,26 @@ fn read_location<D: Device>(
     mem: u32,
     place: u32,
     index: u64,
-) -> Reached
+    trace: &mut Trace,
+) -> End
+    requires empty { trace.old ≡ [] }
     requires ready { IsReady m.now (each standing a.old.items) (D.state d.old) }
     requires mem { mem < length m.now.chip.mems }
     requires place { IsPlaceFor m.now (item.Mem mem) place }
     requires index { index < memory_size m.now.chip mem }
     requires small { index < 65536 }
     ensures ready { IsReady m.now (each standing a.new.items) (D.state d.new) }
-    ensures sent { AreSent (adapter_for m.now.layout place) (port_for m.now.layout place) (ops_of m.now.layout place index (location_bytes m.now mem) 0 false) result.trace (each standing a.old.items) (each standing a.new.items) (D.errors d.old) (D.errors d.new) (D.state d.old) (D.state d.new) }
-    ensures end { result.end ≡ (or_error (failed_at result.trace) m.now (quiet (end.Value (location_value m.now mem place index result.trace)) m.now)).end }
-    ensures items { All (ItemFits m.now.layout) result.trace }
-    ensures ends { ends_with_value result.end ≡ true }
-    ensures within { IsEndWithin (2 * location_size m.now.chip mem) result.end }
+    ensures sent { AreSent (adapter_for m.now.layout place) (port_for m.now.layout place) (ops_of m.now.layout place index (location_bytes m.now mem) 0 false) trace.new (each standing a.old.items) (each standing a.new.items) (D.errors d.old) (D.errors d.new) (D.state d.old) (D.state d.new) }
+    ensures end { result ≡ (or_error (failed_at trace.new) m.now (quiet (end.Value (location_value m.now mem place index trace.new)) m.now)).end }
+    ensures items { All (ItemFits m.now.layout) trace.new }
+    ensures ends { ends_with_value result ≡ true }
+    ensures within { IsEndWithin (2 * location_size m.now.chip mem) result }
 {
     let index = index as u32;
-    let words = location_words(m, mem, place, index, 0, false);
-    let trace = send(m, d, a, place, &words);
-    let end = end_of_read(m, mem, place, index, &words, &trace);
-    Reached { trace, end }
+    let mut words = Words::new();
+    location_words(m, mem, place, index, 0, false, &mut words);
+    send(m, d, a, place, &words, trace);
+    end_of_read(m, mem, place, index, &words, trace)
 }
 
 /// Writes a location of a memory over the bus.
@@ -176,8 +182,10 @@ pub fn mem_write<D: Device>(
     let way = m.writable(mem, m.way(place, true));
     match m.fitting(item, value, m.at_location(mem, index, way)) {
         Ok(place) => {
-            let done = write_location(m, d, a, mem, place, index, value);
-            m.memory_event(op, done.end, done.trace, 0)
+            let mut event = Event::begun(op);
+            let end = write_location(m, d, a, mem, place, index, value, &mut event.trace);
+            m.conclude_memory(end, 0, &mut event);
+            event
         }
         Err(why) => m.refuse_memory(op, why),
     }
@@ -208,8 +216,10 @@ pub fn mem_read<D: Device>(
     };
     match m.at_location(mem, index, m.way(place, false)) {
         Ok(place) => {
-            let done = read_location(m, d, a, mem, place, index);
-            m.memory_event(op, done.end, done.trace, 0)
+            let mut event = Event::begun(op);
+            let end = read_location(m, d, a, mem, place, index, &mut event.trace);
+            m.conclude_memory(end, 0, &mut event);
+            event
         }
         Err(why) => m.refuse_memory(op, why),
     }
@@ -243,9 +253,10 @@ pub fn mem_check<D: Device>(
     };
     match m.fitting(item, value, m.at_location(mem, index, m.way(place, false))) {
         Ok(place) => {
-            let done = read_location(m, d, a, mem, place, index);
-            let differ = differs(done.end, value);
-            m.memory_event(op, done.end, done.trace, differ)
+            let mut event = Event::begun(op);
+            let end = read_location(m, d, a, mem, place, index, &mut event.trace);
+            m.conclude_memory(end, differs(end, value), &mut event);
+            event
         }
         Err(why) => m.refuse_memory(op, why),
     }
@@ -299,7 +310,7 @@ pub fn mem_peek<D: Device>(m: &mut Model, d: &mut D, mem: u32, index: u64) -> Ev
     match m.at_location(mem, index, m.by_backdoor(Item::Mem(mem))) {
         Ok(_) => {
             let value = location_sampled(m, d, mem, index as u32);
-            m.memory_event(op, End::Value { value }, Trace::new(), 0)
+            m.memory_event(op, End::Value { value })
         }
         Err(why) => m.refuse_memory(op, why),
     }
@@ -321,7 +332,7 @@ pub fn mem_poke<D: Device>(m: &mut Model, d: &mut D, mem: u32, index: u64, value
     match m.fitting(item, value, grant) {
         Ok(_) => {
             deposit_location(m, d, mem, index as u32, value);
-            m.memory_event(op, End::Done, Trace::new(), 0)
+            m.memory_event(op, End::Done)
         }
         Err(why) => m.refuse_memory(op, why),
     }

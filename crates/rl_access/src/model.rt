@@ -20,7 +20,7 @@ ghost use Rattle.rl_access.specs.Rules.{forgetting, map_of_place, register_event
 use crate::access::Access;
 use crate::event::{End, Event, Op, Refused};
 use crate::predictor::Predictor;
-use crate::trace::{Trace, TraceItem};
+use crate::trace::TraceItem;
 use rl_map::Layout;
 use rl_mirror::Mirror;
 use rl_model::{Chip, Field, Item};
@@ -189,26 +189,38 @@ impl Model {
         }
     }
 
-    /// The event of an operation on a register that has just ended.
-    pub(crate) fn event(&self, op: Op, reg: u32, end: End, trace: Trace, differ: u64) -> Event
+    /// The event of an operation on a register that has ended and sent nothing.
+    pub(crate) fn event(&self, op: Op, reg: u32, end: End, differ: u64) -> Event
         requires reg { reg < length self.now.chip.regs }
         requires register { register_of self.now.chip op ≡ Some reg }
         requires numbers { HasNumbers self.now.chip (length self.now.layout.maps) op }
         requires ends { has_end op end ≡ true }
         requires within { IsEndWithin (digits_of self.now.chip op) end }
-        requires items { All (ItemFits self.now.layout) trace }
         requires differ { differ < 2 ^ count_of self.now.chip reg }
-        ensures event { result ≡ register_event op reg trace (record { end = end; model = self.now; differ = differ }) }
+        ensures event { result ≡ register_event op reg [] (record { end = end; model = self.now; differ = differ }) }
         ensures fits { EventFits self.now result }
     {
-        Event {
-            op,
-            end,
-            trace,
-            mirrored: self.mirror.mirrored(reg),
-            desired: self.mirror.desired(reg),
-            differ,
-        }
+        let mut event = Event::begun(op);
+        self.conclude(reg, end, differ, &mut event);
+        event
+    }
+
+    /// Ends the event of an operation on a register, whose items it has.
+    pub(crate) fn conclude(&self, reg: u32, end: End, differ: u64, event: &mut Event)
+        requires reg { reg < length self.now.chip.regs }
+        requires register { register_of self.now.chip event.old.op ≡ Some reg }
+        requires numbers { HasNumbers self.now.chip (length self.now.layout.maps) event.old.op }
+        requires ends { has_end event.old.op end ≡ true }
+        requires within { IsEndWithin (digits_of self.now.chip event.old.op) end }
+        requires items { All (ItemFits self.now.layout) event.old.trace }
+        requires differ { differ < 2 ^ count_of self.now.chip reg }
+        ensures event { event.new ≡ register_event event.old.op reg event.old.trace (record { end = end; model = self.now; differ = differ }) }
+        ensures fits { EventFits self.now event.new }
+    {
+        event.end = end;
+        event.mirrored = self.mirror.mirrored(reg);
+        event.desired = self.mirror.desired(reg);
+        event.differ = differ;
     }
 
     /// The event of an operation on a register that was refused.
@@ -218,7 +230,7 @@ impl Model {
         ensures event { result ≡ register_event op reg [] (quiet (end.Refused why) self.now) }
         ensures fits { EventFits self.now result }
     {
-        self.event(op, reg, End::Refused { why }, Trace::new(), 0)
+        self.event(op, reg, End::Refused { why }, 0)
     }
 
     /// The event of an operation on a memory that was refused.
@@ -229,7 +241,7 @@ impl Model {
         ensures event { result ≡ memory_event op [] (quiet (end.Refused why) self.now) }
         ensures fits { EventFits self.now result }
     {
-        self.memory_event(op, End::Refused { why }, Trace::new(), 0)
+        self.memory_event(op, End::Refused { why })
     }
 
     /// An access to a whole register at a place.
@@ -368,25 +380,35 @@ impl Model {
         self.whole(reg, place, 0)
     }
 
-    /// The event of an operation on a memory that has just ended.
-    pub(crate) fn memory_event(&self, op: Op, end: End, trace: Trace, differ: u64) -> Event
+    /// Ends the event of an operation on a memory, whose items it has.
+    pub(crate) fn conclude_memory(&self, end: End, differ: u64, event: &mut Event)
+        requires register { register_of self.now.chip event.old.op ≡ None }
+        requires numbers { HasNumbers self.now.chip (length self.now.layout.maps) event.old.op }
+        requires ends { has_end event.old.op end ≡ true }
+        requires within { IsEndWithin (digits_of self.now.chip event.old.op) end }
+        requires items { All (ItemFits self.now.layout) event.old.trace }
+        requires differ { differ ≤ 1 }
+        ensures event { event.new ≡ memory_event event.old.op event.old.trace (record { end = end; model = self.now; differ = differ }) }
+        ensures fits { EventFits self.now event.new }
+    {
+        event.end = end;
+        event.mirrored = 0;
+        event.desired = 0;
+        event.differ = differ;
+    }
+
+    /// The event of an operation on no register that has ended and sent nothing.
+    pub(crate) fn memory_event(&self, op: Op, end: End) -> Event
         requires register { register_of self.now.chip op ≡ None }
         requires numbers { HasNumbers self.now.chip (length self.now.layout.maps) op }
         requires ends { has_end op end ≡ true }
         requires within { IsEndWithin (digits_of self.now.chip op) end }
-        requires items { All (ItemFits self.now.layout) trace }
-        requires differ { differ ≤ 1 }
-        ensures event { result ≡ memory_event op trace (record { end = end; model = self.now; differ = differ }) }
+        ensures event { result ≡ memory_event op [] (record { end = end; model = self.now; differ = 0 }) }
         ensures fits { EventFits self.now result }
     {
-        Event {
-            op,
-            end,
-            trace,
-            mirrored: 0,
-            desired: 0,
-            differ,
-        }
+        let mut event = Event::begun(op);
+        self.conclude_memory(end, 0, &mut event);
+        event
     }
 }
 

@@ -1,5 +1,5 @@
 //! The operations of an access go out in order, until one fails.
-ghost use Rattle.std.specs.Prelude.{◌≡◌, ◌<◌, ◌≤◌, ◌^◌, map, length, All};
+ghost use Rattle.std.specs.Prelude.{◌≡◌, ◌<◌, ◌≤◌, ◌^◌, [], map, length, All};
 ghost use Rattle.rl_bus.specs.Causes.{AnswerHasCause};
 ghost use Rattle.rl_bus.specs.Device.{IsStep, IsPortOf};
 ghost use Rattle.rl_bus.specs.Standing.{standing_at, moved_on, kind_at, kinds_of};
@@ -38,29 +38,30 @@ pub(crate) fn send_one<D: Device>(
     }
 }
 
-/// Sends the operations through the adapter of that number, and ends after the first one that fails.
+/// Sends the operations through the adapter of that number, ends after the first one that fails, and leaves
+/// the items in a trace, which had none.
 pub(crate) fn send_all<D: Device>(
     device: &mut D,
     adapters: &mut Adapters,
     which: u32,
     port: u32,
     words: &Words,
-) -> Trace
+    trace: &mut Trace,
+)
+    requires empty { trace.old ≡ [] }
     requires few { length words.now ≤ 8 }
     requires port { IsPortOf (D.state device.old) port }
     requires in_range { which < length (map standing adapters.old.items) }
     requires fits { All (Fits (kind_at (kinds_of (map standing adapters.old.items)) which)) (ops_in words.now) }
-    ensures sent { AreSent which port (ops_in words.now) result (map standing adapters.old.items) (map standing adapters.new.items) (D.errors device.old) (D.errors device.new) (D.state device.old) (D.state device.new) }
+    ensures sent { AreSent which port (ops_in words.now) trace.new (map standing adapters.old.items) (map standing adapters.new.items) (D.errors device.old) (D.errors device.new) (D.state device.old) (D.state device.new) }
     ensures kinds { kinds_of (map standing adapters.new.items) ≡ kinds_of (map standing adapters.old.items) }
-    ensures small { All IsAnswerSmall result }
+    ensures small { All IsAnswerSmall trace.new }
 {
-    let mut trace = Trace::new();
     for k in 0..words.len() {
         let item = send_one(device, adapters, which, port, &words.op(k));
         trace.push(item);
         if item.answer.failed {
-            return trace;
+            return;
         }
     }
-    trace
 }

@@ -14,27 +14,91 @@ pub struct TraceItem {
     pub answer: Answer,
 }
 
-const NOTHING: TraceItem = TraceItem {
-    port: 0,
-    op: BusOp {
-        write: false,
+/// An item with its fields by falling size, which takes the least room.
+#[derive(Clone, Copy)]
+struct Kept {
+    address: u64,
+    word: u64,
+    tag: u64,
+    answer: u64,
+    port: u32,
+    lanes: u8,
+    bytes: u8,
+    write: bool,
+    failed: bool,
+}
+
+impl Model for Kept {
+    ghost use Rattle.rl_access.specs.declared.trace.TraceItem.{TraceItem};
+
+    ghost Value = { TraceItem };
+
+    ghost view = { λ k. record { port = k.port; op = record { write = k.write; address = k.address; word = k.word; lanes = k.lanes; bytes = k.bytes }; tag = k.tag; answer = record { word = k.answer; failed = k.failed } } };
+
+    ghost inverse = { λ t. record { address = t.op.address; word = t.op.word; tag = t.tag; answer = t.answer.word; port = t.port; lanes = t.op.lanes; bytes = t.op.bytes; write = t.op.write; failed = t.answer.failed } };
+}
+
+impl Kept {
+    const NOTHING: Kept = Kept {
         address: 0,
         word: 0,
+        tag: 0,
+        answer: 0,
+        port: 0,
         lanes: 0,
         bytes: 0,
-    },
-    tag: 0,
-    answer: Answer {
-        word: 0,
+        write: false,
         failed: false,
-    },
-};
+    };
+
+    fn of(item: TraceItem) -> Kept
+        ensures { result ≡ item }
+    {
+        Kept {
+            address: item.op.address,
+            word: item.op.word,
+            tag: item.tag,
+            answer: item.answer.word,
+            port: item.port,
+            lanes: item.op.lanes,
+            bytes: item.op.bytes,
+            write: item.op.write,
+            failed: item.answer.failed,
+        }
+    }
+
+    fn item(&self) -> TraceItem
+        ensures { result ≡ self.now }
+    {
+        TraceItem {
+            port: self.port,
+            op: BusOp {
+                write: self.write,
+                address: self.address,
+                word: self.word,
+                lanes: self.lanes,
+                bytes: self.bytes,
+            },
+            tag: self.tag,
+            answer: Answer {
+                word: self.answer,
+                failed: self.failed,
+            },
+        }
+    }
+
+    fn has_failed(&self) -> bool
+        ensures { result ≡ self.now.answer.failed }
+    {
+        self.failed
+    }
+}
 
 /// The items of an access in the order in which they were sent, at most 8.
 #[derive(Drop)]
 pub struct Trace {
     len: u32,
-    items: [TraceItem; 8],
+    items: [Kept; 8],
 }
 
 impl Model for Trace {
@@ -57,7 +121,7 @@ impl Trace {
     {
         Trace {
             len: 0,
-            items: [NOTHING; 8],
+            items: [Kept::NOTHING; 8],
         }
     }
 
@@ -66,7 +130,7 @@ impl Trace {
         requires { length self.old < 8 }
         ensures { self.new ≡ self.old ++ item ∷ [] }
     {
-        self.items[self.len as usize] = item;
+        self.items[self.len as usize] = Kept::of(item);
         self.len += 1;
     }
 
@@ -83,10 +147,10 @@ impl Trace {
         requires { k < length self.now }
         ensures { slice_get self.now k ≡ Some result }
     {
-        self.items[k as usize]
+        self.items[k as usize].item()
     }
 
-    fn as_slice(&self) -> &[TraceItem]
+    fn as_slice(&self) -> &[Kept]
         ensures { result.now ≡ self.now }
     {
         &self.items[..self.len as usize]
@@ -95,7 +159,7 @@ impl Trace {
     fn failed_place(&self) -> Option<usize>
         ensures { result ≡ failed_at self.now }
     {
-        self.as_slice().iter().position(|item| item.answer.failed)
+        self.as_slice().iter().position(|kept| kept.has_failed())
     }
 
     /// The number of the failed item.

@@ -11,7 +11,6 @@ ghost use Rattle.rl_access.specs.declared.event.Op.TheVariants as op;
 use crate::engine::write_as;
 use crate::event::{End, Event, Op};
 use crate::model::Model;
-use crate::trace::Trace;
 use rl_bus::{Adapter, Adapters, Device};
 use rl_mirror::law::update_brings;
 use rl_model::Item;
@@ -47,7 +46,7 @@ pub fn update<D: Device>(
             m.forget(place);
             write_as(m, d, a, op, &access, End::Sent { word })
         }
-        Ok(_) => m.event(op, reg, End::Nothing, Trace::new(), 0),
+        Ok(_) => m.event(op, reg, End::Nothing, 0),
         Err(why) => m.refuse(op, reg, why),
     }
 }

@@ -16,6 +16,7 @@ use crate::predictor::bytes_of_place;
 use crate::send::send_one;
 use crate::trace::TraceItem;
 use rl_bus::{Adapter, Adapters, BusOp, Device};
+use rl_split::Words;
 
 /// Sends one word of a whole write of a value, or of a whole read, at a place of a register. `k` is the
 /// word's number, counted from 0. Where the root is explicit the predictor sees the item.
@@ -54,7 +55,9 @@ fn word_of(m: &Model, place: u32, k: u32, value: Option<u64>) -> BusOp
     ensures bytes { result.bytes ≡ bus_bytes_of m.now.layout place }
 {
     let chosen = bytes_of_place(m.chip(), m.layout(), place);
-    let words = operations(m, place, 0, chosen, value.unwrap_or(0), value.is_some());
+    let mut words = Words::new();
+    let (carried, write) = (value.unwrap_or(0), value.is_some());
+    operations(m, place, 0, chosen, carried, write, &mut words);
     words.op(k)
 }
 

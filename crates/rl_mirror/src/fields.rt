@@ -1,10 +1,10 @@
 //! The fields of a register, and words that are made field by field.
-ghost use Rattle.std.specs.Prelude.{◌≡◌, ℕ, ◌+◌, ◌^◌, ◌<◌, ◌≤◌, ◌&&◌, ◌==◌, not, length, if◌then◌else◌};
+ghost use Rattle.std.specs.Prelude.{◌≡◌, ℕ, ◌+◌, ◌^◌, ◌<◌, ◌≤◌, ◌&&◌, ◌==◌, not, length};
 ghost use Rattle.rl_policy.specs.Bits.{bit};
 ghost use Rattle.rl_policy.specs.Table.{spends_mark};
 ghost use Rattle.rl_model.specs.Chip.{IsSound};
 ghost use Rattle.rl_mirror.specs.Compared.{is_compared, differing};
-ghost use Rattle.rl_mirror.specs.Effect.{effect_bit};
+ghost use Rattle.rl_mirror.specs.Effect.{effect_bit, overlaid};
 ghost use Rattle.rl_mirror.specs.Fields.{field_of, first_of, count_of, size_of, fields_of, field_in, policy_in, word_by_field, owned, part_of};
 ghost use Rattle.rl_mirror.specs.Mirror.{IsValueOf, marks_in};
 ghost use Rattle.rl_mirror.specs.Prediction.{shown, left_by_read, spent_after};
@@ -89,7 +89,7 @@ pub(crate) fn overlaid(
     requires kept { kept ≡ owned (fields_of chip.now reg) kept }
     ensures sound { IsSound chip.now }
     ensures held { IsValueOf chip.now reg result }
-    ensures value { result ≡ word_by_field (fields_of chip.now reg) (λ k b. if bit fields k then effect_bit effect (policy_in (fields_of chip.now reg) k) (marks_in chip.now spent.now reg k) b else bit kept b) }
+    ensures value { result ≡ overlaid chip.now reg spent.now fields effect kept }
 {
     let mut word = kept;
     for k in 0..field_count(chip, reg) {
@@ -101,6 +101,31 @@ pub(crate) fn overlaid(
         word = replaced(word, by, window(field.lsb, field.width));
     }
     word
+}
+
+/// The same over a desired word, which is `known` where the mirrored word is the desired one.
+pub(crate) fn wished(
+    chip: &Chip,
+    reg: u32,
+    spent: &[bool],
+    fields: u64,
+    effect: Effect,
+    desired: u64,
+    mirrored: u64,
+    known: u64,
+) -> u64
+    requires reg { reg < length chip.now.regs }
+    requires desired { desired ≡ owned (fields_of chip.now reg) desired }
+    requires held { IsValueOf chip.now reg known }
+    requires known { desired ≡ mirrored → known ≡ overlaid chip.now reg spent.now fields effect desired }
+    ensures held { IsValueOf chip.now reg result }
+    ensures value { result ≡ overlaid chip.now reg spent.now fields effect desired }
+{
+    if desired == mirrored {
+        known
+    } else {
+        overlaid(chip, reg, spent, fields, effect, desired)
+    }
 }
 
 /// The word with what `effect` makes of each field, and 0 in the bits without a field.

@@ -7,7 +7,7 @@ ghost use Rattle.rl_mirror.specs.Reachable.{IsReachable};
 ghost use Rattle.rl_mirror.specs.Prediction.{written, predict_write, predict_read, predict_raw, reset, set, fresh, needs_update, update_word_of, neutral_around};
 
 use crate::effect::Effect;
-use crate::fields::{assembled, differing, numbered_field, overlaid, owned, spend};
+use crate::fields::{assembled, differing, numbered_field, overlaid, owned, spend, wished};
 use crate::resets::{clear, reset_all};
 use rl_model::{Chip, Field};
 use rl_policy::policy::set_value;
@@ -66,8 +66,19 @@ impl Mirror {
             stored: mirrored,
             word: value,
         };
-        self.mirrored[reg as usize] = overlaid(chip, reg, &self.spent, fields, effect, mirrored);
-        self.desired[reg as usize] = overlaid(chip, reg, &self.spent, fields, effect, desired);
+        let known = overlaid(chip, reg, &self.spent, fields, effect, mirrored);
+        let wish = wished(
+            chip,
+            reg,
+            &self.spent,
+            fields,
+            effect,
+            desired,
+            mirrored,
+            known,
+        );
+        self.mirrored[reg as usize] = known;
+        self.desired[reg as usize] = wish;
         spend(chip, reg, fields, &mut self.spent);
     }
 
@@ -81,28 +92,18 @@ impl Mirror {
     {
         let mirrored = self.mirrored[reg as usize];
         let desired = self.desired[reg as usize];
-        self.mirrored[reg as usize] = overlaid(
-            chip,
-            reg,
-            &[],
-            fields,
-            Effect::Learned {
-                read: value,
-                kept: mirrored,
-            },
-            mirrored,
-        );
-        self.desired[reg as usize] = overlaid(
-            chip,
-            reg,
-            &[],
-            fields,
-            Effect::Learned {
-                read: value,
-                kept: desired,
-            },
-            desired,
-        );
+        let effect = Effect::Learned {
+            read: value,
+            kept: mirrored,
+        };
+        let known = overlaid(chip, reg, &[], fields, effect, mirrored);
+        let effect = Effect::Learned {
+            read: value,
+            kept: desired,
+        };
+        let wish = wished(chip, reg, &[], fields, effect, desired, mirrored, known);
+        self.mirrored[reg as usize] = known;
+        self.desired[reg as usize] = wish;
     }
 
     /// Takes the register's bits as known to be those of `value`.

@@ -1,5 +1,5 @@
 pub mod Carried
-pub mod Pairs
+pub mod Kept
 pub mod Adding
 pub mod OneLane
 pub mod Compose

@@ -1,5 +1,5 @@
 //! The operations of an access, and the value that their answers bring.
-ghost use Rattle.std.specs.Prelude.{◌≡◌, ℕ, ◌^◌, ◌<◌, ◌≤◌, false, length, All};
+ghost use Rattle.std.specs.Prelude.{◌≡◌, ℕ, ◌^◌, ◌<◌, ◌≤◌, [], false, length, All};
 ghost use Rattle.rl_bus.specs.Spread.{AreInCell};
 ghost use Rattle.rl_bus.specs.Lanes.{all_lanes};
 ghost use Rattle.rl_bus.specs.Wire.{Fits};
@@ -64,11 +64,35 @@ pub fn split(layout: &Layout, place: u32, index: u32, chosen: u8, value: u64, wr
     ensures few { length result ≤ 8 }
     ensures fits { All (Fits (kind_of layout.now place)) (ops_in result) }
 {
+    let mut words = Words::new();
+    split_into(layout, place, index, chosen, value, write, &mut words);
+    words
+}
+
+/// The same into a list that has no operation yet.
+pub fn split_into(
+    layout: &Layout,
+    place: u32,
+    index: u32,
+    chosen: u8,
+    value: u64,
+    write: bool,
+    words: &mut Words,
+)
+    requires empty { words.old ≡ [] }
+    requires location { IsLocation layout.now place index }
+    requires chosen { IsChoice (place_at layout.now place).bytes chosen }
+    requires value { value < 256 ^ (place_at layout.now place).bytes }
+    ensures ops { ops_in words.new ≡ ops_of layout.now place index chosen value write }
+    ensures orders { orders_in words.new ≡ orders_of layout.now place index chosen }
+    ensures some { 0 < length words.new }
+    ensures few { length words.new ≤ 8 }
+    ensures fits { All (Fits (kind_of layout.now place)) (ops_in words.new) }
+{
     let port = layout.port_of(place);
     prove!(port < layout.ports());
     let kind = layout.port_kind(port);
     let bus_bytes = layout.port_bytes(port) as u8;
-    let mut words = Words::new();
     for k in 0..layout.words(place) {
         let word = layout.word(place, index, k);
         let lanes = lanes_for(&word, chosen);
@@ -79,7 +103,6 @@ pub fn split(layout: &Layout, place: u32, index: u32, chosen: u8, value: u64, wr
             );
         }
     }
-    words
 }
 
 /// The value that the answers to a read bring: each chosen byte is that of the answer to its word, at its

@@ -13,7 +13,7 @@ mod lanes;
 pub mod law;
 mod words;
 
-pub use access::{join, split};
+pub use access::{join, split, split_into};
 pub use answers::Answers;
 pub use fields::narrow;
 pub use words::Words;

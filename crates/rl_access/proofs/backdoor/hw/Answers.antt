@@ -1,4 +1,4 @@
-use Rattle.std.proofs.Common.{Ok, ap, ◌∙◌}
+use Rattle.std.proofs.Common.{Ok, ap, ◌∙◌, refl}
 use Rattle.rl_model.specs.declared.rows.Field.{Field}
 use Rattle.rl_access.specs.declared.event.Refused.TheVariants.{NotVolatile}
 use Rattle.rl_access.specs.Rules.{fitting_field, only_where}
@@ -10,4 +10,4 @@ returns-in-Ok-clause-performs g c =
     let m = c.args.m.now in
     let volatile = c.only_where-grant.ensures ∙ ap (λ (f : Field). only_where (Ok 0) f.volatile NotVolatile) c.field-shape.ensures.field in
     let granted = then_only (fitting_field m c.args.field c.args.value) _ _ _ _ volatile c.fitting_field.ensures.grant c.in-Ok.is in
-    hw_performs m _ _ _ _ c.args.field c.args.value _ _ _ _ granted c.set_by_hardware.ensures.step (ap (λ (f : Field). f.reg) c.field-shape.ensures.field) c.new.ensures c.event.ensures.event c.set_by_hardware.ensures.later
+    hw_performs m _ _ _ _ c.args.field c.args.value _ _ _ _ granted c.set_by_hardware.ensures.step (ap (λ (f : Field). f.reg) c.field-shape.ensures.field) refl c.event.ensures.event c.set_by_hardware.ensures.later

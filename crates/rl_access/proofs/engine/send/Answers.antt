@@ -1,7 +1,5 @@
-use Rattle.std.proofs.Common.{◌≡◌, ◌<◌, All, length, map, ap, sym, subst, ◌∙◌}
+use Rattle.std.proofs.Common.{◌≡◌, ◌<◌, All, length, ap, sym, subst, ◌∙◌}
 use Rattle.std.proofs.lemmas.List.{length-map}
-use Rattle.rl_bus.specs.Standing.{Standing, kind_at, kinds_of}
-use Rattle.rl_bus.specs.Wire.{Fits}
 use Rattle.rl_map.specs.Layout.{LayoutData, place_at, port_at}
 use Rattle.rl_split.specs.Lists.{ops_in}
 use Rattle.rl_access.proofs.Ready.{port_of_device, fits_there, ready_later}
@@ -29,8 +27,8 @@ returns-clause-fit g c =
     let m = c.args.m.now in
     let port : c.port_of-port.result ≡ (place_at m.layout c.args.place).port = c.port_of-port.ensures.port ∙ ap (λ (l : LayoutData). (place_at l c.args.place).port) c.layout.ensures.layout in
     let inside : c.port_of-port.result < length m.layout.ports = subst (λ (l : LayoutData). c.port_of-port.result < length l.ports) c.layout.ensures.layout c.port_of-port.ensures.in_range in
-    items_fit m.layout c.port_of-port.result _ _ (ops_in c.args.words.now) c.send_all.result c.send_all.ensures.sent.items_are inside
+    items_fit m.layout c.port_of-port.result _ _ (ops_in c.args.words.now) c.send_all.new.trace c.send_all.ensures.sent.items_are inside
     (subst (λ p. All (λ o. o.bytes ≡ (port_at m.layout p).bytes) (ops_in c.args.words.now)) (sym port) c.requires.bytes) c.requires.fits c.send_all.ensures.small
 
 pub returns-clause-whole : goal.returns-clause-whole
-returns-clause-whole g c = whole_trace _ c.port_of-port.result (ops_in c.args.words.now) c.send_all.result (length c.args.words.now) c.send_all.ensures.sent.items_are (length-map c.args.words.now _)
+returns-clause-whole g c = whole_trace _ c.port_of-port.result (ops_in c.args.words.now) c.send_all.new.trace (length c.args.words.now) c.send_all.ensures.sent.items_are (length-map c.args.words.now _)

@@ -1,4 +1,4 @@
-use Rattle.std.proofs.Common.{◌≡◌, Ok, refl, ap, sym, ◌∙◌}
+use Rattle.std.proofs.Common.{◌≡◌, Ok, refl, ap, sym, ◌∙◌, []}
 use Rattle.rl_model.specs.declared.rows.Field.{Field}
 use Rattle.rl_access.specs.declared.event.End.TheVariants as end
 use Rattle.rl_access.specs.declared.event.Op.TheVariants as op
@@ -13,6 +13,6 @@ returns-in-Ok-clause-performs c adapters errors device =
     let m = c.args.m.now in
     let asked = op.Set c.args.field c.args.value in
     let granted : grant m asked ≡ Ok c.in-Ok.field-0 = sym c.fitting_field.ensures.grant ∙ c.in-Ok.is in
-    quiet_performs m c.set.new.self asked asked c.in-Ok.field-0 (reg_of m.chip c.args.field) c.field-reg.result.reg end.Done c.new.result c.event.result adapters errors device granted refl
+    quiet_performs m c.set.new.self asked asked c.in-Ok.field-0 (reg_of m.chip c.args.field) c.field-reg.result.reg end.Done [] c.event.result adapters errors device granted refl
     (is_set m c.set.new.self c.args.field c.args.value c.in-Ok.field-0 c.set.ensures)
-    (ap (λ (f : Field). f.reg) c.field-reg.ensures.field) c.new.ensures c.event.ensures.event
+    (ap (λ (f : Field). f.reg) c.field-reg.ensures.field) refl c.event.ensures.event

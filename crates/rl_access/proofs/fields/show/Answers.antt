@@ -1,4 +1,4 @@
-use Rattle.std.proofs.Common.{refl}
+use Rattle.std.proofs.Common.{refl, []}
 use Rattle.rl_access.specs.declared.event.End.TheVariants as end
 use Rattle.rl_access.specs.declared.event.Op.TheVariants as op
 use Rattle.rl_access.proofs.OverBus.{is_show}
@@ -9,4 +9,4 @@ pub returns-clause-performs : goal.returns-clause-performs
 returns-clause-performs c adapters errors device =
     let m = c.args.m.now in
     let asked = op.Show c.args.reg in
-    quiet_performs m m asked asked 0 c.args.reg c.args.reg end.Done c.new.result c.event.result adapters errors device refl refl (is_show m c.args.reg) refl c.new.ensures c.event.ensures.event
+    quiet_performs m m asked asked 0 c.args.reg c.args.reg end.Done [] c.event.result adapters errors device refl refl (is_show m c.args.reg) refl refl c.event.ensures.event

@@ -1,6 +1,7 @@
-use Rattle.std.proofs.Common.{false, refl, sym}
+use Rattle.std.proofs.Common.{false, refl, sym, ap, ◌∙◌}
 use Rattle.rl_model.specs.declared.rows.Item.TheVariants as item
-use Rattle.rl_access.specs.Rules.{at_location, fitting}
+use Rattle.rl_access.specs.declared.event.Event.{Event}
+use Rattle.rl_access.specs.Rules.{Outcome, at_location, fitting, memory_event}
 use Rattle.rl_access.proofs.BackPerforms.{then_only}
 use Rattle.rl_access.proofs.MemoryPerforms.{way_is, map_is, mem_check_performs}
 use Rattle.rl_access.proofs.memory.mem_check.Goals as goal
@@ -13,6 +14,6 @@ returns-in-Ok-clause-performs g c =
     let inside = then_only (at_location m mem c.args.index) _ _ _ _ way c.at_location.ensures.grant refl in
     let granted = then_only (fitting m (item.Mem mem) c.args.value) _ _ _ _ (sym inside) c.fitting.ensures.grant c.in-Ok.is in
     let used = map_is m mem c.args.map c.place_of-place.result c.map_used.result c.place_of-place.ensures.place c.map_used.ensures.map in
-    let done = c.read_location-done in
-    mem_check_performs m _ _ _ _ _ _ mem c.args.index c.args.value c.in-Ok.place c.args.map c.map_used.result done.result.end c.differs-differ.result done.result.trace _
-    granted used done.ensures.sent done.ensures.end c.differs-differ.ensures.value c.memory_event.ensures.event
+    let done = c.read_location-end in
+    mem_check_performs m _ _ _ _ _ _ mem c.args.index c.args.value c.in-Ok.place c.args.map c.map_used.result done.result c.differs.result done.new.trace _
+    granted used done.ensures.sent done.ensures.end c.differs.ensures.value (c.conclude_memory.ensures.event ∙ ap (λ (x : Event). let o : Outcome = record { end = done.result; model = m; differ = c.differs.result } in memory_event x.op done.new.trace o) c.begun-event.ensures)

@@ -1,6 +1,7 @@
-use Rattle.std.proofs.Common.{true, refl, sym}
+use Rattle.std.proofs.Common.{true, refl, sym, ap, ◌∙◌}
 use Rattle.rl_model.specs.declared.rows.Item.TheVariants as item
-use Rattle.rl_access.specs.Rules.{at_location, fitting, writable}
+use Rattle.rl_access.specs.declared.event.Event.{Event}
+use Rattle.rl_access.specs.Rules.{at_location, fitting, writable, memory_event, quiet}
 use Rattle.rl_access.proofs.BackPerforms.{then_only}
 use Rattle.rl_access.proofs.MemoryPerforms.{way_is, map_is, mem_write_performs}
 use Rattle.rl_access.proofs.memory.mem_write.Goals as goal
@@ -14,5 +15,6 @@ returns-in-Ok-clause-performs g c =
     let inside = then_only (at_location m mem c.args.index) _ _ _ _ (sym may) c.at_location.ensures.grant refl in
     let granted = then_only (fitting m (item.Mem mem) c.args.value) _ _ _ _ (sym inside) c.fitting.ensures.grant c.in-Ok.is in
     let used = map_is m mem c.args.map c.place_of-place.result c.map_used.result c.place_of-place.ensures.place c.map_used.ensures.map in
-    let done = c.write_location-done in
-    mem_write_performs m _ _ _ _ _ _ mem c.args.index c.args.value c.in-Ok.place c.args.map c.map_used.result done.result.end done.result.trace _ granted used done.ensures.sent done.ensures.end c.memory_event.ensures.event
+    let done = c.write_location-end in
+    mem_write_performs m _ _ _ _ _ _ mem c.args.index c.args.value c.in-Ok.place c.args.map c.map_used.result done.result done.new.trace _ granted used done.ensures.sent done.ensures.end
+    (c.conclude_memory.ensures.event ∙ ap (λ (x : Event). memory_event x.op done.new.trace (quiet done.result m)) c.begun-event.ensures)

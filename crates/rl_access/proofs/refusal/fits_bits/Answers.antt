@@ -1,4 +1,3 @@
-use Rattle.std.proofs.Common.{◌≡◌}
 use Rattle.rl_access.proofs.Rights.{most_below}
 use Rattle.rl_access.proofs.refusal.fits_bits.Goals as goal
 

@@ -1,6 +1,4 @@
-use Rattle.std.proofs.Common.{◌≡◌, ap, ◌∙◌, sym}
-use Rattle.std.proofs.Common.{Bool, ℕ}
-use Rattle.rl_policy.specs.Bits.{bit}
+use Rattle.std.proofs.Common.{ap, ◌∙◌, sym}
 use Rattle.rl_map.specs.Layout.{has_right}
 use Rattle.rl_access.proofs.Rights.{reads, writes}
 use Rattle.rl_access.proofs.refusal.has_right.Goals as goal

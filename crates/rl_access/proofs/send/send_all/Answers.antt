@@ -1,8 +1,7 @@
-use Rattle.std.proofs.Common.{arith, length, ◌≤◌, ◌≡◌, map, ℕ}
+use Rattle.std.proofs.Common.{arith, length, ◌≤◌}
 use Rattle.std.proofs.lemmas.List.{length-map}
-use Rattle.rl_bus.specs.declared.op.BusOp.{BusOp}
 use Rattle.rl_split.specs.Lists.{ops_in}
-use Rattle.rl_access.proofs.UnderWay.{under_way_first, under_way_next, under_way_failed, under_way_done, next_of, still_within, still_port, still_fits}
+use Rattle.rl_access.proofs.UnderWay.{under_way_next, under_way_failed, under_way_done, next_of, still_port, still_fits}
 use Rattle.rl_access.proofs.send.send_all.Goals as goal
 
 pub send_one-item-requires-clause-port : goal.send_one-item-requires-clause-port

@@ -1,4 +1,4 @@
-use Rattle.std.proofs.Common.{◌≡◌, true, false, Ok, refl, ap, sym, ◌∙◌}
+use Rattle.std.proofs.Common.{◌≡◌, true, false, Ok, refl, ap, sym, ◌∙◌, []}
 use Rattle.rl_model.specs.declared.rows.Item.TheVariants as item
 use Rattle.rl_mirror.specs.Prediction.{needs_update}
 use Rattle.rl_access.specs.declared.event.End.TheVariants as end
@@ -32,8 +32,8 @@ returns-in-Ok-2-clause-performs g c =
     let granted : grant m asked ≡ Ok c.in-Ok.place = sym way ∙ c.in-Ok.is in
     let nothing : needs_update m.mirror c.args.reg ≡ false = sym c.needs_update.ensures ∙ c.if-needs_update.false in
     let names : op.Update c.args.reg c.map_used.result ≡ named m asked = ap (λ u. op.Update c.args.reg u) (map_is m reg c.args.map c.place_of-place.result c.map_used.result c.place_of-place.ensures.place c.map_used.ensures.map) in
-    quiet_performs m m asked (op.Update c.args.reg c.map_used.result) c.in-Ok.place c.args.reg c.args.reg end.Nothing c.new.result c.event.result _ (g.D.Device.errors c.args.d.now) (g.D.Device.state c.args.d.now) granted names
-    (is_no_update m c.args.reg c.args.map c.in-Ok.place nothing) refl c.new.ensures c.event.ensures.event
+    quiet_performs m m asked (op.Update c.args.reg c.map_used.result) c.in-Ok.place c.args.reg c.args.reg end.Nothing [] c.event.result _ (g.D.Device.errors c.args.d.now) (g.D.Device.state c.args.d.now) granted names
+    (is_no_update m c.args.reg c.args.map c.in-Ok.place nothing) refl refl c.event.ensures.event
 
 pub returns-in-Ok-clause-wishes : goal.returns-in-Ok-clause-wishes
 returns-in-Ok-clause-wishes g c =

@@ -13,18 +13,18 @@ pub op-requires : goal.op-requires
 op-requires c =
     let l = c.args.m.now.layout in
     let place = c.args.place in
-    let words = c.operations-words.result in
+    let words = c.operations.new.words in
     let chosen : c.bytes_of_place-chosen.result ≡ all_bytes (place_at l place).bytes = c.bytes_of_place-chosen.ensures.bytes ∙ ap (λ (x : LayoutData). all_bytes (place_at x place).bytes) c.layout.ensures.layout in
     let count : length words ≡ length (words_of l place 0) =
     sym (length-map words (λ (p : BusOp × ℕ). p.0))
-    ∙ ap length c.operations-words.ensures.ops
-    ∙ ap (λ x. length (ops_of l place 0 x c.unwrap_or.result c.is_some.result)) chosen
-    ∙ whole_count l place 0 c.unwrap_or.result c.is_some.result c.layout.ensures.sound.layout (first_of_place l place c.layout.ensures.sound.layout c.requires.place.inside)
+    ∙ ap length c.operations.ensures.ops
+    ∙ ap (λ x. length (ops_of l place 0 x c.unwrap_or-carried.result c.is_some-write.result)) chosen
+    ∙ whole_count l place 0 c.unwrap_or-carried.result c.is_some-write.result c.layout.ensures.sound.layout (first_of_place l place c.layout.ensures.sound.layout c.requires.place.inside)
     in
     subst (λ n. c.args.k < n) (sym count) c.requires.word
 
 pub returns-clause-fits : goal.returns-clause-fits
-returns-clause-fits c = at_number (Fits (kind_of c.args.m.now.layout c.args.place)) (ops_in c.operations-words.result) c.args.k c.op.result c.operations-words.ensures.fits c.op.ensures
+returns-clause-fits c = at_number (Fits (kind_of c.args.m.now.layout c.args.place)) (ops_in c.operations.new.words) c.args.k c.op.result c.operations.ensures.fits c.op.ensures
 
 pub returns-clause-bytes : goal.returns-clause-bytes
-returns-clause-bytes c = at_number (λ (o : BusOp). o.bytes ≡ bus_bytes_of c.args.m.now.layout c.args.place) (ops_in c.operations-words.result) c.args.k c.op.result c.operations-words.ensures.bytes c.op.ensures
+returns-clause-bytes c = at_number (λ (o : BusOp). o.bytes ≡ bus_bytes_of c.args.m.now.layout c.args.place) (ops_in c.operations.new.words) c.args.k c.op.result c.operations.ensures.bytes c.op.ensures

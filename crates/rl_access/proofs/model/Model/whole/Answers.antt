@@ -1,4 +1,4 @@
-use Rattle.std.proofs.Common.{◌≡◌, Some, ap, ◌∙◌, subst}
+use Rattle.std.proofs.Common.{◌≡◌, Some, subst}
 use Rattle.rl_model.specs.Chip.{bytes_of}
 use Rattle.rl_model.specs.declared.rows.Item.TheVariants as item
 use Rattle.rl_access.specs.Model.{IsModel, ModelData}

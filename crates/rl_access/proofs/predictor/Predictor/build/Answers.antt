@@ -1,5 +1,4 @@
-use Rattle.std.proofs.Common.{◌≡◌, length, replicate, ◌∙◌, sym, subst, arith}
-use Rattle.rl_access.specs.Gathering.{IsPredictorOf, IsNothingGathered, no_words}
+use Rattle.std.proofs.Common.{◌≡◌, length, arith}
 use Rattle.rl_access.proofs.Places.{none_gathered, fresh_predictor}
 use Rattle.rl_access.proofs.predictor.Predictor.build.Goals as goal
 

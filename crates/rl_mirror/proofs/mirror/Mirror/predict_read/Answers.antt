@@ -18,10 +18,10 @@ returns-clause-value c =
     let in_desired : reg < length m.desired = omega (arith, built.wishes, c.requires.reg) in
     let mirrored : c.index-mirrored.result.now ≡ mirrored_of m reg = get_or_read_under m.mirrored reg (length m.mirrored) c.index-mirrored.result.now 0 c.index-mirrored.ensures in_mirrored refl in
     let desired : c.index-desired.result.now ≡ desired_of m reg = get_or_read_under m.desired reg (length m.desired) c.index-desired.result.now 0 c.index-desired.ensures in_desired refl in
-    read_is chip reg c.args.value c.args.fields m c.index-mirrored.result.now c.index-desired.result.now c.overlaid.result c.overlaid-2.result [] []
-    mirrored desired c.overlaid.ensures.value c.overlaid-2.ensures.value
+    read_is chip reg c.args.value c.args.fields m c.index-mirrored.result.now c.index-desired.result.now c.overlaid-known.result c.wished-wish.result [] []
+    mirrored desired c.overlaid-known.ensures.value c.wished-wish.ensures.value
     ∙ ap (predict_read chip reg c.args.value c.args.fields) is
 
 pub returns-clause-reach : goal.returns-clause-reach
 returns-clause-reach c was =
-    subst (λ (m : MirrorData). IsReachable c.args.chip.now m) (sym (returns-clause-value c)) (read_reach c.args.chip.now c.args.reg c.args.value c.args.fields c.args.self.now c.overlaid.ensures.sound c.requires.reg c.requires.built was)
+    subst (λ (m : MirrorData). IsReachable c.args.chip.now m) (sym (returns-clause-value c)) (read_reach c.args.chip.now c.args.reg c.args.value c.args.fields c.args.self.now c.overlaid-known.ensures.sound c.requires.reg c.requires.built was)

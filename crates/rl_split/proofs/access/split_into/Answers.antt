@@ -8,8 +8,8 @@ use Rattle.rl_split.specs.Access.{sent_words, op_for, op_of, ops_of, orders_of, 
 use Rattle.rl_split.specs.Lists.{ops_in, orders_in}
 use Rattle.rl_split.proofs.Sending.{is_here}
 use Rattle.rl_split.proofs.Sent.{Pair, is_sent, is_left_out, pairs_more, pairs_same, firsts, seconds, some_sent, ops_fit}
-use Rattle.rl_split.proofs.access.split.Goals as goal
-use Rattle.rl_split.proofs.access.split.Goals.{then-lanes-ne0, else-lanes-ne0}
+use Rattle.rl_split.proofs.access.split_into.Goals as goal
+use Rattle.rl_split.proofs.access.split_into.Goals.{then-lanes-ne0, else-lanes-ne0}
 
 pub loop-k-preserved : goal.loop-k-preserved
 loop-k-preserved c =
