@@ -5,16 +5,14 @@ use Rattle.std.specs.Io.KnownBytes.{Appends, Keeps, append_known}
 use Rattle.std.proofs.lemmas.Bool.{true≢false}
 use Rattle.rl_bus.specs.declared.op.AdapterKind.{AdapterKind}
 use Rattle.rl_desc.specs.Data.{DescData}
-use Rattle.rl_map.specs.LayoutText.{layout_text}
 use Rattle.rl_report.specs.Pieces.{AppendsFront}
 use Rattle.regrun.specs.declared.counts.Counts.{Counts}
 use Rattle.regrun.specs.declared.status.Status.{Status}
 use Rattle.regrun.specs.declared.status.Status.TheVariants.{Passed, Found, Refused, SinkFault}
-use Rattle.regrun.specs.Endings.{Writes, MapEnds, SoakEnds, is_clean, end_status, IsCounted}
-use Rattle.regrun.specs.Session.{opening_of, refusal_of, map_text, map_status}
-use Rattle.regrun.specs.Soak.{soak_line_text}
+use Rattle.regrun.specs.Endings.{Writes, is_clean, end_status, IsCounted}
+use Rattle.regrun.specs.Session.{refusal_of}
 use Rattle.regrun.specs.Statuses.{is_complete}
-use Rattle.regrun.specs.Telling.{Tells, Stops, MapTells, IsSoakTold, SoakTells}
+use Rattle.regrun.specs.Telling.{Tells, Stops}
 use Rattle.regrun.proofs.BufferLemmas.{keeps_trans, keeps_then_appends}
 
 -- ---- known bytes

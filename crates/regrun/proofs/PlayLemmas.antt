@@ -24,7 +24,7 @@ use Rattle.regrun.specs.declared.status.Status.TheVariants.{Refused}
 use Rattle.regrun.specs.declared.texts.LineRefusal.{LineRefusal}
 use Rattle.regrun.specs.declared.texts.LineRefusal.TheVariants.{TooLong, TooManyLines}
 use Rattle.regrun.specs.Endings.{end_status}
-use Rattle.regrun.specs.Entry.{Entry}
+use Rattle.regrun.specs.Entry.{Entry, entry_of}
 use Rattle.regrun.specs.Log.{Ending, script_from, goes_on, comes_of, there, after_text, ends, stops, said}
 use Rattle.regrun.specs.Played.{coming, EndsAs, IsOver, IsTurn, RanOn, Stopped, PassesTo, Ran, IsUnknown, BrokeOff, IsLineRun}
 use Rattle.regrun.specs.Recording.{with_events}
@@ -75,14 +75,14 @@ hands_some bytes got.End new left some h = absurd (some refl)
 
 -- ---- a turn
 
-err_is : {x y : LineRefusal} → Err {A = Entry} x ≡ Err y → x ≡ y
-err_is e = cc
+err_is : {x y : LineRefusal} (r : Result Entry LineRefusal) → r ≡ Err x → r ≡ Err y → x ≡ y
+err_is r e f = cc
 
-ok_is : {x y : Entry} → Ok {B = LineRefusal} x ≡ Ok y → x ≡ y
-ok_is e = cc
+ok_is : {x y : Entry} (r : Result Entry LineRefusal) → r ≡ Ok x → r ≡ Ok y → x ≡ y
+ok_is r e f = cc
 
-err_ok : {x : LineRefusal} {y : Entry} → Err {A = Entry} x ≡ Ok y → ⊥
-err_ok e = cc
+err_ok : {x : LineRefusal} {y : Entry} (r : Result Entry LineRefusal) → r ≡ Err x → r ≡ Ok y → ⊥
+err_ok r e f = cc
 
 pub ran_on : (given : Option Entry) (old new : Option (List ℕ)) (counts now : Counts) (m : ModelData) (a : List Standing) (st : Option State) → Ran given old new counts now m a st → RanOn (there given) old new counts now m a st
 ran_on given old new counts now m a st r = record { entry = r.entry; is = ap there r.is; text = r.text; counted = r.counted; after = r.after }
@@ -99,24 +99,37 @@ pub unknown_stops : (number : ℕ) (given : Option Entry) (why : LineRefusal) (s
     → IsUnknown given why old mid counts now w m a st → Tells status Refused mid new (refused_text number why) → Stopped number (there given) status old new counts now w m a st
 unknown_stops number given why status old mid new counts now w m a st u t = record {
   refused = λ other e.
-      let same : why ≡ other = u.why_is ∙ err_is (sym (ap there u.none) ∙ e) in
+      let same : why ≡ other = u.why_is ∙ err_is (there given) (ap there u.none) e in
       subst (λ y. EndsAs (stops number y counts w) status old new now m a st) same (stops_over number why status old mid new counts now w m a st u.text t u.counted u.after);
-  broken = λ entry e. absurd (err_ok (sym (ap there u.none) ∙ e));
+  broken = λ entry e. absurd (err_ok (there given) (ap there u.none) e);
 }
 
 pub refused_stops : (number : ℕ) (why : LineRefusal) (status : Status) (old new : Option (List ℕ)) (counts : Counts) (w : World) (m : ModelData) (a : List Standing) (st : Option State)
     → IsAt m a st w → Tells status Refused old new (refused_text number why) → Stopped number (Err why) status old new counts counts w m a st
 refused_stops number why status old new counts w m a st here t = record {
-  refused = λ other e. subst (λ y. EndsAs (stops number y counts w) status old new counts m a st) (err_is e) (stops_over number why status old old new counts counts w m a st (keeps_refl old) t refl here);
-  broken = λ entry e. absurd (err_ok e);
+  refused = λ other e. subst (λ y. EndsAs (stops number y counts w) status old new counts m a st) (err_is (Err why) refl e) (stops_over number why status old old new counts counts w m a st (keeps_refl old) t refl here);
+  broken = λ entry e. absurd (err_ok (Err why) refl e);
 }
 
 pub broke_stops : (number : ℕ) (given : Option Entry) (status : Status) (old new : Option (List ℕ)) (counts now : Counts) (w : World) (m : ModelData) (a : List Standing) (st : Option State)
     → is_complete status ≡ false → BrokeOff given old new → Stopped number (there given) status old new counts now w m a st
 broke_stops number given status old new counts now w m a st early b = record {
-  refused = λ why e. absurd (err_ok (sym e ∙ ap there b.is));
-  broken = λ entry e. (early, subst (λ (x : Entry). AppendsFront old new x.text) (ok_is (sym (ap there b.is) ∙ e)) b.text);
+  refused = λ why e. absurd (err_ok (there given) e (ap there b.is));
+  broken = λ entry e. (early, subst (λ (x : Entry). AppendsFront old new x.text) (ok_is (there given) (ap there b.is) e) b.text);
 }
+
+-- a line that was run, but for a name that isn't there
+unknown_one : (number : ℕ) (w : World) (line : Line) (s : Result Line LineRefusal) (o : Option LineRefusal) (why : LineRefusal) (status : Status) (old mid new : Option (List ℕ)) (counts now : Counts) (m : ModelData) (a : List Standing) (st : Option State)
+    → s ≡ Ok line → o ≡ Some why → IsLineRun (entry_of w line) w old mid counts now m a st (Ok o) → Tells status Refused mid new (refused_text number why) → Stopped number (comes_of w s) status old new counts now w m a st
+unknown_one number w line s o why status old mid new counts now m a st is some h t =
+    let u : IsUnknown (entry_of w line) why old mid counts now w m a st = subst (λ o. IsLineRun (entry_of w line) w old mid counts now m a st (Ok o)) some h in
+    subst (λ s. Stopped number (comes_of w s) status old new counts now w m a st) (sym is) (unknown_stops number (entry_of w line) why status old mid new counts now w m a st u t)
+
+pub unknown_turn : (before : Option State) (number : ℕ) (m n : ModelData) (a b : List Standing) (after : Option State) (line : Line) (s : Result Line LineRefusal) (o : Option LineRefusal) (why : LineRefusal) (status : Status) (old mid new : Option (List ℕ)) (counts now : Counts)
+    → s ≡ Ok line → o ≡ Some why → IfSome before (λ d. IsLineRun (entry_of (world m a d) line) (world m a d) old mid counts now n b after (Ok o)) → Tells status Refused mid new (refused_text number why)
+    → IfSome before (λ d. IsTurn number (comes_of (world m a d) s) old new counts now (world m a d) n b after (Stop status))
+unknown_turn None number m n a b after line s o why status old mid new counts now is some h t = tt
+unknown_turn (Some d) number m n a b after line s o why status old mid new counts now is some h t = unknown_one number (world m a d) line s o why status old mid new counts now n b after is some h t
 
 -- ---- a line of a script
 
@@ -191,7 +204,7 @@ stop_ends number counts now m n a b (Some d) after (Some bytes) g line reading l
         (stopped_ends number counts now w (comes_of w s) (comes_of w s) (λ counts w. script_from (number + 1) counts w (lines_of (after_line bytes))) status old mid new n b after refl same t)
 
 -- a script ends with its lines
-pub end_ends : (number : ℕ) (counts : Counts) (m : ModelData) (a : List Standing) (st : Option State) (input : Option (List ℕ)) (reading : Reading) (left : Option (List ℕ)) (status : Status) (old mid new : Option (List ℕ))
+end_ends : (number : ℕ) (counts : Counts) (m : ModelData) (a : List Standing) (st : Option State) (input : Option (List ℕ)) (reading : Reading) (left : Option (List ℕ)) (status : Status) (old mid new : Option (List ℕ))
     → IfSome input (λ bytes. Hands bytes got.End reading left) → Keeps old mid → Tells status (end_status counts) mid new (end_text counts)
     → IfSome (coming number counts m a st input) (λ e. EndsAs e status old new counts m a st)
 unfolding script_from
@@ -203,11 +216,21 @@ end_ends number counts m a (Some d) (Some bytes) reading left status old mid new
       part = front_later old mid new (end_text counts) same t.part;
     })
 
+pub ends_at_end : (number : ℕ) (counts : Counts) (m : ModelData) (a : List Standing) (st : Option State) (input : Option (List ℕ)) (g : Got) (reading : Reading) (left : Option (List ℕ)) (result status : Status) (old mid new : Option (List ℕ))
+    → g ≡ got.End → result ≡ status → IfSome input (λ bytes. Hands bytes g reading left) → Keeps old mid → Tells result (end_status counts) mid new (end_text counts)
+    → IfSome (coming number counts m a st input) (λ e. EndsAs e status old new counts m a st)
+ends_at_end number counts m a st input g reading left result status old mid new is same h kept t =
+    end_ends number counts m a st input reading left status old mid new (subst (λ g. IfSome input (λ bytes. Hands bytes g reading left)) is h) kept (subst (λ s. Tells s (end_status counts) mid new (end_text counts)) same t)
+
 -- a run that broke off with nothing more written
 pub early_ends : (o : Option Ending) (status : Status) (old new : Option (List ℕ)) (counts : Counts) (m : ModelData) (a : List Standing) (st : Option State) → is_complete status ≡ false → Keeps old new
     → IfSome o (λ e. EndsAs e status old new counts m a st)
 early_ends None status old new counts m a st early same = tt
 early_ends (Some e) status old new counts m a st early same = record { whole = λ c. absurd (true≢false (sym c ∙ early)); part = front_none old new e.text same }
+
+pub early_stops : (o : Option Ending) (result status : Status) (old new : Option (List ℕ)) (counts : Counts) (m : ModelData) (a : List Standing) (st : Option State) → result ≡ status → is_complete result ≡ false → Keeps old new
+    → IfSome o (λ e. EndsAs e status old new counts m a st)
+early_stops o result status old new counts m a st same early h = early_ends o status old new counts m a st (sym (ap is_complete same) ∙ early) h
 
 -- ---- one after another
 

@@ -1,5 +1,5 @@
 -- What a line says, as it was read.
-use Rattle.std.specs.Prelude.{⊤, ⊥, ℕ, nat_lt, if◌then◌else◌, List, Result, Ok, Err}
+use Rattle.std.specs.Prelude.{⊤, ℕ, nat_lt, if◌then◌else◌, List, Result, Ok, Err}
 use Rattle.rl_report.specs.declared.lines.Got.{Got}
 use Rattle.rl_report.specs.declared.lines.Got.TheVariants as got
 use Rattle.rl_script.specs.declared.line.Line.{Line as ScriptLine}

@@ -151,18 +151,24 @@ fn run_said<D: Device, K: Sink>(
     ensures ends_kept { K.ends out.new.sink.now ≡ K.ends out.old.sink.now }
     ensures same_sink { out.new.sink.ghost_name ≡ out.old.sink.ghost_name }
 {
-    let refusal = match said {
-        Said::Refused(refusal) => *refusal,
+    match said {
+        Said::Refused(refusal) => Turn::Stop(refuse(number, *refusal, out)),
         Said::Line(line) => match run_line(model, device, adapters, line, out, counts) {
-            Ok(None) => return Turn::Next,
-            Ok(Some(refusal)) => refusal,
-            Err(Failed) => return Turn::Stop(Status::SinkFault),
+            Ok(None) => Turn::Next,
+            Ok(Some(refusal)) => Turn::Stop(refuse(number, refusal, out)),
+            Err(Failed) => Turn::Stop(Status::SinkFault),
         },
-    };
-    Turn::Stop(refuse(number, refusal, out))
+    }
 }
 
 fn let_go(_said: Said) {}
+
+fn is_end(got: Got) -> bool
+    ensures end { result ≡ true → got ≡ Got.End }
+    ensures more { result ≡ false → got ≢ Got.End }
+{
+    matches!(got, Got::End)
+}
 
 // Reads the next line, runs it and writes its log.
 fn play_line<S: Source, D: Device, K: Sink>(
@@ -194,10 +200,12 @@ fn play_line<S: Source, D: Device, K: Sink>(
     ensures same_sink { out.new.sink.ghost_name ≡ out.old.sink.ghost_name }
 {
     let got = match take_line(lines, source, out) {
-        Ok(Got::End) => return Turn::Stop(end(counts, out)),
         Ok(got) => got,
         Err(status) => return Turn::Stop(status),
     };
+    if is_end(got) {
+        return Turn::Stop(end(counts, out));
+    }
     match what_is_said(alloc, number, got, lines.line()) {
         None => Turn::Stop(Status::Memory),
         Some(said) => {
