@@ -136,6 +136,11 @@ started bytes desc adapters m st counts none h =
     some_is : {x y : State} → Some x ≡ Some y → x ≡ y
     some_is e = cc
 
+pub session_early : (input : Option (List ℕ)) (desc : DescData) (adapters now : List Standing) (status : Status) (old new : Option (List ℕ)) → is_complete status ≡ false → Keeps old new
+    → IfSome input (λ bytes. IsTold (ending_judged (script_from 1 no_counts (first_world desc adapters) (lines_of bytes))) status old new now)
+session_early None desc adapters now status old new early h = tt
+session_early (Some bytes) desc adapters now status old new early h = told_early (ending_judged (script_from 1 no_counts (first_world desc adapters) (lines_of bytes))) status old new now early h
+
 pub session_told : (input : Option (List ℕ)) (desc : DescData) (adapters now : List Standing) (m n : ModelData) (st : State) (after : Option State) (counts last : Counts) (status : Status) (old new : Option (List ℕ))
     → counts ≡ no_counts → IsAt m adapters (Some st) (first_world desc adapters)
     → IfSome (coming 1 counts m adapters (Some st) input) (λ e. EndsAs e status old new last n now after)

@@ -1,3 +1,4 @@
+use Rattle.std.proofs.Common.{rules}
 use Rattle.regrun.proofs.EndingLemmas.{counted_kept}
 use Rattle.regrun.proofs.JudgedLemmas.{played_written}
 use Rattle.regrun.proofs.playing.play.Goals as goal
@@ -12,4 +13,5 @@ returns-clause-ends g c = record {
 pub returns-clause-log : goal.returns-clause-log
 returns-clause-log g c =
     let s = c.settle.ensures in
-    played_written _ _ _ _ _ _ _ _ _ _ _ _ _ s.kept s.told s.whole c.add.ensures (rw (c.new-own.ensures, c.new-out.ensures.told) at c.play_lines-status.ensures.log)
+    let w = played_written _ _ _ _ _ _ _ _ _ _ _ _ _ s.kept s.told s.whole c.add.ensures (rw (c.new-own.ensures, c.new-out.ensures.told) at c.play_lines-status.ensures.log) in
+    search (rules, w)
