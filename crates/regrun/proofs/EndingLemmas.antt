@@ -5,16 +5,14 @@ use Rattle.std.specs.Io.KnownBytes.{Appends, Keeps, append_known}
 use Rattle.std.proofs.lemmas.Bool.{true≢false}
 use Rattle.rl_bus.specs.declared.op.AdapterKind.{AdapterKind}
 use Rattle.rl_desc.specs.Data.{DescData}
-use Rattle.rl_map.specs.LayoutText.{layout_text}
 use Rattle.rl_report.specs.Pieces.{AppendsFront}
 use Rattle.regrun.specs.declared.counts.Counts.{Counts}
 use Rattle.regrun.specs.declared.status.Status.{Status}
 use Rattle.regrun.specs.declared.status.Status.TheVariants.{Passed, Found, Refused, SinkFault}
-use Rattle.regrun.specs.Endings.{Writes, MapEnds, SoakEnds, is_clean, end_status, IsCounted}
-use Rattle.regrun.specs.Session.{opening_of, refusal_of, map_text, map_status}
-use Rattle.regrun.specs.Soak.{soak_line_text}
+use Rattle.regrun.specs.Endings.{Writes, is_clean, end_status, IsCounted}
+use Rattle.regrun.specs.Session.{refusal_of}
 use Rattle.regrun.specs.Statuses.{is_complete}
-use Rattle.regrun.specs.Telling.{Tells, Stops, MapTells, IsSoakTold, SoakTells}
+use Rattle.regrun.specs.Telling.{Tells, Stops}
 use Rattle.regrun.proofs.BufferLemmas.{keeps_trans, keeps_then_appends}
 
 -- ---- known bytes
@@ -110,19 +108,12 @@ no_front : (front rest : List ℕ) → front ++ rest ≡ [] → front ≡ []
 no_front [] rest h = refl
 no_front (x ∷ front) rest h = absurd (cc)
 
-front_of_none : (old new : Option (List ℕ)) (text : List ℕ) → AppendsFront old new [] → AppendsFront old new text
+pub front_of_none : (old new : Option (List ℕ)) (text : List ℕ) → AppendsFront old new [] → AppendsFront old new text
 front_of_none old new text f = record { front = f.front; rest = text; split = ap (λ l. l ++ text) (no_front f.front f.rest f.split); appended = f.appended }
-
-pub stops_map : (opening : Result DescData (List ℕ)) (status : Status) (old new : Option (List ℕ)) → Stops opening status old new → Tells status (map_status opening) old new (map_text opening)
-stops_map (Ok desc) status old new s = record {
-  whole = λ c. let e = s.refused c in absurd (cc);
-  part = front_of_none old new (layout_text desc.chip desc.layout) s.tells.part;
-}
-stops_map (Err line) status old new s = s.tells
 
 -- ---- what is written in the end
 
-not_sink_fault : (status : Status) → is_complete status ≡ true → status ≢ SinkFault
+pub not_sink_fault : (status : Status) → is_complete status ≡ true → status ≢ SinkFault
 not_sink_fault status c e = true≢false (sym c ∙ ap is_complete e)
 
 pub writes_told : (status result expected : Status) (old told new : Option (List ℕ)) (kept text : List ℕ) → (result ≢ SinkFault → result ≡ status) → Keeps told (append_known new kept)
@@ -161,67 +152,6 @@ not_clean false e = refl
 pub counted_end : (status : Status) (counts : Counts) → status ≡ end_status counts → IsCounted status counts
 counted_end status counts is = record { passed = λ e. only_clean (is_clean counts) (sym is ∙ e); found = λ e. not_clean (is_clean counts) (sym is ∙ e) }
 
--- ---- the line of a number
-
-pub soak_later : (n : ℕ) (status : Status) (old mid new : Option (List ℕ)) → Keeps old mid → IsSoakTold n status mid new → IsSoakTold n status old new
-soak_later n status old mid new h (counts, sum, counted, t) = (counts, sum, counted, tells_later status status old mid new (soak_line_text n counts sum) h t)
-
-pub soak_none : (n : ℕ) (status : Status) (old new : Option (List ℕ)) → is_complete status ≡ false → Keeps old new → IsSoakTold n status old new
-soak_none n status old new broken h =
-    let counts : Counts = record { events = 0; differences = 0; errors = 0 } in
-    (counts, 0, counted_none status counts broken, tells_none status status old new (soak_line_text n counts 0) broken h)
-
-counted_by : (status result : Status) (counts : Counts) → (is_complete result ≡ true → result ≡ status) → IsCounted status counts → IsCounted result counts
-counted_by status result counts same h = record {
-  passed = λ e. h.passed (sym (same (ap is_complete e)) ∙ e);
-  found = λ e. h.found (sym (same (ap is_complete e)) ∙ e);
-}
-
-pub soak_ends : (n : ℕ) (status result : Status) (counts : Counts) (sum : ℕ) (old new : Option (List ℕ)) → IsCounted status counts → Tells result status old new (soak_line_text n counts sum) → IsSoakTold n result old new
-soak_ends n status result counts sum old new h t =
-    (counts, sum, counted_by status result counts (λ c. (t.whole c).0) h, record { whole = λ c. (refl, (t.whole c).1); part = t.part })
-
-pub soak_open : (n : ℕ) (opening : Result DescData (List ℕ)) (desc : DescData) (status : Status) (old new : Option (List ℕ)) → opening ≡ Ok desc → IsSoakTold n status old new → SoakTells n opening status old new
-soak_open n opening desc status old new is t = subst (λ o. SoakTells n o status old new) (sym is) t
-
-pub soak_early : (n : ℕ) (opening : Result DescData (List ℕ)) (status : Status) (old new : Option (List ℕ)) → is_complete status ≡ false → Keeps old new → SoakTells n opening status old new
-soak_early n (Ok desc) status old new broken h = soak_none n status old new broken h
-soak_early n (Err line) status old new broken h = tells_none status Refused old new line broken h
-
-incomplete : (b : Bool) → (b ≡ true → ⊥) → b ≡ false
+pub incomplete : (b : Bool) → (b ≡ true → ⊥) → b ≡ false
 incomplete true h = absurd (h refl)
 incomplete false h = refl
-
-pub soak_stops : (n : ℕ) (opening : Result DescData (List ℕ)) (status : Status) (old new : Option (List ℕ)) → Stops opening status old new → SoakTells n opening status old new
-soak_stops n (Ok desc) status old new s =
-    let broken : is_complete status ≡ false = incomplete (is_complete status) (λ c. let e = s.refused c in cc) in
-    let counts : Counts = record { events = 0; differences = 0; errors = 0 } in
-    (counts, 0, counted_none status counts broken, tells_front status status old new (soak_line_text n counts 0) broken (front_of_none old new (soak_line_text n counts 0) s.tells.part))
-soak_stops n (Err line) status old new s = s.tells
-
--- ---- what is written of it
-
-pub soak_written : (n : ℕ) (opening : Result DescData (List ℕ)) (status result : Status) (old told new : Option (List ℕ)) (kept : List ℕ) → (result ≢ SinkFault → result ≡ status) → Keeps told (append_known new kept)
-    → (is_complete result ≡ true → Keeps told new) → SoakTells n opening status old told → SoakEnds n opening result old new
-soak_written n (Ok desc) status result old told new kept same held whole (counts, sum, counted, t) =
-    let w = writes_told status result status old told new kept (soak_line_text n counts sum) same held whole t in
-    (counts, sum, counted_kept status result counts same counted, record { whole = λ c. (refl, (w.whole c).1); part = w.part })
-soak_written n (Err line) status result old told new kept same held whole t = writes_told status result Refused old told new kept line same held whole t
-
-pub map_written : (left : Option (List ℕ)) (kinds : List AdapterKind) (status result : Status) (old told new : Option (List ℕ)) (kept : List ℕ) → (result ≢ SinkFault → result ≡ status) → Keeps told (append_known new kept)
-    → (is_complete result ≡ true → Keeps told new) → IfSome left (λ bytes. MapTells (opening_of bytes kinds) status old told) → IfSome left (λ bytes. MapEnds (opening_of bytes kinds) result old new)
-map_written None kinds status result old told new kept same held whole t = tt
-map_written (Some bytes) kinds status result old told new kept same held whole t =
-    let opening = opening_of bytes kinds in
-    writes_told status result (map_status opening) old told new kept (map_text opening) same held whole t
-
-refusal_written : (opening : Result DescData (List ℕ)) (status result : Status) (old told new : Option (List ℕ)) (kept : List ℕ) → (result ≢ SinkFault → result ≡ status) → Keeps told (append_known new kept)
-    → (is_complete result ≡ true → Keeps told new) → IfErr opening (λ line. Tells status Refused old told line) → IfErr opening (λ line. Writes result Refused old new line)
-refusal_written (Ok desc) status result old told new kept same held whole t = tt
-refusal_written (Err line) status result old told new kept same held whole t = writes_told status result Refused old told new kept line same held whole t
-
-pub run_written : (left : Option (List ℕ)) (kinds : List AdapterKind) (status result : Status) (old told new : Option (List ℕ)) (kept : List ℕ) → (result ≢ SinkFault → result ≡ status) → Keeps told (append_known new kept)
-    → (is_complete result ≡ true → Keeps told new) → IfSome left (λ bytes. IfErr (opening_of bytes kinds) (λ line. Tells status Refused old told line))
-    → IfSome left (λ bytes. IfErr (opening_of bytes kinds) (λ line. Writes result Refused old new line))
-run_written None kinds status result old told new kept same held whole t = tt
-run_written (Some bytes) kinds status result old told new kept same held whole t = refusal_written (opening_of bytes kinds) status result old told new kept same held whole t

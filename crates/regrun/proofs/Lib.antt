@@ -1,11 +1,17 @@
 pub mod BufferLemmas
+pub mod Courses
 pub mod EndingLemmas
 pub mod HexLemmas
+pub mod JudgedLemmas
 pub mod LayoutLemmas
 pub mod ListingLemmas
 pub mod NamedLemmas
 pub mod OpeningLemmas
+pub mod Performing
 pub mod ReadyLemmas
+pub mod PlayLemmas
+pub mod Recorded
+pub mod SequenceLemmas
 pub mod SessionLemmas
 pub mod WordLemmas
 pub mod TextLemmas

@@ -3,18 +3,18 @@ use Rattle.std.proofs.Common.{◌≡◌, ℕ, false, List, [], drop, codes, Resu
 use Rattle.std.specs.declared.option.Option.{Option}
 use Rattle.std.specs.Io.KnownBytes.{Keeps, prepend_known}
 use Rattle.rl_bus.specs.declared.op.AdapterKind.{AdapterKind}
-use Rattle.rl_map.specs.LayoutText.{layout_text}
 use Rattle.rl_desc.specs.Data.{DescData}
 use Rattle.rl_report.specs.declared.opening.Head.{Head}
 use Rattle.rl_report.specs.declared.opening.Head.TheVariants.{Found, Missing, TooLong}
-use Rattle.rl_report.specs.Opening.{HeadIs}
+use Rattle.rl_report.specs.Opening.{HeadIs, FindsHead, separator_at}
 use Rattle.rl_report.specs.Reading.{Reading, input_of}
 use Rattle.regrun.specs.declared.status.Status.{Status}
-use Rattle.regrun.specs.declared.status.Status.TheVariants.{Passed, Refused}
+use Rattle.regrun.specs.declared.status.Status.TheVariants.{Refused}
+use Rattle.regrun.specs.Log.{behind}
 use Rattle.regrun.specs.Session.{head_of, opening_after, opening_of}
 use Rattle.regrun.specs.Statuses.{is_complete}
-use Rattle.regrun.specs.Telling.{Tells, Stops, MapTells}
-use Rattle.regrun.proofs.EndingLemmas.{stops_refused, stops_early, stops_later, stops_map, tells_later}
+use Rattle.regrun.specs.Telling.{Tells, Stops}
+use Rattle.regrun.proofs.EndingLemmas.{stops_refused, stops_early, stops_later}
 use Rattle.regrun.proofs.SessionLemmas.{found_head, missing_head, long_head, opening_refused, opening_found}
 
 -- ---- the head
@@ -85,40 +85,14 @@ fresh_input r is = λ left. ap (λ r. input_of r left) is ∙ prepended left
 pub from_fresh : (lines : Reading) (left : Option (List ℕ)) (P : List ℕ → Type 0) → ((left : Option (List ℕ)) → input_of lines left ≡ left) → IfSome (input_of lines left) P → IfSome left P
 from_fresh lines left P fresh h = subst (λ o. IfSome o P) (fresh left) h
 
--- ---- what becomes of it
+-- ---- what is behind the separator
 
-pub runs_open : (left : Option (List ℕ)) (kinds : List AdapterKind) (desc : DescData) (status : Status) (old new : Option (List ℕ)) → IfSome left (λ bytes. opening_of bytes kinds ≡ Ok desc)
-    → IfSome left (λ bytes. IfErr (opening_of bytes kinds) (λ line. Tells status Refused old new line))
-runs_open None kinds desc status old new is = tt
-runs_open (Some bytes) kinds desc status old new is = rw is tt
-
-run_refused : (opening : Result DescData (List ℕ)) (status : Status) (old new : Option (List ℕ)) → Stops opening status old new → IfErr opening (λ line. Tells status Refused old new line)
-run_refused (Ok desc) status old new s = tt
-run_refused (Err line) status old new s = s.tells
-
-pub runs_refused : (left : Option (List ℕ)) (kinds : List AdapterKind) (status : Status) (old new : Option (List ℕ)) → IfSome left (λ bytes. Stops (opening_of bytes kinds) status old new)
-    → IfSome left (λ bytes. IfErr (opening_of bytes kinds) (λ line. Tells status Refused old new line))
-runs_refused None kinds status old new s = tt
-runs_refused (Some bytes) kinds status old new s = run_refused (opening_of bytes kinds) status old new s
-
--- before anything else: want of memory
-pub runs_early : (left : Option (List ℕ)) (kinds : List AdapterKind) (status : Status) (old new : Option (List ℕ)) → is_complete status ≡ false → Keeps old new
-    → IfSome left (λ bytes. Stops (opening_of bytes kinds) status old new)
-runs_early None kinds status old new broken h = tt
-runs_early (Some bytes) kinds status old new broken h = stops_early (opening_of bytes kinds) status old new broken h
-
-pub maps_refused : (left : Option (List ℕ)) (kinds : List AdapterKind) (status : Status) (old new : Option (List ℕ)) → IfSome left (λ bytes. Stops (opening_of bytes kinds) status old new)
-    → IfSome left (λ bytes. MapTells (opening_of bytes kinds) status old new)
-maps_refused None kinds status old new s = tt
-maps_refused (Some bytes) kinds status old new s = stops_map (opening_of bytes kinds) status old new s
-
-map_open : (opening : Result DescData (List ℕ)) (desc : DescData) (status : Status) (old new : Option (List ℕ)) → opening ≡ Ok desc → Tells status Passed old new (layout_text desc.chip desc.layout) → MapTells opening status old new
-map_open opening desc status old new is t = subst (λ o. MapTells o status old new) (sym is) t
-
-pub maps_open : (left : Option (List ℕ)) (kinds : List AdapterKind) (desc : DescData) (status : Status) (old mid new : Option (List ℕ)) → IfSome left (λ bytes. opening_of bytes kinds ≡ Ok desc) → Keeps old mid
-    → Tells status Passed mid new (layout_text desc.chip desc.layout) → IfSome left (λ bytes. MapTells (opening_of bytes kinds) status old new)
-maps_open None kinds desc status old mid new is same t = tt
-maps_open (Some bytes) kinds desc status old mid new is same t = map_open (opening_of bytes kinds) desc status old new is (tells_later status Passed old mid new (layout_text desc.chip desc.layout) same t)
+pub rest_is : (input : Option (List ℕ)) (answer : Head) (head : List ℕ) (new : Reading) (left : Option (List ℕ)) → answer ≡ Found → IfSome input (λ bytes. HeadIs bytes answer head new left)
+    → IfSome input (λ bytes. input_of new left ≡ Some (behind (separator_at bytes) bytes))
+rest_is None answer head new left is h = tt
+rest_is (Some bytes) answer head new left is h =
+    let found : FindsHead bytes head new left = rw is at h in
+    found.rest ∙ ap (λ place. Some (behind place bytes)) (sym found.place)
 
 -- ---- a session in memory
 

@@ -1,5 +1,6 @@
 -- What stays true of a model, its device and its adapters.
-use Rattle.std.proofs.Common.{◌≡◌, ℕ, List, [], ◌∷◌, Option, Some, None, IfSome, option_map, slice_get, ◌<◌, length, refl, sym, ap, ◌∙◌}
+use Rattle.std.proofs.Common.{◌≡◌, ℕ, List, [], ◌∷◌, All, replicate, Option, Some, None, IfSome, option_map, slice_get, ◌<◌, length, refl, sym, ap, ◌∙◌}
+use Rattle.std.proofs.lemmas.List.Elements.{All-head, All-tail}
 use Rattle.std.proofs.lemmas.Option.{slice_get_within}
 use Rattle.rl_bus.specs.Standing.{Standing}
 use Rattle.rl_bus.specs.Setup.{Setup}
@@ -9,7 +10,12 @@ use Rattle.rl_map.specs.Layout.{LayoutData}
 use Rattle.rl_bench.specs.declared.flaw.Flaw.{Flaw}
 use Rattle.rl_bench.specs.Flaws.{flaws_of, first_of, locations_of}
 use Rattle.rl_map.specs.Tables.{setup_of}
-use Rattle.rl_access.specs.Model.{ModelData, IsReady, IsDeviceOf, IsSameChip}
+use Rattle.rl_access.specs.Gathering.{IsNothingGathered, no_words}
+use Rattle.rl_access.specs.Model.{ModelData, IsModel, IsReady, IsDeviceOf, IsSameChip}
+use Rattle.rl_desc.specs.Data.{DescData}
+use Rattle.rl_mirror.specs.Prediction.{fresh}
+use Rattle.regrun.specs.Log.{first_world}
+use Rattle.regrun.specs.World.{IsAt}
 
 pub device_same : (m n : ModelData) (state : Option State) → IsDeviceOf m state → IsSameChip m n → IsDeviceOf n state
 device_same m n state h e =
@@ -54,4 +60,23 @@ device_built m c l flaws state chip layout is =
       flaws = flaws_of flaws;
       setup = sym (ap (λ s. s.setup) same) ∙ ap (λ s. s.setup) is ∙ first_setup (setup_of c l (flaws_of flaws)) (locations_of c)
           ∙ ap (λ c. setup_of c l (flaws_of flaws)) (sym chip) ∙ ap (λ l. setup_of m.chip l (flaws_of flaws)) (sym layout);
+    }
+
+all_same : {A : Type 0} (x : A) (xs : List A) → All (λ y. y ≡ x) xs → xs ≡ replicate (length xs) x
+all_same x [] h = refl
+all_same x (y ∷ xs) h = ap (λ y. y ∷ xs) (All-head (λ y. y ≡ x) y xs h) ∙ ap (◌∷◌ x) (all_same x xs (All-tail (λ y. y ≡ x) y xs h))
+
+-- they are the first state of a session
+pub first_is : (adapters : List Standing) (m : ModelData) (desc : DescData) (state : State) → m.chip ≡ desc.chip → m.layout ≡ desc.layout → m.mirror ≡ fresh desc.chip → IsNothingGathered m.gathered → IsModel m
+    → state ≡ first_of desc.chip desc.layout desc.flaws → IsAt m adapters (Some state) (first_world desc adapters)
+first_is adapters m desc state chip layout mirror none sound is =
+    let gathered : m.gathered ≡ replicate (length desc.layout.places) no_words =
+        all_same no_words m.gathered none ∙ ap (λ n. replicate n no_words) (sound.predictor.count ∙ ap (λ (l : LayoutData). length l.places) layout) in
+    record {
+      model_is = ap (λ c. record { chip = c; layout = m.layout; mirror = m.mirror; gathered = m.gathered }) chip
+          ∙ ap (λ l. record { chip = desc.chip; layout = l; mirror = m.mirror; gathered = m.gathered }) layout
+          ∙ ap (λ x. record { chip = desc.chip; layout = desc.layout; mirror = x; gathered = m.gathered }) mirror
+          ∙ ap (λ g. record { chip = desc.chip; layout = desc.layout; mirror = fresh desc.chip; gathered = g }) gathered;
+      adapters_are = refl;
+      device_is = ap Some is;
     }

@@ -1,12 +1,9 @@
 -- How a run ends, and what is written then.
-use Rattle.std.specs.Prelude.{◌≡◌, ◌==◌, ℕ, ◌+◌, ◌-◌, ◌^◌, min, List, Bool, true, ◌&&◌, if◌then◌else◌, false, Option, Result, Ok, Err}
+use Rattle.std.specs.Prelude.{◌≡◌, ◌==◌, ℕ, ◌+◌, ◌-◌, ◌^◌, min, List, Bool, true, ◌&&◌, if◌then◌else◌, false, Option}
 use Rattle.std.specs.Io.KnownBytes.{Appends, append_known}
-use Rattle.rl_desc.specs.Data.{DescData}
 use Rattle.regrun.specs.declared.counts.Counts.{Counts}
 use Rattle.regrun.specs.declared.status.Status.{Status}
-use Rattle.regrun.specs.declared.status.Status.TheVariants.{Passed, Found, Refused}
-use Rattle.regrun.specs.Session.{map_text, map_status}
-use Rattle.regrun.specs.Soak.{soak_line_text}
+use Rattle.regrun.specs.declared.status.Status.TheVariants.{Passed, Found}
 use Rattle.regrun.specs.Statuses.{is_complete}
 
 -- ---- the whole text, or a front of it
@@ -48,14 +45,3 @@ pub record PlayEnds (status : Status) (before after : Counts) : Type 0 where
   pub own : Counts
   pub risen : after ≡ added before own
   pub counted : IsCounted status own
-
--- ---- by the words
-
-abbrev pub MapEnds : Result DescData (List ℕ) → Status → (old new : Option (List ℕ)) → Type 0
-MapEnds opening status old new = Writes status (map_status opening) old new (map_text opening)
-
--- the one line of a number, or the refusal of its description
-abbrev pub SoakEnds : ℕ → Result DescData (List ℕ) → Status → (old new : Option (List ℕ)) → Type 0
-SoakEnds n (Ok desc) status old new =
-    (counts : Counts) × (sum : ℕ) × IsCounted status counts × Writes status status old new (soak_line_text n counts sum)
-SoakEnds n (Err line) status old new = Writes status Refused old new line

@@ -1,9 +1,15 @@
 pub mod Causes
+pub mod Course
 pub mod Endings
+pub mod Entry
+pub mod Judged
 pub mod LayoutPieces
+pub mod Log
 pub mod Named
 pub mod Opened
 pub mod Operations
+pub mod Played
+pub mod Recording
 pub mod Refusals
 pub mod Said
 pub mod Session
@@ -13,3 +19,4 @@ pub mod Telling
 pub mod Texts
 pub mod Told
 pub mod Words
+pub mod World

@@ -1,14 +1,11 @@
 -- How a run ends, of a sink that may still keep bytes back.
-use Rattle.std.specs.Prelude.{◌≡◌, ℕ, List, true, Option, Result, Ok, Err}
+use Rattle.std.specs.Prelude.{◌≡◌, ℕ, List, true, Option, Result, Err}
 use Rattle.std.specs.Io.KnownBytes.{Appends}
 use Rattle.rl_desc.specs.Data.{DescData}
 use Rattle.rl_report.specs.Pieces.{AppendsFront}
-use Rattle.regrun.specs.declared.counts.Counts.{Counts}
 use Rattle.regrun.specs.declared.status.Status.{Status}
 use Rattle.regrun.specs.declared.status.Status.TheVariants.{Refused}
-use Rattle.regrun.specs.Endings.{IsCounted}
-use Rattle.regrun.specs.Session.{refusal_of, map_text, map_status}
-use Rattle.regrun.specs.Soak.{soak_line_text}
+use Rattle.regrun.specs.Session.{refusal_of}
 use Rattle.regrun.specs.Statuses.{is_complete}
 
 -- A run that came to its last line has this status and told the whole text; any other one told a front of it.
@@ -20,15 +17,3 @@ pub record Tells (status expected : Status) (old new : Option (List ℕ)) (text 
 pub record Stops (opening : Result DescData (List ℕ)) (status : Status) (old new : Option (List ℕ)) : Type 0 where
   pub refused : is_complete status ≡ true → opening ≡ Err (refusal_of opening)
   pub tells : Tells status Refused old new (refusal_of opening)
-
-abbrev pub MapTells : Result DescData (List ℕ) → Status → (old new : Option (List ℕ)) → Type 0
-MapTells opening status old new = Tells status (map_status opening) old new (map_text opening)
-
--- the line of a number, by some counts
-abbrev pub IsSoakTold : ℕ → Status → (old new : Option (List ℕ)) → Type 0
-IsSoakTold n status old new =
-    (counts : Counts) × (sum : ℕ) × IsCounted status counts × Tells status status old new (soak_line_text n counts sum)
-
-abbrev pub SoakTells : ℕ → Result DescData (List ℕ) → Status → (old new : Option (List ℕ)) → Type 0
-SoakTells n (Ok desc) status old new = IsSoakTold n status old new
-SoakTells n (Err line) status old new = Tells status Refused old new line

@@ -15,8 +15,11 @@ pub struct Counts {
 impl Counts {
     ghost use Rattle.std.specs.Prelude.{◌≡◌};
     ghost use Rattle.regrun.specs.Endings.{added};
+    ghost use Rattle.regrun.specs.Recording.{no_counts, with_event};
 
-    pub(crate) fn new() -> Counts {
+    pub(crate) fn new() -> Counts
+        ensures { result ≡ no_counts }
+    {
         Counts {
             events: 0,
             differences: 0,
@@ -25,7 +28,9 @@ impl Counts {
     }
 
     // Counts an event.
-    pub(crate) fn count(&mut self, event: &Event) {
+    pub(crate) fn count(&mut self, event: &Event)
+        ensures { self.new ≡ with_event self.old event.now }
+    {
         self.events = self.events.saturating_add(1);
         let differences = u64::from(event.differ.count_ones());
         self.differences = self.differences.saturating_add(differences);
@@ -44,7 +49,9 @@ impl Counts {
     }
 
     // The counts of a sequence.
-    pub(crate) fn of(tally: &Tally) -> Counts {
+    pub(crate) fn of(tally: &Tally) -> Counts
+        ensures { result ≡ record { events = tally.now.steps; differences = tally.now.differences; errors = tally.now.errors } }
+    {
         Counts {
             events: tally.steps,
             differences: tally.differences,

@@ -1,8 +1,17 @@
 // What a line does, and its log.
-ghost use Rattle.std.specs.Prelude.{◌≡◌, ◌<◌, ◌∷◌, [], length, map as each, IfSome};
+ghost use Rattle.std.specs.Prelude.{◌≡◌, ◌<◌, ◌∷◌, [], length, map as each, IfSome, IfOk, option_map};
 ghost use Rattle.rl_bus.specs.Causes.{HasCause};
 ghost use Rattle.rl_access.specs.Model.{IsReady, IsSameChip};
 ghost use Rattle.rl_access.specs.Operation.{IsMapIn};
+ghost use Rattle.rl_access.specs.Rules.{grant};
+ghost use Rattle.rl_access.specs.Runs.{write_grant, writes_of, reads_of, no_tally, counted_all};
+ghost use Rattle.rl_access.specs.declared.event.Op.TheVariants as op;
+ghost use Rattle.regrun.specs.Course.{alone, along, burst};
+ghost use Rattle.regrun.specs.Entry.{plan_of, entry_of, with_both, plain, framed};
+ghost use Rattle.regrun.specs.Named.{mem_named, map_asked, block_asked, op_named};
+ghost use Rattle.regrun.specs.Played.{IsLineRun};
+ghost use Rattle.regrun.specs.Recording.{IsRecorded};
+ghost use Rattle.regrun.specs.World.{world, step_of};
 
 use crate::Counts;
 use crate::perform::perform;
@@ -26,6 +35,8 @@ fn run_sequence<D: Device, K: Sink>(
     requires block { IfSome block (λ b. b < m.old.chip.blocks) }
     ensures ready { IsReady m.new (each standing a.new.items) (D.state d.new) }
     ensures parts { IsSameChip m.old m.new }
+    ensures recorded { IfSome (D.state d.old) (λ device. IsRecorded (along (world m.old (each standing a.old.items) device) (plan_of which m.old block)) (K.written rec.old.sink.now) (K.written rec.new.sink.now) rec.old.counts rec.new.counts m.new (each standing a.new.items) (D.state d.new) result) }
+    ensures tally { IfSome (D.state d.old) (λ device. IfOk result (λ tally. tally ≡ counted_all no_tally (along (world m.old (each standing a.old.items) device) (plan_of which m.old block)).told)) }
     ensures cause { HasCause (K.faults rec.old.sink.now) (K.faults rec.new.sink.now) result }
     ensures steady { rec.new.sink.ghost_name ∷ K.ends rec.new.sink.now ∷ K.target rec.new.sink.now ∷ [] ≡ rec.old.sink.ghost_name ∷ K.ends rec.old.sink.now ∷ K.target rec.old.sink.now ∷ [] }
 {
@@ -52,6 +63,8 @@ fn record_sequence<D: Device, K: Sink>(
     requires block { IfSome block (λ b. b < m.old.chip.blocks) }
     ensures ready { IsReady m.new (each standing a.new.items) (D.state d.new) }
     ensures parts { IsSameChip m.old m.new }
+    ensures recorded { IfSome (D.state d.old) (λ device. IsRecorded (along (world m.old (each standing a.old.items) device) (plan_of which m.old block)) (K.written rec.old.sink.now) (K.written rec.new.sink.now) rec.old.counts rec.new.counts m.new (each standing a.new.items) (D.state d.new) result) }
+    ensures tally { IfSome (D.state d.old) (λ device. IfOk result (λ tally. tally ≡ counted_all no_tally (along (world m.old (each standing a.old.items) device) (plan_of which m.old block)).told)) }
     ensures cause { HasCause (K.faults rec.old.sink.now) (K.faults rec.new.sink.now) result }
     ensures ends_kept { K.ends rec.new.sink.now ≡ K.ends rec.old.sink.now }
     ensures same_target { K.target rec.new.sink.now ≡ K.target rec.old.sink.now }
@@ -77,6 +90,7 @@ fn record_burst_write<D: Device, K: Sink>(
     requires through { IsMapIn (length m.old.layout.maps) through }
     ensures ready { IsReady m.new (each standing a.new.items) (D.state d.new) }
     ensures parts { IsSameChip m.old m.new }
+    ensures recorded { IfSome (D.state d.old) (λ device. IsRecorded (burst (world m.old (each standing a.old.items) device) (write_grant m.old mem through first values.now) (op.BurstWrite mem through first (length values.now)) (writes_of mem through first values.now)) (K.written rec.old.sink.now) (K.written rec.new.sink.now) rec.old.counts rec.new.counts m.new (each standing a.new.items) (D.state d.new) result) }
     ensures cause { HasCause (K.faults rec.old.sink.now) (K.faults rec.new.sink.now) result }
     ensures ends_kept { K.ends rec.new.sink.now ≡ K.ends rec.old.sink.now }
     ensures same_target { K.target rec.new.sink.now ≡ K.target rec.old.sink.now }
@@ -102,6 +116,7 @@ fn record_burst_read<D: Device, K: Sink>(
     requires through { IsMapIn (length m.old.layout.maps) through }
     ensures ready { IsReady m.new (each standing a.new.items) (D.state d.new) }
     ensures parts { IsSameChip m.old m.new }
+    ensures recorded { IfSome (D.state d.old) (λ device. IsRecorded (burst (world m.old (each standing a.old.items) device) (grant m.old (op.BurstRead mem through first count)) (op.BurstRead mem through first count) (reads_of mem through first count)) (K.written rec.old.sink.now) (K.written rec.new.sink.now) rec.old.counts rec.new.counts m.new (each standing a.new.items) (D.state d.new) result) }
     ensures cause { HasCause (K.faults rec.old.sink.now) (K.faults rec.new.sink.now) result }
     ensures ends_kept { K.ends rec.new.sink.now ≡ K.ends rec.old.sink.now }
     ensures same_target { K.target rec.new.sink.now ≡ K.target rec.old.sink.now }
@@ -124,6 +139,8 @@ fn log_sequence<D: Device, K: Sink>(
     requires block { IfSome block (λ b. b < m.old.chip.blocks) }
     ensures ready { IsReady m.new (each standing a.new.items) (D.state d.new) }
     ensures parts { IsSameChip m.old m.new }
+    ensures recorded { IfSome (D.state d.old) (λ device. IsRecorded (along (world m.old (each standing a.old.items) device) (plan_of which m.old block)) (K.written out.old) (K.written out.new) counts.old counts.new m.new (each standing a.new.items) (D.state d.new) result) }
+    ensures tally { IfSome (D.state d.old) (λ device. IfOk result (λ tally. tally ≡ counted_all no_tally (along (world m.old (each standing a.old.items) device) (plan_of which m.old block)).told)) }
     ensures cause { HasCause (K.faults out.old) (K.faults out.new) result }
     ensures ends_kept { K.ends out.new ≡ K.ends out.old }
     ensures same_target { K.target out.new ≡ K.target out.old }
@@ -154,6 +171,7 @@ fn log_burst_write<D: Device, K: Sink>(
     requires through { IsMapIn (length m.old.layout.maps) through }
     ensures ready { IsReady m.new (each standing a.new.items) (D.state d.new) }
     ensures parts { IsSameChip m.old m.new }
+    ensures recorded { IfSome (D.state d.old) (λ device. IsRecorded (burst (world m.old (each standing a.old.items) device) (write_grant m.old mem through first values.now) (op.BurstWrite mem through first (length values.now)) (writes_of mem through first values.now)) (K.written out.old) (K.written out.new) counts.old counts.new m.new (each standing a.new.items) (D.state d.new) result) }
     ensures cause { HasCause (K.faults out.old) (K.faults out.new) result }
     ensures ends_kept { K.ends out.new ≡ K.ends out.old }
     ensures same_target { K.target out.new ≡ K.target out.old }
@@ -184,6 +202,7 @@ fn log_burst_read<D: Device, K: Sink>(
     requires through { IsMapIn (length m.old.layout.maps) through }
     ensures ready { IsReady m.new (each standing a.new.items) (D.state d.new) }
     ensures parts { IsSameChip m.old m.new }
+    ensures recorded { IfSome (D.state d.old) (λ device. IsRecorded (burst (world m.old (each standing a.old.items) device) (grant m.old (op.BurstRead mem through first count)) (op.BurstRead mem through first count) (reads_of mem through first count)) (K.written out.old) (K.written out.new) counts.old counts.new m.new (each standing a.new.items) (D.state d.new) result) }
     ensures cause { HasCause (K.faults out.old) (K.faults out.new) result }
     ensures ends_kept { K.ends out.new ≡ K.ends out.old }
     ensures same_target { K.target out.new ≡ K.target out.old }
@@ -212,6 +231,7 @@ fn write_burst<D: Device, K: Sink>(
     requires ready { IsReady m.old (each standing a.old.items) (D.state d.old) }
     ensures ready { IsReady m.new (each standing a.new.items) (D.state d.new) }
     ensures parts { IsSameChip m.old m.new }
+    ensures run { IfSome (D.state d.old) (λ device. IsLineRun (with_both (mem_named m.old.chip mem.now) (map_asked m.old.layout name.now) (λ i t. plain (burst (world m.old (each standing a.old.items) device) (write_grant m.old i t first values.now) (op.BurstWrite i t first (length values.now)) (writes_of i t first values.now)))) (world m.old (each standing a.old.items) device) (K.written out.old) (K.written out.new) counts.old counts.new m.new (each standing a.new.items) (D.state d.new) result) }
     ensures cause { HasCause (K.faults out.old) (K.faults out.new) result }
     ensures ends_kept { K.ends out.new ≡ K.ends out.old }
     ensures same_target { K.target out.new ≡ K.target out.old }
@@ -241,6 +261,7 @@ fn read_burst<D: Device, K: Sink>(
     requires ready { IsReady m.old (each standing a.old.items) (D.state d.old) }
     ensures ready { IsReady m.new (each standing a.new.items) (D.state d.new) }
     ensures parts { IsSameChip m.old m.new }
+    ensures run { IfSome (D.state d.old) (λ device. IsLineRun (with_both (mem_named m.old.chip mem.now) (map_asked m.old.layout name.now) (λ i t. plain (burst (world m.old (each standing a.old.items) device) (grant m.old (op.BurstRead i t first count)) (op.BurstRead i t first count) (reads_of i t first count)))) (world m.old (each standing a.old.items) device) (K.written out.old) (K.written out.new) counts.old counts.new m.new (each standing a.new.items) (D.state d.new) result) }
     ensures cause { HasCause (K.faults out.old) (K.faults out.new) result }
     ensures ends_kept { K.ends out.new ≡ K.ends out.old }
     ensures same_target { K.target out.new ≡ K.target out.old }
@@ -268,6 +289,7 @@ fn sequence<D: Device, K: Sink>(
     requires ready { IsReady m.old (each standing a.old.items) (D.state d.old) }
     ensures ready { IsReady m.new (each standing a.new.items) (D.state d.new) }
     ensures parts { IsSameChip m.old m.new }
+    ensures run { IfSome (D.state d.old) (λ device. IsLineRun (option_map (λ block. framed which path.now (along (world m.old (each standing a.old.items) device) (plan_of which m.old block))) (block_asked m.old.chip path.now)) (world m.old (each standing a.old.items) device) (K.written out.old) (K.written out.new) counts.old counts.new m.new (each standing a.new.items) (D.state d.new) result) }
     ensures cause { HasCause (K.faults out.old) (K.faults out.new) result }
     ensures ends_kept { K.ends out.new ≡ K.ends out.old }
     ensures same_target { K.target out.new ≡ K.target out.old }
@@ -293,6 +315,7 @@ fn operation<D: Device, K: Sink>(
     requires ready { IsReady m.old (each standing a.old.items) (D.state d.old) }
     ensures ready { IsReady m.new (each standing a.new.items) (D.state d.new) }
     ensures parts { IsSameChip m.old m.new }
+    ensures run { IfSome (D.state d.old) (λ device. IsLineRun (option_map (λ op. plain (alone (step_of (world m.old (each standing a.old.items) device) op))) (op_named m.old line.now)) (world m.old (each standing a.old.items) device) (K.written out.old) (K.written out.new) counts.old counts.new m.new (each standing a.new.items) (D.state d.new) result) }
     ensures cause { HasCause (K.faults out.old) (K.faults out.new) result }
     ensures ends_kept { K.ends out.new ≡ K.ends out.old }
     ensures same_target { K.target out.new ≡ K.target out.old }
@@ -318,6 +341,7 @@ pub(crate) fn run_line<D: Device, K: Sink>(
     requires ready { IsReady m.old (each standing a.old.items) (D.state d.old) }
     ensures ready { IsReady m.new (each standing a.new.items) (D.state d.new) }
     ensures parts { IsSameChip m.old m.new }
+    ensures run { IfSome (D.state d.old) (λ device. IsLineRun (entry_of (world m.old (each standing a.old.items) device) line.now) (world m.old (each standing a.old.items) device) (K.written out.old) (K.written out.new) counts.old counts.new m.new (each standing a.new.items) (D.state d.new) result) }
     ensures cause { HasCause (K.faults out.old) (K.faults out.new) result }
     ensures ends_kept { K.ends out.new ≡ K.ends out.old }
     ensures same_target { K.target out.new ≡ K.target out.old }

@@ -1,12 +1,15 @@
 // The parts of a session, from its description.
-ghost use Rattle.std.specs.Prelude.{◌≡◌, ◌≢◌, ◌<◌, ◌^◌, map, length, Ok, Err, IfOk, IfErr};
+ghost use Rattle.std.specs.Prelude.{◌≡◌, ◌≢◌, ◌<◌, ◌^◌, List, map, length, Some, Ok, Err, IfOk, IfErr};
 ghost use Rattle.rl_bus.specs.Standing.{Standing, kinds_of};
 ghost use Rattle.rl_map.specs.Maps.{IsBuiltWith};
 ghost use Rattle.rl_access.specs.Model.{IsReady};
 ghost use Rattle.rl_bench.specs.Flaws.{AreFlawsOf};
+ghost use Rattle.rl_bench.specs.State.{bench_state};
+ghost use Rattle.regrun.specs.Log.{first_world};
 ghost use Rattle.regrun.specs.Opened.{IsOpened};
 ghost use Rattle.regrun.specs.Refusals.{description_refused_text};
 ghost use Rattle.regrun.specs.Session.{opening_after};
+ghost use Rattle.regrun.specs.World.{IsAt};
 
 use rl_access::Model;
 use rl_bench::Bench;
@@ -50,7 +53,8 @@ pub(crate) fn described(alloc: Global, head: &[u8], adapters: &Adapters) -> Resu
 pub(crate) fn open(alloc: Global, desc: Desc) -> Result<(Model, Bench), AllocError>
     requires built_with { IsBuiltWith desc.layout desc.chip }
     requires flaws { AreFlawsOf desc.chip desc.layout desc.flaws }
-    ensures { IfOk result (λ opened. IsOpened desc opened.0 opened.1) }
+    ensures opened { IfOk result (λ opened. IsOpened desc opened.0 opened.1) }
+    ensures first { IfOk result (λ opened. (adapters : List Standing) → IsAt opened.0 adapters (Some (bench_state opened.1)) (first_world desc adapters)) }
 {
     let bench = Bench::build(alloc, &desc.chip, &desc.layout, &desc.flaws)?;
     let Desc {

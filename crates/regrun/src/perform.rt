@@ -1,9 +1,12 @@
 // One operation, by the call that does it.
-ghost use Rattle.std.specs.Prelude.{◌≡◌, true, false, length, map as each};
+ghost use Rattle.std.specs.Prelude.{◌≡◌, true, false, List, length, map as each, IfSome};
+ghost use Rattle.rl_access.specs.Call.{Performs, scene};
 ghost use Rattle.rl_access.specs.Event.{EventFits};
 ghost use Rattle.rl_access.specs.Model.{IsReady, IsDeviceOf, IsSameChip};
 ghost use Rattle.rl_access.specs.Operation.{HasNumbers};
+ghost use Rattle.rl_bus.specs.Standing.{Standing};
 ghost use Rattle.regrun.specs.Operations.{is_single, is_over_bus};
+ghost use Rattle.regrun.specs.World.{IsStepOf, world};
 
 use rl_access::{Event, Model, Op};
 use rl_bus::{Adapter, Adapters, Device};
@@ -16,6 +19,7 @@ fn perform_bus<D: Device>(m: &mut Model, d: &mut D, a: &mut Adapters, op: Op) ->
     ensures ready { IsReady m.new (each standing a.new.items) (D.state d.new) }
     ensures parts { IsSameChip m.old m.new }
     ensures fits { EventFits m.new result }
+    ensures performs { Performs (scene m.old (each standing a.old.items) (D.errors d.old) (D.state d.old)) (scene m.new (each standing a.new.items) (D.errors d.new) (D.state d.new)) op result }
 {
     match op {
         Op::Write { reg, map, value } => rl_access::front_write(m, d, a, reg, map, value),
@@ -54,6 +58,7 @@ fn perform_back<D: Device>(m: &mut Model, d: &mut D, op: Op) -> Event
     ensures device { IsDeviceOf m.new (D.state d.new) }
     ensures parts { IsSameChip m.old m.new }
     ensures fits { EventFits m.new result }
+    ensures performs { (adapters : List Standing) → Performs (scene m.old adapters (D.errors d.old) (D.state d.old)) (scene m.new adapters (D.errors d.new) (D.state d.new)) op result }
 {
     match op {
         Op::BackWrite { reg, value } => rl_access::back_write(m, d, reg, value),
@@ -100,6 +105,7 @@ pub(crate) fn perform<D: Device>(m: &mut Model, d: &mut D, a: &mut Adapters, op:
     ensures ready { IsReady m.new (each standing a.new.items) (D.state d.new) }
     ensures parts { IsSameChip m.old m.new }
     ensures fits { EventFits m.new result }
+    ensures step { IfSome (D.state d.old) (λ device. IsStepOf (world m.old (each standing a.old.items) device) op result m.new (each standing a.new.items) (D.state d.new)) }
 {
     if is_over_bus(op) {
         perform_bus(m, d, a, op)

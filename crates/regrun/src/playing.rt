@@ -1,11 +1,21 @@
 // The lines of a script, one after another.
-ghost use Rattle.std.specs.Prelude.{◌≡◌, ◌≢◌, ◌≤◌, map, true, false, IfOk, IfErr, IfSome};
+ghost use Rattle.std.specs.Prelude.{◌≡◌, ◌≢◌, ◌≤◌, ◌+◌, map, true, false, IfOk, IfErr, IfSome};
+ghost use Rattle.std.specs.Io.KnownBytes.{Keeps};
 ghost use Rattle.rl_bus.specs.Causes.{Rose};
 ghost use Rattle.rl_access.specs.Model.{IsReady, IsSameChip};
 ghost use Rattle.regrun.specs.Causes.{IsCaused};
 ghost use Rattle.regrun.specs.Endings.{end_status, IsCounted, PlayEnds};
-ghost use Rattle.regrun.specs.Said.{IsToRun};
+ghost use Rattle.regrun.specs.Log.{comes_of};
+ghost use Rattle.regrun.specs.Played.{coming, EndsAs, IsTurn, IsWrittenOut, PassesTo};
+ghost use Rattle.regrun.specs.Recording.{no_counts};
+ghost use Rattle.regrun.specs.Said.{IsToRun, result_of, heard};
 ghost use Rattle.regrun.specs.Statuses.{is_complete};
+ghost use Rattle.regrun.specs.Telling.{Tells};
+ghost use Rattle.regrun.specs.Texts.{refused_text, end_text};
+ghost use Rattle.regrun.specs.Told.{told};
+ghost use Rattle.regrun.specs.World.{world};
+ghost use Rattle.rl_report.specs.Got.{Hands};
+ghost use Rattle.rl_report.specs.Reading.{input_of};
 
 use crate::buffered::Buffered;
 use crate::line::run_line;
@@ -43,6 +53,8 @@ fn take_line<S: Source, K: Sink>(
     requires going { lines.old.refused ≡ false }
     ensures found { lines.new.found ≡ true }
     ensures going { IfOk result (λ got. got ≢ Got.TooLong → lines.new.refused ≡ false) }
+    ensures handed { IfOk result (λ got. IfSome (input_of lines.old (S.left source.old)) (λ bytes. Hands bytes got lines.new (S.left source.new))) }
+    ensures told { Keeps (told K.written out.old) (told K.written out.new) }
     ensures broken { IfErr result (λ status. is_complete status ≡ false) }
     ensures source_later { S.faults source.old ≤ S.faults source.new }
     ensures sink_later { K.faults out.old.sink.now ≤ K.faults out.new.sink.now }
@@ -61,6 +73,7 @@ fn take_line<S: Source, K: Sink>(
 
 // What a line says. None stands for want of memory.
 fn what_is_said(alloc: Global, number: u64, got: Got, line: &[u8]) -> Option<Said>
+    ensures heard { IfSome result (λ said. result_of said ≡ heard number got line.now) }
     ensures short { IfSome result (λ said. IsToRun said → got ≢ Got.TooLong) }
     ensures last { IfSome result (λ said. IsToRun said → number ≤ 1000000) }
 {
@@ -89,6 +102,7 @@ fn status_at_end(counts: &Counts) -> Status
 
 // Ends a script whose lines were all run.
 fn end<K: Sink>(counts: &Counts, out: &mut Buffered<'_, K>) -> Status
+    ensures tells { Tells result (end_status counts.now) (told K.written out.old) (told K.written out.new) (end_text counts.now) }
     ensures counted { IsCounted result counts.now }
     ensures sink_later { K.faults out.old.sink.now ≤ K.faults out.new.sink.now }
     ensures cause { IsCaused result 0 0 (K.faults out.old.sink.now) (K.faults out.new.sink.now) }
@@ -103,6 +117,7 @@ fn end<K: Sink>(counts: &Counts, out: &mut Buffered<'_, K>) -> Status
 
 // Ends a script at a line that is refused.
 fn refuse<K: Sink>(number: u64, refusal: LineRefusal, out: &mut Buffered<'_, K>) -> Status
+    ensures tells { Tells result Status.Refused (told K.written out.old) (told K.written out.new) (refused_text number refusal) }
     ensures counted { (counts : Counts) → IsCounted result counts }
     ensures sink_later { K.faults out.old.sink.now ≤ K.faults out.new.sink.now }
     ensures cause { IsCaused result 0 0 (K.faults out.old.sink.now) (K.faults out.new.sink.now) }
@@ -129,24 +144,31 @@ fn run_said<D: Device, K: Sink>(
     ensures ready { IsReady model.new (map standing adapters.new.items) (D.state device.new) }
     ensures parts { IsSameChip model.old model.new }
     ensures next { result ≡ Turn.Next → IsToRun said.now }
+    ensures turn { IfSome (D.state device.old) (λ d. IsTurn number (comes_of (world model.old (map standing adapters.old.items) d) (result_of said.now)) (told K.written out.old) (told K.written out.new) counts.old counts.new (world model.old (map standing adapters.old.items) d) model.new (map standing adapters.new.items) (D.state device.new) result) }
     ensures counted { (status : Status) (total : Counts) → result ≡ Turn.Stop status → IsCounted status total }
     ensures sink_later { K.faults out.old.sink.now ≤ K.faults out.new.sink.now }
     ensures cause { (status : Status) → result ≡ Turn.Stop status → IsCaused status 0 0 (K.faults out.old.sink.now) (K.faults out.new.sink.now) }
     ensures ends_kept { K.ends out.new.sink.now ≡ K.ends out.old.sink.now }
     ensures same_sink { out.new.sink.ghost_name ≡ out.old.sink.ghost_name }
 {
-    let refusal = match said {
-        Said::Refused(refusal) => *refusal,
+    match said {
+        Said::Refused(refusal) => Turn::Stop(refuse(number, *refusal, out)),
         Said::Line(line) => match run_line(model, device, adapters, line, out, counts) {
-            Ok(None) => return Turn::Next,
-            Ok(Some(refusal)) => refusal,
-            Err(Failed) => return Turn::Stop(Status::SinkFault),
+            Ok(None) => Turn::Next,
+            Ok(Some(refusal)) => Turn::Stop(refuse(number, refusal, out)),
+            Err(Failed) => Turn::Stop(Status::SinkFault),
         },
-    };
-    Turn::Stop(refuse(number, refusal, out))
+    }
 }
 
 fn let_go(_said: Said) {}
+
+fn is_end(got: Got) -> bool
+    ensures end { result ≡ true → got ≡ Got.End }
+    ensures more { result ≡ false → got ≢ Got.End }
+{
+    matches!(got, Got::End)
+}
 
 // Reads the next line, runs it and writes its log.
 fn play_line<S: Source, D: Device, K: Sink>(
@@ -168,6 +190,8 @@ fn play_line<S: Source, D: Device, K: Sink>(
     ensures found { lines.new.found ≡ true }
     ensures going { result ≡ Turn.Next → lines.new.refused ≡ false }
     ensures last { result ≡ Turn.Next → number ≤ 1000000 }
+    ensures next { result ≡ Turn.Next → IfSome (coming number counts.old model.old (map standing adapters.old.items) (D.state device.old) (input_of lines.old (S.left source.old))) (λ e. PassesTo e (coming (number + 1) counts.new model.new (map standing adapters.new.items) (D.state device.new) (input_of lines.new (S.left source.new))) (told K.written out.old) (told K.written out.new)) }
+    ensures stop { (status : Status) → result ≡ Turn.Stop status → IfSome (coming number counts.old model.old (map standing adapters.old.items) (D.state device.old) (input_of lines.old (S.left source.old))) (λ e. EndsAs e status (told K.written out.old) (told K.written out.new) counts.new model.new (map standing adapters.new.items) (D.state device.new)) }
     ensures counted { (status : Status) → result ≡ Turn.Stop status → IsCounted status counts.new }
     ensures source_later { S.faults source.old ≤ S.faults source.new }
     ensures sink_later { K.faults out.old.sink.now ≤ K.faults out.new.sink.now }
@@ -176,10 +200,12 @@ fn play_line<S: Source, D: Device, K: Sink>(
     ensures same_sink { out.new.sink.ghost_name ≡ out.old.sink.ghost_name }
 {
     let got = match take_line(lines, source, out) {
-        Ok(Got::End) => return Turn::Stop(end(counts, out)),
         Ok(got) => got,
         Err(status) => return Turn::Stop(status),
     };
+    if is_end(got) {
+        return Turn::Stop(end(counts, out));
+    }
     match what_is_said(alloc, number, got, lines.line()) {
         None => Turn::Stop(Status::Memory),
         Some(said) => {
@@ -206,6 +232,7 @@ pub(crate) fn play_lines<S: Source, D: Device, K: Sink>(
     requires going { lines.old.refused ≡ false }
     ensures ready { IsReady model.new (map standing adapters.new.items) (D.state device.new) }
     ensures parts { IsSameChip model.old model.new }
+    ensures log { IfSome (coming 1 counts.old model.old (map standing adapters.old.items) (D.state device.old) (input_of lines.old (S.left source.old))) (λ e. EndsAs e result (told K.written out.old) (told K.written out.new) counts.new model.new (map standing adapters.new.items) (D.state device.new)) }
     ensures counted { IsCounted result counts.new }
     ensures source_later { S.faults source.old ≤ S.faults source.new }
     ensures sink_later { K.faults out.old.sink.now ≤ K.faults out.new.sink.now }
@@ -230,6 +257,8 @@ fn settle<K: Sink>(status: Status, out: &mut Buffered<'_, K>) -> Status
     ensures sink_later { K.faults out.old.sink.now ≤ K.faults out.new.sink.now }
     ensures kept { result ≢ Status.SinkFault → result ≡ status }
     ensures cause { result ≡ Status.SinkFault → status ≢ Status.SinkFault → Rose (K.faults out.old.sink.now) (K.faults out.new.sink.now) }
+    ensures told { Keeps (told K.written out.old) (told K.written out.new) }
+    ensures whole { is_complete result ≡ true → Keeps (told K.written out.old) (K.written out.new.sink.now) }
     ensures ends_kept { K.ends out.new.sink.now ≡ K.ends out.old.sink.now }
     ensures same_sink { out.new.sink.ghost_name ≡ out.old.sink.ghost_name }
 {
@@ -262,7 +291,12 @@ pub fn play<S: Source, K: Sink, D: Device>(
     ensures ready { IsReady model.new (map standing adapters.new.items) (D.state device.new) }
     ensures parts { IsSameChip model.old model.new }
 
-    // The status goes by what happened in this call, and the counts rise by it.
+    // Where the device tells its state and the source its bytes: what is written is the log of the lines that are
+    // left, from the device and the model as they are, with its status, and the counts rise by what it counts.
+    ensures log { IfSome (coming 1 no_counts model.old (map standing adapters.old.items) (D.state device.old) (input_of lines.old (S.left source.old)))
+        (λ e. IsWrittenOut e result (K.written sink.old) (K.written sink.new) counts.old counts.new model.new (map standing adapters.new.items) (D.state device.new)) }
+
+    // In any case the status goes by what happened in this call, and the counts rise by it.
     ensures ends { PlayEnds result counts.old counts.new }
 
     // No fault is made up.

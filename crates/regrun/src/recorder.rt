@@ -11,15 +11,16 @@ pub(crate) struct Writing<'a, K> {
 }
 
 impl<K: Sink> Recorder for Writing<'_, K> {
-    ghost use Rattle.std.specs.Prelude.{[], ◌∷◌, ⊤};
+    ghost use Rattle.std.specs.Prelude.{[], ◌∷◌};
+    ghost use Rattle.regrun.specs.Recording.{IsWritten, IsBegun};
 
     ghost faults = { λ r. K.faults r.sink.now };
 
     ghost steady = { λ r. r.sink.ghost_name ∷ K.ends r.sink.now ∷ K.target r.sink.now ∷ [] };
 
-    ghost takes = { λ old model event new. ⊤ };
+    ghost takes = { λ old model event new. IsWritten (K.written old.sink.now) (K.written new.sink.now) old.counts new.counts model event };
 
-    ghost breaks = { λ old model event new. ⊤ };
+    ghost breaks = { λ old model event new. IsBegun (K.written old.sink.now) (K.written new.sink.now) old.counts new.counts model event };
 
     fn step(&mut self, model: &Model, event: &Event) -> Result<(), Failed> {
         self.counts.count(event);

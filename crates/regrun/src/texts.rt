@@ -1,7 +1,9 @@
 // The last lines of a log.
-ghost use Rattle.std.specs.Prelude.{◌≡◌};
+ghost use Rattle.std.specs.Prelude.{◌≡◌, ◌≢◌, Some, None};
 ghost use Rattle.rl_bus.specs.Causes.{HasCause};
 ghost use Rattle.rl_report.specs.Pieces.{Puts};
+ghost use Rattle.regrun.specs.Entry.{over_text, sequence_text, begin_text, tally_text, closing_text};
+ghost use Rattle.regrun.specs.Log.{refused_by};
 ghost use Rattle.regrun.specs.Texts.{reason_text, refused_text, end_text};
 ghost use Rattle.rl_script.specs.Commands.{sequence_name};
 
@@ -43,7 +45,10 @@ fn reason(refusal: LineRefusal) -> &'static [u8]
 }
 
 // Why a line that doesn't read is refused, or none where memory ran out.
-pub(crate) fn refusal_of(fault: LineFault) -> Option<LineRefusal> {
+pub(crate) fn refusal_of(fault: LineFault) -> Option<LineRefusal>
+    ensures refusal { fault ≢ LineFault.Memory → result ≡ Some (refused_by fault) }
+    ensures memory { fault ≡ LineFault.Memory → result ≡ None }
+{
     match fault {
         LineFault::TooLong => Some(LineRefusal::TooLong),
         LineFault::NotAscii => Some(LineRefusal::NotAscii),
@@ -113,8 +118,19 @@ fn sequence_name(which: Sequence) -> &'static [u8]
     }
 }
 
+// The block that a sequence goes over, or `*` for the whole chip.
+fn over(block: &Option<Path>) -> &[u8]
+    ensures { result.now ≡ over_text block.now }
+{
+    match block {
+        None => b"*",
+        Some(block) => block.text(),
+    }
+}
+
 // Writes the name of a sequence, and the block that it goes over.
 fn put_sequence<K: Sink>(sink: &mut K, which: Sequence, block: &Option<Path>) -> Result<(), Failed>
+    ensures bytes { Puts (K.written sink.old) (K.written sink.new) (sequence_text which block.now) result }
     ensures cause { HasCause (K.faults sink.old) (K.faults sink.new) result }
     ensures ends_kept { K.ends sink.new ≡ K.ends sink.old }
     ensures same_target { K.target sink.new ≡ K.target sink.old }
@@ -122,10 +138,7 @@ fn put_sequence<K: Sink>(sink: &mut K, which: Sequence, block: &Option<Path>) ->
     put_all(sink, b"seq ")?;
     put_all(sink, sequence_name(which))?;
     put_all(sink, b" ")?;
-    match block {
-        None => put_all(sink, b"*"),
-        Some(block) => put_all(sink, block.text()),
-    }
+    put_all(sink, over(block))
 }
 
 // Writes the line before the events of a sequence.
@@ -134,6 +147,7 @@ pub(crate) fn put_sequence_begin<K: Sink>(
     which: Sequence,
     block: &Option<Path>,
 ) -> Result<(), Failed>
+    ensures bytes { Puts (K.written sink.old) (K.written sink.new) (begin_text which block.now) result }
     ensures cause { HasCause (K.faults sink.old) (K.faults sink.new) result }
     ensures ends_kept { K.ends sink.new ≡ K.ends sink.old }
     ensures same_target { K.target sink.new ≡ K.target sink.old }
@@ -142,13 +156,9 @@ pub(crate) fn put_sequence_begin<K: Sink>(
     put_all(sink, b": begin\n")
 }
 
-// Writes the line after the events of a sequence.
-pub(crate) fn put_sequence_end<K: Sink>(
-    sink: &mut K,
-    which: Sequence,
-    block: &Option<Path>,
-    counts: &Counts,
-) -> Result<(), Failed>
+// Writes what a sequence counted.
+fn put_tally<K: Sink>(sink: &mut K, counts: &Counts) -> Result<(), Failed>
+    ensures bytes { Puts (K.written sink.old) (K.written sink.new) (tally_text counts.now.events counts.now.differences counts.now.errors) result }
     ensures cause { HasCause (K.faults sink.old) (K.faults sink.new) result }
     ensures ends_kept { K.ends sink.new ≡ K.ends sink.old }
     ensures same_target { K.target sink.new ≡ K.target sink.old }
@@ -165,6 +175,21 @@ pub(crate) fn put_sequence_end<K: Sink>(
         errors.format(counts.errors).as_bytes(),
         b" bus errors\n",
     ];
-    put_sequence(sink, which, block)?;
     put_pieces(sink, &pieces)
+}
+
+// Writes the line after the events of a sequence.
+pub(crate) fn put_sequence_end<K: Sink>(
+    sink: &mut K,
+    which: Sequence,
+    block: &Option<Path>,
+    counts: &Counts,
+) -> Result<(), Failed>
+    ensures bytes { Puts (K.written sink.old) (K.written sink.new) (closing_text which block.now counts.now.events counts.now.differences counts.now.errors) result }
+    ensures cause { HasCause (K.faults sink.old) (K.faults sink.new) result }
+    ensures ends_kept { K.ends sink.new ≡ K.ends sink.old }
+    ensures same_target { K.target sink.new ≡ K.target sink.old }
+{
+    put_sequence(sink, which, block)?;
+    put_tally(sink, counts)
 }

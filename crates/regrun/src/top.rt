@@ -5,17 +5,20 @@ ghost use Rattle.std.specs.declared.option.Option.{Option};
 ghost use Rattle.rl_bus.specs.Causes.{Rose};
 ghost use Rattle.rl_bus.specs.Standing.{kinds_of};
 ghost use Rattle.regrun.specs.Causes.{IsCaused};
-ghost use Rattle.regrun.specs.Endings.{Writes, MapEnds, SoakEnds};
+ghost use Rattle.regrun.specs.Judged.{ending_judged, judged, map_judged, soak_judged, IsJudged, IsTold};
+ghost use Rattle.regrun.specs.Log.{behind, first_world, script_from};
+ghost use Rattle.regrun.specs.Recording.{no_counts};
 ghost use Rattle.regrun.specs.Refusals.{description_refused_text};
 ghost use Rattle.regrun.specs.Session.{head_of, opening_after, opening_of};
-ghost use Rattle.regrun.specs.Soak.{soak_text};
 ghost use Rattle.regrun.specs.Statuses.{is_complete};
-ghost use Rattle.regrun.specs.Telling.{Tells, Stops, MapTells, SoakTells};
+ghost use Rattle.regrun.specs.Telling.{Tells, Stops};
 ghost use Rattle.regrun.specs.Told.{told};
 ghost use Rattle.regrun.specs.Words.{task_built};
 ghost use Rattle.rl_bus.specs.declared.op.AdapterKind.{AdapterKind};
 ghost use Rattle.rl_map.specs.LayoutText.{layout_text};
 ghost use Rattle.rl_map.specs.Maps.{IsBuiltWith};
+ghost use Rattle.rl_report.specs.Lines.{lines_of};
+ghost use Rattle.rl_report.specs.Opening.{separator_at};
 ghost use Rattle.rl_report.specs.Reading.{input_of};
 ghost use Rattle.rl_bench.specs.Flaws.{AreFlawsOf};
 
@@ -67,6 +70,7 @@ fn read_head<S: Source, K: Sink>(
     requires going { lines.old.refused ≡ false }
     ensures found { OnOk result ((lines.new.found ≡ true) × (lines.new.refused ≡ false)) }
     ensures head { OnOk result (IfSome (input_of lines.old (S.left source.old)) (λ bytes. head_of bytes ≡ Ok head.new.items)) }
+    ensures rest { OnOk result (IfSome (input_of lines.old (S.left source.old)) (λ bytes. input_of lines.new (S.left source.new) ≡ Some (behind (separator_at bytes) bytes))) }
     ensures told { OnOk result (Keeps (told K.written out.old) (told K.written out.new)) }
     ensures stops { IfErr result (λ status. IfSome (input_of lines.old (S.left source.old))
         (λ bytes. (kinds : List AdapterKind) → Stops (opening_of bytes kinds) status (told K.written out.old) (told K.written out.new))) }
@@ -149,6 +153,7 @@ pub(crate) fn open_session<S: Source, K: Sink>(
     ensures flaws { IfOk result (λ desc. AreFlawsOf desc.chip desc.layout desc.flaws) }
     ensures opening { IfOk result (λ desc. IfSome (input_of lines.old (S.left source.old))
         (λ bytes. opening_of bytes (kinds_of (map standing adapters.now.items)) ≡ Ok desc)) }
+    ensures rest { OnOk result (IfSome (input_of lines.old (S.left source.old)) (λ bytes. input_of lines.new (S.left source.new) ≡ Some (behind (separator_at bytes) bytes))) }
     ensures told { OnOk result (Keeps (told K.written out.old) (told K.written out.new)) }
     ensures stops { IfErr result (λ status. IfSome (input_of lines.old (S.left source.old))
         (λ bytes. Stops (opening_of bytes (kinds_of (map standing adapters.now.items))) status (told K.written out.old) (told K.written out.new))) }
@@ -178,6 +183,7 @@ fn run_session<S: Source, K: Sink>(
     requires found { lines.old.found ≡ true }
     requires going { lines.old.refused ≡ false }
     ensures kinds { kinds_of (map standing adapters.new.items) ≡ kinds_of (map standing adapters.old.items) }
+    ensures tells { IfSome (input_of lines.old (S.left source.old)) (λ bytes. IsTold (ending_judged (script_from 1 no_counts (first_world desc (map standing adapters.old.items)) (lines_of bytes))) result (told K.written out.old) (told K.written out.new) (map standing adapters.new.items)) }
     ensures source_later { S.faults source.old ≤ S.faults source.new }
     ensures sink_later { K.faults out.old.sink.now ≤ K.faults out.new.sink.now }
     ensures cause { IsCaused result (S.faults source.old) (S.faults source.new) (K.faults out.old.sink.now) (K.faults out.new.sink.now) }
@@ -209,7 +215,7 @@ fn run<S: Source, K: Sink>(
 ) -> Status
     requires few { length (map standing adapters.old.items) < 2 ^ 32 }
     ensures kinds { kinds_of (map standing adapters.new.items) ≡ kinds_of (map standing adapters.old.items) }
-    ensures ends { IfSome (S.left source.old) (λ bytes. IfErr (opening_of bytes (kinds_of (map standing adapters.old.items))) (λ line. Tells result Status.Refused (told K.written out.old) (told K.written out.new) line)) }
+    ensures tells { IfSome (S.left source.old) (λ bytes. IsTold (judged bytes (map standing adapters.old.items)) result (told K.written out.old) (told K.written out.new) (map standing adapters.new.items)) }
     ensures source_later { S.faults source.old ≤ S.faults source.new }
     ensures sink_later { K.faults out.old.sink.now ≤ K.faults out.new.sink.now }
     ensures cause { IsCaused result (S.faults source.old) (S.faults source.new) (K.faults out.old.sink.now) (K.faults out.new.sink.now) }
@@ -248,7 +254,7 @@ fn show_layout<S: Source, K: Sink>(
     adapters: &Adapters,
 ) -> Status
     requires few { length (map standing adapters.now.items) < 2 ^ 32 }
-    ensures tells { IfSome (S.left source.old) (λ bytes. MapTells (opening_of bytes (kinds_of (map standing adapters.now.items))) result (told K.written out.old) (told K.written out.new)) }
+    ensures tells { IfSome (S.left source.old) (λ bytes. IsTold (map_judged bytes (map standing adapters.now.items)) result (told K.written out.old) (told K.written out.new) (map standing adapters.now.items)) }
     ensures source_later { S.faults source.old ≤ S.faults source.new }
     ensures sink_later { K.faults out.old.sink.now ≤ K.faults out.new.sink.now }
     ensures cause { IsCaused result (S.faults source.old) (S.faults source.new) (K.faults out.old.sink.now) (K.faults out.new.sink.now) }
@@ -300,9 +306,9 @@ fn perform_task<S: Source, K: Sink>(
 ) -> Status
     requires few { length (map standing adapters.old.items) < 2 ^ 32 }
     ensures kinds { kinds_of (map standing adapters.new.items) ≡ kinds_of (map standing adapters.old.items) }
-    ensures run { task ≡ Built.Run → IfSome (S.left source.old) (λ bytes. IfErr (opening_of bytes (kinds_of (map standing adapters.old.items))) (λ line. Tells result Status.Refused (told K.written out.old) (told K.written out.new) line)) }
-    ensures map { task ≡ Built.Map → IfSome (S.left source.old) (λ bytes. MapTells (opening_of bytes (kinds_of (map standing adapters.old.items))) result (told K.written out.old) (told K.written out.new)) }
-    ensures soak { (n : ℕ) → task ≡ Built.Soak n → SoakTells n (opening_of (soak_text n) (kinds_of (map standing adapters.old.items))) result (told K.written out.old) (told K.written out.new) }
+    ensures run { task ≡ Built.Run → IfSome (S.left source.old) (λ bytes. IsTold (judged bytes (map standing adapters.old.items)) result (told K.written out.old) (told K.written out.new) (map standing adapters.new.items)) }
+    ensures map { task ≡ Built.Map → IfSome (S.left source.old) (λ bytes. IsTold (map_judged bytes (map standing adapters.old.items)) result (told K.written out.old) (told K.written out.new) (map standing adapters.new.items)) }
+    ensures soak { (n : ℕ) → task ≡ Built.Soak n → IsTold (soak_judged n (map standing adapters.old.items)) result (told K.written out.old) (told K.written out.new) (map standing adapters.new.items) }
     ensures source_later { S.faults source.old ≤ S.faults source.new }
     ensures sink_later { K.faults out.old.sink.now ≤ K.faults out.new.sink.now }
     ensures cause { IsCaused result (S.faults source.old) (S.faults source.new) (K.faults out.old.sink.now) (K.faults out.new.sink.now) }
@@ -336,14 +342,14 @@ pub fn regrun<S: Source, K: Sink>(
     ensures words { (result ≡ Status.Words) ↔ (task_built (map string_bytes words.now) ≡ None) }
     ensures untouched { result ≡ Status.Words → (source.new ≡ source.old) × (sink.new ≡ sink.old) × (adapters.new ≡ adapters.old) }
 
-    // Where the source tells its bytes: what the session's opening says of the text and of the status.
+    // The headline. Where the source tells its bytes, `run` writes the judged log, and answers its status: the
+    // adapters then stand as its items leave them.
     ensures run { task_built (map string_bytes words.now) ≡ Some Built.Run → IfSome (S.left source.old)
-        (λ bytes. IfErr (opening_of bytes (kinds_of (map standing adapters.old.items)))
-        (λ line. Writes result Status.Refused (K.written sink.old) (K.written sink.new) line)) }
+        (λ bytes. IsJudged (judged bytes (map standing adapters.old.items)) result (K.written sink.old) (K.written sink.new) (map standing adapters.new.items)) }
     ensures map { task_built (map string_bytes words.now) ≡ Some Built.Map → IfSome (S.left source.old)
-        (λ bytes. MapEnds (opening_of bytes (kinds_of (map standing adapters.old.items))) result (K.written sink.old) (K.written sink.new)) }
+        (λ bytes. IsJudged (map_judged bytes (map standing adapters.old.items)) result (K.written sink.old) (K.written sink.new) (map standing adapters.new.items)) }
     ensures soak { (n : ℕ) → task_built (map string_bytes words.now) ≡ Some (Built.Soak n)
-        → SoakEnds n (opening_of (soak_text n) (kinds_of (map standing adapters.old.items))) result (K.written sink.old) (K.written sink.new) }
+        → IsJudged (soak_judged n (map standing adapters.old.items)) result (K.written sink.old) (K.written sink.new) (map standing adapters.new.items) }
 
     // No fault is made up.
     ensures source_later { S.faults source.old ≤ S.faults source.new }

@@ -1,4 +1,6 @@
+use Rattle.std.proofs.Common.{rules}
 use Rattle.regrun.proofs.EndingLemmas.{counted_kept}
+use Rattle.regrun.proofs.JudgedLemmas.{played_written}
 use Rattle.regrun.proofs.playing.play.Goals as goal
 
 pub returns-clause-ends : goal.returns-clause-ends
@@ -7,3 +9,9 @@ returns-clause-ends g c = record {
   risen = c.add.ensures;
   counted = counted_kept _ _ _ c.settle.ensures.kept c.play_lines-status.ensures.counted;
 }
+
+pub returns-clause-log : goal.returns-clause-log
+returns-clause-log g c =
+    let s = c.settle.ensures in
+    let w = played_written _ _ _ _ _ _ _ _ _ _ _ _ _ s.kept s.told s.whole c.add.ensures (rw (c.new-own.ensures, c.new-out.ensures.told) at c.play_lines-status.ensures.log) in
+    search (rules, w)

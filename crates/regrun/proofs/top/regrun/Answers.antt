@@ -1,6 +1,7 @@
 use Rattle.std.proofs.Common.{◌≡◌, sym, ◌∙◌, rules}
 use Rattle.regrun.specs.declared.words.Built.TheVariants as built
-use Rattle.regrun.proofs.EndingLemmas.{run_written, map_written, soak_written}
+use Rattle.regrun.specs.Judged.{judged, map_judged}
+use Rattle.regrun.proofs.JudgedLemmas.{judged_written, all_written}
 use Rattle.regrun.proofs.top.regrun.Goals as goal
 
 pub returns-clause-run : goal.returns-clause-run
@@ -8,7 +9,7 @@ returns-clause-run g c = λ asked.
     let found = sym c.in-Some.is ∙ c.task_built.ensures ∙ asked in
     let is : c.in-Some.task ≡ built.Run = cc in
     let f = c.finish.ensures in
-    let w = run_written _ _ _ _ _ _ _ _ f.kept f.told f.whole (rw c.new-out.ensures.told at (c.perform_task-status.ensures.run is)) in
+    let w = all_written _ (λ bytes. judged bytes _) _ _ _ _ _ _ _ f.kept f.told f.whole (rw c.new-out.ensures.told at (c.perform_task-status.ensures.run is)) in
     search (rules, w)
 
 pub returns-clause-map : goal.returns-clause-map
@@ -16,7 +17,7 @@ returns-clause-map g c = λ asked.
     let found = sym c.in-Some.is ∙ c.task_built.ensures ∙ asked in
     let is : c.in-Some.task ≡ built.Map = cc in
     let f = c.finish.ensures in
-    let w = map_written _ _ _ _ _ _ _ _ f.kept f.told f.whole (rw c.new-out.ensures.told at (c.perform_task-status.ensures.map is)) in
+    let w = all_written _ (λ bytes. map_judged bytes _) _ _ _ _ _ _ _ f.kept f.told f.whole (rw c.new-out.ensures.told at (c.perform_task-status.ensures.map is)) in
     search (rules, w)
 
 pub returns-clause-soak : goal.returns-clause-soak
@@ -24,5 +25,5 @@ returns-clause-soak g c = λ n asked.
     let found = sym c.in-Some.is ∙ c.task_built.ensures ∙ asked in
     let is : c.in-Some.task ≡ built.Soak n = cc in
     let f = c.finish.ensures in
-    let w = soak_written _ _ _ _ _ _ _ _ f.kept f.told f.whole (rw c.new-out.ensures.told at (c.perform_task-status.ensures.soak n is)) in
+    let w = judged_written _ _ _ _ _ _ _ _ f.kept f.told f.whole (rw c.new-out.ensures.told at (c.perform_task-status.ensures.soak n is)) in
     search (rules, w)

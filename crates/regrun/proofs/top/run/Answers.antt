@@ -1,7 +1,29 @@
-use Rattle.std.proofs.Common.{refl}
+use Rattle.std.proofs.Common.{◌≡◌, Ok, Some, refl}
+use Rattle.rl_report.specs.Opening.{separator_at}
+use Rattle.rl_report.specs.Reading.{input_of}
+use Rattle.regrun.specs.Log.{behind}
+use Rattle.regrun.specs.Session.{opening_of}
+use Rattle.regrun.specs.Telling.{Stops}
 use Rattle.regrun.proofs.BufferLemmas.{keeps_refl}
-use Rattle.regrun.proofs.OpeningLemmas.{runs_refused, runs_early}
+use Rattle.regrun.proofs.JudgedLemmas.{runs_early, runs_stopped, runs_opened}
+use Rattle.regrun.proofs.OpeningLemmas.{from_fresh}
 use Rattle.regrun.proofs.top.run.Goals as goal
 
-pub returns-in_default-clause-ends : goal.returns-in_default-clause-ends
-returns-in_default-clause-ends g c = runs_refused _ _ _ _ _ (runs_early _ _ _ _ _ refl (keeps_refl _))
+pub returns-in_default-clause-tells : goal.returns-in_default-clause-tells
+returns-in_default-clause-tells g c = runs_early _ _ _ _ _ _ refl (keeps_refl _)
+
+pub returns-in-Ok-open_session-clause-tells : goal.returns-in-Ok-open_session-clause-tells
+returns-in-Ok-open_session-clause-tells g c =
+    let e = c.in-Ok-open_session.ensures in
+    let left = g.S.Source.left c.args.source.now in
+    let lines = c.in-Ok.lines in
+    let fresh = c.in-Ok.ensures.input in
+    runs_opened left _ _ _ _ _ _ _ _
+        (from_fresh lines left (λ bytes. opening_of bytes _ ≡ Ok c.in-Ok-open_session.desc) fresh e.opening)
+        (from_fresh lines left (λ bytes. input_of c.open_session.new.lines (g.S.Source.left c.open_session.new.source) ≡ Some (behind (separator_at bytes) bytes)) fresh e.rest)
+        e.told c.run_session.ensures.tells
+
+pub returns-clause-tells : goal.returns-clause-tells
+returns-clause-tells g c =
+    let left = g.S.Source.left c.args.source.now in
+    runs_stopped left _ _ _ _ (from_fresh c.in-Ok.lines left (λ bytes. Stops (opening_of bytes _) _ _ _) c.in-Ok.ensures.input c.in-Err.ensures.stops)

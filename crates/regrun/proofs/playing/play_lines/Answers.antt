@@ -1,0 +1,39 @@
+use Rattle.std.proofs.Common.{arith, refl, ◌∙◌}
+use Rattle.std.proofs.KnownBytes.{Appends-nil}
+use Rattle.regrun.proofs.PlayLemmas.{passes_first, passes_both, ends_both}
+use Rattle.regrun.proofs.playing.play_lines.Goals as goal
+
+pub loop-number-init : goal.loop-number-init
+loop-number-init g c = record {
+  ready = c.requires.ready;
+  parts = record { chip = refl; layout = refl };
+  found = c.requires.found;
+  going = c.requires.going;
+  in_range = omega arith;
+  source_later = omega arith;
+  sink_later = omega arith;
+  going_on = passes_first _ _ _ (Appends-nil _);
+  ends_kept = refl;
+  same_sink = refl;
+}
+
+pub loop-number-preserved : goal.loop-number-preserved
+loop-number-preserved g c =
+    let i = c.loop-number.invariant in
+    let e = c.play_line.ensures in
+    let last = e.last c.in-Next.is in
+    record {
+      ready = e.ready;
+      parts = record { chip = e.parts.chip ∙ i.parts.chip; layout = e.parts.layout ∙ i.parts.layout };
+      found = e.found;
+      going = e.going c.in-Next.is;
+      in_range = omega (arith, last);
+      source_later = omega (arith, e.source_later, i.source_later);
+      sink_later = omega (arith, e.sink_later, i.sink_later);
+      going_on = passes_both _ _ _ _ _ _ i.going_on (e.next c.in-Next.is);
+      ends_kept = e.ends_kept ∙ i.ends_kept;
+      same_sink = e.same_sink ∙ i.same_sink;
+    }
+
+pub returns-in-Stop-clause-log : goal.returns-in-Stop-clause-log
+returns-in-Stop-clause-log g c = ends_both _ _ _ _ _ _ _ _ _ _ c.loop-number.invariant.going_on (c.play_line.ensures.stop _ c.in-Stop.is)

@@ -1,0 +1,15 @@
+use Rattle.std.proofs.Common.{map, refl}
+use Rattle.regrun.specs.declared.status.Status.TheVariants.{Memory}
+use Rattle.regrun.specs.Told.{told}
+use Rattle.regrun.proofs.BufferLemmas.{keeps_refl}
+use Rattle.regrun.proofs.JudgedLemmas.{session_early, session_told}
+use Rattle.regrun.proofs.top.run_session.Goals as goal
+
+pub returns-in_default-clause-tells : goal.returns-in_default-clause-tells
+returns-in_default-clause-tells g c =
+    let here = (map (λ b. (goal.Adapter-dyn g (b.vtable, b.value)).standing b.value) c.args.adapters.now.items) in
+    let text = told g.K.Sink.written c.args.out.now in
+    session_early _ c.args.desc here here Memory text text refl (keeps_refl text)
+
+pub returns-clause-tells : goal.returns-clause-tells
+returns-clause-tells g c = session_told _ c.args.desc _ _ _ _ _ _ _ _ _ _ _ c.new-counts.ensures (c.in-Ok.ensures.first _) c.play_lines.ensures.log

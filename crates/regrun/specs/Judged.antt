@@ -1,0 +1,67 @@
+-- The judged log of a session, and what `map` and `soak` write: the text, the status, and how the adapters stand afterwards.
+use Rattle.std.specs.Prelude.{◌≡◌, ℕ, List, true, Option, Result, Ok, Err}
+use Rattle.rl_bus.specs.Standing.{Standing, kinds_of}
+use Rattle.rl_desc.specs.Data.{DescData}
+use Rattle.rl_mirror.specs.Mirror.{MirrorData}
+use Rattle.regrun.specs.declared.status.Status.{Status}
+use Rattle.regrun.specs.declared.status.Status.TheVariants.{Refused}
+use Rattle.regrun.specs.Endings.{Writes}
+use Rattle.regrun.specs.Log.{Ending, script_ending}
+use Rattle.regrun.specs.Session.{opening_of, map_text, map_status}
+use Rattle.regrun.specs.Soak.{mirror_sum, soak_line_text, soak_text}
+use Rattle.regrun.specs.Statuses.{is_complete}
+use Rattle.regrun.specs.Telling.{Tells}
+
+pub record Judged : Type 0 where
+  pub text : List ℕ
+  pub status : Status
+  pub adapters : List Standing
+
+-- a session that is refused before its script
+abbrev pub refused : List ℕ → List Standing → Judged
+refused line adapters = record { text = line; status = Refused; adapters = adapters }
+
+-- ---- `run`
+
+abbrev pub ending_judged : Ending → Judged
+ending_judged e = record { text = e.text; status = e.status; adapters = e.world.adapters }
+
+abbrev pub judged_by : Result DescData (List ℕ) → List ℕ → List Standing → Judged
+judged_by (Ok desc) bytes adapters = ending_judged (script_ending desc bytes adapters)
+judged_by (Err line) bytes adapters = refused line adapters
+
+-- the judged log of a session
+abbrev pub judged : List ℕ → List Standing → Judged
+judged bytes adapters = judged_by (opening_of bytes (kinds_of adapters)) bytes adapters
+
+-- ---- `map`
+
+abbrev pub map_judged : List ℕ → List Standing → Judged
+map_judged bytes adapters =
+    let opening = opening_of bytes (kinds_of adapters) in
+    record { text = map_text opening; status = map_status opening; adapters = adapters }
+
+-- ---- `soak`
+
+abbrev pub soak_ending : ℕ → Ending → Judged
+soak_ending n e = record { text = soak_line_text n e.counts (mirror_sum 0 e.world.model.mirror.mirrored); status = e.status; adapters = e.world.adapters }
+
+abbrev pub soak_by : ℕ → Result DescData (List ℕ) → List Standing → Judged
+soak_by n (Ok desc) adapters = soak_ending n (script_ending desc (soak_text n) adapters)
+soak_by n (Err line) adapters = refused line adapters
+
+-- the line of the session that is made from a number
+abbrev pub soak_judged : ℕ → List Standing → Judged
+soak_judged n adapters = soak_by n (opening_of (soak_text n) (kinds_of adapters)) adapters
+
+-- ---- what was written of it
+
+-- the whole text, with its status, and the adapters stand so; where it didn't come to its last line, a front of the text
+pub record IsJudged (j : Judged) (status : Status) (old new : Option (List ℕ)) (adapters : List Standing) : Type 0 where
+  pub writes : Writes status j.status old new j.text
+  pub adapters_are : is_complete status ≡ true → adapters ≡ j.adapters
+
+-- the same of a sink that may still keep bytes back
+pub record IsTold (j : Judged) (status : Status) (old new : Option (List ℕ)) (adapters : List Standing) : Type 0 where
+  pub tells : Tells status j.status old new j.text
+  pub adapters_are : is_complete status ≡ true → adapters ≡ j.adapters

@@ -1,0 +1,108 @@
+-- The judged log: what a session writes, how it ends, and what stands afterwards.
+use Rattle.std.specs.Prelude.{ℕ, ◌+◌, nat_lt, if◌then◌else◌, List, [], ◌∷◌, ◌++◌, length, drop, replicate, Option, Some, None, Result, Ok, Err}
+use Rattle.std.specs.Io.BufRead.{strip_last}
+use Rattle.rl_access.specs.Gathering.{no_words}
+use Rattle.rl_bench.specs.Flaws.{first_of}
+use Rattle.rl_bus.specs.Standing.{Standing}
+use Rattle.rl_desc.specs.Data.{DescData}
+use Rattle.rl_mirror.specs.Prediction.{fresh}
+use Rattle.rl_report.specs.Lines.{lines_of, after_line}
+use Rattle.rl_report.specs.Opening.{separator_at}
+use Rattle.rl_script.specs.declared.fault.LineFault.{LineFault}
+use Rattle.rl_script.specs.declared.fault.LineFault.TheVariants as fault
+use Rattle.rl_script.specs.declared.line.Line.{Line}
+use Rattle.rl_script.specs.Reading.{read_of}
+use Rattle.regrun.specs.declared.counts.Counts.{Counts}
+use Rattle.regrun.specs.declared.status.Status.{Status}
+use Rattle.regrun.specs.declared.status.Status.TheVariants.{Refused}
+use Rattle.regrun.specs.declared.texts.LineRefusal.{LineRefusal}
+use Rattle.regrun.specs.declared.texts.LineRefusal.TheVariants.{TooLong, NotAscii, NoSuchCommand, WrongCount, BadName, BadNumber, NumberTooLarge, CountOutOfRange, NoSuchName, TooManyLines}
+use Rattle.regrun.specs.Endings.{end_status}
+use Rattle.regrun.specs.Entry.{Entry, entry_of}
+use Rattle.regrun.specs.Recording.{no_counts, with_events}
+use Rattle.regrun.specs.Texts.{refused_text, end_text}
+use Rattle.regrun.specs.World.{World}
+
+-- ---- what a line says
+
+-- reading answers want of memory never
+abbrev pub refused_by : LineFault → LineRefusal
+refused_by fault.TooLong = TooLong
+refused_by fault.NotAscii = NotAscii
+refused_by fault.NoSuchCommand = NoSuchCommand
+refused_by fault.WrongCount = WrongCount
+refused_by fault.BadName = BadName
+refused_by fault.BadNumber = BadNumber
+refused_by fault.NumberTooLarge = NumberTooLarge
+refused_by fault.CountOutOfRange = CountOutOfRange
+refused_by fault.Memory = TooLong
+
+abbrev pub said_by : Result Line LineFault → Result Line LineRefusal
+said_by (Ok line) = Ok line
+said_by (Err fault) = Err (refused_by fault)
+
+-- a line of that number, without its line end
+abbrev pub said : (number : ℕ) → List ℕ → Result Line LineRefusal
+said number line =
+    if nat_lt 1000000 number then Err TooManyLines
+    else if nat_lt 4096 (length line) then Err TooLong
+    else said_by (read_of (strip_last 13 line))
+
+-- ---- what comes of a line
+
+abbrev pub there : Option Entry → Result Entry LineRefusal
+there None = Err NoSuchName
+there (Some entry) = Ok entry
+
+abbrev pub comes_of : World → Result Line LineRefusal → Result Entry LineRefusal
+comes_of w (Ok line) = there (entry_of w line)
+comes_of w (Err why) = Err why
+
+-- ---- a script
+
+pub record Ending : Type 0 where
+  pub text : List ℕ
+  pub status : Status
+  pub counts : Counts
+  pub world : World
+
+abbrev pub ends : Counts → World → Ending
+ends counts w = record { text = end_text counts; status = end_status counts; counts = counts; world = w }
+
+abbrev pub stops : (number : ℕ) → LineRefusal → Counts → World → Ending
+stops number why counts w = record { text = refused_text number why; status = Refused; counts = counts; world = w }
+
+abbrev pub after_text : List ℕ → Ending → Ending
+after_text text e = record e { text = text ++ e.text }
+
+-- a line that is refused stops the script, and any other one is followed by the rest
+abbrev pub goes_on : (number : ℕ) → Counts → World → Result Entry LineRefusal → (Counts → World → Ending) → Ending
+goes_on number counts w (Err why) rest = stops number why counts w
+goes_on number counts w (Ok entry) rest = after_text entry.text (rest (with_events counts entry.course.told) entry.course.world)
+
+-- the lines from that number on
+unfoldable pub script_from : (number : ℕ) → Counts → World → List (List ℕ) → Ending
+script_from number counts w [] = ends counts w
+script_from number counts w (line ∷ lines) = goes_on number counts w (comes_of w (said number line)) (λ counts w. script_from (number + 1) counts w lines)
+
+-- ---- a session
+
+-- the bytes behind the separator's line
+abbrev pub behind : Option ℕ → List ℕ → List ℕ
+behind None bytes = []
+behind (Some at) bytes = after_line (drop at bytes)
+
+abbrev pub script_of : List ℕ → List (List ℕ)
+script_of bytes = lines_of (behind (separator_at bytes) bytes)
+
+-- a model that was just built, and a device after a hard reset, with exactly the flaws that are declared
+abbrev pub first_world : DescData → List Standing → World
+first_world desc adapters = record {
+  model = record { chip = desc.chip; layout = desc.layout; mirror = fresh desc.chip; gathered = replicate (length desc.layout.places) no_words };
+  adapters = adapters;
+  device = first_of desc.chip desc.layout desc.flaws;
+}
+
+-- the script of a session that opens with this description
+abbrev pub script_ending : DescData → List ℕ → List Standing → Ending
+script_ending desc bytes adapters = script_from 1 no_counts (first_world desc adapters) (script_of bytes)

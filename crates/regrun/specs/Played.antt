@@ -1,0 +1,111 @@
+-- What was written and done of a line, and of a script, against what they come to.
+use Rattle.std.specs.Prelude.{◌≡◌, ℕ, List, true, false, Option, Some, None, Result, Ok, Err}
+use Rattle.std.specs.Io.KnownBytes.{Appends, Keeps}
+use Rattle.rl_access.specs.Model.{ModelData}
+use Rattle.rl_bus.specs.declared.device.Failed.{Failed}
+use Rattle.rl_bus.specs.Standing.{Standing}
+use Rattle.rl_bus.specs.State.{State}
+use Rattle.rl_report.specs.Lines.{lines_of}
+use Rattle.rl_report.specs.Pieces.{AppendsFront}
+use Rattle.regrun.specs.declared.counts.Counts.{Counts}
+use Rattle.regrun.specs.declared.playing.Turn.{Turn}
+use Rattle.regrun.specs.declared.playing.Turn.TheVariants.{Next, Stop}
+use Rattle.regrun.specs.declared.status.Status.{Status}
+use Rattle.regrun.specs.declared.texts.LineRefusal.{LineRefusal}
+use Rattle.regrun.specs.declared.texts.LineRefusal.TheVariants.{NoSuchName}
+use Rattle.regrun.specs.Endings.{Writes, added}
+use Rattle.regrun.specs.Entry.{Entry}
+use Rattle.regrun.specs.Log.{Ending, script_from, after_text, stops}
+use Rattle.regrun.specs.Recording.{with_events}
+use Rattle.regrun.specs.Statuses.{is_complete}
+use Rattle.regrun.specs.World.{World, world, IsAt}
+
+-- ---- how a script ends
+
+-- it came to its last line, with its status and counts, and led here
+pub record IsOver (e : Ending) (status : Status) (old new : Option (List ℕ)) (counts : Counts) (model : ModelData) (adapters : List Standing) (device : Option State) : Type 0 where
+  pub status_is : status ≡ e.status
+  pub text : Appends old new e.text
+  pub counts_are : counts ≡ e.counts
+  pub after : IsAt model adapters device e.world
+
+-- its status and counts, and where it led
+pub record IsPlayed (e : Ending) (status : Status) (counts : Counts) (model : ModelData) (adapters : List Standing) (device : Option State) : Type 0 where
+  pub status_is : status ≡ e.status
+  pub counts_are : counts ≡ e.counts
+  pub after : IsAt model adapters device e.world
+
+-- of a sink that keeps nothing back: what is there is what was there and the text, or a front of that; the counts rose
+pub record IsWrittenOut (e : Ending) (status : Status) (old new : Option (List ℕ)) (counts now : Counts) (model : ModelData) (adapters : List Standing) (device : Option State) : Type 0 where
+  pub writes : Writes status e.status old new e.text
+  pub counted : is_complete status ≡ true → now ≡ added counts e.counts
+  pub after : is_complete status ≡ true → IsAt model adapters device e.world
+
+-- it is over where it came to its last line, and else a front of its text was written
+pub record EndsAs (e : Ending) (status : Status) (old new : Option (List ℕ)) (counts : Counts) (model : ModelData) (adapters : List Standing) (device : Option State) : Type 0 where
+  pub whole : is_complete status ≡ true → IsOver e status old new counts model adapters device
+  pub part : AppendsFront old new e.text
+
+-- ---- a line
+
+-- its text was written and its events are counted, and it led here
+pub record Ran (given : Option Entry) (old new : Option (List ℕ)) (counts now : Counts) (model : ModelData) (adapters : List Standing) (device : Option State) : Type 0 where
+  pub entry : Entry
+  pub is : given ≡ Some entry
+  pub text : Appends old new entry.text
+  pub counted : now ≡ with_events counts entry.course.told
+  pub after : IsAt model adapters device entry.course.world
+
+-- a name isn't there, and nothing was done
+pub record IsUnknown (given : Option Entry) (why : LineRefusal) (old new : Option (List ℕ)) (counts now : Counts) (w : World) (model : ModelData) (adapters : List Standing) (device : Option State) : Type 0 where
+  pub none : given ≡ None
+  pub why_is : why ≡ NoSuchName
+  pub text : Keeps old new
+  pub counted : now ≡ counts
+  pub after : IsAt model adapters device w
+
+-- a front of its text was written before the sink failed
+pub record BrokeOff (given : Option Entry) (old new : Option (List ℕ)) : Type 0 where
+  pub entry : Entry
+  pub is : given ≡ Some entry
+  pub text : AppendsFront old new entry.text
+
+abbrev pub IsLineRun : Option Entry → World → (old new : Option (List ℕ)) → (counts now : Counts) → ModelData → List Standing → Option State → Result (Option LineRefusal) Failed → Type 0
+IsLineRun given w old new counts now model adapters device (Ok None) = Ran given old new counts now model adapters device
+IsLineRun given w old new counts now model adapters device (Ok (Some why)) = IsUnknown given why old new counts now w model adapters device
+IsLineRun given w old new counts now model adapters device (Err failed) = BrokeOff given old new
+
+-- ---- a turn: what a line comes to, as it was written and done
+
+-- it was run
+pub record RanOn (comes : Result Entry LineRefusal) (old new : Option (List ℕ)) (counts now : Counts) (model : ModelData) (adapters : List Standing) (device : Option State) : Type 0 where
+  pub entry : Entry
+  pub is : comes ≡ Ok entry
+  pub text : Appends old new entry.text
+  pub counted : now ≡ with_events counts entry.course.told
+  pub after : IsAt model adapters device entry.course.world
+
+-- the script ended at it
+pub record Stopped (number : ℕ) (comes : Result Entry LineRefusal) (status : Status) (old new : Option (List ℕ)) (counts now : Counts) (w : World) (model : ModelData) (adapters : List Standing) (device : Option State) : Type 0 where
+  pub refused : (why : LineRefusal) → comes ≡ Err why → EndsAs (stops number why counts w) status old new now model adapters device
+  pub broken : (entry : Entry) → comes ≡ Ok entry → (is_complete status ≡ false) × AppendsFront old new entry.text
+
+abbrev pub IsTurn : (number : ℕ) → Result Entry LineRefusal → (old new : Option (List ℕ)) → (counts now : Counts) → World → ModelData → List Standing → Option State → Turn → Type 0
+IsTurn number comes old new counts now w model adapters device Next = RanOn comes old new counts now model adapters device
+IsTurn number comes old new counts now w model adapters device (Stop status) = Stopped number comes status old new counts now w model adapters device
+
+-- ---- a script
+
+-- what the lines of an input come to, from that number on, where the device tells its state and the source its bytes
+abbrev pub coming : (number : ℕ) → Counts → ModelData → List Standing → Option State → Option (List ℕ) → Option Ending
+coming number counts model adapters (Some device) (Some bytes) = Some (script_from number counts (world model adapters device) (lines_of bytes))
+coming number counts model adapters (Some device) None = None
+coming number counts model adapters None input = None
+
+-- a text was written, and then this is still to come
+pub record PassesTo (e : Ending) (next : Option Ending) (old new : Option (List ℕ)) : Type 0 where
+  pub text : List ℕ
+  pub others : Ending
+  pub is : next ≡ Some others
+  pub whole : e ≡ after_text text others
+  pub written : Appends old new text

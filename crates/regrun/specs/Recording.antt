@@ -1,0 +1,62 @@
+-- What is written and counted of events.
+use Rattle.std.specs.Prelude.{◌≡◌, ℕ, List, [], ◌∷◌, ◌++◌, count_ones, if◌then◌else◌, Option, Result, OnOk, OnErr}
+use Rattle.std.specs.Io.KnownBytes.{Appends}
+use Rattle.rl_access.specs.declared.event.Event.{Event}
+use Rattle.rl_access.specs.HandsOver.{Told}
+use Rattle.rl_access.specs.Model.{ModelData}
+use Rattle.rl_access.specs.Tally.{more, is_bus_error}
+use Rattle.rl_bus.specs.Standing.{Standing}
+use Rattle.rl_bus.specs.State.{State}
+use Rattle.rl_report.specs.EventText.{event_text}
+use Rattle.rl_report.specs.Pieces.{AppendsFront}
+use Rattle.regrun.specs.declared.counts.Counts.{Counts}
+use Rattle.regrun.specs.Course.{Course}
+use Rattle.regrun.specs.World.{IsAt}
+
+-- ---- counts
+
+abbrev pub no_counts : Counts
+no_counts = record { events = 0; differences = 0; errors = 0 }
+
+-- one event more, its differing fields and its bus error
+abbrev pub with_event : Counts → Event → Counts
+with_event counts e = record {
+  events = more counts.events 1;
+  differences = more counts.differences (count_ones e.differ);
+  errors = if is_bus_error e.end then more counts.errors 1 else counts.errors;
+}
+
+abbrev pub with_events : Counts → List Told → Counts
+with_events counts [] = counts
+with_events counts (t ∷ told) = with_events (with_event counts t.event) told
+
+-- ---- the recorder
+
+-- the event's text was written, and the event is counted
+pub record IsWritten (old new : Option (List ℕ)) (counts now : Counts) (model : ModelData) (event : Event) : Type 0 where
+  pub text : Appends old new (event_text model event)
+  pub counted : now ≡ with_event counts event
+
+-- a front of its text was written, and it is counted
+pub record IsBegun (old new : Option (List ℕ)) (counts now : Counts) (model : ModelData) (event : Event) : Type 0 where
+  pub text : AppendsFront old new (event_text model event)
+  pub counted : now ≡ with_event counts event
+
+-- ---- the text of events
+
+abbrev pub told_text : Told → List ℕ
+told_text t = event_text t.model t.event
+
+-- in order
+abbrev pub events_text : List Told → List ℕ
+events_text [] = []
+events_text (t ∷ told) = told_text t ++ events_text told
+
+-- ---- a course
+
+-- its events were written and counted, and it led here; where the sink failed, a front of their text was written
+pub record IsRecorded {T E : Type 0} (c : Course) (old new : Option (List ℕ)) (counts now : Counts) (model : ModelData) (adapters : List Standing) (device : Option State) (r : Result T E) : Type 0 where
+  pub whole : OnOk r (Appends old new (events_text c.told))
+  pub part : OnErr r (AppendsFront old new (events_text c.told))
+  pub counted : OnOk r (now ≡ with_events counts c.told)
+  pub after : OnOk r (IsAt model adapters device c.world)
