@@ -22,11 +22,17 @@ pub struct Here {
     pub count: usize,
 }
 
+/// The place of an address in the order by port and address.
+fn key(port: u32, address: u64) -> u128
+    ensures { result ≡ port * 2 ^ 64 + address }
+{
+    u128::from(port) * (u128::from(u64::MAX) + 1) + u128::from(address)
+}
+
 fn is_before(word: &WordRow, port: u32, address: u64) -> bool
     ensures { result ≡ nat_lt (key_of word.now) (port * 2 ^ 64 + address) }
 {
-    let at = word.address;
-    word.port < port || word.port == port && at < address
+    key(word.port, word.address) < key(port, address)
 }
 
 fn stands_at(word: &WordRow, port: u32, address: u64) -> bool
