@@ -106,7 +106,7 @@ pub soaks_opened : (n : ℕ) (input : Option (List ℕ)) (adapters now : List St
 soaks_opened n input adapters now desc status old mid new is rest same t =
     let bytes = soak_text n in
     let told : IsTold (soak_ending n (script_ending desc bytes adapters)) status mid new now =
-        subst (λ o. IfSome o (λ bytes. IsTold (soak_ending n (script_from 1 no_counts (first_world desc adapters) (lines_of bytes))) status mid new now)) rest t in
+    subst (λ o. IfSome o (λ bytes. IsTold (soak_ending n (script_from 1 no_counts (first_world desc adapters) (lines_of bytes))) status mid new now)) rest t in
     subst (λ o. IsTold (soak_by n o adapters) status old new now) (sym is) (told_later (soak_ending n (script_ending desc bytes adapters)) status old mid new now same told)
 
 -- a run that came to its end, and its line

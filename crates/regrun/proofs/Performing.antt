@@ -88,7 +88,7 @@ done w errors new op place e h =
     let found : IsSampled w.device op h.sampled = h.found w.device refl in
     let items : e.trace ≡ items_at w op place = h.answers w.device refl in
     let same : outcome w.model op place h.sampled e.trace ≡ outcome w.model op place (found_by w.device op) (items_at w op place)
-        = outcome_found w.model op place h.sampled e.trace w.device found ∙ ap (outcome w.model op place (found_by w.device op)) items in
+    = outcome_found w.model op place h.sampled e.trace w.device found ∙ ap (outcome w.model op place (found_by w.device op)) items in
     record {
       event = h.event_is ∙ ap (λ t. event_of w.model (named w.model op) t (outcome w.model op place h.sampled e.trace)) items
           ∙ ap (event_of w.model (named w.model op) (items_at w op place)) same;

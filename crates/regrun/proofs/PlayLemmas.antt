@@ -200,8 +200,8 @@ stop_ends number counts now m n a b (Some d) after None g line reading left s st
 stop_ends number counts now m n a b (Some d) after (Some bytes) g line reading left s status old mid new not_end h is heard same t =
     let w = world m a d in
     subst (λ e. EndsAs e status old new now n b after)
-        (sym (script_more number counts w bytes s (hands_some bytes g reading left not_end h) (heard ∙ heard_said number bytes line g reading left not_end h is)))
-        (stopped_ends number counts now w (comes_of w s) (comes_of w s) (λ counts w. script_from (number + 1) counts w (lines_of (after_line bytes))) status old mid new n b after refl same t)
+    (sym (script_more number counts w bytes s (hands_some bytes g reading left not_end h) (heard ∙ heard_said number bytes line g reading left not_end h is)))
+    (stopped_ends number counts now w (comes_of w s) (comes_of w s) (λ counts w. script_from (number + 1) counts w (lines_of (after_line bytes))) status old mid new n b after refl same t)
 
 -- a script ends with its lines
 end_ends : (number : ℕ) (counts : Counts) (m : ModelData) (a : List Standing) (st : Option State) (input : Option (List ℕ)) (reading : Reading) (left : Option (List ℕ)) (status : Status) (old mid new : Option (List ℕ))
