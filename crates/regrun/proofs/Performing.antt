@@ -1,5 +1,5 @@
 -- One operation, from a scene whose device tells its state.
-use Rattle.std.proofs.Common.{◌≡◌, ℕ, List, Option, Some, Ok, Err, MatchResult, IfSome, None, option_map, refl, sym, ap, subst, ◌∙◌}
+use Rattle.std.proofs.Common.{◌≡◌, ℕ, List, Option, Some, Ok, Err, MatchResult, IfSome, None, refl, ap, subst, ◌∙◌}
 use Rattle.rl_bus.specs.Standing.{Standing}
 use Rattle.rl_bus.specs.State.{State}
 use Rattle.rl_access.specs.declared.event.Event.{Event}

@@ -1,5 +1,5 @@
 -- The events of bursts and sequences, as they were written and counted.
-use Rattle.std.proofs.Common.{◌≡◌, ℕ, List, [], ◌∷◌, ◌++◌, Option, Some, None, Result, Ok, Err, IfSome, IfOk, MatchResult, refl, sym, ap, subst, ◌∙◌, append_assoc, append-nil}
+use Rattle.std.proofs.Common.{◌≡◌, ℕ, List, [], ◌∷◌, ◌++◌, Option, Some, None, Result, Ok, Err, IfSome, IfOk, refl, sym, ap, subst, ◌∙◌, append_assoc, append-nil}
 use Rattle.std.specs.Io.KnownBytes.{Appends}
 use Rattle.std.proofs.KnownBytes.{Appends-nil, Appends-trans}
 use Rattle.rl_bus.specs.Standing.{Standing}
@@ -9,9 +9,9 @@ use Rattle.rl_access.specs.declared.event.Op.{Op}
 use Rattle.rl_access.specs.declared.event.Refused.{Refused}
 use Rattle.rl_access.specs.declared.event.Tally.{Tally}
 use Rattle.rl_access.specs.Call.{Scene, scene, IsRefused}
-use Rattle.rl_access.specs.HandsOver.{Told, TakesAll, BreaksAtLast, HandsOver}
+use Rattle.rl_access.specs.HandsOver.{Told, TakesAll, BreaksAtLast}
 use Rattle.rl_access.specs.Model.{ModelData}
-use Rattle.rl_access.specs.Rules.{Grant, named, refused_event}
+use Rattle.rl_access.specs.Rules.{Grant}
 use Rattle.rl_access.specs.Runs.{IsBurst, IsRun, IsRefusedRun, no_tally, counted_all}
 use Rattle.rl_seq.specs.Plan.{Plan, IsSequence}
 use Rattle.rl_report.specs.Pieces.{AppendsFront}
