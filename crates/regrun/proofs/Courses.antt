@@ -1,7 +1,6 @@
 -- Several operations, from a scene whose device tells its state.
-use Rattle.std.proofs.Common.{◌≡◌, ℕ, Bool, true, false, if◌then◌else◌, List, [], ◌∷◌, ◌++◌, refl, sym, ap, subst, ◌∙◌}
+use Rattle.std.proofs.Common.{◌≡◌, Bool, true, false, if◌then◌else◌, List, [], ◌∷◌, ◌++◌, refl, sym, ap, subst, ◌∙◌}
 use Rattle.std.specs.Bool.{MatchBool}
-use Rattle.rl_access.specs.declared.event.Event.{Event}
 use Rattle.rl_access.specs.declared.event.Op.{Op}
 use Rattle.rl_access.specs.Call.{Scene}
 use Rattle.rl_access.specs.HandsOver.{Told}
@@ -67,8 +66,8 @@ runs_through (op ∷ ops) (t ∷ told) s new w h (mid, o, rest) =
     let st = step_of w op in
     let first = one s mid w op t h o in
     after_first (is_bus_error st.event.end) t mid st told new (through st.world ops) (RunsThrough mid ops told new) first
-        (subst (λ b. MatchBool b ((told ≡ []) × (new ≡ mid)) (RunsThrough mid ops told new)) (ended t mid st first) rest)
-        (λ more. runs_through ops told mid new st.world first.world more)
+    (subst (λ b. MatchBool b ((told ≡ []) × (new ≡ mid)) (RunsThrough mid ops told new)) (ended t mid st first) rest)
+    (λ more. runs_through ops told mid new st.world first.world more)
 
 front_quiet : (b : Bool) (told : List Told) (st : Step) (others : Course) → b ≡ false → IsFrontOf told (first_then st others) → IsFrontOf told (if b then alone st else first_then st others)
 front_quiet true told st others quiet f = absurd cc
@@ -89,7 +88,7 @@ runs_into (op ∷ ops) (t ∷ u ∷ told) s new w h (mid, o, quiet, rest) =
     let st = step_of w op in
     let first = one s mid w op t h o in
     front_quiet (is_bus_error st.event.end) (t ∷ u ∷ told) st (through st.world ops) (sym (ended t mid st first) ∙ quiet)
-        (front_and t mid st (u ∷ told) (through st.world ops) first (runs_into ops (u ∷ told) mid new st.world first.world rest))
+    (front_and t mid st (u ∷ told) (through st.world ops) first (runs_into ops (u ∷ told) mid new st.world first.world rest))
 
 -- ---- a plan
 

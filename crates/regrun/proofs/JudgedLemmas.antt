@@ -1,6 +1,6 @@
 -- What was told of a session, against what is judged of it.
-use Rattle.std.proofs.Common.{◌≡◌, ◌≢◌, ℕ, ◌+◌, min, ◌^◌, ◌-◌, true, false, List, [], drop, Option, Some, None, IfSome, IfOk, IfErr, Result, Ok, Err, refl, sym, ap, subst, ◌∙◌}
-use Rattle.std.specs.Io.KnownBytes.{Appends, Keeps, append_known}
+use Rattle.std.proofs.Common.{◌≡◌, ◌≢◌, ℕ, true, false, List, Option, Some, None, IfSome, Result, Ok, Err, refl, sym, ap, subst, ◌∙◌}
+use Rattle.std.specs.Io.KnownBytes.{Keeps, append_known}
 use Rattle.std.proofs.lemmas.Bool.{true≢false}
 use Rattle.rl_bus.specs.Standing.{Standing, kinds_of}
 use Rattle.rl_bus.specs.State.{State}
@@ -9,13 +9,12 @@ use Rattle.rl_desc.specs.Data.{DescData}
 use Rattle.rl_map.specs.LayoutText.{layout_text}
 use Rattle.rl_report.specs.Lines.{lines_of}
 use Rattle.rl_report.specs.Opening.{separator_at}
-use Rattle.rl_report.specs.Pieces.{AppendsFront}
 use Rattle.regrun.specs.declared.counts.Counts.{Counts}
 use Rattle.regrun.specs.declared.status.Status.{Status}
-use Rattle.regrun.specs.declared.status.Status.TheVariants.{Passed, Refused, SinkFault}
+use Rattle.regrun.specs.declared.status.Status.TheVariants.{Passed, SinkFault}
 use Rattle.regrun.specs.Endings.{added}
 use Rattle.regrun.specs.Judged.{Judged, refused, ending_judged, judged_by, judged, map_judged, soak_by, soak_ending, IsTold, IsJudged}
-use Rattle.regrun.specs.Log.{Ending, behind, first_world, script_from, script_of, script_ending}
+use Rattle.regrun.specs.Log.{Ending, behind, first_world, script_from, script_ending}
 use Rattle.regrun.specs.Played.{coming, EndsAs, IsPlayed, IsWrittenOut}
 use Rattle.regrun.specs.Recording.{no_counts}
 use Rattle.regrun.specs.Session.{opening_of, map_text, map_status}
@@ -106,7 +105,7 @@ pub soaks_opened : (n : ℕ) (input : Option (List ℕ)) (adapters now : List St
 soaks_opened n input adapters now desc status old mid new is rest same t =
     let bytes = soak_text n in
     let told : IsTold (soak_ending n (script_ending desc bytes adapters)) status mid new now =
-        subst (λ o. IfSome o (λ bytes. IsTold (soak_ending n (script_from 1 no_counts (first_world desc adapters) (lines_of bytes))) status mid new now)) rest t in
+    subst (λ o. IfSome o (λ bytes. IsTold (soak_ending n (script_from 1 no_counts (first_world desc adapters) (lines_of bytes))) status mid new now)) rest t in
     subst (λ o. IsTold (soak_by n o adapters) status old new now) (sym is) (told_later (soak_ending n (script_ending desc bytes adapters)) status old mid new now same told)
 
 -- a run that came to its end, and its line

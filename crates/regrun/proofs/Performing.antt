@@ -1,5 +1,5 @@
 -- One operation, from a scene whose device tells its state.
-use Rattle.std.proofs.Common.{◌≡◌, ℕ, List, Option, Some, Ok, Err, MatchResult, IfSome, None, option_map, refl, sym, ap, subst, ◌∙◌}
+use Rattle.std.proofs.Common.{◌≡◌, ℕ, List, Option, Some, Ok, Err, MatchResult, IfSome, None, refl, ap, subst, ◌∙◌}
 use Rattle.rl_bus.specs.Standing.{Standing}
 use Rattle.rl_bus.specs.State.{State}
 use Rattle.rl_access.specs.declared.event.Event.{Event}
@@ -88,7 +88,7 @@ done w errors new op place e h =
     let found : IsSampled w.device op h.sampled = h.found w.device refl in
     let items : e.trace ≡ items_at w op place = h.answers w.device refl in
     let same : outcome w.model op place h.sampled e.trace ≡ outcome w.model op place (found_by w.device op) (items_at w op place)
-        = outcome_found w.model op place h.sampled e.trace w.device found ∙ ap (outcome w.model op place (found_by w.device op)) items in
+    = outcome_found w.model op place h.sampled e.trace w.device found ∙ ap (outcome w.model op place (found_by w.device op)) items in
     record {
       event = h.event_is ∙ ap (λ t. event_of w.model (named w.model op) t (outcome w.model op place h.sampled e.trace)) items
           ∙ ap (event_of w.model (named w.model op) (items_at w op place)) same;

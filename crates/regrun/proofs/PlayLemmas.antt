@@ -1,10 +1,9 @@
 -- Line by line through a script.
-use Rattle.std.proofs.Common.{◌≡◌, ◌≢◌, ℕ, ◌+◌, ◌<◌, ◌≤◌, Bool, true, false, if◌then◌else◌, nat_lt, List, [], ◌∷◌, ◌++◌, ◌==◌, length, Option, Some, None, IfSome, IfOk, Result, Ok, Err, refl, sym, ap, subst, ◌∙◌, append_assoc, arith}
+use Rattle.std.proofs.Common.{◌≡◌, ◌≢◌, ℕ, ◌+◌, ◌<◌, ◌≤◌, Bool, true, false, if◌then◌else◌, nat_lt, List, [], ◌∷◌, ◌++◌, ◌==◌, length, Option, Some, None, IfSome, Result, Ok, Err, MatchResult, refl, sym, ap, subst, ◌∙◌, append_assoc, arith}
 use Rattle.std.specs.Io.KnownBytes.{Appends, Keeps}
 use Rattle.std.specs.Io.BufRead.{strip_last}
-use Rattle.std.proofs.KnownBytes.{Appends-nil, Appends-trans}
+use Rattle.std.proofs.KnownBytes.{Appends-trans}
 use Rattle.std.proofs.lemmas.Bool.{lt-ltb, le-ltb, true≢false}
-use Rattle.rl_bus.specs.declared.device.Failed.{Failed}
 use Rattle.rl_bus.specs.Standing.{Standing}
 use Rattle.rl_bus.specs.State.{State}
 use Rattle.rl_access.specs.Model.{ModelData}
@@ -12,10 +11,12 @@ use Rattle.rl_report.specs.declared.lines.Got.{Got}
 use Rattle.rl_report.specs.declared.lines.Got.TheVariants as got
 use Rattle.rl_report.specs.Got.{Hands}
 use Rattle.rl_report.specs.Lines.{first_line, after_line, lines_of, onto_first}
-use Rattle.rl_report.specs.Pieces.{AppendsFront}
-use Rattle.rl_report.specs.Reading.{Reading, HandsLine, input_of}
+use Rattle.rl_report.specs.Reading.{Reading, input_of}
 use Rattle.rl_report.proofs.PieceLemmas.{front_after, front_before}
+use Rattle.rl_script.specs.declared.fault.LineFault.{LineFault}
+use Rattle.rl_script.specs.declared.fault.LineFault.TheVariants.{Memory}
 use Rattle.rl_script.specs.declared.line.Line.{Line}
+use Rattle.rl_script.specs.Reading.{read_of}
 use Rattle.regrun.specs.declared.counts.Counts.{Counts}
 use Rattle.regrun.specs.declared.playing.Turn.{Turn}
 use Rattle.regrun.specs.declared.playing.Turn.TheVariants.{Next, Stop}
@@ -25,16 +26,16 @@ use Rattle.regrun.specs.declared.texts.LineRefusal.{LineRefusal}
 use Rattle.regrun.specs.declared.texts.LineRefusal.TheVariants.{TooLong, TooManyLines}
 use Rattle.regrun.specs.Endings.{end_status}
 use Rattle.regrun.specs.Entry.{Entry, entry_of}
-use Rattle.regrun.specs.Log.{Ending, script_from, goes_on, comes_of, there, after_text, ends, stops, said}
-use Rattle.regrun.specs.Played.{coming, EndsAs, IsOver, IsTurn, RanOn, Stopped, PassesTo, Ran, IsUnknown, BrokeOff, IsLineRun}
+use Rattle.regrun.specs.Log.{Ending, script_from, goes_on, comes_of, there, after_text, stops, said, said_by}
+use Rattle.regrun.specs.Played.{coming, EndsAs, IsTurn, RanOn, Stopped, PassesTo, IsUnknown, IsLineRun}
 use Rattle.regrun.specs.Recording.{with_events}
-use Rattle.regrun.specs.Said.{heard, handed}
+use Rattle.regrun.specs.Heard.{heard, handed}
 use Rattle.regrun.specs.Statuses.{is_complete}
 use Rattle.regrun.specs.Telling.{Tells}
 use Rattle.regrun.specs.Texts.{end_text, refused_text}
 use Rattle.regrun.specs.World.{World, world, IsAt}
-use Rattle.regrun.proofs.BufferLemmas.{keeps_refl, keeps_then_appends}
-use Rattle.regrun.proofs.EndingLemmas.{front_none, front_all, front_later}
+use Rattle.regrun.proofs.BufferLemmas.{keeps_then_appends}
+use Rattle.regrun.proofs.EndingLemmas.{front_none, front_later}
 
 -- ---- the lines of an input
 
@@ -73,6 +74,15 @@ hands_some bytes got.Line new left some h = h.some
 hands_some bytes got.TooLong new left some h = long_some bytes h
 hands_some bytes got.End new left some h = absurd (some refl)
 
+pub heard_read : (number : ℕ) (g : Got) (line : List ℕ) → number ≤ 1000000 → g ≢ got.TooLong → said_by (read_of line) ≡ heard number g line
+heard_read number got.Line line few short = ap (λ b. if b then Err TooManyLines else said_by (read_of line)) (sym (le-ltb 1000000 number few))
+heard_read number got.End line few short = ap (λ b. if b then Err TooManyLines else said_by (read_of line)) (sym (le-ltb 1000000 number few))
+heard_read number got.TooLong line few short = absurd (short refl)
+
+pub read_ok : (bytes : List ℕ) (r : Result Line LineFault) (line : Line) → r ≡ Ok line → MatchResult r (λ line. read_of bytes ≡ Ok line) (λ fault. fault ≢ Memory → read_of bytes ≡ Err fault) → said_by (read_of bytes) ≡ Ok line
+read_ok bytes (Ok l) line is h = ap said_by h ∙ ap said_by is
+read_ok bytes (Err fault) line is h = absurd cc
+
 -- ---- a turn
 
 err_is : {x y : LineRefusal} (r : Result Entry LineRefusal) → r ≡ Err x → r ≡ Err y → x ≡ y
@@ -84,9 +94,6 @@ ok_is r e f = cc
 err_ok : {x : LineRefusal} {y : Entry} (r : Result Entry LineRefusal) → r ≡ Err x → r ≡ Ok y → ⊥
 err_ok r e f = cc
 
-pub ran_on : (given : Option Entry) (old new : Option (List ℕ)) (counts now : Counts) (m : ModelData) (a : List Standing) (st : Option State) → Ran given old new counts now m a st → RanOn (there given) old new counts now m a st
-ran_on given old new counts now m a st r = record { entry = r.entry; is = ap there r.is; text = r.text; counted = r.counted; after = r.after }
-
 -- a script that is refused at a line ends so
 stops_over : (number : ℕ) (why : LineRefusal) (status : Status) (old mid new : Option (List ℕ)) (counts now : Counts) (w : World) (m : ModelData) (a : List Standing) (st : Option State) → Keeps old mid
     → Tells status Refused mid new (refused_text number why) → now ≡ counts → IsAt m a st w → EndsAs (stops number why counts w) status old new now m a st
@@ -95,7 +102,7 @@ stops_over number why status old mid new counts now w m a st same t is here = re
   part = front_later old mid new (refused_text number why) same t.part;
 }
 
-pub unknown_stops : (number : ℕ) (given : Option Entry) (why : LineRefusal) (status : Status) (old mid new : Option (List ℕ)) (counts now : Counts) (w : World) (m : ModelData) (a : List Standing) (st : Option State)
+unknown_stops : (number : ℕ) (given : Option Entry) (why : LineRefusal) (status : Status) (old mid new : Option (List ℕ)) (counts now : Counts) (w : World) (m : ModelData) (a : List Standing) (st : Option State)
     → IsUnknown given why old mid counts now w m a st → Tells status Refused mid new (refused_text number why) → Stopped number (there given) status old new counts now w m a st
 unknown_stops number given why status old mid new counts now w m a st u t = record {
   refused = λ other e.
@@ -104,21 +111,7 @@ unknown_stops number given why status old mid new counts now w m a st u t = reco
   broken = λ entry e. absurd (err_ok (there given) (ap there u.none) e);
 }
 
-pub refused_stops : (number : ℕ) (why : LineRefusal) (status : Status) (old new : Option (List ℕ)) (counts : Counts) (w : World) (m : ModelData) (a : List Standing) (st : Option State)
-    → IsAt m a st w → Tells status Refused old new (refused_text number why) → Stopped number (Err why) status old new counts counts w m a st
-refused_stops number why status old new counts w m a st here t = record {
-  refused = λ other e. subst (λ y. EndsAs (stops number y counts w) status old new counts m a st) (err_is (Err why) refl e) (stops_over number why status old old new counts counts w m a st (keeps_refl old) t refl here);
-  broken = λ entry e. absurd (err_ok (Err why) refl e);
-}
-
-pub broke_stops : (number : ℕ) (given : Option Entry) (status : Status) (old new : Option (List ℕ)) (counts now : Counts) (w : World) (m : ModelData) (a : List Standing) (st : Option State)
-    → is_complete status ≡ false → BrokeOff given old new → Stopped number (there given) status old new counts now w m a st
-broke_stops number given status old new counts now w m a st early b = record {
-  refused = λ why e. absurd (err_ok (there given) e (ap there b.is));
-  broken = λ entry e. (early, subst (λ (x : Entry). AppendsFront old new x.text) (ok_is (there given) (ap there b.is) e) b.text);
-}
-
--- a line that was run, but for a name that isn't there
+-- a line whose name isn't there
 unknown_one : (number : ℕ) (w : World) (line : Line) (s : Result Line LineRefusal) (o : Option LineRefusal) (why : LineRefusal) (status : Status) (old mid new : Option (List ℕ)) (counts now : Counts) (m : ModelData) (a : List Standing) (st : Option State)
     → s ≡ Ok line → o ≡ Some why → IsLineRun (entry_of w line) w old mid counts now m a st (Ok o) → Tells status Refused mid new (refused_text number why) → Stopped number (comes_of w s) status old new counts now w m a st
 unknown_one number w line s o why status old mid new counts now m a st is some h t =
@@ -130,6 +123,13 @@ pub unknown_turn : (before : Option State) (number : ℕ) (m n : ModelData) (a b
     → IfSome before (λ d. IsTurn number (comes_of (world m a d) s) old new counts now (world m a d) n b after (Stop status))
 unknown_turn None number m n a b after line s o why status old mid new counts now is some h t = tt
 unknown_turn (Some d) number m n a b after line s o why status old mid new counts now is some h t = unknown_one number (world m a d) line s o why status old mid new counts now n b after is some h t
+
+-- the same line, said otherwise
+pub same_turn : (before : Option State) (number : ℕ) (m n : ModelData) (a b : List Standing) (after : Option State) (r : Turn) (s other : Result Line LineRefusal) (old new : Option (List ℕ)) (counts now : Counts) → s ≡ other
+    → IfSome before (λ d. IsTurn number (comes_of (world m a d) s) old new counts now (world m a d) n b after r)
+    → IfSome before (λ d. IsTurn number (comes_of (world m a d) other) old new counts now (world m a d) n b after r)
+same_turn before number m n a b after r s other old new counts now is h =
+    subst (λ s. IfSome before (λ d. IsTurn number (comes_of (world m a d) s) old new counts now (world m a d) n b after r)) is h
 
 -- ---- a line of a script
 
@@ -200,8 +200,8 @@ stop_ends number counts now m n a b (Some d) after None g line reading left s st
 stop_ends number counts now m n a b (Some d) after (Some bytes) g line reading left s status old mid new not_end h is heard same t =
     let w = world m a d in
     subst (λ e. EndsAs e status old new now n b after)
-        (sym (script_more number counts w bytes s (hands_some bytes g reading left not_end h) (heard ∙ heard_said number bytes line g reading left not_end h is)))
-        (stopped_ends number counts now w (comes_of w s) (comes_of w s) (λ counts w. script_from (number + 1) counts w (lines_of (after_line bytes))) status old mid new n b after refl same t)
+    (sym (script_more number counts w bytes s (hands_some bytes g reading left not_end h) (heard ∙ heard_said number bytes line g reading left not_end h is)))
+    (stopped_ends number counts now w (comes_of w s) (comes_of w s) (λ counts w. script_from (number + 1) counts w (lines_of (after_line bytes))) status old mid new n b after refl same t)
 
 -- a script ends with its lines
 end_ends : (number : ℕ) (counts : Counts) (m : ModelData) (a : List Standing) (st : Option State) (input : Option (List ℕ)) (reading : Reading) (left : Option (List ℕ)) (status : Status) (old mid new : Option (List ℕ))

@@ -71,7 +71,7 @@ pub first_is : (adapters : List Standing) (m : ModelData) (desc : DescData) (sta
     → state ≡ first_of desc.chip desc.layout desc.flaws → IsAt m adapters (Some state) (first_world desc adapters)
 first_is adapters m desc state chip layout mirror none sound is =
     let gathered : m.gathered ≡ replicate (length desc.layout.places) no_words =
-        all_same no_words m.gathered none ∙ ap (λ n. replicate n no_words) (sound.predictor.count ∙ ap (λ (l : LayoutData). length l.places) layout) in
+    all_same no_words m.gathered none ∙ ap (λ n. replicate n no_words) (sound.predictor.count ∙ ap (λ (l : LayoutData). length l.places) layout) in
     record {
       model_is = ap (λ c. record { chip = c; layout = m.layout; mirror = m.mirror; gathered = m.gathered }) chip
           ∙ ap (λ l. record { chip = desc.chip; layout = l; mirror = m.mirror; gathered = m.gathered }) layout

@@ -1,5 +1,5 @@
 -- The events of bursts and sequences, as they were written and counted.
-use Rattle.std.proofs.Common.{◌≡◌, ℕ, List, [], ◌∷◌, ◌++◌, Option, Some, None, Result, Ok, Err, IfSome, IfOk, MatchResult, refl, sym, ap, subst, ◌∙◌, append_assoc, append-nil}
+use Rattle.std.proofs.Common.{◌≡◌, ℕ, List, [], ◌∷◌, ◌++◌, Option, Some, None, Result, Ok, Err, IfSome, IfOk, refl, sym, ap, subst, ◌∙◌, append_assoc, append-nil}
 use Rattle.std.specs.Io.KnownBytes.{Appends}
 use Rattle.std.proofs.KnownBytes.{Appends-nil, Appends-trans}
 use Rattle.rl_bus.specs.Standing.{Standing}
@@ -9,9 +9,9 @@ use Rattle.rl_access.specs.declared.event.Op.{Op}
 use Rattle.rl_access.specs.declared.event.Refused.{Refused}
 use Rattle.rl_access.specs.declared.event.Tally.{Tally}
 use Rattle.rl_access.specs.Call.{Scene, scene, IsRefused}
-use Rattle.rl_access.specs.HandsOver.{Told, TakesAll, BreaksAtLast, HandsOver}
+use Rattle.rl_access.specs.HandsOver.{Told, TakesAll, BreaksAtLast}
 use Rattle.rl_access.specs.Model.{ModelData}
-use Rattle.rl_access.specs.Rules.{Grant, named, refused_event}
+use Rattle.rl_access.specs.Rules.{Grant}
 use Rattle.rl_access.specs.Runs.{IsBurst, IsRun, IsRefusedRun, no_tally, counted_all}
 use Rattle.rl_seq.specs.Plan.{Plan, IsSequence}
 use Rattle.rl_report.specs.Pieces.{AppendsFront}
@@ -92,7 +92,7 @@ module _ {R : Type 0} (written : R → Option (List ℕ)) (counts : R → Counts
   sequence_recorded p q m n a b errors later None now old rec r same h = tt
   sequence_recorded p q m n a b errors later (Some d) now old rec r same h =
       subst (λ p. IsRecorded (along (world m a d) p) (written old) (written rec) (counts old) (counts rec) n b now r) (sym same)
-          (sequence p (scene m a errors (Some d)) (scene n b later now) (world m a d) old rec r (here m a errors d) h)
+      (sequence p (scene m a errors (Some d)) (scene n b later now) (world m a d) old rec r (here m a errors d) h)
 
   tally_told : {E : Type 0} (p : Plan) (s new : Scene) (w : World) (old rec : R) (r : Result Tally E) → IsWorld s w → IsSequence Takes Breaks old rec s new p r → IfOk r (λ tally. tally ≡ counted_all no_tally (along w p).told)
   tally_told p s new w old rec (Err e) h q = tt
@@ -104,7 +104,7 @@ module _ {R : Type 0} (written : R → Option (List ℕ)) (counts : R → Counts
   sequence_counted p q m n a b errors later None now old rec r same h = tt
   sequence_counted p q m n a b errors later (Some d) now old rec r same h =
       subst (λ p. IfOk r (λ tally. tally ≡ counted_all no_tally (along (world m a d) p).told)) (sym same)
-          (tally_told p (scene m a errors (Some d)) (scene n b later now) (world m a d) old rec r (here m a errors d) h)
+      (tally_told p (scene m a errors (Some d)) (scene n b later now) (world m a d) old rec r (here m a errors d) h)
 
   -- ---- a burst
 
@@ -126,7 +126,7 @@ module _ {R : Type 0} (written : R → Option (List ℕ)) (counts : R → Counts
   refused_run s new w op why old rec (Err e) h q =
       let course = refused_told s new w op why q.event h q.refused in
       recorded_part (alone (unchanged w op why)) (record { model = s.model; event = q.event } ∷ []) old rec new e
-          (record { rest = []; all = append-nil (record { model = s.model; event = q.event } ∷ []) ∙ course.told_is }) q.handed.part
+      (record { rest = []; all = append-nil (record { model = s.model; event = q.event } ∷ []) ∙ course.told_is }) q.handed.part
 
   by_grant : {E : Type 0} (granted : Grant) (op : Op) (ops : List Op) (s new : Scene) (w : World) (old rec : R) (r : Result Tally E) → IsWorld s w → IsBurst Takes Breaks old rec s new granted op ops r
       → IsRecorded (burst w granted op ops) (written old) (written rec) (counts old) (counts rec) new.model new.adapters new.device r

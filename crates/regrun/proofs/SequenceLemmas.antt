@@ -1,5 +1,5 @@
 -- The log of a sequence: a line, its events, and a line.
-use Rattle.std.proofs.Common.{◌≡◌, ℕ, true, false, List, [], ◌∷◌, ◌++◌, Option, Some, None, IfSome, IfOk, Result, Ok, Err, IsErr, refl, sym, ap, subst, ◌∙◌, append-nil, option_map}
+use Rattle.std.proofs.Common.{◌≡◌, ℕ, List, [], ◌∷◌, ◌++◌, Option, Some, None, IfSome, IfOk, Result, Ok, Err, IsErr, sym, ap, subst, ◌∙◌, append-nil, option_map}
 use Rattle.std.specs.Io.KnownBytes.{Appends}
 use Rattle.std.proofs.KnownBytes.{Appends-trans}
 use Rattle.std.proofs.lemmas.Bool.{true≢false}
@@ -14,9 +14,9 @@ use Rattle.rl_report.proofs.PieceLemmas.{front_after, front_before}
 use Rattle.rl_script.specs.declared.line.Sequence.{Sequence}
 use Rattle.regrun.specs.declared.counts.Counts.{Counts}
 use Rattle.regrun.specs.declared.texts.LineRefusal.{LineRefusal}
-use Rattle.regrun.specs.Course.{Course, along}
+use Rattle.regrun.specs.Course.{along}
 use Rattle.regrun.specs.Entry.{Entry, plan_of, framed, begin_text, closing_text, closed_text}
-use Rattle.regrun.specs.Played.{Ran, BrokeOff, IsLineRun}
+use Rattle.regrun.specs.Played.{BrokeOff, IsLineRun}
 use Rattle.regrun.specs.Recording.{events_text, IsRecorded}
 use Rattle.regrun.specs.World.{World, world}
 

@@ -1,5 +1,5 @@
 -- Operations that are done one after another: what is told of them, and what stands after them.
-use Rattle.std.specs.Prelude.{List, [], ◌∷◌, if◌then◌else◌, Result, Ok, Err}
+use Rattle.std.specs.Prelude.{List, [], ◌∷◌, if◌then◌else◌, Ok, Err}
 use Rattle.rl_access.specs.declared.event.Op.{Op}
 use Rattle.rl_access.specs.HandsOver.{Told}
 use Rattle.rl_access.specs.Rules.{Grant}

@@ -2,7 +2,6 @@
 use Rattle.std.specs.Prelude.{◌≡◌, ℕ, List, true, Option, Result, Ok, Err}
 use Rattle.rl_bus.specs.Standing.{Standing, kinds_of}
 use Rattle.rl_desc.specs.Data.{DescData}
-use Rattle.rl_mirror.specs.Mirror.{MirrorData}
 use Rattle.regrun.specs.declared.status.Status.{Status}
 use Rattle.regrun.specs.declared.status.Status.TheVariants.{Refused}
 use Rattle.regrun.specs.Endings.{Writes}

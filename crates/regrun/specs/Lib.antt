@@ -2,6 +2,7 @@ pub mod Causes
 pub mod Course
 pub mod Endings
 pub mod Entry
+pub mod Heard
 pub mod Judged
 pub mod LayoutPieces
 pub mod Log
@@ -11,7 +12,6 @@ pub mod Operations
 pub mod Played
 pub mod Recording
 pub mod Refusals
-pub mod Said
 pub mod Session
 pub mod Soak
 pub mod Statuses

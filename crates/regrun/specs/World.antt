@@ -1,5 +1,5 @@
 -- All that a session works on, with a device that tells its state, and what one operation makes of it.
-use Rattle.std.specs.Prelude.{◌≡◌, ℕ, List, Option, Some, Result, Ok, Err}
+use Rattle.std.specs.Prelude.{◌≡◌, ℕ, List, Option, Some, Ok, Err}
 use Rattle.rl_bus.specs.declared.table.Cell.TheVariants as cell
 use Rattle.rl_bus.specs.Standing.{Standing, standing_at}
 use Rattle.rl_bus.specs.State.{State, peeked}

@@ -1,20 +1,21 @@
 // The lines of a script, one after another.
-ghost use Rattle.std.specs.Prelude.{◌≡◌, ◌≢◌, ◌≤◌, ◌+◌, map, true, false, IfOk, IfErr, IfSome};
+ghost use Rattle.std.specs.Prelude.{◌≡◌, ◌≢◌, ◌≤◌, ◌+◌, map, true, false, Ok, Err, MatchResult, IfOk, IfErr, IfSome};
 ghost use Rattle.std.specs.Io.KnownBytes.{Keeps};
 ghost use Rattle.rl_bus.specs.Causes.{Rose};
 ghost use Rattle.rl_access.specs.Model.{IsReady, IsSameChip};
 ghost use Rattle.regrun.specs.Causes.{IsCaused};
 ghost use Rattle.regrun.specs.Endings.{end_status, IsCounted, PlayEnds};
-ghost use Rattle.regrun.specs.Log.{comes_of};
+ghost use Rattle.regrun.specs.Log.{comes_of, said_by};
 ghost use Rattle.regrun.specs.Played.{coming, EndsAs, IsTurn, IsWrittenOut, PassesTo};
 ghost use Rattle.regrun.specs.Recording.{no_counts};
-ghost use Rattle.regrun.specs.Said.{IsToRun, result_of, heard};
+ghost use Rattle.regrun.specs.Heard.{heard};
 ghost use Rattle.regrun.specs.Statuses.{is_complete};
 ghost use Rattle.regrun.specs.Telling.{Tells};
 ghost use Rattle.regrun.specs.Texts.{refused_text, end_text};
 ghost use Rattle.regrun.specs.Told.{told};
 ghost use Rattle.regrun.specs.World.{world};
 ghost use Rattle.rl_report.specs.Got.{Hands};
+ghost use Rattle.rl_script.specs.Reading.{read_of};
 ghost use Rattle.rl_report.specs.Reading.{input_of};
 
 use crate::buffered::Buffered;
@@ -24,7 +25,7 @@ use crate::{Counts, Status};
 use rl_access::Model;
 use rl_bus::{Adapter, Adapters, Device};
 use rl_report::{Failed, Got, LineReader, Sink, Source};
-use rl_script::{Line, read_line};
+use rl_script::{Line, LineFault, read_line};
 use std::alloc::Global;
 
 const MOST_LINES: u64 = 1_000_000;
@@ -34,13 +35,6 @@ const MOST_LINES: u64 = 1_000_000;
 enum Turn {
     Next,
     Stop(Status),
-}
-
-// What a line says, or why it is refused.
-#[derive(Drop)]
-enum Said {
-    Line(Line),
-    Refused(LineRefusal),
 }
 
 // Takes the next line. What was written before is out before the source is read.
@@ -68,24 +62,6 @@ fn take_line<S: Source, K: Sink>(
     match lines.next_line(source) {
         Ok(got) => Ok(got),
         Err(Failed) => Err(Status::SourceFault),
-    }
-}
-
-// What a line says. None stands for want of memory.
-fn what_is_said(alloc: Global, number: u64, got: Got, line: &[u8]) -> Option<Said>
-    ensures heard { IfSome result (λ said. result_of said ≡ heard number got line.now) }
-    ensures short { IfSome result (λ said. IsToRun said → got ≢ Got.TooLong) }
-    ensures last { IfSome result (λ said. IsToRun said → number ≤ 1000000) }
-{
-    if number > MOST_LINES {
-        return Some(Said::Refused(LineRefusal::TooManyLines));
-    }
-    if got == Got::TooLong {
-        return Some(Said::Refused(LineRefusal::TooLong));
-    }
-    match read_line(alloc, line) {
-        Ok(line) => Some(Said::Line(line)),
-        Err(fault) => Some(Said::Refused(refusal_of(fault)?)),
     }
 }
 
@@ -130,10 +106,47 @@ fn refuse<K: Sink>(number: u64, refusal: LineRefusal, out: &mut Buffered<'_, K>)
     }
 }
 
-// Runs what a line says, and writes its log.
-fn run_said<D: Device, K: Sink>(
+// Runs a line that was read, and writes its log, or ends the script at it.
+fn run_read<D: Device, K: Sink>(
     number: u64,
-    said: &Said,
+    line: &[u8],
+    read: &Result<Line, LineFault>,
+    model: &mut Model,
+    device: &mut D,
+    adapters: &mut Adapters,
+    out: &mut Buffered<'_, K>,
+    counts: &mut Counts,
+) -> Turn
+    requires ready { IsReady model.old (map standing adapters.old.items) (D.state device.old) }
+    requires read { MatchResult read.now (λ l. read_of line.now ≡ Ok l) (λ fault. fault ≢ LineFault.Memory → read_of line.now ≡ Err fault) }
+    ensures ready { IsReady model.new (map standing adapters.new.items) (D.state device.new) }
+    ensures parts { IsSameChip model.old model.new }
+    ensures turn { IfSome (D.state device.old) (λ d. IsTurn number (comes_of (world model.old (map standing adapters.old.items) d) (said_by (read_of line.now))) (told K.written out.old) (told K.written out.new) counts.old counts.new (world model.old (map standing adapters.old.items) d) model.new (map standing adapters.new.items) (D.state device.new) result) }
+    ensures counted { (status : Status) (total : Counts) → result ≡ Turn.Stop status → IsCounted status total }
+    ensures sink_later { K.faults out.old.sink.now ≤ K.faults out.new.sink.now }
+    ensures cause { (status : Status) → result ≡ Turn.Stop status → IsCaused status 0 0 (K.faults out.old.sink.now) (K.faults out.new.sink.now) }
+    ensures ends_kept { K.ends out.new.sink.now ≡ K.ends out.old.sink.now }
+    ensures same_sink { out.new.sink.ghost_name ≡ out.old.sink.ghost_name }
+{
+    match read {
+        Ok(line) => match run_line(model, device, adapters, line, out, counts) {
+            Ok(None) => Turn::Next,
+            Ok(Some(refusal)) => Turn::Stop(refuse(number, refusal, out)),
+            Err(Failed) => Turn::Stop(Status::SinkFault),
+        },
+        Err(fault) => match refusal_of(*fault) {
+            Some(refusal) => Turn::Stop(refuse(number, refusal, out)),
+            None => Turn::Stop(Status::Memory),
+        },
+    }
+}
+
+// Runs a line that was taken, and writes its log, or ends the script at it.
+fn run_taken<D: Device, K: Sink>(
+    alloc: Global,
+    number: u64,
+    got: Got,
+    line: &[u8],
     model: &mut Model,
     device: &mut D,
     adapters: &mut Adapters,
@@ -143,25 +156,31 @@ fn run_said<D: Device, K: Sink>(
     requires ready { IsReady model.old (map standing adapters.old.items) (D.state device.old) }
     ensures ready { IsReady model.new (map standing adapters.new.items) (D.state device.new) }
     ensures parts { IsSameChip model.old model.new }
-    ensures next { result ≡ Turn.Next → IsToRun said.now }
-    ensures turn { IfSome (D.state device.old) (λ d. IsTurn number (comes_of (world model.old (map standing adapters.old.items) d) (result_of said.now)) (told K.written out.old) (told K.written out.new) counts.old counts.new (world model.old (map standing adapters.old.items) d) model.new (map standing adapters.new.items) (D.state device.new) result) }
+    ensures short { result ≡ Turn.Next → got ≢ Got.TooLong }
+    ensures last { result ≡ Turn.Next → number ≤ 1000000 }
+    ensures turn { IfSome (D.state device.old) (λ d. IsTurn number (comes_of (world model.old (map standing adapters.old.items) d) (heard number got line.now)) (told K.written out.old) (told K.written out.new) counts.old counts.new (world model.old (map standing adapters.old.items) d) model.new (map standing adapters.new.items) (D.state device.new) result) }
     ensures counted { (status : Status) (total : Counts) → result ≡ Turn.Stop status → IsCounted status total }
     ensures sink_later { K.faults out.old.sink.now ≤ K.faults out.new.sink.now }
     ensures cause { (status : Status) → result ≡ Turn.Stop status → IsCaused status 0 0 (K.faults out.old.sink.now) (K.faults out.new.sink.now) }
     ensures ends_kept { K.ends out.new.sink.now ≡ K.ends out.old.sink.now }
     ensures same_sink { out.new.sink.ghost_name ≡ out.old.sink.ghost_name }
 {
-    match said {
-        Said::Refused(refusal) => Turn::Stop(refuse(number, *refusal, out)),
-        Said::Line(line) => match run_line(model, device, adapters, line, out, counts) {
-            Ok(None) => Turn::Next,
-            Ok(Some(refusal)) => Turn::Stop(refuse(number, refusal, out)),
-            Err(Failed) => Turn::Stop(Status::SinkFault),
-        },
+    if number > MOST_LINES {
+        return Turn::Stop(refuse(number, LineRefusal::TooManyLines, out));
     }
+    if is_too_long(got) {
+        return Turn::Stop(refuse(number, LineRefusal::TooLong, out));
+    }
+    let read = read_line(alloc, line);
+    run_read(number, line, &read, model, device, adapters, out, counts)
 }
 
-fn let_go(_said: Said) {}
+fn is_too_long(got: Got) -> bool
+    ensures long { result ≡ true → got ≡ Got.TooLong }
+    ensures short { result ≡ false → got ≢ Got.TooLong }
+{
+    matches!(got, Got::TooLong)
+}
 
 fn is_end(got: Got) -> bool
     ensures end { result ≡ true → got ≡ Got.End }
@@ -206,14 +225,17 @@ fn play_line<S: Source, D: Device, K: Sink>(
     if is_end(got) {
         return Turn::Stop(end(counts, out));
     }
-    match what_is_said(alloc, number, got, lines.line()) {
-        None => Turn::Stop(Status::Memory),
-        Some(said) => {
-            let turn = run_said(number, &said, model, device, adapters, out, counts);
-            let_go(said);
-            turn
-        }
-    }
+    run_taken(
+        alloc,
+        number,
+        got,
+        lines.line(),
+        model,
+        device,
+        adapters,
+        out,
+        counts,
+    )
 }
 
 // Runs the lines that are left, and writes the log of each and the last line.

@@ -1,7 +1,5 @@
 use Rattle.std.proofs.Common.{◌≡◌, ◌≢◌, false, refl, subst}
 use Rattle.rl_report.specs.declared.lines.Got.TheVariants as got
-use Rattle.regrun.specs.declared.playing.Turn.TheVariants.{Next, Stop}
-use Rattle.regrun.specs.declared.status.Status.TheVariants.{Memory}
 use Rattle.regrun.specs.Statuses.{is_complete}
 use Rattle.regrun.proofs.EndingLemmas.{counted_none}
 use Rattle.regrun.proofs.PlayLemmas.{early_stops, ends_at_end, next_passes, stop_ends}
@@ -22,19 +20,14 @@ returns-then-is_end-clause-stop g c =
     let is : c.in-Ok.got ≡ got.End = c.is_end.ensures.end c.if-is_end.true in
     ends_at_end _ _ _ _ _ _ c.in-Ok.got c.take_line.new.lines _ c.end.result status _ _ _ is same c.in-Ok.ensures.handed c.in-Ok.ensures.told c.end.ensures.tells
 
-pub returns-in-None-clause-stop : goal.returns-in-None-clause-stop
-returns-in-None-clause-stop g c =
-    λ status e. let same : Memory ≡ status = cc in early_stops _ Memory status _ _ _ _ _ _ same refl c.in-Ok.ensures.told
-
-pub returns-in-Some-clause-next : goal.returns-in-Some-clause-next
-returns-in-Some-clause-next g c =
+pub returns-clause-next : goal.returns-clause-next
+returns-clause-next g c =
     λ is.
     let not_end : c.in-Ok.got ≢ got.End = c.is_end.ensures.more c.if-is_end.false in
-    let not_long : c.in-Ok.got ≢ got.TooLong = c.in-Some.ensures.short (c.run_said-turn.ensures.next is) in
-    next_passes _ _ _ _ _ _ _ _ _ _ c.in-Ok.got _ c.take_line.new.lines _ _ _ _ _ not_end not_long c.in-Ok.ensures.handed c.line.ensures c.in-Some.ensures.heard c.in-Ok.ensures.told (rw is at c.run_said-turn.ensures.turn)
+    next_passes _ _ _ _ _ _ _ _ _ _ c.in-Ok.got _ c.take_line.new.lines _ _ _ _ _ not_end (c.run_taken.ensures.short is) c.in-Ok.ensures.handed c.line.ensures refl c.in-Ok.ensures.told (rw is at c.run_taken.ensures.turn)
 
-pub returns-in-Some-clause-stop : goal.returns-in-Some-clause-stop
-returns-in-Some-clause-stop g c =
+pub returns-clause-stop : goal.returns-clause-stop
+returns-clause-stop g c =
     λ status is.
     let not_end : c.in-Ok.got ≢ got.End = c.is_end.ensures.more c.if-is_end.false in
-    stop_ends _ _ _ _ _ _ _ _ _ _ c.in-Ok.got _ c.take_line.new.lines _ _ status _ _ _ not_end c.in-Ok.ensures.handed c.line.ensures c.in-Some.ensures.heard c.in-Ok.ensures.told (rw is at c.run_said-turn.ensures.turn)
+    stop_ends _ _ _ _ _ _ _ _ _ _ c.in-Ok.got _ c.take_line.new.lines _ _ status _ _ _ not_end c.in-Ok.ensures.handed c.line.ensures refl c.in-Ok.ensures.told (rw is at c.run_taken.ensures.turn)

@@ -1,4 +1,4 @@
-use Rattle.std.proofs.Common.{◌≡◌, ℕ, ◌+◌, ◌<◌, List, length, subst}
+use Rattle.std.proofs.Common.{◌≡◌, ℕ, ◌<◌, List, length, subst}
 use Rattle.rl_model.specs.Rows.{ChipData}
 use Rattle.std.proofs.lemmas.Option.{slice_get_within}
 use Rattle.regrun.specs.Named.{kind_named}

@@ -1,4 +1,4 @@
-use Rattle.std.proofs.Common.{◌≡◌, ℕ, ◌+◌, ◌<◌, List, length, subst}
+use Rattle.std.proofs.Common.{◌≡◌, ℕ, ◌<◌, List, length, subst}
 use Rattle.rl_model.specs.Rows.{ChipData}
 use Rattle.regrun.specs.Named.{reg_named}
 use Rattle.regrun.proofs.NamedLemmas.{found_from}

@@ -23,4 +23,4 @@ returns-then-not-is_complete-clause-cause g c = quiet_cause _ _ _ c.run_quietly-
 pub returns-clause-tells : goal.returns-clause-tells
 returns-clause-tells g c =
     soak_told c.args.n _ c.args.desc _ _ _ _ _ _ _ _ _ _ _ _ c.new-counts.ensures (c.in-Ok.ensures.first _) (sym c.is_complete.ensures ∙ c.if-not-is_complete.false) c.run_quietly-status.ensures.log
-        (rw (c.mirror_sum-sum.ensures, c.mirror.ensures.mirror) at c.put_line.ensures.tells)
+    (rw (c.mirror_sum-sum.ensures, c.mirror.ensures.mirror) at c.put_line.ensures.tells)

@@ -19,9 +19,9 @@ returns-in-Ok-open_session-clause-tells g c =
     let lines = c.in-Ok.lines in
     let fresh = c.in-Ok.ensures.input in
     runs_opened left _ _ _ _ _ _ _ _
-        (from_fresh lines left (λ bytes. opening_of bytes _ ≡ Ok c.in-Ok-open_session.desc) fresh e.opening)
-        (from_fresh lines left (λ bytes. input_of c.open_session.new.lines (g.S.Source.left c.open_session.new.source) ≡ Some (behind (separator_at bytes) bytes)) fresh e.rest)
-        e.told c.run_session.ensures.tells
+    (from_fresh lines left (λ bytes. opening_of bytes _ ≡ Ok c.in-Ok-open_session.desc) fresh e.opening)
+    (from_fresh lines left (λ bytes. input_of c.open_session.new.lines (g.S.Source.left c.open_session.new.source) ≡ Some (behind (separator_at bytes) bytes)) fresh e.rest)
+    e.told c.run_session.ensures.tells
 
 pub returns-clause-tells : goal.returns-clause-tells
 returns-clause-tells g c =
