@@ -13,6 +13,8 @@ pub use device::Wavering;
 pub use sink::Unending;
 
 #[cfg(test)]
+mod accesses;
+#[cfg(test)]
 mod parts;
 #[cfg(test)]
 mod sessions;
