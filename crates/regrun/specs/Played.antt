@@ -112,7 +112,7 @@ pub record PassesTo (e : Ending) (next : Option Ending) (old new : Option (List 
 
 -- ---- a script whose source failed
 
--- Bytes were taken from the front of an input, and the log of the lines whose 10 is among them was written.
+-- Bytes were taken from the front of an input, and exactly the log of the lines whose 10 is among them was written.
 pub record BreaksAfter (number : ℕ) (w : World) (bytes : List ℕ) (left old new : Option (List ℕ)) : Type 0 where
   pub taken : List ℕ
   pub others : List ℕ

@@ -271,6 +271,7 @@ pub(crate) fn play_lines<S: Source, D: Device, K: Sink>(
     ensures parts { IsSameChip model.old model.new }
     ensures log { IfSome (coming 1 counts.old model.old (map standing adapters.old.items) (D.state device.old) (input_of lines.old (S.left source.old))) (λ e. EndsAs e result (told K.written out.old) (told K.written out.new) counts.new model.new (map standing adapters.new.items) (D.state device.new)) }
     ensures at_fault { result ≡ Status.SourceFault → Breaks 1 model.old (map standing adapters.old.items) (D.state device.old) (input_of lines.old (S.left source.old)) (S.left source.new) (told K.written out.old) (told K.written out.new) }
+    ensures unended { result ≡ Status.SourceFault → lines.old.ended ≡ false }
     ensures flushed { result ≡ Status.SourceFault → out.new.end ≡ 0 }
     ensures counted { IsCounted result counts.new }
     ensures source_later { S.faults source.old ≤ S.faults source.new }
@@ -298,6 +299,7 @@ fn settle<K: Sink>(status: Status, out: &mut Buffered<'_, K>) -> Status
     ensures cause { result ≡ Status.SinkFault → status ≢ Status.SinkFault → Rose (K.faults out.old.sink.now) (K.faults out.new.sink.now) }
     ensures told { Keeps (told K.written out.old) (told K.written out.new) }
     ensures whole { is_complete result ≡ true → Keeps (told K.written out.old) (K.written out.new.sink.now) }
+    ensures at_fault { status ≡ Status.SourceFault → out.old.end ≡ 0 → Keeps (told K.written out.old) (K.written out.new.sink.now) }
     ensures ends_kept { K.ends out.new.sink.now ≡ K.ends out.old.sink.now }
     ensures same_sink { out.new.sink.ghost_name ≡ out.old.sink.ghost_name }
 {
@@ -334,6 +336,9 @@ pub fn play<S: Source, K: Sink, D: Device>(
     // left, from the device and the model as they are, with its status, and the counts rise by what it counts.
     ensures log { IfSome (coming 1 no_counts model.old (map standing adapters.old.items) (D.state device.old) (input_of lines.old (S.left source.old)))
         (λ e. IsWrittenOut e result (K.written sink.old) (K.written sink.new) counts.old counts.new model.new (map standing adapters.new.items) (D.state device.new)) }
+
+    // After a source that failed, the sink has exactly the log of the lines that were taken whole.
+    ensures at_fault { result ≡ Status.SourceFault → Breaks 1 model.old (map standing adapters.old.items) (D.state device.old) (input_of lines.old (S.left source.old)) (S.left source.new) (K.written sink.old) (K.written sink.new) }
 
     // In any case the status goes by what happened in this call, and the counts rise by it.
     ensures ends { PlayEnds result counts.old counts.new }

@@ -15,6 +15,7 @@ loop-number-init g c = record {
   source_later = omega arith;
   sink_later = omega arith;
   going_on = passes_first _ _ _ (Appends-nil _);
+  unended = λ ended. ended;
   breaking = λ ended left last h. h;
   ends_kept = refl;
   same_sink = refl;
@@ -34,6 +35,7 @@ loop-number-preserved g c =
       source_later = omega (arith, e.source_later, i.source_later);
       sink_later = omega (arith, e.sink_later, i.sink_later);
       going_on = passes_both _ _ _ _ _ _ i.going_on (e.next c.in-Next.is);
+      unended = λ ended. i.unended (still_going _ _ e.ended ended);
       breaking = λ ended left last h. i.breaking (still_going _ _ e.ended ended) left last (e.later_fault c.in-Next.is ended left last h);
       ends_kept = e.ends_kept ∙ i.ends_kept;
       same_sink = e.same_sink ∙ i.same_sink;
@@ -50,3 +52,6 @@ returns-in-Stop-clause-at_fault g c = λ is.
 
 pub returns-in-Stop-clause-flushed : goal.returns-in-Stop-clause-flushed
 returns-in-Stop-clause-flushed g c = λ is. c.play_line.ensures.flushed (c.in-Stop.is ∙ ap Stop is)
+
+pub returns-in-Stop-clause-unended : goal.returns-in-Stop-clause-unended
+returns-in-Stop-clause-unended g c = λ is. c.loop-number.invariant.unended (c.play_line.ensures.unended (c.in-Stop.is ∙ ap Stop is))

@@ -20,6 +20,7 @@ invariant-loop-number g l =
       going_on : IfSome (coming 1 l.initial.counts l.initial.model (map (λ b. (goal.Adapter-dyn g (b.vtable, b.value)).standing b.value) l.initial.adapters.items) (g.D.Device.state l.initial.device) (input_of l.initial.lines (g.S.Source.left l.initial.source)))
           (λ e. PassesTo e (coming l.number l.counts l.model (map (λ b. (goal.Adapter-dyn g (b.vtable, b.value)).standing b.value) l.adapters.items) (g.D.Device.state l.device) (input_of l.lines (g.S.Source.left l.source)))
           (told g.K.Sink.written l.initial.out) (told g.K.Sink.written l.out));
+      unended : l.lines.ended ≡ false → l.initial.lines.ended ≡ false;
       breaking : l.lines.ended ≡ false → (left last : Option (List ℕ)) → Breaks l.number l.model (map (λ b. (goal.Adapter-dyn g (b.vtable, b.value)).standing b.value) l.adapters.items) (g.D.Device.state l.device) (input_of l.lines (g.S.Source.left l.source)) left (told g.K.Sink.written l.out) last
           → Breaks 1 l.initial.model (map (λ b. (goal.Adapter-dyn g (b.vtable, b.value)).standing b.value) l.initial.adapters.items) (g.D.Device.state l.initial.device) (input_of l.initial.lines (g.S.Source.left l.initial.source)) left (told g.K.Sink.written l.initial.out) last;
       ends_kept : g.K.Sink.ends l.out.sink.now ≡ g.K.Sink.ends l.initial.out.sink.now;
