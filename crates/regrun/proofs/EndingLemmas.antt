@@ -52,7 +52,7 @@ keeps_on_ok (Err e) a b c h k = tt
 pub keeps_when_empty : (a b c : Option (List ℕ)) (kept : List ℕ) → Keeps a (append_known b kept) → kept ≡ [] → Keeps b c → Keeps a c
 keeps_when_empty a b c kept told none written = keeps_trans a b c (subst (Keeps a) (ap (append_known b) none ∙ append_none b) told) written
 
-appends_keeps : (a b c : Option (List ℕ)) (text : List ℕ) → Appends a b text → Keeps b c → Appends a c text
+pub appends_keeps : (a b c : Option (List ℕ)) (text : List ℕ) → Appends a b text → Keeps b c → Appends a c text
 appends_keeps None b c text h k = tt
 appends_keeps (Some xs) None c text h k = absurd h
 appends_keeps (Some xs) (Some ys) None text h k = absurd k

@@ -1,6 +1,7 @@
 pub mod BufferLemmas
 pub mod Courses
 pub mod EndingLemmas
+pub mod FaultLemmas
 pub mod HexLemmas
 pub mod JudgedLemmas
 pub mod LayoutLemmas

@@ -62,7 +62,7 @@ short_said number n r h = ap (λ b. if nat_lt 1000000 number then Err TooManyLin
 long_said : (number n : ℕ) (r : Result Line LineRefusal) → 4096 < n → (if nat_lt 1000000 number then Err TooManyLines else if nat_lt 4096 n then Err TooLong else r) ≡ (if nat_lt 1000000 number then Err TooManyLines else Err TooLong)
 long_said number n r h = ap (λ b. if nat_lt 1000000 number then Err TooManyLines else if b then Err TooLong else r) (lt-ltb 4096 n h)
 
-heard_said : (number : ℕ) (bytes line : List ℕ) (g : Got) (new : Reading) (left : Option (List ℕ)) → g ≢ got.End → Hands bytes g new left → line ≡ new.line → heard number g line ≡ said number (first_line bytes)
+pub heard_said : (number : ℕ) (bytes line : List ℕ) (g : Got) (new : Reading) (left : Option (List ℕ)) → g ≢ got.End → Hands bytes g new left → line ≡ new.line → heard number g line ≡ said number (first_line bytes)
 heard_said number bytes line got.Line new left some h is =
     ap (heard number got.Line) (is ∙ h.line) ∙ sym (short_said number (length (first_line bytes)) (handed got.Line (strip_last 13 (first_line bytes))) h.short)
 heard_said number bytes line got.TooLong new left some h is =

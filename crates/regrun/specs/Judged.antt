@@ -1,11 +1,14 @@
 -- The judged log of a session, and what `map` and `soak` write: the text, the status, and how the adapters stand afterwards.
-use Rattle.std.specs.Prelude.{◌≡◌, ℕ, List, true, Option, Result, Ok, Err}
+use Rattle.std.specs.Prelude.{◌≡◌, ℕ, List, [], ◌++◌, true, Option, Some, Result, Ok, Err}
+use Rattle.std.specs.Io.KnownBytes.{Appends}
 use Rattle.rl_bus.specs.Standing.{Standing, kinds_of}
 use Rattle.rl_desc.specs.Data.{DescData}
+use Rattle.rl_report.specs.Lines.{whole_lines}
+use Rattle.rl_report.specs.Opening.{separator_at}
 use Rattle.regrun.specs.declared.status.Status.{Status}
 use Rattle.regrun.specs.declared.status.Status.TheVariants.{Refused}
 use Rattle.regrun.specs.Endings.{Writes}
-use Rattle.regrun.specs.Log.{Ending, script_ending}
+use Rattle.regrun.specs.Log.{Ending, script_ending, behind, first_world, lines_text}
 use Rattle.regrun.specs.Session.{opening_of, map_text, map_status}
 use Rattle.regrun.specs.Soak.{mirror_sum, soak_line_text, soak_text}
 use Rattle.regrun.specs.Statuses.{is_complete}
@@ -64,3 +67,21 @@ pub record IsJudged (j : Judged) (status : Status) (old new : Option (List ℕ))
 pub record IsTold (j : Judged) (status : Status) (old new : Option (List ℕ)) (adapters : List Standing) : Type 0 where
   pub tells : Tells status j.status old new j.text
   pub adapters_are : is_complete status ≡ true → adapters ≡ j.adapters
+
+-- ---- a source that failed
+
+-- the log of the lines behind the separator whose 10 is among the bytes taken, with no last line
+abbrev pub taken_by : Result DescData (List ℕ) → (taken : List ℕ) → List Standing → List ℕ
+taken_by (Ok desc) taken adapters = lines_text 1 (first_world desc adapters) (whole_lines (behind (separator_at taken) taken))
+taken_by (Err line) taken adapters = []
+
+abbrev pub taken_text : (taken : List ℕ) → List Standing → List ℕ
+taken_text taken adapters = taken_by (opening_of taken (kinds_of adapters)) taken adapters
+
+-- Bytes were taken from the front of a session, and exactly their log was written.
+pub record BreaksOff (bytes : List ℕ) (adapters : List Standing) (left old new : Option (List ℕ)) : Type 0 where
+  pub taken : List ℕ
+  pub others : List ℕ
+  pub split : taken ++ others ≡ bytes
+  pub is_left : left ≡ Some others
+  pub text : Appends old new (taken_text taken adapters)

@@ -85,6 +85,16 @@ unfoldable pub script_from : (number : ℕ) → Counts → World → List (List 
 script_from number counts w [] = ends counts w
 script_from number counts w (line ∷ lines) = goes_on number counts w (comes_of w (said number line)) (λ counts w. script_from (number + 1) counts w lines)
 
+-- a line that is refused writes nothing here, and nothing comes after it
+abbrev pub text_on : Result Entry LineRefusal → (World → List ℕ) → List ℕ
+text_on (Err why) rest = []
+text_on (Ok entry) rest = entry.text ++ rest entry.course.world
+
+-- the log of these lines, from that number on, with no last line
+unfoldable pub lines_text : (number : ℕ) → World → List (List ℕ) → List ℕ
+lines_text number w [] = []
+lines_text number w (line ∷ lines) = text_on (comes_of w (said number line)) (λ w. lines_text (number + 1) w lines)
+
 -- ---- a session
 
 -- the bytes behind the separator's line

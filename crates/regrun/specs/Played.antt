@@ -1,11 +1,11 @@
 -- What was written and done of a line, and of a script, against what they come to.
-use Rattle.std.specs.Prelude.{◌≡◌, ℕ, List, true, false, Option, Some, None, Result, Ok, Err}
+use Rattle.std.specs.Prelude.{◌≡◌, ℕ, List, ◌++◌, true, false, Option, Some, None, IfSome, Result, Ok, Err}
 use Rattle.std.specs.Io.KnownBytes.{Appends, Keeps}
 use Rattle.rl_access.specs.Model.{ModelData}
 use Rattle.rl_bus.specs.declared.device.Failed.{Failed}
 use Rattle.rl_bus.specs.Standing.{Standing}
 use Rattle.rl_bus.specs.State.{State}
-use Rattle.rl_report.specs.Lines.{lines_of}
+use Rattle.rl_report.specs.Lines.{lines_of, whole_lines}
 use Rattle.rl_report.specs.Pieces.{AppendsFront}
 use Rattle.regrun.specs.declared.counts.Counts.{Counts}
 use Rattle.regrun.specs.declared.playing.Turn.{Turn}
@@ -15,7 +15,7 @@ use Rattle.regrun.specs.declared.texts.LineRefusal.{LineRefusal}
 use Rattle.regrun.specs.declared.texts.LineRefusal.TheVariants.{NoSuchName}
 use Rattle.regrun.specs.Endings.{Writes, added}
 use Rattle.regrun.specs.Entry.{Entry}
-use Rattle.regrun.specs.Log.{Ending, script_from, after_text, stops}
+use Rattle.regrun.specs.Log.{Ending, script_from, lines_text, after_text, stops}
 use Rattle.regrun.specs.Recording.{with_events}
 use Rattle.regrun.specs.Statuses.{is_complete}
 use Rattle.regrun.specs.World.{World, world, IsAt}
@@ -109,3 +109,17 @@ pub record PassesTo (e : Ending) (next : Option Ending) (old new : Option (List 
   pub is : next ≡ Some others
   pub whole : e ≡ after_text text others
   pub written : Appends old new text
+
+-- ---- a script whose source failed
+
+-- Bytes were taken from the front of an input, and exactly the log of the lines whose 10 is among them was written.
+pub record BreaksAfter (number : ℕ) (w : World) (bytes : List ℕ) (left old new : Option (List ℕ)) : Type 0 where
+  pub taken : List ℕ
+  pub others : List ℕ
+  pub split : taken ++ others ≡ bytes
+  pub is_left : left ≡ Some others
+  pub text : Appends old new (lines_text number w (whole_lines taken))
+
+-- where the device tells its state and the source its bytes
+abbrev pub Breaks : (number : ℕ) → ModelData → List Standing → Option State → (input left old new : Option (List ℕ)) → Type 0
+Breaks number model adapters device input left old new = IfSome device (λ d. IfSome input (λ bytes. BreaksAfter number (world model adapters d) bytes left old new))

@@ -80,6 +80,7 @@ impl<'a, K: Sink> Buffered<'a, K> {
     pub(crate) fn flush(&mut self) -> Result<(), Failed>
         ensures told { Keeps (append_known (K.written self.old.sink.now) (kept_back self.old)) (append_known (K.written self.new.sink.now) (kept_back self.new)) }
         ensures empty { OnOk result (self.new.end ≡ 0) }
+        ensures idle { self.old.end ≡ 0 → self.new.end ≡ 0 }
         ensures cause { HasCause (K.faults self.old.sink.now) (K.faults self.new.sink.now) result }
         ensures ends_kept { K.ends self.new.sink.now ≡ K.ends self.old.sink.now }
         ensures same_sink { self.new.sink.ghost_name ≡ self.old.sink.ghost_name }

@@ -1,12 +1,13 @@
 // The lines of a script, one after another.
-ghost use Rattle.std.specs.Prelude.{◌≡◌, ◌≢◌, ◌≤◌, ◌+◌, map, true, false, Ok, Err, MatchResult, IfOk, IfErr, IfSome};
+ghost use Rattle.std.specs.Prelude.{◌≡◌, ◌≢◌, ◌≤◌, ◌+◌, ℕ, List, map, true, false, Ok, Err, MatchResult, IfOk, IfErr, IfSome};
+ghost use Rattle.std.specs.declared.option.Option.{Option};
 ghost use Rattle.std.specs.Io.KnownBytes.{Keeps};
 ghost use Rattle.rl_bus.specs.Causes.{Rose};
 ghost use Rattle.rl_access.specs.Model.{IsReady, IsSameChip};
 ghost use Rattle.regrun.specs.Causes.{IsCaused};
 ghost use Rattle.regrun.specs.Endings.{end_status, IsCounted, PlayEnds};
 ghost use Rattle.regrun.specs.Log.{comes_of, said_by};
-ghost use Rattle.regrun.specs.Played.{coming, EndsAs, IsTurn, IsWrittenOut, PassesTo};
+ghost use Rattle.regrun.specs.Played.{coming, Breaks, EndsAs, IsTurn, IsWrittenOut, PassesTo};
 ghost use Rattle.regrun.specs.Recording.{no_counts};
 ghost use Rattle.regrun.specs.Heard.{heard};
 ghost use Rattle.regrun.specs.Statuses.{is_complete};
@@ -16,6 +17,7 @@ ghost use Rattle.regrun.specs.Told.{told};
 ghost use Rattle.regrun.specs.World.{world};
 ghost use Rattle.rl_report.specs.Got.{Hands};
 ghost use Rattle.rl_script.specs.Reading.{read_of};
+ghost use Rattle.rl_report.specs.Lines.{first_line};
 ghost use Rattle.rl_report.specs.Reading.{input_of};
 
 use crate::buffered::Buffered;
@@ -48,8 +50,15 @@ fn take_line<S: Source, K: Sink>(
     ensures found { lines.new.found ≡ true }
     ensures going { IfOk result (λ got. got ≢ Got.TooLong → lines.new.refused ≡ false) }
     ensures handed { IfOk result (λ got. IfSome (input_of lines.old (S.left source.old)) (λ bytes. Hands bytes got lines.new (S.left source.new))) }
+    ensures ended { lines.old.ended ≡ true → lines.new.ended ≡ true }
     ensures told { Keeps (told K.written out.old) (told K.written out.new) }
     ensures broken { IfErr result (λ status. is_complete status ≡ false) }
+
+    // A source that fails loses no byte, and nothing is kept back of what was written.
+    ensures none_lost { result ≡ Err Status.SourceFault → Keeps (input_of lines.old (S.left source.old)) (input_of lines.new (S.left source.new)) }
+    ensures none_whole { result ≡ Err Status.SourceFault → (first_line lines.new.pending ≡ lines.new.pending) × (lines.new.ended ≡ false) }
+    ensures flushed { result ≡ Err Status.SourceFault → out.new.end ≡ 0 }
+
     ensures source_later { S.faults source.old ≤ S.faults source.new }
     ensures sink_later { K.faults out.old.sink.now ≤ K.faults out.new.sink.now }
     ensures cause { IfErr result (λ status. IsCaused status (S.faults source.old) (S.faults source.new) (K.faults out.old.sink.now) (K.faults out.new.sink.now)) }
@@ -211,6 +220,12 @@ fn play_line<S: Source, D: Device, K: Sink>(
     ensures last { result ≡ Turn.Next → number ≤ 1000000 }
     ensures next { result ≡ Turn.Next → IfSome (coming number counts.old model.old (map standing adapters.old.items) (D.state device.old) (input_of lines.old (S.left source.old))) (λ e. PassesTo e (coming (number + 1) counts.new model.new (map standing adapters.new.items) (D.state device.new) (input_of lines.new (S.left source.new))) (told K.written out.old) (told K.written out.new)) }
     ensures stop { (status : Status) → result ≡ Turn.Stop status → IfSome (coming number counts.old model.old (map standing adapters.old.items) (D.state device.old) (input_of lines.old (S.left source.old))) (λ e. EndsAs e status (told K.written out.old) (told K.written out.new) counts.new model.new (map standing adapters.new.items) (D.state device.new)) }
+    ensures ended { lines.old.ended ≡ true → lines.new.ended ≡ true }
+    ensures unended { result ≡ Turn.Stop Status.SourceFault → lines.old.ended ≡ false }
+    ensures at_fault { result ≡ Turn.Stop Status.SourceFault → Breaks number model.old (map standing adapters.old.items) (D.state device.old) (input_of lines.old (S.left source.old)) (S.left source.new) (told K.written out.old) (told K.written out.new) }
+    ensures later_fault { result ≡ Turn.Next → lines.new.ended ≡ false → (left last : Option (List ℕ)) → Breaks (number + 1) model.new (map standing adapters.new.items) (D.state device.new) (input_of lines.new (S.left source.new)) left (told K.written out.new) last
+        → Breaks number model.old (map standing adapters.old.items) (D.state device.old) (input_of lines.old (S.left source.old)) left (told K.written out.old) last }
+    ensures flushed { result ≡ Turn.Stop Status.SourceFault → out.new.end ≡ 0 }
     ensures counted { (status : Status) → result ≡ Turn.Stop status → IsCounted status counts.new }
     ensures source_later { S.faults source.old ≤ S.faults source.new }
     ensures sink_later { K.faults out.old.sink.now ≤ K.faults out.new.sink.now }
@@ -255,6 +270,9 @@ pub(crate) fn play_lines<S: Source, D: Device, K: Sink>(
     ensures ready { IsReady model.new (map standing adapters.new.items) (D.state device.new) }
     ensures parts { IsSameChip model.old model.new }
     ensures log { IfSome (coming 1 counts.old model.old (map standing adapters.old.items) (D.state device.old) (input_of lines.old (S.left source.old))) (λ e. EndsAs e result (told K.written out.old) (told K.written out.new) counts.new model.new (map standing adapters.new.items) (D.state device.new)) }
+    ensures at_fault { result ≡ Status.SourceFault → Breaks 1 model.old (map standing adapters.old.items) (D.state device.old) (input_of lines.old (S.left source.old)) (S.left source.new) (told K.written out.old) (told K.written out.new) }
+    ensures unended { result ≡ Status.SourceFault → lines.old.ended ≡ false }
+    ensures flushed { result ≡ Status.SourceFault → out.new.end ≡ 0 }
     ensures counted { IsCounted result counts.new }
     ensures source_later { S.faults source.old ≤ S.faults source.new }
     ensures sink_later { K.faults out.old.sink.now ≤ K.faults out.new.sink.now }
@@ -281,6 +299,7 @@ fn settle<K: Sink>(status: Status, out: &mut Buffered<'_, K>) -> Status
     ensures cause { result ≡ Status.SinkFault → status ≢ Status.SinkFault → Rose (K.faults out.old.sink.now) (K.faults out.new.sink.now) }
     ensures told { Keeps (told K.written out.old) (told K.written out.new) }
     ensures whole { is_complete result ≡ true → Keeps (told K.written out.old) (K.written out.new.sink.now) }
+    ensures at_fault { status ≡ Status.SourceFault → out.old.end ≡ 0 → Keeps (told K.written out.old) (K.written out.new.sink.now) }
     ensures ends_kept { K.ends out.new.sink.now ≡ K.ends out.old.sink.now }
     ensures same_sink { out.new.sink.ghost_name ≡ out.old.sink.ghost_name }
 {
@@ -317,6 +336,9 @@ pub fn play<S: Source, K: Sink, D: Device>(
     // left, from the device and the model as they are, with its status, and the counts rise by what it counts.
     ensures log { IfSome (coming 1 no_counts model.old (map standing adapters.old.items) (D.state device.old) (input_of lines.old (S.left source.old)))
         (λ e. IsWrittenOut e result (K.written sink.old) (K.written sink.new) counts.old counts.new model.new (map standing adapters.new.items) (D.state device.new)) }
+
+    // After a source that failed, the sink has exactly the log of the lines that were taken whole.
+    ensures at_fault { result ≡ Status.SourceFault → Breaks 1 model.old (map standing adapters.old.items) (D.state device.old) (input_of lines.old (S.left source.old)) (S.left source.new) (K.written sink.old) (K.written sink.new) }
 
     // In any case the status goes by what happened in this call, and the counts rise by it.
     ensures ends { PlayEnds result counts.old counts.new }

@@ -1,12 +1,13 @@
 // All that the program does.
-ghost use Rattle.std.specs.Prelude.{◌≡◌, ◌≢◌, ℕ, ◌≤◌, ◌<◌, ◌^◌, ◌↔◌, List, [], None, Some, Ok, map, length, true, false, string_bytes, OnOk, IfOk, IfErr, IfSome};
+ghost use Rattle.std.specs.Prelude.{◌≡◌, ◌≢◌, ℕ, ◌≤◌, ◌<◌, ◌^◌, ◌↔◌, List, [], None, Some, Ok, Err, map, length, true, false, string_bytes, OnOk, IfOk, IfErr, IfSome};
 ghost use Rattle.std.specs.Io.KnownBytes.{Keeps};
 ghost use Rattle.std.specs.declared.option.Option.{Option};
 ghost use Rattle.rl_bus.specs.Causes.{Rose};
 ghost use Rattle.rl_bus.specs.Standing.{kinds_of};
 ghost use Rattle.regrun.specs.Causes.{IsCaused};
-ghost use Rattle.regrun.specs.Judged.{ending_judged, judged, map_judged, soak_judged, IsJudged, IsTold};
+ghost use Rattle.regrun.specs.Judged.{ending_judged, judged, map_judged, soak_judged, BreaksOff, IsJudged, IsTold};
 ghost use Rattle.regrun.specs.Log.{behind, first_world, script_from};
+ghost use Rattle.regrun.specs.Played.{BreaksAfter};
 ghost use Rattle.regrun.specs.Recording.{no_counts};
 ghost use Rattle.regrun.specs.Refusals.{description_refused_text};
 ghost use Rattle.regrun.specs.Session.{head_of, opening_after, opening_of};
@@ -18,7 +19,7 @@ ghost use Rattle.rl_bus.specs.declared.op.AdapterKind.{AdapterKind};
 ghost use Rattle.rl_map.specs.LayoutText.{layout_text};
 ghost use Rattle.rl_map.specs.Maps.{IsBuiltWith};
 ghost use Rattle.rl_report.specs.Lines.{lines_of};
-ghost use Rattle.rl_report.specs.Opening.{separator_at};
+ghost use Rattle.rl_report.specs.Opening.{separator_at, FindsHead, TakesNoHead};
 ghost use Rattle.rl_report.specs.Reading.{input_of};
 ghost use Rattle.rl_bench.specs.Flaws.{AreFlawsOf};
 
@@ -71,6 +72,13 @@ fn read_head<S: Source, K: Sink>(
     ensures found { OnOk result ((lines.new.found ≡ true) × (lines.new.refused ≡ false)) }
     ensures head { OnOk result (IfSome (input_of lines.old (S.left source.old)) (λ bytes. head_of bytes ≡ Ok head.new.items)) }
     ensures rest { OnOk result (IfSome (input_of lines.old (S.left source.old)) (λ bytes. input_of lines.new (S.left source.new) ≡ Some (behind (separator_at bytes) bytes))) }
+    ensures finds { OnOk result (IfSome (input_of lines.old (S.left source.old)) (λ bytes. FindsHead bytes head.new.items lines.new (S.left source.new))) }
+
+    // Where the source fails, no whole separator was taken, and nothing was told.
+    ensures at_fault { result ≡ Err Status.SourceFault → IfSome (input_of lines.old (S.left source.old)) (λ bytes. TakesNoHead bytes (S.left source.new)) }
+    ensures same_told { result ≡ Err Status.SourceFault → Keeps (told K.written out.old) (told K.written out.new) }
+    ensures flushed { result ≡ Err Status.SourceFault → out.old.end ≡ 0 → out.new.end ≡ 0 }
+
     ensures told { OnOk result (Keeps (told K.written out.old) (told K.written out.new)) }
     ensures stops { IfErr result (λ status. IfSome (input_of lines.old (S.left source.old))
         (λ bytes. (kinds : List AdapterKind) → Stops (opening_of bytes kinds) status (told K.written out.old) (told K.written out.new))) }
@@ -154,6 +162,13 @@ pub(crate) fn open_session<S: Source, K: Sink>(
     ensures opening { IfOk result (λ desc. IfSome (input_of lines.old (S.left source.old))
         (λ bytes. opening_of bytes (kinds_of (map standing adapters.now.items)) ≡ Ok desc)) }
     ensures rest { OnOk result (IfSome (input_of lines.old (S.left source.old)) (λ bytes. input_of lines.new (S.left source.new) ≡ Some (behind (separator_at bytes) bytes))) }
+    ensures finds { OnOk result (IfSome (input_of lines.old (S.left source.old)) (λ bytes. (head : List ℕ) × FindsHead bytes head lines.new (S.left source.new))) }
+
+    // Where the source fails, no whole separator was taken, and nothing was told.
+    ensures at_fault { result ≡ Err Status.SourceFault → IfSome (input_of lines.old (S.left source.old)) (λ bytes. TakesNoHead bytes (S.left source.new)) }
+    ensures same_told { result ≡ Err Status.SourceFault → Keeps (told K.written out.old) (told K.written out.new) }
+    ensures flushed { result ≡ Err Status.SourceFault → out.old.end ≡ 0 → out.new.end ≡ 0 }
+
     ensures told { OnOk result (Keeps (told K.written out.old) (told K.written out.new)) }
     ensures stops { IfErr result (λ status. IfSome (input_of lines.old (S.left source.old))
         (λ bytes. Stops (opening_of bytes (kinds_of (map standing adapters.now.items))) status (told K.written out.old) (told K.written out.new))) }
@@ -184,6 +199,9 @@ fn run_session<S: Source, K: Sink>(
     requires going { lines.old.refused ≡ false }
     ensures kinds { kinds_of (map standing adapters.new.items) ≡ kinds_of (map standing adapters.old.items) }
     ensures tells { IfSome (input_of lines.old (S.left source.old)) (λ bytes. IsTold (ending_judged (script_from 1 no_counts (first_world desc (map standing adapters.old.items)) (lines_of bytes))) result (told K.written out.old) (told K.written out.new) (map standing adapters.new.items)) }
+    ensures at_fault { result ≡ Status.SourceFault → IfSome (input_of lines.old (S.left source.old)) (λ bytes. BreaksAfter 1 (first_world desc (map standing adapters.old.items)) bytes (S.left source.new) (told K.written out.old) (told K.written out.new)) }
+    ensures unended { result ≡ Status.SourceFault → lines.old.ended ≡ false }
+    ensures flushed { result ≡ Status.SourceFault → out.new.end ≡ 0 }
     ensures source_later { S.faults source.old ≤ S.faults source.new }
     ensures sink_later { K.faults out.old.sink.now ≤ K.faults out.new.sink.now }
     ensures cause { IsCaused result (S.faults source.old) (S.faults source.new) (K.faults out.old.sink.now) (K.faults out.new.sink.now) }
@@ -216,6 +234,8 @@ fn run<S: Source, K: Sink>(
     requires few { length (map standing adapters.old.items) < 2 ^ 32 }
     ensures kinds { kinds_of (map standing adapters.new.items) ≡ kinds_of (map standing adapters.old.items) }
     ensures tells { IfSome (S.left source.old) (λ bytes. IsTold (judged bytes (map standing adapters.old.items)) result (told K.written out.old) (told K.written out.new) (map standing adapters.new.items)) }
+    ensures at_fault { result ≡ Status.SourceFault → IfSome (S.left source.old) (λ bytes. BreaksOff bytes (map standing adapters.old.items) (S.left source.new) (told K.written out.old) (told K.written out.new)) }
+    ensures flushed { result ≡ Status.SourceFault → out.old.end ≡ 0 → out.new.end ≡ 0 }
     ensures source_later { S.faults source.old ≤ S.faults source.new }
     ensures sink_later { K.faults out.old.sink.now ≤ K.faults out.new.sink.now }
     ensures cause { IsCaused result (S.faults source.old) (S.faults source.new) (K.faults out.old.sink.now) (K.faults out.new.sink.now) }
@@ -281,6 +301,7 @@ fn finish<K: Sink>(status: Status, out: &mut Buffered<'_, K>) -> Status
     ensures not_ended { is_complete result ≡ false → K.ends out.new.sink.now ≡ K.ends out.old.sink.now }
     ensures told { Keeps (told K.written out.old) (told K.written out.new) }
     ensures whole { is_complete result ≡ true → Keeps (told K.written out.old) (K.written out.new.sink.now) }
+    ensures at_fault { status ≡ Status.SourceFault → out.old.end ≡ 0 → Keeps (told K.written out.old) (K.written out.new.sink.now) }
     ensures same_sink { out.new.sink.ghost_name ≡ out.old.sink.ghost_name }
 {
     if status.is_complete() {
@@ -309,6 +330,8 @@ fn perform_task<S: Source, K: Sink>(
     ensures run { task ≡ Built.Run → IfSome (S.left source.old) (λ bytes. IsTold (judged bytes (map standing adapters.old.items)) result (told K.written out.old) (told K.written out.new) (map standing adapters.new.items)) }
     ensures map { task ≡ Built.Map → IfSome (S.left source.old) (λ bytes. IsTold (map_judged bytes (map standing adapters.old.items)) result (told K.written out.old) (told K.written out.new) (map standing adapters.new.items)) }
     ensures soak { (n : ℕ) → task ≡ Built.Soak n → IsTold (soak_judged n (map standing adapters.old.items)) result (told K.written out.old) (told K.written out.new) (map standing adapters.new.items) }
+    ensures at_fault { task ≡ Built.Run → result ≡ Status.SourceFault → IfSome (S.left source.old) (λ bytes. BreaksOff bytes (map standing adapters.old.items) (S.left source.new) (told K.written out.old) (told K.written out.new)) }
+    ensures flushed { task ≡ Built.Run → result ≡ Status.SourceFault → out.old.end ≡ 0 → out.new.end ≡ 0 }
     ensures source_later { S.faults source.old ≤ S.faults source.new }
     ensures sink_later { K.faults out.old.sink.now ≤ K.faults out.new.sink.now }
     ensures cause { IsCaused result (S.faults source.old) (S.faults source.new) (K.faults out.old.sink.now) (K.faults out.new.sink.now) }
@@ -350,6 +373,10 @@ pub fn regrun<S: Source, K: Sink>(
         (λ bytes. IsJudged (map_judged bytes (map standing adapters.old.items)) result (K.written sink.old) (K.written sink.new) (map standing adapters.new.items)) }
     ensures soak { (n : ℕ) → task_built (map string_bytes words.now) ≡ Some (Built.Soak n)
         → IsJudged (soak_judged n (map standing adapters.old.items)) result (K.written sink.old) (K.written sink.new) (map standing adapters.new.items) }
+
+    // After a source that failed, the sink has exactly the log of the lines of `run` that were taken whole.
+    ensures at_fault { task_built (map string_bytes words.now) ≡ Some Built.Run → result ≡ Status.SourceFault → IfSome (S.left source.old)
+        (λ bytes. BreaksOff bytes (map standing adapters.old.items) (S.left source.new) (K.written sink.old) (K.written sink.new)) }
 
     // No fault is made up.
     ensures source_later { S.faults source.old ≤ S.faults source.new }

@@ -1,5 +1,6 @@
 use Rattle.std.proofs.Common.{rules}
 use Rattle.regrun.proofs.EndingLemmas.{counted_kept}
+use Rattle.regrun.proofs.FaultLemmas.{breaks_written, same_status}
 use Rattle.regrun.proofs.JudgedLemmas.{played_written}
 use Rattle.regrun.proofs.playing.play.Goals as goal
 
@@ -14,4 +15,12 @@ pub returns-clause-log : goal.returns-clause-log
 returns-clause-log g c =
     let s = c.settle.ensures in
     let w = played_written _ _ _ _ _ _ _ _ _ _ _ _ _ s.kept s.told s.whole c.add.ensures (rw (c.new-own.ensures, c.new-out.ensures.told) at c.play_lines-status.ensures.log) in
+    search (rules, w)
+
+pub returns-clause-at_fault : goal.returns-clause-at_fault
+returns-clause-at_fault g c = λ is.
+    let s = c.settle.ensures in
+    let p = c.play_lines-status.ensures in
+    let fault = same_status _ _ s.kept is in
+    let w = breaks_written _ _ _ _ _ _ _ _ _ (rw c.new-out.ensures.told at (p.at_fault fault)) (s.at_fault fault (p.flushed fault)) in
     search (rules, w)

@@ -1,7 +1,9 @@
-use Rattle.std.proofs.Common.{◌≡◌, ◌≢◌, false, refl, subst}
+use Rattle.std.proofs.Common.{◌≡◌, ◌≢◌, false, Err, refl, ap, subst, ◌∙◌}
 use Rattle.rl_report.specs.declared.lines.Got.TheVariants as got
+use Rattle.regrun.specs.declared.status.Status.TheVariants.{SourceFault}
 use Rattle.regrun.specs.Statuses.{is_complete}
 use Rattle.regrun.proofs.EndingLemmas.{counted_none}
+use Rattle.regrun.proofs.FaultLemmas.{still_going, breaks_here, breaks_later}
 use Rattle.regrun.proofs.PlayLemmas.{early_stops, ends_at_end, next_passes, stop_ends}
 use Rattle.regrun.proofs.playing.play_line.Goals as goal
 
@@ -31,3 +33,23 @@ returns-clause-stop g c =
     λ status is.
     let not_end : c.in-Ok.got ≢ got.End = c.is_end.ensures.more c.if-is_end.false in
     stop_ends _ _ _ _ _ _ _ _ _ _ c.in-Ok.got _ c.take_line.new.lines _ _ status _ _ _ not_end c.in-Ok.ensures.handed c.line.ensures refl c.in-Ok.ensures.told (rw is at c.run_taken.ensures.turn)
+
+pub returns-in-Err-clause-unended : goal.returns-in-Err-clause-unended
+returns-in-Err-clause-unended g c =
+    λ is. let fault : c.in-Err.status ≡ SourceFault = cc in
+    let e = c.take_line.ensures in
+    still_going _ _ e.ended (e.none_whole (c.in-Err.is ∙ ap Err fault)).1
+
+pub returns-in-Err-clause-at_fault : goal.returns-in-Err-clause-at_fault
+returns-in-Err-clause-at_fault g c =
+    λ is. let fault : c.in-Err.status ≡ SourceFault = cc in
+    let e = c.take_line.ensures in
+    let err = c.in-Err.is ∙ ap Err fault in
+    breaks_here _ _ _ _ _ _ _ _ c.take_line.new.lines (e.none_lost err) (e.none_whole err) c.in-Err.ensures.told
+
+pub returns-clause-later_fault : goal.returns-clause-later_fault
+returns-clause-later_fault g c =
+    λ is going left last f.
+    let not_end : c.in-Ok.got ≢ got.End = c.is_end.ensures.more c.if-is_end.false in
+    breaks_later _ _ _ _ _ _ _ _ _ _ c.in-Ok.got _ c.take_line.new.lines _ _ _ _ _ left last not_end (c.run_taken.ensures.short is) c.in-Ok.ensures.handed c.line.ensures refl c.in-Ok.ensures.told
+    (rw is at c.run_taken.ensures.turn) going f

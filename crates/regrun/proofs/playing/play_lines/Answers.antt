@@ -1,5 +1,7 @@
-use Rattle.std.proofs.Common.{arith, refl, ◌∙◌}
+use Rattle.std.proofs.Common.{arith, refl, ap, ◌∙◌}
 use Rattle.std.proofs.KnownBytes.{Appends-nil}
+use Rattle.regrun.specs.declared.playing.Turn.TheVariants.{Stop}
+use Rattle.regrun.proofs.FaultLemmas.{still_going}
 use Rattle.regrun.proofs.PlayLemmas.{passes_first, passes_both, ends_both}
 use Rattle.regrun.proofs.playing.play_lines.Goals as goal
 
@@ -13,6 +15,8 @@ loop-number-init g c = record {
   source_later = omega arith;
   sink_later = omega arith;
   going_on = passes_first _ _ _ (Appends-nil _);
+  unended = λ ended. ended;
+  breaking = λ ended left last h. h;
   ends_kept = refl;
   same_sink = refl;
 }
@@ -31,9 +35,23 @@ loop-number-preserved g c =
       source_later = omega (arith, e.source_later, i.source_later);
       sink_later = omega (arith, e.sink_later, i.sink_later);
       going_on = passes_both _ _ _ _ _ _ i.going_on (e.next c.in-Next.is);
+      unended = λ ended. i.unended (still_going _ _ e.ended ended);
+      breaking = λ ended left last h. i.breaking (still_going _ _ e.ended ended) left last (e.later_fault c.in-Next.is ended left last h);
       ends_kept = e.ends_kept ∙ i.ends_kept;
       same_sink = e.same_sink ∙ i.same_sink;
     }
 
 pub returns-in-Stop-clause-log : goal.returns-in-Stop-clause-log
 returns-in-Stop-clause-log g c = ends_both _ _ _ _ _ _ _ _ _ _ c.loop-number.invariant.going_on (c.play_line.ensures.stop _ c.in-Stop.is)
+
+pub returns-in-Stop-clause-at_fault : goal.returns-in-Stop-clause-at_fault
+returns-in-Stop-clause-at_fault g c = λ is.
+    let e = c.play_line.ensures in
+    let stop = c.in-Stop.is ∙ ap Stop is in
+    c.loop-number.invariant.breaking (e.unended stop) _ _ (e.at_fault stop)
+
+pub returns-in-Stop-clause-flushed : goal.returns-in-Stop-clause-flushed
+returns-in-Stop-clause-flushed g c = λ is. c.play_line.ensures.flushed (c.in-Stop.is ∙ ap Stop is)
+
+pub returns-in-Stop-clause-unended : goal.returns-in-Stop-clause-unended
+returns-in-Stop-clause-unended g c = λ is. c.loop-number.invariant.unended (c.play_line.ensures.unended (c.in-Stop.is ∙ ap Stop is))

@@ -1,6 +1,7 @@
 use Rattle.std.proofs.Common.{◌≡◌, sym, ◌∙◌, rules}
 use Rattle.regrun.specs.declared.words.Built.TheVariants as built
 use Rattle.regrun.specs.Judged.{judged, map_judged}
+use Rattle.regrun.proofs.FaultLemmas.{off_written, same_status}
 use Rattle.regrun.proofs.JudgedLemmas.{judged_written, all_written}
 use Rattle.regrun.proofs.top.regrun.Goals as goal
 
@@ -26,4 +27,14 @@ returns-clause-soak g c = λ n asked.
     let is : c.in-Some.task ≡ built.Soak n = cc in
     let f = c.finish.ensures in
     let w = judged_written _ _ _ _ _ _ _ _ f.kept f.told f.whole (rw c.new-out.ensures.told at (c.perform_task-status.ensures.soak n is)) in
+    search (rules, w)
+
+pub returns-clause-at_fault : goal.returns-clause-at_fault
+returns-clause-at_fault g c = λ asked is.
+    let found = sym c.in-Some.is ∙ c.task_built.ensures ∙ asked in
+    let run : c.in-Some.task ≡ built.Run = cc in
+    let f = c.finish.ensures in
+    let p = c.perform_task-status.ensures in
+    let fault = same_status _ _ f.kept is in
+    let w = off_written _ _ _ _ _ _ (rw c.new-out.ensures.told at (p.at_fault run fault)) (f.at_fault fault (p.flushed run fault c.new-out.ensures.empty)) in
     search (rules, w)

@@ -1,10 +1,12 @@
-use Rattle.std.proofs.Common.{◌≡◌, Ok, Some, refl}
-use Rattle.rl_report.specs.Opening.{separator_at}
+use Rattle.std.proofs.Common.{◌≡◌, ℕ, List, Ok, Err, Some, refl, ap, ◌∙◌}
+use Rattle.rl_report.specs.Opening.{FindsHead, TakesNoHead, separator_at}
 use Rattle.rl_report.specs.Reading.{input_of}
+use Rattle.regrun.specs.declared.status.Status.TheVariants.{SourceFault}
 use Rattle.regrun.specs.Log.{behind}
 use Rattle.regrun.specs.Session.{opening_of}
 use Rattle.regrun.specs.Telling.{Stops}
 use Rattle.regrun.proofs.BufferLemmas.{keeps_refl}
+use Rattle.regrun.proofs.FaultLemmas.{off_in_head, off_in_script}
 use Rattle.regrun.proofs.JudgedLemmas.{runs_early, runs_stopped, runs_opened}
 use Rattle.regrun.proofs.OpeningLemmas.{from_fresh}
 use Rattle.regrun.proofs.top.run.Goals as goal
@@ -27,3 +29,25 @@ pub returns-clause-tells : goal.returns-clause-tells
 returns-clause-tells g c =
     let left = g.S.Source.left c.args.source.now in
     runs_stopped left _ _ _ _ (from_fresh c.in-Ok.lines left (λ bytes. Stops (opening_of bytes _) _ _ _) c.in-Ok.ensures.input c.in-Err.ensures.stops)
+
+pub returns-in-Ok-open_session-clause-at_fault : goal.returns-in-Ok-open_session-clause-at_fault
+returns-in-Ok-open_session-clause-at_fault g c = λ is.
+    let e = c.in-Ok-open_session.ensures in
+    let r = c.run_session.ensures in
+    let left = g.S.Source.left c.args.source.now in
+    let lines = c.in-Ok.lines in
+    let fresh = c.in-Ok.ensures.input in
+    let desc = c.in-Ok-open_session.desc in
+    off_in_script left _ desc c.open_session.new.lines _ _ _ _ _
+    (from_fresh lines left (λ bytes. (head : List ℕ) × FindsHead bytes head c.open_session.new.lines (g.S.Source.left c.open_session.new.source)) fresh e.finds)
+    (r.unended is)
+    (from_fresh lines left (λ bytes. opening_of bytes _ ≡ Ok desc) fresh e.opening)
+    e.told (r.at_fault is)
+
+pub returns-clause-at_fault : goal.returns-clause-at_fault
+returns-clause-at_fault g c = λ is.
+    let left = g.S.Source.left c.args.source.now in
+    let fault : c.in-Err.status ≡ SourceFault = is in
+    let err = c.in-Err.is ∙ ap Err fault in
+    let e = c.open_session.ensures in
+    off_in_head left _ _ _ _ (from_fresh c.in-Ok.lines left (λ bytes. TakesNoHead bytes (g.S.Source.left c.open_session.new.source)) c.in-Ok.ensures.input (e.at_fault err)) (e.same_told err)

@@ -2,6 +2,7 @@ use Rattle.std.proofs.Common.{map, refl}
 use Rattle.regrun.specs.declared.status.Status.TheVariants.{Memory}
 use Rattle.regrun.specs.Told.{told}
 use Rattle.regrun.proofs.BufferLemmas.{keeps_refl}
+use Rattle.regrun.proofs.FaultLemmas.{breaks_first}
 use Rattle.regrun.proofs.JudgedLemmas.{session_early, session_told}
 use Rattle.regrun.proofs.top.run_session.Goals as goal
 
@@ -13,3 +14,6 @@ returns-in_default-clause-tells g c =
 
 pub returns-clause-tells : goal.returns-clause-tells
 returns-clause-tells g c = session_told _ c.args.desc _ _ _ _ _ _ _ _ _ _ _ c.new-counts.ensures (c.in-Ok.ensures.first _) c.play_lines.ensures.log
+
+pub returns-clause-at_fault : goal.returns-clause-at_fault
+returns-clause-at_fault g c = λ is. breaks_first _ c.args.desc _ _ _ _ _ _ (c.in-Ok.ensures.first _) (c.play_lines.ensures.at_fault is)

@@ -10,6 +10,7 @@ invariant-loop-self g l =
     record {
       told : Keeps (append_known (written l.initial.self.sink.now) (kept_back l.initial.self)) (append_known (written l.self.sink.now) (kept_back l.self));
       later : g.K.Sink.faults l.initial.self.sink.now ≤ g.K.Sink.faults l.self.sink.now;
+      idle : l.initial.self.end ≡ 0 → l.self.end ≡ 0;
       ends_kept : g.K.Sink.ends l.self.sink.now ≡ g.K.Sink.ends l.initial.self.sink.now;
       same_sink : l.self.sink.ghost_name ≡ l.initial.self.sink.ghost_name;
     }
