@@ -67,6 +67,8 @@ pub fn read_description(
         }
     };
     let document = read_document(alloc, &table)?;
+    // The chip and its layout are built where the table stood.
+    drop(table);
     build(alloc, &document, kinds)
 }
 
