@@ -1,4 +1,5 @@
 -- Lists that are filtered in a loop.
+use Rattle.std.proofs.lemmas.List.Filters.{length-filter_more}
 use Rattle.std.proofs.Common.{◌≡◌, ℕ, zero, suc, ◌+◌, ◌<◌, ◌≤◌, Bool, true, false, cond, ◌&&◌, eqb, List, [], ◌∷◌, ◌++◌, length, get_or, take, refl, sym, ap, ◌∙◌, arith, Some, None}
 use Rattle.std.specs.Prelude.{slice_get, filter}
 use Rattle.std.proofs.lemmas.List.Elements.{filter_more}
@@ -31,6 +32,20 @@ found_more p xs i k d l = by (p (get_or xs i d)) ∙ sym (ap (λ ys. slice_get y
     by : (b : Bool) → cond (b && eqb k (length (filter p (take i xs)))) (Some (get_or xs i d)) (slice_get (filter p (take i xs)) k) ≡ slice_get (filter p (take i xs) ++ cond b (get_or xs i d ∷ []) []) k
     by true = sym (slice_get_push (filter p (take i xs)) (get_or xs i d) k)
     by false = sym (ap (λ ys. slice_get ys k) (append-nil (filter p (take i xs))))
+
+-- one more that passes: the one that is looked for, or another
+pub found_here : {X : Type 0} (p : X → Bool) (xs : List X) (i k : ℕ) (d : X) → i < length xs → p (get_or xs i d) ≡ true → k ≡ length (filter p (take i xs)) → Some (get_or xs i d) ≡ slice_get (filter p (take (i + 1) xs)) k
+found_here p xs i k d l h e =
+    let same : eqb k (length (filter p (take i xs))) ≡ true = grind (arith, nat_tests) in
+    rw (h, same) at (found_more p xs i k d l)
+
+pub found_other : {X : Type 0} (p : X → Bool) (xs : List X) (i k : ℕ) (d : X) → i < length xs → p (get_or xs i d) ≡ true → (k ≡ length (filter p (take i xs)) → ⊥) → slice_get (filter p (take i xs)) k ≡ slice_get (filter p (take (i + 1) xs)) k
+found_other p xs i k d l h e =
+    let apart : eqb k (length (filter p (take i xs))) ≡ false = grind (arith, nat_tests) in
+    rw (h, apart) at (found_more p xs i k d l)
+
+pub count_here : {X : Type 0} (p : X → Bool) (xs : List X) (i : ℕ) (d : X) → i < length xs → p (get_or xs i d) ≡ true → length (filter p (take i xs)) + 1 ≡ length (filter p (take (i + 1) xs))
+count_here p xs i d l h = sym (rw h at (length-filter_more p xs i d l))
 
 -- the first place that passes, where n is the length, k the first place or the length, and b says whether one element more passes
 place_push : (n k : ℕ) (b : Bool) → k ≤ n → cond (ltb (cond (eqb k n) (n + cond b 0 1) k) (n + 1)) (Some (cond (eqb k n) (n + cond b 0 1) k)) None ≡ option_or (cond (ltb k n) (Some k) None) (cond b (Some n) None)

@@ -256,3 +256,19 @@ fields_there fields i j reg slice e s = let P : List FieldRow → Type 0 = λ fi
 -- and of the words
 pub words_there : (words : List WordRow) (i j p a : ℕ) (slice : List WordRow) → slice ≡ words → IsStretch (stands_at p a) slice i j → IsStretch (stands_at p a) words i j
 words_there words i j p a slice e s = let P : List WordRow → Type 0 = λ words. IsStretch (stands_at p a) words i j in subst P e s
+
+-- ---- the first word that doesn't stand before a key
+
+pub first_low : (words : List WordRow) (j t : ℕ) (e : WordRow) → IsNonDecreasingBy key_of words → j < length words → ltb (key_of (get_or words j e)) t ≡ true → (k : ℕ) (d : WordRow) → k < j + 1 → key_of (get_or words k d) < t
+first_low words j t e rise inside h k d l =
+    let low : key_of (get_or words j e) < t = lt_from (key_of (get_or words j e)) t h in
+    let up : key_of (get_or words k d) ≤ key_of (get_or words j d) = rise k j d (omega (arith, l)) inside in
+    let same : key_of (get_or words j e) ≡ key_of (get_or words j d) = ap key_of (any_default words j e d inside) in
+    omega (arith, low, up, same)
+
+pub first_high : (words : List WordRow) (j t : ℕ) (e : WordRow) → IsNonDecreasingBy key_of words → j < length words → ltb (key_of (get_or words j e)) t ≡ false → (k : ℕ) (d : WordRow) → j ≤ k → k < length words → t ≤ key_of (get_or words k d)
+first_high words j t e rise inside h k d l m =
+    let high : t ≤ key_of (get_or words j e) = le_from (key_of (get_or words j e)) t h in
+    let up : key_of (get_or words j d) ≤ key_of (get_or words k d) = rise j k d l m in
+    let same : key_of (get_or words j e) ≡ key_of (get_or words j d) = ap key_of (any_default words j e d inside) in
+    omega (arith, high, up, same)

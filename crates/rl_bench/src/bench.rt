@@ -1,7 +1,9 @@
 //! The device.
 ghost use Rattle.std.specs.Prelude.{◌≡◌, ℕ, ◌+◌, ◌<◌, ◌≤◌, ◌^◌, length, if◌then◌else◌, nat_lt, not, IfOk, replicate, ◌||◌, ◌==◌, slice_index};
-ghost use Rattle.rl_bus.specs.Setup.{is_named};
-ghost use Rattle.rl_bench.specs.Beats.{IsQuiet, HasBeats};
+ghost use Rattle.std.specs.Prelude.{filter, slice_get, option_copied};
+ghost use Rattle.rl_bus.specs.Setup.{is_named, stands_at, stands_for};
+ghost use Rattle.rl_bench.specs.Beats.{IsQuiet, HasBeats, beats_of};
+ghost use Rattle.rl_bench.specs.Stretch.{IsStretch};
 ghost use Rattle.rl_bench.specs.Board.{FitCells, IsSetup, HasRoom};
 ghost use Rattle.rl_bench.specs.Tables.{setup_held};
 
@@ -27,6 +29,8 @@ pub struct Bench {
     board: Board,
     cells: Cells,
     beats: Vec<u32>,
+    /// The words that the last item found: the next one's are mostly near.
+    near: Stretch,
     items: u64,
     failures: u64,
     ghost quiet: { IsQuiet (setup_held board.tables).words beats.items },
@@ -36,11 +40,30 @@ pub struct Bench {
 
 // The words at an address, its beat, the word of a direction at the beat, and how many there are.
 #[derive(Debug, Clone, Copy)]
-struct Found {
+struct Found<'a> {
     at: Stretch,
     beat: u32,
-    word: Option<WordRow>,
+    word: Option<&'a WordRow>,
     count: usize,
+}
+
+// The words at an item's address, and the one at the beat.
+fn find<'a>(board: &'a Board, beats: &[u32], near: Stretch, port: u32, op: &BusOp) -> Found<'a>
+    ensures at { IsStretch (stands_at port op.now.address) (setup_held board.now.tables).words result.at.first result.at.end }
+    ensures beat { result.beat ≡ beats_of (setup_held board.now.tables).words beats.now port op.now.address }
+    ensures word { option_copied result.word ≡ slice_get (filter (stands_for port op.now.address op.now.write) (setup_held board.now.tables).words) (beats_of (setup_held board.now.tables).words beats.now port op.now.address) }
+    ensures count { result.count ≡ length (filter (stands_for port op.now.address op.now.write) (setup_held board.now.tables).words) }
+{
+    let words = board.tables.words();
+    let at = words_at(words, near, port, op.address);
+    let beat = beat_at(beats, at);
+    let here = find_word(words, at, port, op.address, op.write, beat);
+    Found {
+        at,
+        beat,
+        word: here.word,
+        count: here.count,
+    }
 }
 
 fn is_faulty(tables: &Tables, port: u32, op: &BusOp, count: u64) -> bool
@@ -70,9 +93,7 @@ fn zeros(alloc: Global, count: usize) -> Result<Vec<u64>, AllocError>
 impl Bench {
     ghost use Rattle.rl_bus.specs.Causes.{AnswerHasCause};
     ghost use Rattle.rl_bus.specs.Lanes.{IsWidth};
-    ghost use Rattle.rl_bus.specs.State.{state_after, answer_of, word_at, first_state};
-    ghost use Rattle.rl_bus.specs.Setup.{words_at, stands_at};
-    ghost use Rattle.rl_bench.specs.Stretch.{IsStretch};
+    ghost use Rattle.rl_bus.specs.State.{state_after, answer_of, first_state};
     ghost use Rattle.rl_map.specs.Maps.{IsBuiltWith};
     ghost use Rattle.rl_bench.specs.Flaws.{AreFlawsOf, first_of};
     ghost use Rattle.rl_bench.specs.State.{bench_state};
@@ -123,28 +144,10 @@ impl Bench {
             board,
             cells,
             beats,
+            near: Stretch { first: 0, end: 0 },
             items: 0,
             failures: 0,
         })
-    }
-
-    // The words at an item's address, and the one at the beat.
-    fn find(&self, port: u32, op: &BusOp) -> Found
-        ensures at { IsStretch (stands_at port op.now.address) (bench_state self.now).setup.words result.at.first result.at.end }
-        ensures beat { result.beat ≡ (bench_state self.now).beats port op.now.address }
-        ensures word { result.word ≡ word_at (bench_state self.now) port op.now }
-        ensures count { result.count ≡ length (words_at (bench_state self.now).setup port op.now.address op.now.write) }
-    {
-        let words = self.board.tables.words();
-        let at = words_at(words, port, op.address);
-        let beat = beat_at(&self.beats, at);
-        let here = find_word(words, at, port, op.address, op.write, beat);
-        Found {
-            at,
-            beat,
-            word: here.word,
-            count: here.count,
-        }
     }
 
     // One item.
@@ -158,7 +161,9 @@ impl Bench {
         ensures small { result.word < 256 ^ op.now.bytes }
     {
         self.items = self.items.saturating_add(1);
-        let found = self.find(port, op);
+        let board = &self.board;
+        let found = find(board, &self.beats, self.near, port, op);
+        self.near = found.at;
         let Some(word) = found.word else {
             self.failures = self.failures.saturating_add(1);
             return Answer {
@@ -166,8 +171,7 @@ impl Bench {
                 failed: true,
             };
         };
-        if is_faulty(&self.board.tables, port, op, self.items) {
-            let board = &self.board;
+        if is_faulty(&board.tables, port, op, self.items) {
             send_back(&board.queues, &mut self.beats, word.place);
             self.failures = self.failures.saturating_add(1);
             return Answer {
@@ -175,7 +179,7 @@ impl Bench {
                 failed: true,
             };
         }
-        let answer = touch(&self.board, &mut self.cells, op, &word);
+        let answer = touch(board, &mut self.cells, op, word);
         let next = next_beat(found.beat, found.count);
         set_beat(&mut self.beats, found.at, next);
         Answer {

@@ -1,5 +1,5 @@
 //! The rows at an address, of a register and of a field, found by halves.
-ghost use Rattle.std.specs.Prelude.{◌≡◌, ◌≢◌, ℕ, ◌+◌, ◌*◌, ◌^◌, ◌<◌, ◌≤◌, ◌==◌, ◌&&◌, length, false, nat_lt, slice_get, slice_index_or, filter, if◌then◌else◌, Some};
+ghost use Rattle.std.specs.Prelude.{◌≡◌, ◌≢◌, ℕ, ◌+◌, ◌*◌, ◌^◌, ◌<◌, ◌≤◌, ◌==◌, length, true, false, nat_lt, slice_get, slice_index_or, filter, IfSome, option_copied};
 ghost use Rattle.std.specs.List.Sorted.{IsNonDecreasingBy};
 ghost use Rattle.rl_bus.specs.Setup.{stands_at, stands_for};
 ghost use Rattle.rl_bus.specs.declared.table.WordRow.{WordRow as Words};
@@ -17,8 +17,8 @@ pub struct Stretch {
 
 /// A word at an address, and how many words of its direction stand there.
 #[derive(Debug, Clone, Copy)]
-pub struct Here {
-    pub word: Option<WordRow>,
+pub struct Here<'a> {
+    pub word: Option<&'a WordRow>,
     pub count: usize,
 }
 
@@ -43,8 +43,21 @@ fn stands_at(word: &WordRow, port: u32, address: u64) -> bool
     word.port == port && at == address
 }
 
+// Whether the words before this one stand before an address, and it and those behind it do not.
+fn is_first(words: &[WordRow], first: usize, port: u32, address: u64) -> bool
+    requires { IsNonDecreasingBy key_of words.now }
+    ensures within { result ≡ true → first ≤ length words.now }
+    ensures before { result ≡ true → (k : ℕ) (d : Words) → k < first → key_of (slice_index_or words.now k d) < port * 2 ^ 64 + address }
+    ensures behind { result ≡ true → (k : ℕ) (d : Words) → first ≤ k → k < length words.now → port * 2 ^ 64 + address ≤ key_of (slice_index_or words.now k d) }
+{
+    if first >= words.len() || is_before(&words[first], port, address) {
+        return false;
+    }
+    first == 0 || is_before(&words[first - 1], port, address)
+}
+
 // The first word that doesn't stand before an address.
-fn first_from(words: &[WordRow], port: u32, address: u64) -> usize
+fn search(words: &[WordRow], port: u32, address: u64) -> usize
     requires { IsNonDecreasingBy key_of words.now }
     ensures within { result ≤ length words.now }
     ensures before { (k : ℕ) (d : Words) → k < result → key_of (slice_index_or words.now k d) < port * 2 ^ 64 + address }
@@ -53,12 +66,45 @@ fn first_from(words: &[WordRow], port: u32, address: u64) -> usize
     words.partition_point(|word| is_before(word, port, address))
 }
 
-/// The words at an address of a port.
-pub fn words_at(words: &[WordRow], port: u32, address: u64) -> Stretch
+// The same, if it is a row from the one before the words near to the second one behind them.
+fn first_beside(words: &[WordRow], near: Stretch, port: u32, address: u64) -> Option<usize>
+    requires { IsNonDecreasingBy key_of words.now }
+    ensures within { IfSome result (λ first. first ≤ length words.now) }
+    ensures before { IfSome result (λ first. (k : ℕ) (d : Words) → k < first → key_of (slice_index_or words.now k d) < port * 2 ^ 64 + address) }
+    ensures behind { IfSome result (λ first. (k : ℕ) (d : Words) → first ≤ k → k < length words.now → port * 2 ^ 64 + address ≤ key_of (slice_index_or words.now k d)) }
+{
+    let end = words.len().min(near.end.saturating_add(2));
+    for first in near.first.saturating_sub(1)..end {
+        if is_first(words, first, port, address) {
+            return Some(first);
+        }
+    }
+    None
+}
+
+// The same, which mostly is the row behind the words near, or another one beside them.
+fn first_from(words: &[WordRow], near: Stretch, port: u32, address: u64) -> usize
+    requires { IsNonDecreasingBy key_of words.now }
+    ensures within { result ≤ length words.now }
+    ensures before { (k : ℕ) (d : Words) → k < result → key_of (slice_index_or words.now k d) < port * 2 ^ 64 + address }
+    ensures behind { (k : ℕ) (d : Words) → result ≤ k → k < length words.now → port * 2 ^ 64 + address ≤ key_of (slice_index_or words.now k d) }
+{
+    if is_first(words, near.end, port, address) {
+        return near.end;
+    }
+    match first_beside(words, near, port, address) {
+        Some(first) => first,
+        None => search(words, port, address),
+    }
+}
+
+/// The words at an address of a port. They are found at once where they stand near, at these words or
+/// behind them.
+pub fn words_at(words: &[WordRow], near: Stretch, port: u32, address: u64) -> Stretch
     requires { IsNonDecreasingBy key_of words.now }
     ensures { IsStretch (stands_at port address) words.now result.first result.end }
 {
-    let first = first_from(words, port, address);
+    let first = first_from(words, near, port, address);
     for end in first..words.len() {
         if !stands_at(&words[end], port, address) {
             return Stretch { first, end };
@@ -87,16 +133,17 @@ pub fn words_beside(words: &[WordRow], k: usize) -> Stretch
     ensures { (d : Words) → IsStretch (stands_at (slice_index_or words.now k d).port (slice_index_or words.now k d).address) words.now result.first result.end }
 {
     let word = &words[k];
-    if k > 0 && same_address(words, k - 1, k) {
-        return words_at(words, word.port, word.address);
-    }
-    if k + 1 < words.len() && same_address(words, k, k + 1) {
-        return words_at(words, word.port, word.address);
-    }
-    Stretch {
+    let alone = Stretch {
         first: k,
         end: k + 1,
+    };
+    if k > 0 && same_address(words, k - 1, k) {
+        return words_at(words, alone, word.port, word.address);
     }
+    if k + 1 < words.len() && same_address(words, k, k + 1) {
+        return words_at(words, alone, word.port, word.address);
+    }
+    alone
 }
 
 /// The fields of a register.
@@ -119,18 +166,6 @@ pub fn resets_of(resets: &[ResetRow], field: u32) -> Stretch
     Stretch { first, end }
 }
 
-fn one_of(found: Option<WordRow>, word: &WordRow, stands: bool, is_it: bool) -> Option<WordRow>
-    ensures { result ≡ (if stands && is_it then Some word.now else found) }
-{
-    if stands && is_it { Some(*word) } else { found }
-}
-
-fn one_if(stands: bool) -> usize
-    ensures { result ≡ (if stands then 1 else 0) }
-{
-    if stands { 1 } else { 0 }
-}
-
 fn stands_for(word: &WordRow, port: u32, address: u64, write: bool) -> bool
     ensures { result ≡ stands_for port address write word.now }
 {
@@ -145,17 +180,22 @@ pub fn find_word(
     address: u64,
     write: bool,
     beat: u32,
-) -> Here
+) -> Here<'_>
     requires { IsStretch (stands_at port address) words.now at.first at.end }
-    ensures word { result.word ≡ slice_get (filter (stands_for port address write) words.now) beat }
+    ensures word { option_copied result.word ≡ slice_get (filter (stands_for port address write) words.now) beat }
     ensures count { result.count ≡ length (filter (stands_for port address write) words.now) }
 {
     let mut found = None;
     let mut count = 0;
     for k in at.first..at.end {
-        let stands = stands_for(&words[k], port, address, write);
-        found = one_of(found, &words[k], stands, beat as usize == count);
-        count += one_if(stands);
+        let word = &words[k];
+        if !stands_for(word, port, address, write) {
+            continue;
+        }
+        if beat as usize == count {
+            found = Some(word);
+        }
+        count += 1;
     }
     Here { word: found, count }
 }

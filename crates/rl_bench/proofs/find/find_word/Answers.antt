@@ -1,14 +1,10 @@
-use Rattle.std.proofs.Common.{◌≡◌, ◌<◌, ◌≤◌, [], length, get_or, take, sym, ap, ◌∙◌, arith, cond, true, false, Bool}
-use Rattle.std.specs.Prelude.{filter, slice_get}
-use Rattle.std.proofs.lemmas.List.Filters.{length-filter_more}
+use Rattle.std.proofs.Common.{◌≡◌, ◌<◌, [], length, get_or, take, sym, ap, ◌∙◌, arith}
+use Rattle.std.specs.Prelude.{filter, slice_get, option_copied}
 use Rattle.rl_bus.specs.Setup.{stands_for}
-use Rattle.rl_bench.proofs.ListLemmas.{found_more}
+use Rattle.rl_bench.proofs.ListLemmas.{found_here, found_other, count_here}
 use Rattle.rl_bench.proofs.StretchLemmas.{none_taken, all_taken, not_for}
 use Rattle.rl_bench.proofs.find.find_word.Goals as goal
-
-digit_le : (b : Bool) → cond b 1 0 ≤ 1
-digit_le true = omega arith
-digit_le false = omega arith
+use Rattle.rl_bench.proofs.find.find_word.Goals.{then-beat-count, else-beat-count}
 
 pub loop-k-init : goal.loop-k-init
 loop-k-init c =
@@ -22,10 +18,14 @@ loop-k-preserved c =
     let was = c.loop-k.invariant in
     let i = c.loop-k.k in
     let l : i < length c.args.words.now = omega (arith, c.loop-k-test.true, c.requires.within) in
+    let stands = sym c.stands_for.ensures ∙ c.if-not-stands_for.false in
     record {
-      found = rw (c.one_of-found.ensures, c.stands_for-stands.ensures, was.found, was.count) (found_more p c.args.words.now i c.args.beat _ l);
-      count = rw (c.one_if-count.ensures, c.stands_for-stands.ensures, was.count) (sym (length-filter_more p c.args.words.now i _ l));
-      behind = omega (arith, was.behind, c.one_if-count.ensures, digit_le c.stands_for-stands.result);
+      found = elim c.if-beat-count.branch [
+        | then-beat-count w ↦ ap option_copied w.found-is ∙ found_here p c.args.words.now i c.args.beat _ l stands (w.if-beat-count.true ∙ was.count)
+        | else-beat-count w ↦ ap option_copied w.found-is ∙ was.found ∙ found_other p c.args.words.now i c.args.beat _ l stands (λ e. w.if-beat-count.false (e ∙ sym was.count))
+      ];
+      count = rw was.count (count_here p c.args.words.now i _ l stands);
+      behind = omega (arith, was.behind);
     }
 
 pub returns-clause-word : goal.returns-clause-word

@@ -1,5 +1,5 @@
 use Rattle.std.proofs.Common.{◌≡◌, ◌+◌, ◌∙◌, Bool, length, subst, sym, ap, ℕ, true, false, Some, arith, is_some, eqb, ltb, cond, ◌&&◌}
-use Rattle.std.specs.Prelude.{position, filter, slice_index, slice_set}
+use Rattle.std.specs.Prelude.{position, filter, slice_index, slice_set, option_copied}
 use Rattle.std.specs.List.{list_any}
 use Rattle.rl_bench.specs.Beats.{is_queue, IsQuiet}
 use Rattle.rl_bench.proofs.QueueLemmas.{back_is, quiet_set, set_is}
@@ -18,37 +18,37 @@ returns-in_default-clause-state c =
     let b = c.args.self.now in
     let s = bench_state b in
     ap (λ n. state_of s.setup b.cells s.beats n) c.saturating_add-self.ensures
-    ∙ missing_state s c.args.port c.args.op.now (sym c.find-found.ensures.word ∙ c.in_default.is)
+    ∙ missing_state s c.args.port c.args.op.now (sym (rw c.deref.ensures.value at c.find-found.ensures.word) ∙ ap option_copied c.in_default.is)
 
 pub returns-in_default-clause-answer : goal.returns-in_default-clause-answer
 returns-in_default-clause-answer c =
-    missing_answer (bench_state c.args.self.now) c.args.port c.args.op.now (sym c.find-found.ensures.word ∙ c.in_default.is)
+    missing_answer (bench_state c.args.self.now) c.args.port c.args.op.now (sym (rw c.deref.ensures.value at c.find-found.ensures.word) ∙ ap option_copied c.in_default.is)
 
 pub returns-then-is_faulty-clause-state : goal.returns-then-is_faulty-clause-state
 returns-then-is_faulty-clause-state c =
     let b = c.args.self.now in
     let s = bench_state b in
-    let w = c.in-Some.word in
-    let h : word_at s c.args.port c.args.op.now ≡ Some w = sym c.find-found.ensures.word ∙ c.in-Some.is in
+    let w = c.in-Some.word.now in
+    let h : word_at s c.args.port c.args.op.now ≡ Some w = sym (rw c.deref.ensures.value at c.find-found.ensures.word) ∙ ap option_copied c.in-Some.is in
     let f : is_faulty (counted s) c.args.port c.args.op.now ≡ true = rw (← c.saturating_add-self.ensures) (sym c.is_faulty.ensures ∙ c.if-is_faulty.true) in
     let ws = c.send_back.new.beats in
     let e : (with_items b.beats ws).items ≡ ws = with_items_is b.beats ws (c.send_back.auto.beats ∙ c.deref_mut.ensures.len) in
     let beats : ℕ → ℕ → ℕ = beats_of b.board.tables.words.value.items (with_items b.beats ws).items in
-    let done : (k : ℕ) → slice_index ws k ≡ cond (list_any (is_queue k w.place) b.board.queues.items) 0 (slice_index b.beats.items k) = λ k. rw (c.deref.ensures.value, c.deref_mut.ensures.value) at (c.send_back.ensures k) in
+    let done : (k : ℕ) → slice_index ws k ≡ cond (list_any (is_queue k w.place) b.board.queues.items) 0 (slice_index b.beats.items k) = λ k. rw (c.deref-then-is_faulty.ensures.value, c.deref_mut.ensures.value) at (c.send_back.ensures k) in
     ap (λ n. state_of s.setup b.cells beats n) c.saturating_add-self.ensures
     ∙ faulty_state s c.args.port c.args.op.now w beats h f (λ p a. rw e (back_is b.board.tables.words.value.items b.board.queues.items b.beats.items ws w.place b.board.queued b.quiet done p a))
 
 pub returns-then-is_faulty-clause-answer : goal.returns-then-is_faulty-clause-answer
 returns-then-is_faulty-clause-answer c =
     let s = bench_state c.args.self.now in
-    let h : word_at s c.args.port c.args.op.now ≡ Some c.in-Some.word = sym c.find-found.ensures.word ∙ c.in-Some.is in
+    let h : word_at s c.args.port c.args.op.now ≡ Some c.in-Some.word.now = sym (rw c.deref.ensures.value at c.find-found.ensures.word) ∙ ap option_copied c.in-Some.is in
     let f : is_faulty (counted s) c.args.port c.args.op.now ≡ true = rw (← c.saturating_add-self.ensures) (sym c.is_faulty.ensures ∙ c.if-is_faulty.true) in
-    faulty_answer s c.args.port c.args.op.now c.in-Some.word h f
+    faulty_answer s c.args.port c.args.op.now c.in-Some.word.now h f
 
 pub touch-answer-requires-clause-word : goal.touch-answer-requires-clause-word
 touch-answer-requires-clause-word c =
     let s = bench_state c.args.self.now in
-    word_in s.setup c.args.port c.args.op.now.address c.args.op.now.write _ c.in-Some.word c.args.self.now.board.sound (sym c.find-found.ensures.word ∙ c.in-Some.is)
+    word_in s.setup c.args.port c.args.op.now.address c.args.op.now.write _ c.in-Some.word.now c.args.self.now.board.sound (sym (rw c.deref.ensures.value at c.find-found.ensures.word) ∙ ap option_copied c.in-Some.is)
 
 pub next_beat-next-requires : goal.next_beat-next-requires
 next_beat-next-requires c =
@@ -59,10 +59,10 @@ pub returns-clause-state : goal.returns-clause-state
 returns-clause-state c =
     let b = c.args.self.now in
     let s = bench_state b in
-    let w = c.in-Some.word in
+    let w = c.in-Some.word.now in
     let op = c.args.op.now in
     let port = c.args.port in
-    let h : word_at s port op ≡ Some w = sym c.find-found.ensures.word ∙ c.in-Some.is in
+    let h : word_at s port op ≡ Some w = sym (rw c.deref.ensures.value at c.find-found.ensures.word) ∙ ap option_copied c.in-Some.is in
     let f : is_faulty (counted s) port op ≡ false = rw (← c.saturating_add-self.ensures) (sym c.is_faulty.ensures ∙ c.if-is_faulty.false) in
     let ws = c.set_beat.new.beats in
     let e : (with_items b.beats ws).items ≡ ws = with_items_is b.beats ws (c.set_beat.auto.beats ∙ c.deref_mut-2.ensures.len) in
@@ -78,20 +78,20 @@ returns-clause-state c =
     (λ p a. rw e (ap (λ xs. beats_of b.board.tables.words.value.items xs p a) set_there
     ∙ set_is b.board.tables.words.value.items b.beats.items port op.address at.first at.end next c.find-found.result.beat p a op.write b.beaten b.quiet next_is c.find-found.ensures.at
     ∙ moved (eqb p port && eqb a op.address) _ next _ (s.beats p a) there
-    (rw (c.find-found.ensures.beat, c.find-found.ensures.count) at c.next_beat-next.ensures)))
+    (rw ((rw c.deref.ensures.value at c.find-found.ensures.beat), c.find-found.ensures.count) at c.next_beat-next.ensures)))
 
 pub returns-clause-answer : goal.returns-clause-answer
 returns-clause-answer c =
     let s = bench_state c.args.self.now in
     let op = c.args.op.now in
-    let h : word_at s c.args.port op ≡ Some c.in-Some.word = sym c.find-found.ensures.word ∙ c.in-Some.is in
+    let h : word_at s c.args.port op ≡ Some c.in-Some.word.now = sym (rw c.deref.ensures.value at c.find-found.ensures.word) ∙ ap option_copied c.in-Some.is in
     let f : is_faulty (counted s) c.args.port op ≡ false = rw (← c.saturating_add-self.ensures) (sym c.is_faulty.ensures ∙ c.if-is_faulty.false) in
-    touched_answer s c.args.port op c.in-Some.word c.touch-answer.result h f (c.touch-answer.ensures.answer s.beats (counted s).items)
+    touched_answer s c.args.port op c.in-Some.word.now c.touch-answer.result h f (c.touch-answer.ensures.answer s.beats (counted s).items)
 
 pub returns-clause-small : goal.returns-clause-small
 returns-clause-small c =
     let s = bench_state c.args.self.now in
-    rw (c.touch-answer.ensures.answer s.beats s.items) (answer_small s c.args.op.now c.in-Some.word c.requires.lanes c.requires.width)
+    rw (c.touch-answer.ensures.answer s.beats s.items) (answer_small s c.args.op.now c.in-Some.word.now c.requires.lanes c.requires.width)
 
 pub invariant_of-self-2-clause-quiet : goal.invariant_of-self-2-clause-quiet
 invariant_of-self-2-clause-quiet c =

@@ -3,7 +3,7 @@ use Rattle.std.proofs.lemmas.List.Sorted.{IsPartitionedBy-ltb, IsPartitionPoint-
 use Rattle.rl_bus.specs.declared.table.WordRow.{WordRow}
 use Rattle.rl_map.specs.Layout.{key_of}
 use Rattle.rl_bench.proofs.StretchLemmas.{lt_from, le_from}
-use Rattle.rl_bench.proofs.find.first_from.Goals as goal
+use Rattle.rl_bench.proofs.find.search.Goals as goal
 
 pub returns-clause-before : goal.returns-clause-before
 returns-clause-before c k d l =
