@@ -1,30 +1,30 @@
--- A command is looked for among those whose names begin as the word does.
-use Rattle.std.proofs.Common.{◌≡◌, ℕ, Bool, true, List, [], ◌∷◌, length, get_or, ◌≤◌, refl, arith, inl, inr}
-use Rattle.std.specs.Prelude.{filter, find}
+-- A command is looked for group by group.
+use Rattle.std.proofs.Common.{◌≡◌, ℕ, Bool, List, [], ◌∷◌, ◌++◌, map, Some, None, refl, ap, ◌∙◌, inl, inr}
+use Rattle.std.specs.Prelude.{find, option_map}
 use Rattle.std.specs.Str.{bytes_eq}
 use Rattle.std.proofs.lemmas.Bool.{cases_Bool}
-use Rattle.std.proofs.lemmas.Bool.Decides.{nat_tests}
-use Rattle.std.proofs.lemmas.Slice.Eq.{bytes_eq-Decides}
-use Rattle.rl_script.specs.Words.{begins_with}
-use Rattle.rl_script.specs.Commands.{command_name, command_named, commands}
+use Rattle.std.proofs.lemmas.List.Folds.{find-append}
+use Rattle.rl_script.specs.declared.command.Item.{Item}
+use Rattle.rl_script.specs.declared.command.Command.TheVariants as command
+use Rattle.rl_script.specs.Commands.{item_name, command_name, command_named, items, other_commands}
 
-find-filter : {A : Type 0} (p q : A → Bool) (xs : List A) → ((x : A) → p x ≡ true → q x ≡ true) → find p (filter q xs) ≡ find p xs
-find-filter p q [] same = refl
-find-filter p q (x ∷ xs) same =
-    elim (cases_Bool (p x)) [
-      | inl holds ↦ let e = same x holds in rw (e, holds) refl
-      | inr fails ↦
-          elim (cases_Bool (q x)) [
-            | inl kept ↦ rw (kept, fails) (find-filter p q xs same)
-            | inr left ↦ rw (left, fails) (find-filter p q xs same)
-          ]
+-- what is found among the first is found, and else what is among the others
+pub found_first : {A : Type 0} (p : A → Bool) (xs ys : List A) (x : A) → find p xs ≡ Some x → find p (xs ++ ys) ≡ Some x
+found_first p xs ys x e = rw (find-append p xs ys, e) refl
+
+pub found_later : {A : Type 0} (p : A → Bool) (xs ys : List A) → find p xs ≡ None → find p (xs ++ ys) ≡ find p ys
+found_later p xs ys e = rw (find-append p xs ys, e) refl
+
+on_items : (w : List ℕ) (some : List Item) → find (λ c. bytes_eq (command_name c) w) (map command.OnItem some) ≡ option_map command.OnItem (find (λ item. bytes_eq (item_name item) w) some)
+on_items w [] = refl
+on_items w (item ∷ some) =
+    elim (cases_Bool (bytes_eq (item_name item) w)) [
+      | inl holds ↦ rw holds refl
+      | inr fails ↦ rw fails (on_items w some)
     ]
 
-same_letter : (name : List ℕ) (c : ℕ) (cs : List ℕ) → bytes_eq name (c ∷ cs) ≡ true → begins_with c name ≡ true
-same_letter name c cs e =
-    let same : name ≡ c ∷ cs = (bytes_eq-Decides name (c ∷ cs)).0 e in
-    rw same (grind (arith, nat_tests))
+pub on_item : (w : List ℕ) (item : Item) → find (λ i. bytes_eq (item_name i) w) items ≡ Some item → command_named w ≡ Some (command.OnItem item)
+on_item w item e = found_first (λ c. bytes_eq (command_name c) w) (map command.OnItem items) other_commands (command.OnItem item) (on_items w items ∙ ap (option_map command.OnItem) e)
 
-pub among_its_letter : (word : List ℕ) → 1 ≤ length word → find (λ d. bytes_eq (command_name d) word) (filter (λ d. begins_with (get_or word 0 0) (command_name d)) commands) ≡ command_named word
-among_its_letter [] some = absurd (omega arith)
-among_its_letter (c ∷ cs) some = find-filter _ _ commands (λ d e. same_letter (command_name d) c cs e)
+pub on_none : (w : List ℕ) → find (λ i. bytes_eq (item_name i) w) items ≡ None → command_named w ≡ find (λ c. bytes_eq (command_name c) w) other_commands
+on_none w e = found_later (λ c. bytes_eq (command_name c) w) (map command.OnItem items) other_commands (on_items w items ∙ ap (option_map command.OnItem) e)

@@ -1,9 +1,8 @@
 //! The table of commands, each with its operands.
-ghost use Rattle.std.specs.Prelude.{◌≡◌, filter, find, ℕ};
+ghost use Rattle.std.specs.Prelude.{◌≡◌, find, ℕ};
 ghost use Rattle.std.specs.Str.{bytes_eq};
-ghost use Rattle.rl_script.specs.Words.{begins_with};
 ghost use Rattle.rl_script.specs.declared.command.Kind.TheVariants as Kind;
-ghost use Rattle.rl_script.specs.Commands.{row_of, kind_of, line_of, may_count, item_name, command_name, command_named, commands, sequence_name, sequence_named};
+ghost use Rattle.rl_script.specs.Commands.{row_of, kind_of, line_of, may_count, item_name, command_name, command_named, items, register_items, other_items, field_items, backdoor_items, memory_items, other_commands, sequence_name, sequence_named};
 
 use self::Command::OnItem;
 use crate::line::{Line, Sequence};
@@ -73,59 +72,112 @@ impl Command {
         }
     }
 
-    /// The commands whose names begin with a letter.
-    fn of_letter(letter: u8) -> &'static [Command]
-        ensures { result.now ≡ filter (λ c. begins_with letter (command_name c)) commands }
-    {
-        match letter {
-            b'b' => &[
-                OnItem(Item::BackRead),
-                OnItem(Item::BackCheck),
-                OnItem(Item::BackWrite),
-                OnItem(Item::BurstRead),
-                Command::BurstWrite,
-            ],
-            b'c' => &[OnItem(Item::Check)],
-            b'f' => &[OnItem(Item::FieldWrite), OnItem(Item::FieldRead)],
-            b'h' => &[OnItem(Item::Hw)],
-            b'm' => &[
-                OnItem(Item::Mirror),
-                OnItem(Item::MemWrite),
-                OnItem(Item::MemCheck),
-                OnItem(Item::MemRead),
-                OnItem(Item::MemPeek),
-                OnItem(Item::MemPoke),
-            ],
-            b'o' => &[OnItem(Item::OtherWrite), OnItem(Item::OtherRead)],
-            b'p' => &[OnItem(Item::Peek), OnItem(Item::Poke)],
-            b'r' => &[OnItem(Item::Read), Command::Reset],
-            b's' => &[OnItem(Item::Set), OnItem(Item::Show), Command::Seq],
-            b'u' => &[OnItem(Item::Update)],
-            b'w' => &[OnItem(Item::Write)],
-            _ => &[],
-        }
-    }
-
     pub(crate) fn named(word: &[u8]) -> Option<Command>
         ensures { result ≡ command_named word.now }
     {
-        match word {
-            [letter, ..] => named_among(Command::of_letter(*letter), word),
-            [] => None,
+        if let Some(item) = Item::named(word) {
+            return Some(OnItem(item));
         }
+        other_command(word)
     }
 }
 
-fn named_among(commands: &[Command], word: &[u8]) -> Option<Command>
-    ensures { result ≡ find (λ c. bytes_eq (command_name c) word.now) commands.now }
+/// A command on no one item, or with many values.
+fn other_command(word: &[u8]) -> Option<Command>
+    ensures { result ≡ find (λ c. bytes_eq (command_name c) word.now) other_commands }
 {
-    commands
-        .iter()
-        .copied()
-        .find(|command| command.name() == word)
+    Some(match word {
+        b"burst-write" => Command::BurstWrite,
+        b"reset" => Command::Reset,
+        b"seq" => Command::Seq,
+        _ => return None,
+    })
+}
+
+fn register_item(word: &[u8]) -> Option<Item>
+    ensures { result ≡ find (λ item. bytes_eq (item_name item) word.now) register_items }
+{
+    Some(match word {
+        b"write" => Item::Write,
+        b"read" => Item::Read,
+        b"mirror" => Item::Mirror,
+        b"check" => Item::Check,
+        b"update" => Item::Update,
+        _ => return None,
+    })
+}
+
+/// What another master does.
+fn other_item(word: &[u8]) -> Option<Item>
+    ensures { result ≡ find (λ item. bytes_eq (item_name item) word.now) other_items }
+{
+    Some(match word {
+        b"other-write" => Item::OtherWrite,
+        b"other-read" => Item::OtherRead,
+        _ => return None,
+    })
+}
+
+fn field_item(word: &[u8]) -> Option<Item>
+    ensures { result ≡ find (λ item. bytes_eq (item_name item) word.now) field_items }
+{
+    Some(match word {
+        b"field-write" => Item::FieldWrite,
+        b"field-read" => Item::FieldRead,
+        b"set" => Item::Set,
+        b"hw" => Item::Hw,
+        _ => return None,
+    })
+}
+
+/// What goes by no bus, on a register.
+fn backdoor_item(word: &[u8]) -> Option<Item>
+    ensures { result ≡ find (λ item. bytes_eq (item_name item) word.now) backdoor_items }
+{
+    Some(match word {
+        b"show" => Item::Show,
+        b"back-read" => Item::BackRead,
+        b"back-check" => Item::BackCheck,
+        b"peek" => Item::Peek,
+        b"back-write" => Item::BackWrite,
+        b"poke" => Item::Poke,
+        _ => return None,
+    })
+}
+
+fn memory_item(word: &[u8]) -> Option<Item>
+    ensures { result ≡ find (λ item. bytes_eq (item_name item) word.now) memory_items }
+{
+    Some(match word {
+        b"mem-write" => Item::MemWrite,
+        b"mem-check" => Item::MemCheck,
+        b"mem-read" => Item::MemRead,
+        b"burst-read" => Item::BurstRead,
+        b"mem-peek" => Item::MemPeek,
+        b"mem-poke" => Item::MemPoke,
+        _ => return None,
+    })
 }
 
 impl Item {
+    fn named(word: &[u8]) -> Option<Item>
+        ensures { result ≡ find (λ item. bytes_eq (item_name item) word.now) items }
+    {
+        if let Some(item) = register_item(word) {
+            return Some(item);
+        }
+        if let Some(item) = other_item(word) {
+            return Some(item);
+        }
+        if let Some(item) = field_item(word) {
+            return Some(item);
+        }
+        if let Some(item) = backdoor_item(word) {
+            return Some(item);
+        }
+        memory_item(word)
+    }
+
     pub(crate) fn name(self) -> &'static [u8]
         ensures { result.now ≡ item_name self }
     {

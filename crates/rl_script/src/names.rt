@@ -121,10 +121,21 @@ fn begins_name(byte: u8) -> bool
     byte.is_ascii_alphabetic() || byte == b'_'
 }
 
+// Each byte that a name may have stands at its own place, and a dot at every other place.
+static IN_NAMES: [u8; 256] = *b"\
+    ................................\
+    ................0123456789......\
+    .ABCDEFGHIJKLMNOPQRSTUVWXYZ...._\
+    .abcdefghijklmnopqrstuvwxyz.....\
+    ................................\
+    ................................\
+    ................................\
+    ................................";
+
 fn is_in_name(byte: u8) -> bool
     ensures { result ≡ spec.is_in_name byte }
 {
-    byte.is_ascii_alphanumeric() || byte == b'_'
+    IN_NAMES[byte as usize] != b'.'
 }
 
 fn are_in_name(text: &[u8]) -> bool

@@ -3,7 +3,7 @@ ghost use Rattle.std.specs.Prelude.{◌≡◌, ◌≢◌, Ok, Err, IfOk, MatchRe
 ghost use Rattle.rl_script.specs.declared.fault.LineFault.TheVariants.{Memory};
 ghost use Rattle.std.specs.List.{list_all};
 ghost use Rattle.rl_script.specs.Words.{words_of};
-ghost use Rattle.rl_script.specs.Reading.{Gives, read_of, item_of, burst_of, reset_of, seq_of};
+ghost use Rattle.rl_script.specs.Reading.{AreAscii, Gives, read_of, item_of, burst_of, reset_of, seq_of};
 ghost use Rattle.rl_script.specs.Spelling.{IsLine, HasGoodCount};
 ghost use Rattle.rl_script.specs.Kept.{kept_burst_at};
 ghost use Rattle.rl_script.specs.Reading as spec;
@@ -70,6 +70,7 @@ fn are_ascii(bytes: &[u8]) -> bool
 
 #[tactic(auto, unfolding(crate::specs::Reading::item_of, crate::specs::Reading::item_at, crate::specs::Reading::path_at))]
 fn read_item(alloc: Global, item: Item, text: &[u8]) -> Result<Line, LineFault>
+    requires { AreAscii text.now }
     ensures { Gives (λ line. line) result (item_of item (words_of text.now)) }
 {
     let row = item.row();
@@ -93,6 +94,7 @@ fn read_item(alloc: Global, item: Item, text: &[u8]) -> Result<Line, LineFault>
 }
 
 fn read_burst_write(alloc: Global, text: &[u8]) -> Result<Line, LineFault>
+    requires { AreAscii text.now }
     ensures { Gives (λ line. line) result (burst_of (words_of text.now)) }
 {
     let words = count_words(false, text);
@@ -105,6 +107,7 @@ fn read_burst_write(alloc: Global, text: &[u8]) -> Result<Line, LineFault>
 
 #[tactic(auto, unfolding(crate::specs::Kept::kept_burst_at))]
 fn read_burst(alloc: Global, count: usize, named: bool, text: &[u8]) -> Result<Line, LineFault>
+    requires { AreAscii text.now }
     ensures { Gives (λ line. line) result (kept_burst_at count named (words_of text.now)) }
 {
     let (mem, rest) = path_at(alloc, text)?;
@@ -122,6 +125,7 @@ fn read_burst(alloc: Global, count: usize, named: bool, text: &[u8]) -> Result<L
 
 #[tactic(auto, unfolding(crate::specs::Reading::reset_of))]
 fn read_reset(alloc: Global, text: &[u8]) -> Result<Line, LineFault>
+    requires { AreAscii text.now }
     ensures { Gives (λ line. line) result (reset_of (words_of text.now)) }
 {
     if count_words(false, text).count != 1 {
@@ -134,6 +138,7 @@ fn read_reset(alloc: Global, text: &[u8]) -> Result<Line, LineFault>
 
 #[tactic(auto, unfolding(crate::specs::Reading::seq_of))]
 fn read_seq(alloc: Global, text: &[u8]) -> Result<Line, LineFault>
+    requires { AreAscii text.now }
     ensures { Gives (λ line. line) result (seq_of (words_of text.now)) }
 {
     let Some((word, rest)) = next_word(text) else {
