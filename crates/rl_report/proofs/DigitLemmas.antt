@@ -43,7 +43,7 @@ two_more (suc (suc k)) rest old new h e =
     ∙ ap (λ n. todo ++ hex_digit_ascii (rest / 16 % 16) ∷ hex_digit_ascii (rest % 16) ∷ drop n old) behind
     ∙ sym (append_assoc (todo ++ hex_digit_ascii (rest / 16 % 16) ∷ []) (hex_digit_ascii (rest % 16) ∷ []) done ∙ append_assoc todo (hex_digit_ascii (rest / 16 % 16) ∷ []) (hex_digit_ascii (rest % 16) ∷ done))
 
-len_digits : (k n : ℕ) → length (last_digits 16 k n) ≡ k
+pub len_digits : (k n : ℕ) → length (last_digits 16 k n) ≡ k
 len_digits zero n = refl
 len_digits (suc k) n = let rest = len_digits k (n / 16) in omega (arith, rest, length-append (last_digits 16 k (n / 16)) (hex_digit_ascii (n % 16) ∷ []))
 

@@ -1,6 +1,6 @@
 // Numbers as text, with no memory taken.
 ghost use Rattle.std.specs.Prelude.{◌≡◌, ◌+◌, ◌/◌, ◌%◌, ◌^◌, ◌<◌, ◌≤◌, ◌∷◌, length, drop};
-ghost use Rattle.io.specs.Digits.{hex_digit_ascii};
+ghost use Rattle.io.specs.Digits.{hex_digit_ascii, IsDigitCount};
 ghost use Rattle.rl_policy.specs.Numbers.{hex_digits};
 ghost use Rattle.rl_report.specs.Numbers.{padded, digits_if, lanes_text};
 
@@ -64,8 +64,10 @@ impl Digits {
         requires fits { n < 16 ^ count }
         ensures { result ≡ padded count n }
     {
+        let mut text = [0u8; 16];
+        write_digits(&mut text, n);
         Digits {
-            text: all_digits(n),
+            text,
             start: 16 - count as usize,
             end: 16,
         }
@@ -114,19 +116,31 @@ fn write_pair(text: &mut [u8], at: usize, byte: u64)
     text[at + 1] = PAIRS[from + 1];
 }
 
-// The sixteen digits of a number, with zeros in front.
-fn all_digits(n: u64) -> [u8; 16]
-    ensures { result ≡ padded 16 n }
+// Writes the sixteen digits of a number, with zeros in front.
+#[inline]
+pub(crate) fn write_digits(text: &mut [u8], n: u64)
+    requires { length text.old ≡ 16 }
+    ensures { text.new ≡ padded 16 n }
 {
-    let mut text = [0u8; 16];
     let mut rest = n;
     let mut at = 16;
     while at > 0 {
         at -= 2;
-        write_pair(&mut text, at, rest % 256);
+        write_pair(text, at, rest % 256);
         rest /= 256;
     }
-    text
+}
+
+// How many hexadecimal digits a number has.
+#[inline]
+pub(crate) fn digit_count(n: u64) -> u32
+    ensures value { IsDigitCount 16 1 n result }
+    ensures few { result ≤ 16 }
+{
+    if n < 16 {
+        return 1;
+    }
+    (67 - n.leading_zeros()) / 4
 }
 
 fn lane_digit(lanes: u8, lane: u8) -> u8

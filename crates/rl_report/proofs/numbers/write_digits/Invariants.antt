@@ -2,7 +2,7 @@
 use Rattle.std.proofs.Common.{◌≡◌, ◌≤◌, ◌%◌, ◌++◌, length, drop}
 use Rattle.io.specs.Digits.{last_digits}
 use Rattle.rl_report.specs.Numbers.{padded}
-use Rattle.rl_report.proofs.numbers.all_digits.Given as goal
+use Rattle.rl_report.proofs.numbers.write_digits.Given as goal
 
 abbrev pub invariant-loop-at : goal.invariant-loop-at
 invariant-loop-at l =
