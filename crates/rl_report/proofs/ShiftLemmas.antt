@@ -1,4 +1,4 @@
--- The digits of a number that is moved to the front of sixteen, and how many digits a number has.
+-- The digits of a number that is moved up, and how many digits a number has.
 use Rattle.std.proofs.Common.{◌≡◌, ℕ, zero, suc, ◌+◌, ◌-◌, ◌*◌, ◌/◌, ◌%◌, ◌^◌, ◌<◌, ◌≤◌, List, [], ◌∷◌, ◌++◌, take, drop, slice_range, refl, sym, ap, ◌∙◌, subst, arith, pow-suc, mul_assoc, mul-lt-mul_of_pos_right, lit<}
 use Rattle.std.proofs.lemmas.List.{take_all, take-append-le, take-take}
 use Rattle.std.proofs.lemmas.Nat.{pow-add, leading_top}
@@ -38,33 +38,33 @@ moved count (suc j) (suc t) n e =
     ∙ ap (λ m. take count (last_digits 16 t m)) (one_less n j)
     ∙ moved count j t n (omega arith)
 
-places : (count : ℕ) → count ≤ 16 → 2 ^ (64 - 4 * count) ≡ 16 ^ (16 - count)
-places count few = let e : 64 - 4 * count ≡ 4 * (16 - count) = omega arith in ap (λ k. 2 ^ k) e ∙ hex_pow (16 - count)
+places : (width bits count : ℕ) → bits ≡ 4 * width → count ≤ width → 2 ^ (bits - 4 * count) ≡ 16 ^ (width - count)
+places width bits count is few = let e : bits - 4 * count ≡ 4 * (width - count) = omega arith in ap (λ k. 2 ^ k) e ∙ hex_pow (width - count)
 
--- the digits of a number in front of sixteen
-pub front_digits : (count n : ℕ) → count ≤ 16 → take count (padded 16 (n * 2 ^ (64 - 4 * count))) ≡ padded count n
+-- the digits of a number in front of others
+front_digits : (width bits count n : ℕ) → bits ≡ 4 * width → count ≤ width → take count (padded width (n * 2 ^ (bits - 4 * count))) ≡ padded count n
 unfolding padded
-front_digits count n few =
-    ap (λ p. take count (last_digits 16 16 (n * p))) (places count few) ∙ moved count (16 - count) 16 n (omega arith)
+front_digits width bits count n is few =
+    ap (λ p. take count (last_digits 16 width (n * p))) (places width bits count is few) ∙ moved count (width - count) width n (omega arith)
 
 -- it loses no digit
-pub moved_fits : (count n : ℕ) → count ≤ 16 → n < 16 ^ count → n * 2 ^ (64 - 4 * count) < 2 ^ 64
-moved_fits count n few fits =
-    let sum : count + (16 - count) ≡ 16 = omega arith in
-    let all : 16 ^ count * 16 ^ (16 - count) ≡ 16 ^ 16 = sym (pow-add 16 count (16 - count)) ∙ ap (λ k. 16 ^ k) sum in
-    let some = pow_some (16 - count) in
-    let less : n * 16 ^ (16 - count) < 16 ^ count * 16 ^ (16 - count) = omega (arith, mul-lt-mul_of_pos_right {k = 16 ^ (16 - count)} fits some) in
-    subst (λ p. n * p < 2 ^ 64) (sym (places count few)) (subst (λ p. n * 16 ^ (16 - count) < p) all less)
+pub moved_fits : (width bits count n : ℕ) → bits ≡ 4 * width → count ≤ width → n < 16 ^ count → n * 2 ^ (bits - 4 * count) < 16 ^ width
+moved_fits width bits count n is few fits =
+    let sum : count + (width - count) ≡ width = omega arith in
+    let all : 16 ^ count * 16 ^ (width - count) ≡ 16 ^ width = sym (pow-add 16 count (width - count)) ∙ ap (λ k. 16 ^ k) sum in
+    let some = pow_some (width - count) in
+    let less : n * 16 ^ (width - count) < 16 ^ count * 16 ^ (width - count) = omega (arith, mul-lt-mul_of_pos_right {k = 16 ^ (width - count)} fits some) in
+    subst (λ p. n * p < 16 ^ width) (sym (places width bits count is few)) (subst (λ p. n * 16 ^ (width - count) < p) all less)
 
--- a text to which sixteen digits were written, and of which so many count
-pub digits_pushed : (old new : List ℕ) (end count n : ℕ) → count ≤ 16 → take end new ≡ take end old → slice_range new end (end + 16) ≡ padded 16 (n * 2 ^ (64 - 4 * count))
+-- a text behind which digits were written, and of which so many count
+pub digits_pushed : (old new : List ℕ) (end width bits count n : ℕ) → bits ≡ 4 * width → count ≤ width → take end new ≡ take end old → slice_range new end (end + width) ≡ padded width (n * 2 ^ (bits - 4 * count))
     → take (end + count) new ≡ take end old ++ padded count n
-digits_pushed old new end count n few front digits =
-    let size : end + 16 - end ≡ 16 = omega arith in
-    let all : take 16 (drop end new) ≡ padded 16 (n * 2 ^ (64 - 4 * count)) = ap (λ k. take k (drop end new)) (sym size) ∙ digits in
+digits_pushed old new end width bits count n is few front digits =
+    let size : end + width - end ≡ width = omega arith in
+    let all : take width (drop end new) ≡ padded width (n * 2 ^ (bits - 4 * count)) = ap (λ k. take k (drop end new)) (sym size) ∙ digits in
     take-add end count new
     ∙ ap (λ l. l ++ take count (drop end new)) front
-    ∙ ap (λ l. take end old ++ l) (sym (take-take count 16 (drop end new) few) ∙ ap (take count) all ∙ front_digits count n few)
+    ∙ ap (λ l. take end old ++ l) (sym (take-take count width (drop end new) few) ∙ ap (take count) all ∙ front_digits width bits count n is few)
 
 -- ---- how many digits
 

@@ -1,9 +1,9 @@
 // A text that is put together before it is written in one piece.
-ghost use Rattle.std.specs.Prelude.{◌≡◌, ◌+◌, ◌^◌, ◌<◌, ◌≤◌, [], ◌++◌, length, take, slice_range};
+ghost use Rattle.std.specs.Prelude.{◌≡◌, ◌+◌, ◌-◌, ◌%◌, ◌^◌, ◌<◌, ◌≤◌, [], ◌++◌, length, take, slice_range};
 ghost use Rattle.rl_policy.specs.Numbers.{hex_digits};
 ghost use Rattle.rl_report.specs.Numbers.{padded, lanes_text};
 
-use crate::numbers::{Digits, digit_count, write_digits};
+use crate::numbers::{digit_count, four_digits, write_digits};
 use std::marker::Model;
 
 const ROOM: usize = 512;
@@ -36,14 +36,15 @@ fn copy_behind(bytes: &mut [u8], end: usize, piece: &[u8]) -> usize
     new_end
 }
 
-// Writes the sixteen digits of a number behind a place.
+// Writes the last digits of a number behind a place, so many of them.
 #[inline]
-fn digits_behind(bytes: &mut [u8], end: usize, n: u64)
-    requires room { end + 16 ≤ length bytes.old }
+fn digits_behind(bytes: &mut [u8], end: usize, count: usize, n: u64)
+    requires even { count % 2 ≡ 0 }
+    requires room { end + count ≤ length bytes.old }
     ensures front { take end bytes.new ≡ take end bytes.old }
-    ensures digits { slice_range bytes.new end (end + 16) ≡ padded 16 n }
+    ensures digits { slice_range bytes.new end (end + count) ≡ padded count n }
 {
-    write_digits(&mut bytes[end..end + 16], n);
+    write_digits(&mut bytes[end..end + count], n);
 }
 
 impl Text {
@@ -81,8 +82,35 @@ impl Text {
         self.len = copy_behind(&mut self.bytes, self.len, piece);
     }
 
-    // So many hexadecimal digits of a number that has no more.
+    // Up to eight hexadecimal digits of a number that has no more.
     #[inline]
+    fn push_few(&mut self, n: u64, count: u32)
+        requires some { 1 ≤ count }
+        requires few { count ≤ 8 }
+        requires fits { n < 16 ^ count }
+        requires room { length self.old + 16 ≤ 512 }
+        ensures text { self.new ≡ self.old ++ padded count n }
+        ensures len { length self.new ≡ length self.old + count }
+    {
+        digits_behind(&mut self.bytes, self.len, 8, n << (32 - 4 * count));
+        self.len += count as usize;
+    }
+
+    // Up to sixteen hexadecimal digits of a number that has no more.
+    #[inline]
+    fn push_many(&mut self, n: u64, count: u32)
+        requires some { 1 ≤ count }
+        requires few { count ≤ 16 }
+        requires fits { n < 16 ^ count }
+        requires room { length self.old + 16 ≤ 512 }
+        ensures text { self.new ≡ self.old ++ padded count n }
+        ensures len { length self.new ≡ length self.old + count }
+    {
+        digits_behind(&mut self.bytes, self.len, 16, n << (64 - 4 * count));
+        self.len += count as usize;
+    }
+
+    // So many hexadecimal digits of a number that has no more.
     pub(crate) fn push_padded(&mut self, n: u64, count: u32)
         requires some { 1 ≤ count }
         requires few { count ≤ 16 }
@@ -91,8 +119,11 @@ impl Text {
         ensures text { self.new ≡ self.old ++ padded count n }
         ensures len { length self.new ≡ length self.old + count }
     {
-        digits_behind(&mut self.bytes, self.len, n << (64 - 4 * count));
-        self.len += count as usize;
+        if count <= 8 {
+            self.push_few(n, count);
+        } else {
+            self.push_many(n, count);
+        }
     }
 
     // Hexadecimal digits, with no zero in front.
@@ -113,7 +144,19 @@ impl Text {
         ensures text { self.new ≡ self.old ++ lanes_text bytes lanes }
         ensures len { length self.new ≤ length self.old + 16 }
     {
-        self.push(Digits::lanes(lanes, bytes).short_text());
+        let moved = u64::from(lanes) << (8 - bytes);
+        self.push(four_digits(moved / 16 % 16));
+        self.push(four_digits(moved % 16));
+        self.drop_last(8 - bytes as usize);
+    }
+
+    // Takes so many bytes off the end.
+    #[inline]
+    fn drop_last(&mut self, count: usize)
+        requires { count ≤ length self.old }
+        ensures { self.new ≡ take (length self.old - count) self.old }
+    {
+        self.len -= count;
     }
 
     pub(crate) fn as_bytes(&self) -> &[u8]
