@@ -43,7 +43,7 @@ two_more (suc (suc k)) rest old new h e =
     ∙ ap (λ n. todo ++ hex_digit_ascii (rest / 16 % 16) ∷ hex_digit_ascii (rest % 16) ∷ drop n old) behind
     ∙ sym (append_assoc (todo ++ hex_digit_ascii (rest / 16 % 16) ∷ []) (hex_digit_ascii (rest % 16) ∷ []) done ∙ append_assoc todo (hex_digit_ascii (rest / 16 % 16) ∷ []) (hex_digit_ascii (rest % 16) ∷ done))
 
-len_digits : (k n : ℕ) → length (last_digits 16 k n) ≡ k
+pub len_digits : (k n : ℕ) → length (last_digits 16 k n) ≡ k
 len_digits zero n = refl
 len_digits (suc k) n = let rest = len_digits k (n / 16) in omega (arith, rest, length-append (last_digits 16 k (n / 16)) (hex_digit_ascii (n % 16) ∷ []))
 
@@ -62,6 +62,6 @@ last_of_all count n text few is =
     take_all (16 - (16 - count)) (drop (16 - count) text) size ∙ ap (drop (16 - count)) is ∙ last_of (16 - count) count 16 n (omega arith)
 
 -- the digits that are put, at the start and at the end
-pub none_put : (n : ℕ) (text : List ℕ) → length text ≡ 16 → last_digits 16 16 n ++ drop 16 text ≡ padded 16 n
+pub none_put : (n : ℕ) (text : List ℕ) → last_digits 16 (length text) n ++ drop (length text) text ≡ padded (length text) n
 unfolding padded
-none_put n text size = ap (λ l. last_digits 16 16 n ++ l) (drop_all 16 text (omega arith)) ∙ append-nil (last_digits 16 16 n)
+none_put n text = ap (λ l. last_digits 16 (length text) n ++ l) (drop_all (length text) text (omega arith)) ∙ append-nil (last_digits 16 (length text) n)

@@ -1,9 +1,11 @@
 pub mod DigitLemmas
 pub mod EventLemmas
+pub mod GatherLemmas
 pub mod LineLemmas
 pub mod ListingLemmas
 pub mod OpeningLemmas
 pub mod NumberLemmas
 pub mod PieceLemmas
 pub mod RangeLemmas
+pub mod ShiftLemmas
 pub mod TakenLemmas

@@ -46,7 +46,7 @@ puts_failed a b x xs r e p = puts_stopped a b (x ++ joined xs) r e (front_before
 pub ruleset by_pieces = (puts_more, puts_last, puts_failed)
 
 -- two pieces that were put as one
-one_of_two : (x y : List ℕ) (xs : List (List ℕ)) → joined (x ∷ y ∷ []) ++ joined xs ≡ joined (x ∷ y ∷ xs)
+pub one_of_two : (x y : List ℕ) (xs : List (List ℕ)) → joined (x ∷ y ∷ []) ++ joined xs ≡ joined (x ∷ y ∷ xs)
 unfolding joined
 one_of_two x y xs = append_assoc x (y ++ []) (joined xs) ∙ ap (λ l. x ++ (l ++ joined xs)) (append-nil y)
 
@@ -60,20 +60,15 @@ two_failed a b x y xs r e p = subst (λ l. Puts a b l r) (one_of_two x y xs) (pu
 pub puts_same : {T E : Type 0} (a b : Option (List ℕ)) (xs ys : List ℕ) (r : Result T E) → xs ≡ ys → Puts a b xs r → Puts a b ys r
 puts_same a b xs ys r e p = subst (λ l. Puts a b l r) e p
 
--- a text to which two pieces were appended
-pub appended_two : (first second third x y : List ℕ) → first ≡ [] → second ≡ first ++ x → third ≡ second ++ y → third ≡ joined (x ∷ y ∷ [])
-unfolding joined
-appended_two first second third x y none d e = e ∙ ap (λ l. l ++ y) (d ∙ ap (λ l. l ++ x) none) ∙ ap (λ l. x ++ l) (sym (append-nil y))
-
 -- a text of three parts, where the second is of seven pieces
-text_of_three : (x a b c d e f g y : List ℕ) → (((((((([] ++ x) ++ a) ++ b) ++ c) ++ d) ++ e) ++ f) ++ g) ++ y ≡ joined (x ∷ joined (a ∷ b ∷ c ∷ d ∷ e ∷ f ∷ g ∷ []) ∷ y ∷ [])
+text_of_three : (t x a b c d e f g y : List ℕ) → ((((((((t ++ x) ++ a) ++ b) ++ c) ++ d) ++ e) ++ f) ++ g) ++ y ≡ t ++ joined (x ∷ joined (a ∷ b ∷ c ∷ d ∷ e ∷ f ∷ g ∷ []) ∷ y ∷ [])
 unfolding joined
-text_of_three x a b c d e f g y = simp (append_assoc, append-nil)
+text_of_three t x a b c d e f g y = simp (append_assoc, append-nil)
 
-pub appended_nine : (t t1 t2 t3 t4 t5 t6 t7 t8 t9 x a b c d e f g y : List ℕ) → t ≡ [] → t1 ≡ t ++ x → t2 ≡ t1 ++ a → t3 ≡ t2 ++ b → t4 ≡ t3 ++ c → t5 ≡ t4 ++ d → t6 ≡ t5 ++ e → t7 ≡ t6 ++ f → t8 ≡ t7 ++ g → t9 ≡ t8 ++ y
-    → t9 ≡ joined (x ∷ joined (a ∷ b ∷ c ∷ d ∷ e ∷ f ∷ g ∷ []) ∷ y ∷ [])
-appended_nine t t1 t2 t3 t4 t5 t6 t7 t8 t9 x a b c d e f g y h0 h1 h2 h3 h4 h5 h6 h7 h8 h9 =
-    h9 ∙ ap (λ l. l ++ y) (h8 ∙ ap (λ l. l ++ g) (h7 ∙ ap (λ l. l ++ f) (h6 ∙ ap (λ l. l ++ e) (h5 ∙ ap (λ l. l ++ d) (h4 ∙ ap (λ l. l ++ c) (h3 ∙ ap (λ l. l ++ b) (h2 ∙ ap (λ l. l ++ a) (h1 ∙ ap (λ l. l ++ x) h0)))))))) ∙ text_of_three x a b c d e f g y
+pub appended_nine : (t t1 t2 t3 t4 t5 t6 t7 t8 t9 x a b c d e f g y : List ℕ) → t1 ≡ t ++ x → t2 ≡ t1 ++ a → t3 ≡ t2 ++ b → t4 ≡ t3 ++ c → t5 ≡ t4 ++ d → t6 ≡ t5 ++ e → t7 ≡ t6 ++ f → t8 ≡ t7 ++ g → t9 ≡ t8 ++ y
+    → t9 ≡ t ++ joined (x ∷ joined (a ∷ b ∷ c ∷ d ∷ e ∷ f ∷ g ∷ []) ∷ y ∷ [])
+appended_nine t t1 t2 t3 t4 t5 t6 t7 t8 t9 x a b c d e f g y h1 h2 h3 h4 h5 h6 h7 h8 h9 =
+    h9 ∙ ap (λ l. l ++ y) (h8 ∙ ap (λ l. l ++ g) (h7 ∙ ap (λ l. l ++ f) (h6 ∙ ap (λ l. l ++ e) (h5 ∙ ap (λ l. l ++ d) (h4 ∙ ap (λ l. l ++ c) (h3 ∙ ap (λ l. l ++ b) (h2 ∙ ap (λ l. l ++ a) h1))))))) ∙ text_of_three t x a b c d e f g y
 
 -- the next of a list of pieces, and the others
 pub next_piece : {A : Type 0} (text : A → List ℕ) (pieces : List A) (i : ℕ) (d : A) → i < length pieces

@@ -1,5 +1,5 @@
 // The text of an event.
-ghost use Rattle.std.specs.Prelude.{◌≡◌, ◌+◌, ◌*◌, ◌^◌, ◌<◌, ◌≤◌, [], ◌∷◌, true, false, length, flat_map, ◌&&◌, IfSome};
+ghost use Rattle.std.specs.Prelude.{◌≡◌, ◌+◌, ◌*◌, ◌^◌, ◌<◌, ◌≤◌, [], ◌∷◌, ◌++◌, codes, true, false, length, flat_map, ◌&&◌, IfSome};
 ghost use Rattle.rl_bus.specs.Causes.{HasCause};
 ghost use Rattle.rl_policy.specs.Bits.{bit};
 ghost use Rattle.rl_model.specs.Chip.{HasItem, IsSound, path_of_item};
@@ -9,35 +9,38 @@ ghost use Rattle.rl_access.specs.Event.{EventFits, ItemFits};
 ghost use Rattle.rl_access.specs.Operation.{HasNumbers, IsMapIn, register_of, reg_of, location_size, field_digits, digits_of};
 ghost use Rattle.rl_report.specs.EventText.{number_text, map_text, kind_text, reg_text, field_text, mem_text, burst_text, op_text, why_text, end_text, name_text, names_text, is_show, is_done, is_check, has_differ, desired_text, differ_text, after_text, is_refused, rest_text, result_text, event_line, way_text, answer_text, word_of, transfer_text, item_line, event_text, ends_as_reset_of, is_on_register};
 ghost use Rattle.rl_report.specs.Numbers.{padded};
-ghost use Rattle.rl_report.specs.Pieces.{Puts, joined};
+ghost use Rattle.rl_report.specs.Pieces.{Puts, Gathers, joined};
 
-use crate::numbers::Digits;
+use crate::pieces::{gather, make_room};
 use crate::text::Text;
-use crate::{Failed, Sink, put_all, put_pieces};
+use crate::{Failed, Sink, put_all};
 use itoa::Buffer;
 use rl_access::{End, Event, Model, Op, Refused, TraceItem};
 use rl_model::Item;
 
-// Writes a number that may be missing.
-fn put_number<K: Sink>(sink: &mut K, n: Option<u64>) -> Result<(), Failed>
-    ensures bytes { Puts (K.written sink.old) (K.written sink.new) (number_text n) result }
-    ensures cause { HasCause (K.faults sink.old) (K.faults sink.new) result }
-    ensures ends_kept { K.ends sink.new ≡ K.ends sink.old }
-    ensures same_target { K.target sink.new ≡ K.target sink.old }
+// Appends a number that may be missing.
+fn push_number(text: &mut Text, n: Option<u64>)
+    requires room { length text.old + 19 ≤ 512 }
+    ensures text { text.new ≡ text.old ++ number_text n }
+    ensures len { length text.new ≤ length text.old + 19 }
 {
     let Some(n) = n else {
-        return Ok(());
+        return;
     };
-    let mut text = Text::new();
     text.push(b" 0x");
-    text.push_digits(&Digits::hex(n));
-    put_all(sink, text.as_bytes())
+    text.push_hex(n);
 }
 
-// Writes a map that may be missing.
-fn put_map<K: Sink>(sink: &mut K, model: &Model, through: Option<u32>) -> Result<(), Failed>
-    requires { IsMapIn (length model.now.layout.maps) through }
-    ensures bytes { Puts (K.written sink.old) (K.written sink.new) (map_text model.now.layout through) result }
+// Appends a map that may be missing.
+fn put_map<K: Sink>(
+    sink: &mut K,
+    text: &mut Text,
+    model: &Model,
+    through: Option<u32>,
+) -> Result<(), Failed>
+    requires room { length text.old + 2 ≤ 512 }
+    requires through { IsMapIn (length model.now.layout.maps) through }
+    ensures bytes { Gathers (K.written sink.old) (K.written sink.new) text.old text.new (map_text model.now.layout through) result }
     ensures cause { HasCause (K.faults sink.old) (K.faults sink.new) result }
     ensures ends_kept { K.ends sink.new ≡ K.ends sink.old }
     ensures same_target { K.target sink.new ≡ K.target sink.old }
@@ -45,8 +48,8 @@ fn put_map<K: Sink>(sink: &mut K, model: &Model, through: Option<u32>) -> Result
     let Some(number) = through else {
         return Ok(());
     };
-    let pieces: [&[u8]; 2] = [b" @", model.layout().map_name(number)];
-    put_pieces(sink, &pieces)
+    text.push(b" @");
+    gather(sink, text, model.layout().map_name(number))
 }
 
 // The path of an item.
@@ -76,6 +79,7 @@ fn kind_name(model: &Model, kind: u32) -> &[u8]
 // Writes an operation on a register.
 fn put_reg<K: Sink>(
     sink: &mut K,
+    text: &mut Text,
     model: &Model,
     verb: &[u8],
     reg: u32,
@@ -84,20 +88,21 @@ fn put_reg<K: Sink>(
 ) -> Result<(), Failed>
     requires reg { reg < length model.now.chip.regs }
     requires through { IsMapIn (length model.now.layout.maps) through }
-    ensures bytes { Puts (K.written sink.old) (K.written sink.new) (reg_text model.now verb.now reg value through) result }
+    ensures bytes { Gathers (K.written sink.old) (K.written sink.new) text.old text.new (reg_text model.now verb.now reg value through) result }
     ensures cause { HasCause (K.faults sink.old) (K.faults sink.new) result }
     ensures ends_kept { K.ends sink.new ≡ K.ends sink.old }
     ensures same_target { K.target sink.new ≡ K.target sink.old }
 {
-    put_all(sink, verb)?;
-    put_all(sink, path_of(model, Item::Reg(reg)))?;
-    put_number(sink, value)?;
-    put_map(sink, model, through)
+    gather(sink, text, verb)?;
+    gather(sink, text, path_of(model, Item::Reg(reg)))?;
+    push_number(text, value);
+    put_map(sink, text, model, through)
 }
 
 // Writes an operation on a field.
 fn put_field<K: Sink>(
     sink: &mut K,
+    text: &mut Text,
     model: &Model,
     verb: &[u8],
     field: u32,
@@ -106,22 +111,27 @@ fn put_field<K: Sink>(
 ) -> Result<(), Failed>
     requires field { field < length model.now.chip.fields }
     requires through { IsMapIn (length model.now.layout.maps) through }
-    ensures bytes { Puts (K.written sink.old) (K.written sink.new) (field_text model.now verb.now field value through) result }
+    ensures bytes { Gathers (K.written sink.old) (K.written sink.new) text.old text.new (field_text model.now verb.now field value through) result }
     ensures cause { HasCause (K.faults sink.old) (K.faults sink.new) result }
     ensures ends_kept { K.ends sink.new ≡ K.ends sink.old }
     ensures same_target { K.target sink.new ≡ K.target sink.old }
 {
-    put_all(sink, verb)?;
-    put_all(sink, path_of(model, Item::Reg(register_with(model, field))))?;
-    put_all(sink, b".")?;
-    put_all(sink, name_of(model, field))?;
-    put_number(sink, value)?;
-    put_map(sink, model, through)
+    gather(sink, text, verb)?;
+    gather(
+        sink,
+        text,
+        path_of(model, Item::Reg(register_with(model, field))),
+    )?;
+    text.push(b".");
+    gather(sink, text, name_of(model, field))?;
+    push_number(text, value);
+    put_map(sink, text, model, through)
 }
 
 // Writes an operation on a location.
 fn put_mem<K: Sink>(
     sink: &mut K,
+    text: &mut Text,
     model: &Model,
     verb: &[u8],
     mem: u32,
@@ -131,21 +141,22 @@ fn put_mem<K: Sink>(
 ) -> Result<(), Failed>
     requires mem { mem < length model.now.chip.mems }
     requires through { IsMapIn (length model.now.layout.maps) through }
-    ensures bytes { Puts (K.written sink.old) (K.written sink.new) (mem_text model.now verb.now mem index value through) result }
+    ensures bytes { Gathers (K.written sink.old) (K.written sink.new) text.old text.new (mem_text model.now verb.now mem index value through) result }
     ensures cause { HasCause (K.faults sink.old) (K.faults sink.new) result }
     ensures ends_kept { K.ends sink.new ≡ K.ends sink.old }
     ensures same_target { K.target sink.new ≡ K.target sink.old }
 {
-    put_all(sink, verb)?;
-    put_all(sink, path_of(model, Item::Mem(mem)))?;
-    put_number(sink, Some(index))?;
-    put_number(sink, value)?;
-    put_map(sink, model, through)
+    gather(sink, text, verb)?;
+    gather(sink, text, path_of(model, Item::Mem(mem)))?;
+    push_number(text, Some(index));
+    push_number(text, value);
+    put_map(sink, text, model, through)
 }
 
 // Writes a burst.
 fn put_burst<K: Sink>(
     sink: &mut K,
+    text: &mut Text,
     model: &Model,
     verb: &[u8],
     mem: u32,
@@ -155,107 +166,173 @@ fn put_burst<K: Sink>(
 ) -> Result<(), Failed>
     requires mem { mem < length model.now.chip.mems }
     requires through { IsMapIn (length model.now.layout.maps) through }
-    ensures bytes { Puts (K.written sink.old) (K.written sink.new) (burst_text model.now verb.now mem first count through) result }
+    ensures bytes { Gathers (K.written sink.old) (K.written sink.new) text.old text.new (burst_text model.now verb.now mem first count through) result }
     ensures cause { HasCause (K.faults sink.old) (K.faults sink.new) result }
     ensures ends_kept { K.ends sink.new ≡ K.ends sink.old }
     ensures same_target { K.target sink.new ≡ K.target sink.old }
 {
     let mut buffer = Buffer::new();
-    put_all(sink, verb)?;
-    put_all(sink, path_of(model, Item::Mem(mem)))?;
-    put_number(sink, Some(first))?;
-    put_all(sink, b" count ")?;
-    put_all(sink, buffer.format(count).as_bytes())?;
-    put_map(sink, model, through)
+    gather(sink, text, verb)?;
+    gather(sink, text, path_of(model, Item::Mem(mem)))?;
+    push_number(text, Some(first));
+    text.push(b" count ");
+    text.push(buffer.format(count).as_bytes());
+    put_map(sink, text, model, through)
+}
+
+// Gathers a reset.
+fn put_reset<K: Sink>(sink: &mut K, text: &mut Text, model: &Model, kind: u32) -> Result<(), Failed>
+    requires { kind < length model.now.chip.kinds }
+    ensures bytes { Gathers (K.written sink.old) (K.written sink.new) text.old text.new (joined (codes "reset " ∷ kind_text model.now.chip kind ∷ [])) result }
+    ensures cause { HasCause (K.faults sink.old) (K.faults sink.new) result }
+    ensures ends_kept { K.ends sink.new ≡ K.ends sink.old }
+    ensures same_target { K.target sink.new ≡ K.target sink.old }
+{
+    gather(sink, text, b"reset ")?;
+    gather(sink, text, kind_name(model, kind))
 }
 
 // Writes an operation on a register, in canonical spelling.
-fn put_reg_op<K: Sink>(sink: &mut K, model: &Model, op: Op) -> Result<(), Failed>
+fn put_reg_op<K: Sink>(sink: &mut K, text: &mut Text, model: &Model, op: Op) -> Result<(), Failed>
     requires numbers { HasNumbers model.now.chip (length model.now.layout.maps) op }
     requires on_register { is_on_register op ≡ true }
-    ensures bytes { Puts (K.written sink.old) (K.written sink.new) (op_text model.now op) result }
+    ensures bytes { Gathers (K.written sink.old) (K.written sink.new) text.old text.new (op_text model.now op) result }
     ensures cause { HasCause (K.faults sink.old) (K.faults sink.new) result }
     ensures ends_kept { K.ends sink.new ≡ K.ends sink.old }
     ensures same_target { K.target sink.new ≡ K.target sink.old }
 {
     match op {
-        Op::Write { reg, map, value } => put_reg(sink, model, b"write ", reg, Some(value), map),
-        Op::Read { reg, map } => put_reg(sink, model, b"read ", reg, None, map),
-        Op::Mirror { reg, map } => put_reg(sink, model, b"mirror ", reg, None, map),
-        Op::Check { reg, map } => put_reg(sink, model, b"check ", reg, None, map),
-        Op::Update { reg, map } => put_reg(sink, model, b"update ", reg, None, map),
-        Op::Show { reg } => put_reg(sink, model, b"show ", reg, None, None),
+        Op::Write { reg, map, value } => put_reg(
+            sink,
+            text,
+            model,
+            b"write ",
+            reg,
+            Some(value),
+            map,
+        ),
+        Op::Read { reg, map } => put_reg(sink, text, model, b"read ", reg, None, map),
+        Op::Mirror { reg, map } => put_reg(sink, text, model, b"mirror ", reg, None, map),
+        Op::Check { reg, map } => put_reg(sink, text, model, b"check ", reg, None, map),
+        Op::Update { reg, map } => put_reg(sink, text, model, b"update ", reg, None, map),
+        Op::Show { reg } => put_reg(sink, text, model, b"show ", reg, None, None),
         Op::BackWrite { reg, value } => {
-            put_reg(sink, model, b"back-write ", reg, Some(value), None)
+            put_reg(sink, text, model, b"back-write ", reg, Some(value), None)
         }
-        Op::BackRead { reg } => put_reg(sink, model, b"back-read ", reg, None, None),
-        Op::BackCheck { reg } => put_reg(sink, model, b"back-check ", reg, None, None),
-        Op::Peek { reg } => put_reg(sink, model, b"peek ", reg, None, None),
-        Op::Poke { reg, value } => put_reg(sink, model, b"poke ", reg, Some(value), None),
+        Op::BackRead { reg } => put_reg(sink, text, model, b"back-read ", reg, None, None),
+        Op::BackCheck { reg } => put_reg(sink, text, model, b"back-check ", reg, None, None),
+        Op::Peek { reg } => put_reg(sink, text, model, b"peek ", reg, None, None),
+        Op::Poke { reg, value } => put_reg(sink, text, model, b"poke ", reg, Some(value), None),
         Op::OtherWrite { reg, map, value } => {
-            put_reg(sink, model, b"other-write ", reg, Some(value), map)
+            put_reg(sink, text, model, b"other-write ", reg, Some(value), map)
         }
-        Op::OtherRead { reg, map } => put_reg(sink, model, b"other-read ", reg, None, map),
+        Op::OtherRead { reg, map } => put_reg(sink, text, model, b"other-read ", reg, None, map),
         _ => unreachable!(),
     }
 }
 
 // Writes an operation in canonical spelling.
-fn put_op<K: Sink>(sink: &mut K, model: &Model, op: Op) -> Result<(), Failed>
+fn put_op<K: Sink>(sink: &mut K, text: &mut Text, model: &Model, op: Op) -> Result<(), Failed>
     requires { HasNumbers model.now.chip (length model.now.layout.maps) op }
-    ensures bytes { Puts (K.written sink.old) (K.written sink.new) (op_text model.now op) result }
+    ensures bytes { Gathers (K.written sink.old) (K.written sink.new) text.old text.new (op_text model.now op) result }
     ensures cause { HasCause (K.faults sink.old) (K.faults sink.new) result }
     ensures ends_kept { K.ends sink.new ≡ K.ends sink.old }
     ensures same_target { K.target sink.new ≡ K.target sink.old }
 {
     match op {
         Op::FieldWrite { field, map, value } => {
-            put_field(sink, model, b"field-write ", field, Some(value), map)
+            put_field(sink, text, model, b"field-write ", field, Some(value), map)
         }
-        Op::FieldRead { field, map } => put_field(sink, model, b"field-read ", field, None, map),
-        Op::Set { field, value } => put_field(sink, model, b"set ", field, Some(value), None),
-        Op::Hw { field, value } => put_field(sink, model, b"hw ", field, Some(value), None),
+        Op::FieldRead { field, map } => put_field(
+            sink,
+            text,
+            model,
+            b"field-read ",
+            field,
+            None,
+            map,
+        ),
+        Op::Set { field, value } => put_field(sink, text, model, b"set ", field, Some(value), None),
+        Op::Hw { field, value } => put_field(sink, text, model, b"hw ", field, Some(value), None),
         Op::MemWrite {
             mem,
             map,
             index,
             value,
-        } => { put_mem(sink, model, b"mem-write ", mem, index, Some(value), map) }
+        } => {
+            put_mem(
+                sink,
+                text,
+                model,
+                b"mem-write ",
+                mem,
+                index,
+                Some(value),
+                map,
+            )
+        }
         Op::MemRead { mem, map, index } => {
-            put_mem(sink, model, b"mem-read ", mem, index, None, map)
+            put_mem(sink, text, model, b"mem-read ", mem, index, None, map)
         }
         Op::MemCheck {
             mem,
             map,
             index,
             value,
-        } => { put_mem(sink, model, b"mem-check ", mem, index, Some(value), map) }
-        Op::MemPeek { mem, index } => put_mem(sink, model, b"mem-peek ", mem, index, None, None),
+        } => {
+            put_mem(
+                sink,
+                text,
+                model,
+                b"mem-check ",
+                mem,
+                index,
+                Some(value),
+                map,
+            )
+        }
+        Op::MemPeek { mem, index } => put_mem(
+            sink,
+            text,
+            model,
+            b"mem-peek ",
+            mem,
+            index,
+            None,
+            None,
+        ),
         Op::MemPoke { mem, index, value } => {
-            put_mem(sink, model, b"mem-poke ", mem, index, Some(value), None)
+            put_mem(
+                sink,
+                text,
+                model,
+                b"mem-poke ",
+                mem,
+                index,
+                Some(value),
+                None,
+            )
         }
         Op::BurstWrite {
             mem,
             map,
             first,
             count,
-        } => { put_burst(sink, model, b"burst-write ", mem, first, count, map) }
+        } => { put_burst(sink, text, model, b"burst-write ", mem, first, count, map) }
         Op::BurstRead {
             mem,
             map,
             first,
             count,
-        } => { put_burst(sink, model, b"burst-read ", mem, first, count, map) }
-        Op::Reset { kind } => {
-            let pieces: [&[u8]; 2] = [b"reset ", kind_name(model, kind)];
-            put_pieces(sink, &pieces)
-        }
-        _ => put_reg_op(sink, model, op),
+        } => { put_burst(sink, text, model, b"burst-read ", mem, first, count, map) }
+        Op::Reset { kind } => put_reset(sink, text, model, kind),
+        _ => put_reg_op(sink, text, model, op),
     }
 }
 
 fn why_text(why: Refused) -> &'static [u8]
-    ensures { result.now ≡ why_text why }
+    ensures value { result.now ≡ why_text why }
+    ensures short { length result.now ≤ 16 }
 {
     match why {
         Refused::NotPlaced => b"not placed",
@@ -373,44 +450,40 @@ fn digits_of(model: &Model, op: Op) -> u32
     }
 }
 
-// Writes a value, in so many hexadecimal digits, behind a text.
-fn put_value<K: Sink>(sink: &mut K, before: &[u8], value: u64, count: u32) -> Result<(), Failed>
+// Appends a piece, and a value in so many hexadecimal digits.
+fn push_value(text: &mut Text, before: &[u8], value: u64, count: u32)
     requires short { length before.now ≤ 16 }
     requires some { 1 ≤ count }
     requires few { count ≤ 16 }
     requires fits { value < 16 ^ count }
-    ensures bytes { Puts (K.written sink.old) (K.written sink.new) (joined (before.now ∷ padded count value ∷ [])) result }
-    ensures cause { HasCause (K.faults sink.old) (K.faults sink.new) result }
-    ensures ends_kept { K.ends sink.new ≡ K.ends sink.old }
-    ensures same_target { K.target sink.new ≡ K.target sink.old }
+    requires room { length text.old + 32 ≤ 512 }
+    ensures text { text.new ≡ text.old ++ joined (before.now ∷ padded count value ∷ []) }
+    ensures len { length text.new ≤ length text.old + 32 }
 {
-    let mut text = Text::new();
     text.push(before);
-    text.push_digits(&Digits::padded(value, count));
-    put_all(sink, text.as_bytes())
+    text.push_padded(value, count);
 }
 
-// Writes how an operation ended.
-fn put_end<K: Sink>(sink: &mut K, model: &Model, event: &Event) -> Result<(), Failed>
-    requires { EventFits model.now event.now }
-    ensures bytes { Puts (K.written sink.old) (K.written sink.new) (end_text (digits_of model.now.chip event.now.op) event.now.end) result }
-    ensures cause { HasCause (K.faults sink.old) (K.faults sink.new) result }
-    ensures ends_kept { K.ends sink.new ≡ K.ends sink.old }
-    ensures same_target { K.target sink.new ≡ K.target sink.old }
+// Appends how an operation ended.
+fn push_end(text: &mut Text, model: &Model, event: &Event)
+    requires fits { EventFits model.now event.now }
+    requires room { length text.old + 40 ≤ 512 }
+    ensures text { text.new ≡ text.old ++ end_text (digits_of model.now.chip event.now.op) event.now.end }
+    ensures len { length text.new ≤ length text.old + 40 }
 {
     match event.end {
-        End::Done => put_all(sink, b": ok"),
-        End::Value { value } => put_value(sink, b": ok 0x", value, digits_of(model, event.op)),
-        End::Sent { word } => put_value(sink, b": ok sent 0x", word, digits_of(model, event.op)),
-        End::Nothing => put_all(sink, b": ok none"),
+        End::Done => text.push(b": ok"),
+        End::Value { value } => push_value(text, b": ok 0x", value, digits_of(model, event.op)),
+        End::Sent { word } => push_value(text, b": ok sent 0x", word, digits_of(model, event.op)),
+        End::Nothing => text.push(b": ok none"),
         End::BusError { word } => {
             let mut buffer = Buffer::new();
-            let pieces: [&[u8]; 2] = [b": bus error at word ", buffer.format(word).as_bytes()];
-            put_pieces(sink, &pieces)
+            text.push(b": bus error at word ");
+            text.push(buffer.format(word).as_bytes());
         }
         End::Refused { why } => {
-            let pieces: [&[u8]; 2] = [b": refused ", why_text(why)];
-            put_pieces(sink, &pieces)
+            text.push(b": refused ");
+            text.push(why_text(why));
         }
     }
 }
@@ -450,6 +523,7 @@ fn has_mark(differ: u64, place: u32) -> bool
 // Writes the name of a register's field, where it differs.
 fn put_name<K: Sink>(
     sink: &mut K,
+    text: &mut Text,
     model: &Model,
     reg: u32,
     differ: u64,
@@ -457,7 +531,7 @@ fn put_name<K: Sink>(
 ) -> Result<(), Failed>
     requires reg { reg < length model.now.chip.regs }
     requires place { place < count_of model.now.chip reg }
-    ensures bytes { Puts (K.written sink.old) (K.written sink.new) (name_text model.now.chip reg differ place) result }
+    ensures bytes { Gathers (K.written sink.old) (K.written sink.new) text.old text.new (name_text model.now.chip reg differ place) result }
     ensures cause { HasCause (K.faults sink.old) (K.faults sink.new) result }
     ensures ends_kept { K.ends sink.new ≡ K.ends sink.old }
     ensures same_target { K.target sink.new ≡ K.target sink.old }
@@ -466,29 +540,41 @@ fn put_name<K: Sink>(
     if !has_mark(differ, place) {
         return Ok(());
     }
-    let pieces: [&[u8]; 2] = [b" ", name_of(model, first + place)];
-    put_pieces(sink, &pieces)
+    gather(sink, text, b" ")?;
+    gather(sink, text, name_of(model, first + place))
 }
 
 // Writes the names of the differing fields of a register.
-fn put_names<K: Sink>(sink: &mut K, model: &Model, reg: u32, differ: u64) -> Result<(), Failed>
+fn put_names<K: Sink>(
+    sink: &mut K,
+    text: &mut Text,
+    model: &Model,
+    reg: u32,
+    differ: u64,
+) -> Result<(), Failed>
     requires reg { reg < length model.now.chip.regs }
-    ensures bytes { Puts (K.written sink.old) (K.written sink.new) (names_text model.now.chip reg differ) result }
+    ensures bytes { Gathers (K.written sink.old) (K.written sink.new) text.old text.new (names_text model.now.chip reg differ) result }
     ensures cause { HasCause (K.faults sink.old) (K.faults sink.new) result }
     ensures ends_kept { K.ends sink.new ≡ K.ends sink.old }
     ensures same_target { K.target sink.new ≡ K.target sink.old }
 {
     let (_, count) = fields_with(model, reg);
     for place in 0..count {
-        put_name(sink, model, reg, differ, place)?;
+        put_name(sink, text, model, reg, differ, place)?;
     }
     Ok(())
 }
 
 // Writes which fields of a register differ, if any.
-fn put_differ<K: Sink>(sink: &mut K, model: &Model, event: &Event, reg: u32) -> Result<(), Failed>
+fn put_differ<K: Sink>(
+    sink: &mut K,
+    text: &mut Text,
+    model: &Model,
+    event: &Event,
+    reg: u32,
+) -> Result<(), Failed>
     requires reg { reg < length model.now.chip.regs }
-    ensures bytes { Puts (K.written sink.old) (K.written sink.new) (differ_text model.now.chip event.now reg) result }
+    ensures bytes { Gathers (K.written sink.old) (K.written sink.new) text.old text.new (differ_text model.now.chip event.now reg) result }
     ensures cause { HasCause (K.faults sink.old) (K.faults sink.new) result }
     ensures ends_kept { K.ends sink.new ≡ K.ends sink.old }
     ensures same_target { K.target sink.new ≡ K.target sink.old }
@@ -496,8 +582,8 @@ fn put_differ<K: Sink>(sink: &mut K, model: &Model, event: &Event, reg: u32) -> 
     if !has_differ(event) {
         return Ok(());
     }
-    put_all(sink, b" differ")?;
-    put_names(sink, model, reg, event.differ)
+    gather(sink, text, b" differ")?;
+    put_names(sink, text, model, reg, event.differ)
 }
 
 // The first of a register's fields, and how many they are.
@@ -514,57 +600,61 @@ fn fields_with(model: &Model, reg: u32) -> (u32, u32)
     (chip.first_field(reg), chip.field_count(reg))
 }
 
-// Writes the desired value, where the operation shows it.
-fn put_desired<K: Sink>(sink: &mut K, model: &Model, event: &Event, reg: u32) -> Result<(), Failed>
+// Appends the desired value, where the operation shows it.
+fn push_desired(text: &mut Text, model: &Model, event: &Event, reg: u32)
     requires reg { reg < length model.now.chip.regs }
     requires desired { event.now.desired < 16 ^ (2 * size_of model.now.chip reg) }
-    ensures bytes { Puts (K.written sink.old) (K.written sink.new) (desired_text model.now.chip event.now reg) result }
-    ensures cause { HasCause (K.faults sink.old) (K.faults sink.new) result }
-    ensures ends_kept { K.ends sink.new ≡ K.ends sink.old }
-    ensures same_target { K.target sink.new ≡ K.target sink.old }
+    requires room { length text.old + 32 ≤ 512 }
+    ensures text { text.new ≡ text.old ++ desired_text model.now.chip event.now reg }
+    ensures len { length text.new ≤ length text.old + 32 }
 {
     if !shows_desired(event.op, event.end) {
-        return Ok(());
+        return;
     }
-    put_value(
-        sink,
-        b" desired 0x",
-        event.desired,
-        register_digits(model, reg),
-    )
+    let digits = register_digits(model, reg);
+    push_value(text, b" desired 0x", event.desired, digits);
 }
 
 // Writes what is believed of the register of an event.
-fn put_register<K: Sink>(sink: &mut K, model: &Model, event: &Event, reg: u32) -> Result<(), Failed>
+fn put_register<K: Sink>(
+    sink: &mut K,
+    text: &mut Text,
+    model: &Model,
+    event: &Event,
+    reg: u32,
+) -> Result<(), Failed>
     requires reg { reg < length model.now.chip.regs }
+    requires room { length text.old + 64 ≤ 512 }
     requires mirrored { event.now.mirrored < 16 ^ (2 * size_of model.now.chip reg) }
     requires desired { event.now.desired < 16 ^ (2 * size_of model.now.chip reg) }
-    ensures bytes { Puts (K.written sink.old) (K.written sink.new) (after_text model.now.chip event.now (Some reg)) result }
+    ensures bytes { Gathers (K.written sink.old) (K.written sink.new) text.old text.new (after_text model.now.chip event.now (Some reg)) result }
     ensures cause { HasCause (K.faults sink.old) (K.faults sink.new) result }
     ensures ends_kept { K.ends sink.new ≡ K.ends sink.old }
     ensures same_target { K.target sink.new ≡ K.target sink.old }
 {
-    put_desired(sink, model, event, reg)?;
-    put_value(
-        sink,
-        b" mirror 0x",
-        event.mirrored,
-        register_digits(model, reg),
-    )?;
-    put_differ(sink, model, event, reg)
+    let digits = register_digits(model, reg);
+    push_desired(text, model, event, reg);
+    push_value(text, b" mirror 0x", event.mirrored, digits);
+    put_differ(sink, text, model, event, reg)
 }
 
 // Writes what is known after an operation that wasn't refused.
-fn put_after<K: Sink>(sink: &mut K, model: &Model, event: &Event) -> Result<(), Failed>
-    requires { EventFits model.now event.now }
-    ensures bytes { Puts (K.written sink.old) (K.written sink.new) (after_text model.now.chip event.now (register_of model.now.chip event.now.op)) result }
+fn put_after<K: Sink>(
+    sink: &mut K,
+    text: &mut Text,
+    model: &Model,
+    event: &Event,
+) -> Result<(), Failed>
+    requires room { length text.old + 64 ≤ 512 }
+    requires fits { EventFits model.now event.now }
+    ensures bytes { Gathers (K.written sink.old) (K.written sink.new) text.old text.new (after_text model.now.chip event.now (register_of model.now.chip event.now.op)) result }
     ensures cause { HasCause (K.faults sink.old) (K.faults sink.new) result }
     ensures ends_kept { K.ends sink.new ≡ K.ends sink.old }
     ensures same_target { K.target sink.new ≡ K.target sink.old }
 {
     match register_of(model, event.op) {
-        Some(reg) => put_register(sink, model, event, reg),
-        None if has_differ(event) => put_all(sink, b" differ"),
+        Some(reg) => put_register(sink, text, model, event, reg),
+        None if has_differ(event) => gather(sink, text, b" differ"),
         None => Ok(()),
     }
 }
@@ -576,9 +666,15 @@ fn is_refused(end: End) -> bool
 }
 
 // Writes what stands after an operation: nothing where that is refused.
-fn put_rest<K: Sink>(sink: &mut K, model: &Model, event: &Event) -> Result<(), Failed>
-    requires { EventFits model.now event.now }
-    ensures bytes { Puts (K.written sink.old) (K.written sink.new) (rest_text model.now.chip event.now) result }
+fn put_rest<K: Sink>(
+    sink: &mut K,
+    text: &mut Text,
+    model: &Model,
+    event: &Event,
+) -> Result<(), Failed>
+    requires room { length text.old + 64 ≤ 512 }
+    requires fits { EventFits model.now event.now }
+    ensures bytes { Gathers (K.written sink.old) (K.written sink.new) text.old text.new (rest_text model.now.chip event.now) result }
     ensures cause { HasCause (K.faults sink.old) (K.faults sink.new) result }
     ensures ends_kept { K.ends sink.new ≡ K.ends sink.old }
     ensures same_target { K.target sink.new ≡ K.target sink.old }
@@ -586,19 +682,43 @@ fn put_rest<K: Sink>(sink: &mut K, model: &Model, event: &Event) -> Result<(), F
     if is_refused(event.end) {
         return Ok(());
     }
-    put_after(sink, model, event)
+    put_after(sink, text, model, event)
 }
 
 // Writes what came of an operation.
-fn put_result<K: Sink>(sink: &mut K, model: &Model, event: &Event) -> Result<(), Failed>
+fn put_result<K: Sink>(
+    sink: &mut K,
+    text: &mut Text,
+    model: &Model,
+    event: &Event,
+) -> Result<(), Failed>
     requires { EventFits model.now event.now }
-    ensures bytes { Puts (K.written sink.old) (K.written sink.new) (result_text model.now.chip event.now) result }
+    ensures bytes { Gathers (K.written sink.old) (K.written sink.new) text.old text.new (result_text model.now.chip event.now) result }
     ensures cause { HasCause (K.faults sink.old) (K.faults sink.new) result }
     ensures ends_kept { K.ends sink.new ≡ K.ends sink.old }
     ensures same_target { K.target sink.new ≡ K.target sink.old }
 {
-    put_end(sink, model, event)?;
-    put_rest(sink, model, event)
+    make_room(sink, text)?;
+    push_end(text, model, event);
+    put_rest(sink, text, model, event)
+}
+
+// Gathers the line of an event.
+fn put_line<K: Sink>(
+    sink: &mut K,
+    text: &mut Text,
+    model: &Model,
+    event: &Event,
+) -> Result<(), Failed>
+    requires { EventFits model.now event.now }
+    ensures bytes { Gathers (K.written sink.old) (K.written sink.new) text.old text.new (event_line model.now event.now) result }
+    ensures cause { HasCause (K.faults sink.old) (K.faults sink.new) result }
+    ensures ends_kept { K.ends sink.new ≡ K.ends sink.old }
+    ensures same_target { K.target sink.new ≡ K.target sink.old }
+{
+    put_op(sink, text, model, event.op)?;
+    put_result(sink, text, model, event)?;
+    gather(sink, text, b"\n")
 }
 
 /// Writes the line of an event: the operation in canonical spelling, and what came of it.
@@ -609,9 +729,9 @@ pub fn write_event_line<K: Sink>(sink: &mut K, model: &Model, event: &Event) -> 
     ensures ends_kept { K.ends sink.new ≡ K.ends sink.old }
     ensures same_target { K.target sink.new ≡ K.target sink.old }
 {
-    put_op(sink, model, event.op)?;
-    put_result(sink, model, event)?;
-    put_all(sink, b"\n")
+    let mut text = Text::new();
+    put_line(sink, &mut text, model, event)?;
+    put_all(sink, text.as_bytes())
 }
 
 fn way_text(write: bool) -> &'static [u8]
@@ -639,23 +759,43 @@ fn word_of(item: &TraceItem) -> u64
     }
 }
 
-// Appends an item's way, address, word, byte enables, tag and answer to a text that has nothing.
+// Appends an item's way, address, word, byte enables, tag and answer.
 fn push_transfer(text: &mut Text, model: &Model, item: &TraceItem)
     requires fits { ItemFits model.now.layout item.now }
-    requires empty { text.old ≡ [] }
-    ensures { text.new ≡ joined (way_text item.now.op.write ∷ transfer_text (port_at model.now.layout item.now.port).bytes item.now ∷ answer_text item.now.answer.failed ∷ []) }
+    requires room { length text.old + 128 ≤ 512 }
+    ensures { text.new ≡ text.old ++ joined (way_text item.now.op.write ∷ transfer_text (port_at model.now.layout item.now.port).bytes item.now ∷ answer_text item.now.answer.failed ∷ []) }
 {
     let bytes = model.layout().port_bytes(item.port);
     let mut tag = Buffer::new();
     text.push(way_text(item.op.write));
-    text.push_digits(&Digits::hex(item.op.address));
+    text.push_hex(item.op.address);
     text.push(b" 0x");
-    text.push_digits(&Digits::padded(word_of(item), 2 * bytes));
+    text.push_padded(word_of(item), 2 * bytes);
     text.push(b" ");
-    text.push_digits(&Digits::lanes(item.op.lanes, item.op.bytes));
+    text.push_lanes(item.op.lanes, item.op.bytes);
     text.push(b" #");
     text.push(tag.format(item.tag).as_bytes());
     text.push(answer_text(item.answer.failed));
+}
+
+// Gathers the line of a bus item.
+fn put_item<K: Sink>(
+    sink: &mut K,
+    text: &mut Text,
+    model: &Model,
+    item: &TraceItem,
+) -> Result<(), Failed>
+    requires { ItemFits model.now.layout item.now }
+    ensures bytes { Gathers (K.written sink.old) (K.written sink.new) text.old text.new (item_line model.now.layout item.now) result }
+    ensures cause { HasCause (K.faults sink.old) (K.faults sink.new) result }
+    ensures ends_kept { K.ends sink.new ≡ K.ends sink.old }
+    ensures same_target { K.target sink.new ≡ K.target sink.old }
+{
+    let layout = model.layout();
+    gather(sink, text, b"  ")?;
+    gather(sink, text, layout.map_name(layout.port_map(item.port)))?;
+    push_transfer(text, model, item);
+    Ok(())
 }
 
 /// Writes the line of a bus item: its port's map, address, word, byte enables, tag and answer.
@@ -667,26 +807,45 @@ pub fn write_item<K: Sink>(sink: &mut K, model: &Model, item: &TraceItem) -> Res
     ensures ends_kept { K.ends sink.new ≡ K.ends sink.old }
     ensures same_target { K.target sink.new ≡ K.target sink.old }
 {
-    let layout = model.layout();
     let mut text = Text::new();
-    push_transfer(&mut text, model, item);
-    put_all(sink, b"  ")?;
-    put_all(sink, layout.map_name(layout.port_map(item.port)))?;
+    put_item(sink, &mut text, model, item)?;
     put_all(sink, text.as_bytes())
 }
 
-// Writes the lines of an event's items.
-fn put_items<K: Sink>(sink: &mut K, model: &Model, event: &Event) -> Result<(), Failed>
+// Gathers the lines of an event's items.
+fn put_items<K: Sink>(
+    sink: &mut K,
+    text: &mut Text,
+    model: &Model,
+    event: &Event,
+) -> Result<(), Failed>
     requires { EventFits model.now event.now }
-    ensures bytes { Puts (K.written sink.old) (K.written sink.new) (flat_map (item_line model.now.layout) event.now.trace) result }
+    ensures bytes { Gathers (K.written sink.old) (K.written sink.new) text.old text.new (flat_map (item_line model.now.layout) event.now.trace) result }
     ensures cause { HasCause (K.faults sink.old) (K.faults sink.new) result }
     ensures ends_kept { K.ends sink.new ≡ K.ends sink.old }
     ensures same_target { K.target sink.new ≡ K.target sink.old }
 {
     for k in 0..event.trace.len() {
-        write_item(sink, model, &event.trace.item(k))?;
+        put_item(sink, text, model, &event.trace.item(k))?;
     }
     Ok(())
+}
+
+// Gathers the lines of an event.
+fn put_event<K: Sink>(
+    sink: &mut K,
+    text: &mut Text,
+    model: &Model,
+    event: &Event,
+) -> Result<(), Failed>
+    requires { EventFits model.now event.now }
+    ensures bytes { Gathers (K.written sink.old) (K.written sink.new) text.old text.new (event_text model.now event.now) result }
+    ensures cause { HasCause (K.faults sink.old) (K.faults sink.new) result }
+    ensures ends_kept { K.ends sink.new ≡ K.ends sink.old }
+    ensures same_target { K.target sink.new ≡ K.target sink.old }
+{
+    put_line(sink, text, model, event)?;
+    put_items(sink, text, model, event)
 }
 
 /// Writes an event: its line, and a line for each item that it sent. It takes no memory.
@@ -697,6 +856,7 @@ pub fn write_event<K: Sink>(sink: &mut K, model: &Model, event: &Event) -> Resul
     ensures ends_kept { K.ends sink.new ≡ K.ends sink.old }
     ensures same_target { K.target sink.new ≡ K.target sink.old }
 {
-    write_event_line(sink, model, event)?;
-    put_items(sink, model, event)
+    let mut text = Text::new();
+    put_event(sink, &mut text, model, event)?;
+    put_all(sink, text.as_bytes())
 }

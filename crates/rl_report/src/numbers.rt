@@ -1,6 +1,6 @@
 // Numbers as text, with no memory taken.
 ghost use Rattle.std.specs.Prelude.{◌≡◌, ◌+◌, ◌/◌, ◌%◌, ◌^◌, ◌<◌, ◌≤◌, ◌∷◌, length, drop};
-ghost use Rattle.io.specs.Digits.{hex_digit_ascii};
+ghost use Rattle.io.specs.Digits.{hex_digit_ascii, IsDigitCount};
 ghost use Rattle.rl_policy.specs.Numbers.{hex_digits};
 ghost use Rattle.rl_report.specs.Numbers.{padded, digits_if, lanes_text};
 
@@ -10,6 +10,9 @@ use std::marker::Model;
 // The two hexadecimal digits of each byte.
 static PAIRS: [u8; 512] =
     *b"000102030405060708090a0b0c0d0e0f101112131415161718191a1b1c1d1e1f202122232425262728292a2b2c2d2e2f303132333435363738393a3b3c3d3e3f404142434445464748494a4b4c4d4e4f505152535455565758595a5b5c5d5e5f606162636465666768696a6b6c6d6e6f707172737475767778797a7b7c7d7e7f808182838485868788898a8b8c8d8e8f909192939495969798999a9b9c9d9e9fa0a1a2a3a4a5a6a7a8a9aaabacadaeafb0b1b2b3b4b5b6b7b8b9babbbcbdbebfc0c1c2c3c4c5c6c7c8c9cacbcccdcecfd0d1d2d3d4d5d6d7d8d9dadbdcdddedfe0e1e2e3e4e5e6e7e8e9eaebecedeeeff0f1f2f3f4f5f6f7f8f9fafbfcfdfeff";
+
+// The four binary digits of each number below 16.
+static FOURS: [u8; 64] = *b"0000000100100011010001010110011110001001101010111100110111101111";
 
 /// Up to 16 digits of a number.
 #[derive(Drop)]
@@ -64,8 +67,10 @@ impl Digits {
         requires fits { n < 16 ^ count }
         ensures { result ≡ padded count n }
     {
+        let mut text = [0u8; 16];
+        write_digits(&mut text, n);
         Digits {
-            text: all_digits(n),
+            text,
             start: 16 - count as usize,
             end: 16,
         }
@@ -114,19 +119,42 @@ fn write_pair(text: &mut [u8], at: usize, byte: u64)
     text[at + 1] = PAIRS[from + 1];
 }
 
-// The sixteen digits of a number, with zeros in front.
-fn all_digits(n: u64) -> [u8; 16]
-    ensures { result ≡ padded 16 n }
+// Writes the last digits of a number, as many as there are places.
+#[inline]
+pub(crate) fn write_digits(text: &mut [u8], n: u64)
+    requires { length text.old % 2 ≡ 0 }
+    ensures { text.new ≡ padded (length text.old) n }
 {
-    let mut text = [0u8; 16];
     let mut rest = n;
-    let mut at = 16;
+    let mut at = text.len();
     while at > 0 {
         at -= 2;
-        write_pair(&mut text, at, rest % 256);
+        write_pair(text, at, rest % 256);
         rest /= 256;
     }
-    text
+}
+
+// The four binary digits of a number.
+#[inline]
+pub(crate) fn four_digits(n: u64) -> &'static [u8]
+    requires { n < 16 }
+    ensures value { result.now ≡ lanes_text 4 n }
+    ensures len { length result.now ≡ 4 }
+{
+    let from = n as usize * 4;
+    &FOURS[from..from + 4]
+}
+
+// How many hexadecimal digits a number has.
+#[inline]
+pub(crate) fn digit_count(n: u64) -> u32
+    ensures value { IsDigitCount 16 1 n result }
+    ensures few { result ≤ 16 }
+{
+    if n < 16 {
+        return 1;
+    }
+    (67 - n.leading_zeros()) / 4
 }
 
 fn lane_digit(lanes: u8, lane: u8) -> u8

@@ -1,9 +1,13 @@
 // Pieces of text into a sink.
-ghost use Rattle.std.specs.Prelude.{◌≡◌, map};
+ghost use Rattle.std.specs.Prelude.{◌≡◌, ◌≤◌, [], length, map, OnOk};
 ghost use Rattle.rl_bus.specs.Causes.{HasCause};
-ghost use Rattle.rl_report.specs.Pieces.{Puts, joined};
+ghost use Rattle.rl_report.specs.Pieces.{Puts, Gathers, joined};
 
+use crate::text::Text;
 use crate::{Failed, Sink};
+
+// A text with no more than this has room for what is pushed without a further look.
+const FULL: usize = 384;
 
 /// Writes the whole piece. After a fault a front of it was written. An empty piece makes no call.
 pub fn put_all<K: Sink>(sink: &mut K, piece: &[u8]) -> Result<(), Failed>
@@ -30,5 +34,63 @@ pub fn put_pieces<K: Sink>(sink: &mut K, pieces: &[&[u8]]) -> Result<(), Failed>
     for piece in pieces {
         put_all(sink, piece)?;
     }
+    Ok(())
+}
+
+// Writes what the text has, and empties it.
+#[cold]
+fn write_out<K: Sink>(sink: &mut K, text: &mut Text) -> Result<(), Failed>
+    ensures bytes { Gathers (K.written sink.old) (K.written sink.new) text.old text.new [] result }
+    ensures empty { OnOk result (text.new ≡ []) }
+    ensures cause { HasCause (K.faults sink.old) (K.faults sink.new) result }
+    ensures ends_kept { K.ends sink.new ≡ K.ends sink.old }
+    ensures same_target { K.target sink.new ≡ K.target sink.old }
+{
+    put_all(sink, text.as_bytes())?;
+    text.clear();
+    Ok(())
+}
+
+// Makes room behind the text, where it has too little.
+#[inline]
+pub(crate) fn make_room<K: Sink>(sink: &mut K, text: &mut Text) -> Result<(), Failed>
+    ensures bytes { Gathers (K.written sink.old) (K.written sink.new) text.old text.new [] result }
+    ensures room { OnOk result (length text.new ≤ 384) }
+    ensures cause { HasCause (K.faults sink.old) (K.faults sink.new) result }
+    ensures ends_kept { K.ends sink.new ≡ K.ends sink.old }
+    ensures same_target { K.target sink.new ≡ K.target sink.old }
+{
+    if text.len() > FULL {
+        return write_out(sink, text);
+    }
+    Ok(())
+}
+
+// Writes a piece that the text has no room for, behind what the text has.
+#[cold]
+fn write_through<K: Sink>(sink: &mut K, text: &mut Text, piece: &[u8]) -> Result<(), Failed>
+    ensures bytes { Gathers (K.written sink.old) (K.written sink.new) text.old text.new piece.now result }
+    ensures empty { OnOk result (text.new ≡ []) }
+    ensures cause { HasCause (K.faults sink.old) (K.faults sink.new) result }
+    ensures ends_kept { K.ends sink.new ≡ K.ends sink.old }
+    ensures same_target { K.target sink.new ≡ K.target sink.old }
+{
+    write_out(sink, text)?;
+    put_all(sink, piece)
+}
+
+// Appends a piece to a text that is written later.
+#[inline]
+pub(crate) fn gather<K: Sink>(sink: &mut K, text: &mut Text, piece: &[u8]) -> Result<(), Failed>
+    ensures bytes { Gathers (K.written sink.old) (K.written sink.new) text.old text.new piece.now result }
+    ensures room { OnOk result (length text.new ≤ 384) }
+    ensures cause { HasCause (K.faults sink.old) (K.faults sink.new) result }
+    ensures ends_kept { K.ends sink.new ≡ K.ends sink.old }
+    ensures same_target { K.target sink.new ≡ K.target sink.old }
+{
+    if text.len() + piece.len() > FULL {
+        return write_through(sink, text, piece);
+    }
+    text.push(piece);
     Ok(())
 }

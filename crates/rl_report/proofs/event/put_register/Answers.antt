@@ -1,11 +1,7 @@
-use Rattle.rl_report.proofs.PieceLemmas.{puts_more, puts_last, puts_failed, puts_two, two_failed}
+use Rattle.rl_report.proofs.GatherLemmas.{gathers_more, gathers_two, gathers_last, pushed}
 use Rattle.rl_report.proofs.event.put_register.Goals as goal
 
-pub returns-in_err-put_desired-clause-bytes : goal.returns-in_err-put_desired-clause-bytes
-returns-in_err-put_desired-clause-bytes g c = puts_failed _ _ _ _ _ c.from_residual.ensures.0 c.in_err-put_desired.ensures.bytes.part
-
-pub returns-in_err-put_value-clause-bytes : goal.returns-in_err-put_value-clause-bytes
-returns-in_err-put_value-clause-bytes g c = puts_more _ _ _ _ _ _ c.in_ok-put_desired.ensures.bytes.whole (two_failed _ _ _ _ _ _ c.from_residual-in_err-put_value.ensures.0 (rw (c.register_digits.ensures.value) at c.in_err-put_value.ensures.bytes.part))
-
 pub returns-clause-bytes : goal.returns-clause-bytes
-returns-clause-bytes g c = puts_more _ _ _ _ _ _ c.in_ok-put_desired.ensures.bytes.whole (puts_two _ _ _ _ _ _ _ (rw (c.register_digits.ensures.value) at c.in_ok-put_value.ensures.bytes.whole) (puts_last _ _ _ _ c.put_differ.ensures.bytes))
+returns-clause-bytes g c =
+    gathers_more _ _ _ _ _ _ _ _ _ (pushed _ _ _ _ c.push_desired.ensures.text)
+    (gathers_two _ _ _ _ _ _ _ _ _ _ (pushed _ _ _ _ (rw (c.register_digits-digits.ensures.value) at c.push_value.ensures.text)) (gathers_last _ _ _ _ _ _ c.put_differ.ensures.bytes))

@@ -1,11 +1,8 @@
-use Rattle.rl_report.proofs.PieceLemmas.{puts_more, puts_last, puts_failed}
-use Rattle.rl_report.specs.EventText.{event_text}
+use Rattle.rl_report.proofs.GatherLemmas.{all_written, stopped_before}
 use Rattle.rl_report.proofs.event.write_event.Goals as goal
 
-pub returns-in_err-write_event_line-clause-bytes : goal.returns-in_err-write_event_line-clause-bytes
-unfolding event_text
-returns-in_err-write_event_line-clause-bytes g c = puts_failed _ _ _ _ _ c.from_residual.ensures.0 c.in_err-write_event_line.ensures.bytes.part
+pub returns-in_err-put_event-clause-bytes : goal.returns-in_err-put_event-clause-bytes
+returns-in_err-put_event-clause-bytes g c = stopped_before _ _ _ _ _ c.new-text.ensures c.from_residual.ensures.0 c.in_err-put_event.ensures.bytes.part
 
 pub returns-clause-bytes : goal.returns-clause-bytes
-unfolding event_text
-returns-clause-bytes g c = puts_more _ _ _ _ _ _ c.in_ok-write_event_line.ensures.bytes.whole (puts_last _ _ _ _ c.put_items.ensures.bytes)
+returns-clause-bytes g c = all_written _ _ _ _ _ _ _ c.new-text.ensures c.in_ok-put_event.ensures.bytes.whole (rw (c.as_bytes.ensures) at c.put_all.ensures.bytes)

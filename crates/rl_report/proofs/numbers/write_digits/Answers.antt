@@ -1,9 +1,9 @@
-use Rattle.std.proofs.Common.{rules, refl, arith, ◌∙◌}
+use Rattle.std.proofs.Common.{refl, arith, ◌∙◌}
 use Rattle.rl_report.proofs.DigitLemmas.{none_put, two_more}
-use Rattle.rl_report.proofs.numbers.all_digits.Goals as goal
+use Rattle.rl_report.proofs.numbers.write_digits.Goals as goal
 
 pub loop-at-init : goal.loop-at-init
-loop-at-init c = record { full = refl; within = omega arith; even = refl; put = search (rules, none_put) }
+loop-at-init c = record { full = refl; within = omega arith; even = c.requires; put = none_put c.args.n c.args.text.now }
 
 pub loop-at-preserved : goal.loop-at-preserved
 loop-at-preserved c =
