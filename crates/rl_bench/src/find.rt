@@ -73,9 +73,16 @@ fn first_beside(words: &[WordRow], near: Stretch, port: u32, address: u64) -> Op
     ensures before { IfSome result (λ first. (k : ℕ) (d : Words) → k < first → key_of (slice_index_or words.now k d) < port * 2 ^ 64 + address) }
     ensures behind { IfSome result (λ first. (k : ℕ) (d : Words) → first ≤ k → k < length words.now → port * 2 ^ 64 + address ≤ key_of (slice_index_or words.now k d)) }
 {
+    let low = near.first.saturating_sub(2);
     let end = words.len().min(near.end.saturating_add(2));
-    for first in near.first.saturating_sub(1)..end {
-        if is_first(words, first, port, address) {
+    if low >= end
+        || !is_before(&words[low], port, address)
+        || is_before(&words[end - 1], port, address)
+    {
+        return None;
+    }
+    for first in low + 1..end {
+        if !is_before(&words[first], port, address) {
             return Some(first);
         }
     }

@@ -93,12 +93,11 @@ pub(crate) fn overlaid(
 {
     let mut word = kept;
     for k in 0..field_count(chip, reg) {
-        if !has_place(fields, k) {
-            continue;
+        if has_place(fields, k) {
+            let field = field_at(chip, reg, k);
+            let by = effect.on(field.policy, mark_at(chip, reg, k, spent));
+            word = replaced(word, by, window(field.lsb, field.width));
         }
-        let field = field_at(chip, reg, k);
-        let by = effect.on(field.policy, mark_at(chip, reg, k, spent));
-        word = replaced(word, by, window(field.lsb, field.width));
     }
     word
 }
