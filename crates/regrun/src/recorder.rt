@@ -1,7 +1,8 @@
 // The events of a burst or a sequence, written as they come.
 use crate::Counts;
+use crate::log::Log;
 use rl_access::{Event, Model, Recorder};
-use rl_report::{Failed, Sink, write_event};
+use rl_report::Failed;
 
 // Writes each event, and counts it.
 #[derive(Drop)]
@@ -10,7 +11,7 @@ pub(crate) struct Writing<'a, K> {
     pub(crate) counts: Counts,
 }
 
-impl<K: Sink> Recorder for Writing<'_, K> {
+impl<K: Log> Recorder for Writing<'_, K> {
     ghost use Rattle.std.specs.Prelude.{[], ◌∷◌};
     ghost use Rattle.regrun.specs.Recording.{IsWritten, IsBegun};
 
@@ -24,6 +25,6 @@ impl<K: Sink> Recorder for Writing<'_, K> {
 
     fn step(&mut self, model: &Model, event: &Event) -> Result<(), Failed> {
         self.counts.count(event);
-        write_event(self.sink, model, event)
+        self.sink.event(model, event)
     }
 }
