@@ -78,6 +78,7 @@ fn read_head<S: Source, K: Sink>(
     ensures at_fault { result ≡ Err Status.SourceFault → IfSome (input_of lines.old (S.left source.old)) (λ bytes. TakesNoHead bytes (S.left source.new)) }
     ensures same_told { result ≡ Err Status.SourceFault → Keeps (told K.written out.old) (told K.written out.new) }
     ensures flushed { result ≡ Err Status.SourceFault → out.old.end ≡ 0 → out.new.end ≡ 0 }
+    ensures unwritten { result ≡ Err Status.SourceFault → out.new ≡ out.old }
 
     ensures told { OnOk result (Keeps (told K.written out.old) (told K.written out.new)) }
     ensures stops { IfErr result (λ status. IfSome (input_of lines.old (S.left source.old))
@@ -168,6 +169,7 @@ pub(crate) fn open_session<S: Source, K: Sink>(
     ensures at_fault { result ≡ Err Status.SourceFault → IfSome (input_of lines.old (S.left source.old)) (λ bytes. TakesNoHead bytes (S.left source.new)) }
     ensures same_told { result ≡ Err Status.SourceFault → Keeps (told K.written out.old) (told K.written out.new) }
     ensures flushed { result ≡ Err Status.SourceFault → out.old.end ≡ 0 → out.new.end ≡ 0 }
+    ensures unwritten { result ≡ Err Status.SourceFault → out.new ≡ out.old }
 
     ensures told { OnOk result (Keeps (told K.written out.old) (told K.written out.new)) }
     ensures stops { IfErr result (λ status. IfSome (input_of lines.old (S.left source.old))
@@ -275,6 +277,7 @@ fn show_layout<S: Source, K: Sink>(
 ) -> Status
     requires few { length (map standing adapters.now.items) < 2 ^ 32 }
     ensures tells { IfSome (S.left source.old) (λ bytes. IsTold (map_judged bytes (map standing adapters.now.items)) result (told K.written out.old) (told K.written out.new) (map standing adapters.now.items)) }
+    ensures unwritten { result ≡ Status.SourceFault → out.new ≡ out.old }
     ensures source_later { S.faults source.old ≤ S.faults source.new }
     ensures sink_later { K.faults out.old.sink.now ≤ K.faults out.new.sink.now }
     ensures cause { IsCaused result (S.faults source.old) (S.faults source.new) (K.faults out.old.sink.now) (K.faults out.new.sink.now) }
@@ -302,6 +305,7 @@ fn finish<K: Sink>(status: Status, out: &mut Buffered<'_, K>) -> Status
     ensures told { Keeps (told K.written out.old) (told K.written out.new) }
     ensures whole { is_complete result ≡ true → Keeps (told K.written out.old) (K.written out.new.sink.now) }
     ensures at_fault { status ≡ Status.SourceFault → out.old.end ≡ 0 → Keeps (told K.written out.old) (K.written out.new.sink.now) }
+    ensures unwritten { status ≡ Status.SourceFault → out.new ≡ out.old }
     ensures same_sink { out.new.sink.ghost_name ≡ out.old.sink.ghost_name }
 {
     if status.is_complete() {
@@ -332,6 +336,7 @@ fn perform_task<S: Source, K: Sink>(
     ensures soak { (n : ℕ) → task ≡ Built.Soak n → IsTold (soak_judged n (map standing adapters.old.items)) result (told K.written out.old) (told K.written out.new) (map standing adapters.new.items) }
     ensures at_fault { task ≡ Built.Run → result ≡ Status.SourceFault → IfSome (S.left source.old) (λ bytes. BreaksOff bytes (map standing adapters.old.items) (S.left source.new) (told K.written out.old) (told K.written out.new)) }
     ensures flushed { task ≡ Built.Run → result ≡ Status.SourceFault → out.old.end ≡ 0 → out.new.end ≡ 0 }
+    ensures unwritten { task ≡ Built.Map → result ≡ Status.SourceFault → out.new ≡ out.old }
     ensures source_later { S.faults source.old ≤ S.faults source.new }
     ensures sink_later { K.faults out.old.sink.now ≤ K.faults out.new.sink.now }
     ensures cause { IsCaused result (S.faults source.old) (S.faults source.new) (K.faults out.old.sink.now) (K.faults out.new.sink.now) }
@@ -377,6 +382,9 @@ pub fn regrun<S: Source, K: Sink>(
     // After a source that failed, the sink has exactly the log of the lines of `run` that were taken whole.
     ensures at_fault { task_built (map string_bytes words.now) ≡ Some Built.Run → result ≡ Status.SourceFault → IfSome (S.left source.old)
         (λ bytes. BreaksOff bytes (map standing adapters.old.items) (S.left source.new) (K.written sink.old) (K.written sink.new)) }
+
+    // After a source that failed, `map` has written nothing: the sink is as before.
+    ensures unwritten { task_built (map string_bytes words.now) ≡ Some Built.Map → result ≡ Status.SourceFault → sink.new ≡ sink.old }
 
     // No fault is made up.
     ensures source_later { S.faults source.old ≤ S.faults source.new }

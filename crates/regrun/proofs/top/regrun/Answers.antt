@@ -1,4 +1,4 @@
-use Rattle.std.proofs.Common.{◌≡◌, sym, ◌∙◌, rules}
+use Rattle.std.proofs.Common.{◌≡◌, sym, ap, ◌∙◌, rules}
 use Rattle.regrun.specs.declared.words.Built.TheVariants as built
 use Rattle.regrun.specs.Judged.{judged, map_judged}
 use Rattle.regrun.proofs.FaultLemmas.{off_written, same_status}
@@ -37,4 +37,14 @@ returns-clause-at_fault g c = λ asked is.
     let p = c.perform_task-status.ensures in
     let fault = same_status _ _ f.kept is in
     let w = off_written _ _ _ _ _ _ (rw c.new-out.ensures.told at (p.at_fault run fault)) (f.at_fault fault (p.flushed run fault c.new-out.ensures.empty)) in
+    search (rules, w)
+
+pub returns-clause-unwritten : goal.returns-clause-unwritten
+returns-clause-unwritten g c = λ asked is.
+    let found = sym c.in-Some.is ∙ c.task_built.ensures ∙ asked in
+    let map : c.in-Some.task ≡ built.Map = cc in
+    let f = c.finish.ensures in
+    let fault = same_status _ _ f.kept is in
+    let all = f.unwritten fault ∙ c.perform_task-status.ensures.unwritten map fault in
+    let w = ap (λ b. b.sink.now) all ∙ c.new-out.ensures.sink in
     search (rules, w)
