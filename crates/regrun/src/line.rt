@@ -324,9 +324,7 @@ fn operation<D: Device, K: Log>(
     let Some(op) = op_of(m, line) else {
         return Ok(Some(LineRefusal::NoSuchName));
     };
-    let event = perform(m, d, a, op);
-    counts.count(&event);
-    out.event(m, &event)?;
+    perform(m, d, a, op, out, counts)?;
     Ok(None)
 }
 
