@@ -4,7 +4,7 @@ use Rattle.std.specs.declared.option.Option.{Option}
 use Rattle.std.proofs.KnownBytes.{Appends-nil, Appends-trans}
 use Rattle.std.proofs.lemmas.Bool.{true≢false}
 use Rattle.rl_report.specs.Pieces.{AppendsFront, Puts, Gathered, Gathers, joined}
-use Rattle.rl_report.proofs.PieceLemmas.{front_before, puts_after, puts_stopped, one_of_two}
+use Rattle.rl_report.proofs.PieceLemmas.{front_before, puts_after, puts_stopped}
 
 -- a piece was appended, and nothing was written
 pub pushed : (a : Option (List ℕ)) (t u x : List ℕ) → u ≡ t ++ x → Gathered a a t u x
@@ -64,6 +64,10 @@ unfolding joined
 gathers_failed a b t v x xs r e p = gathers_stopped a b t v (x ++ joined xs) r e (before a b t x (joined xs) p)
 
 -- two pieces that were gathered as one, and then the others
+one_of_two : (x y : List ℕ) (xs : List (List ℕ)) → joined (x ∷ y ∷ []) ++ joined xs ≡ joined (x ∷ y ∷ xs)
+unfolding joined
+one_of_two x y xs = append_assoc x (y ++ []) (joined xs) ∙ ap (λ l. x ++ (l ++ joined xs)) (append-nil y)
+
 pub gathers_two : {T E : Type 0} (a b c : Option (List ℕ)) (t u v x y : List ℕ) (xs : List (List ℕ)) (r : Result T E) → Gathered a b t u (joined (x ∷ y ∷ [])) → Gathers b c u v (joined xs) r → Gathers a c t v (joined (x ∷ y ∷ xs)) r
 gathers_two a b c t u v x y xs r p q = subst (λ l. Gathers a c t v l r) (one_of_two x y xs) (gathers_after a b c t u v (joined (x ∷ y ∷ [])) (joined xs) r p q)
 

@@ -45,21 +45,6 @@ puts_failed a b x xs r e p = puts_stopped a b (x ++ joined xs) r e (front_before
 -- For `search`: what shows that calls put a text piece by piece.
 pub ruleset by_pieces = (puts_more, puts_last, puts_failed)
 
--- two pieces that were put as one
-pub one_of_two : (x y : List ℕ) (xs : List (List ℕ)) → joined (x ∷ y ∷ []) ++ joined xs ≡ joined (x ∷ y ∷ xs)
-unfolding joined
-one_of_two x y xs = append_assoc x (y ++ []) (joined xs) ∙ ap (λ l. x ++ (l ++ joined xs)) (append-nil y)
-
-pub puts_two : {T E : Type 0} (a b c : Option (List ℕ)) (x y : List ℕ) (xs : List (List ℕ)) (r : Result T E) → Appends a b (joined (x ∷ y ∷ [])) → Puts b c (joined xs) r → Puts a c (joined (x ∷ y ∷ xs)) r
-puts_two a b c x y xs r p q = subst (λ l. Puts a c l r) (one_of_two x y xs) (puts_after a b c (joined (x ∷ y ∷ [])) (joined xs) r p q)
-
-pub two_failed : {T E : Type 0} (a b : Option (List ℕ)) (x y : List ℕ) (xs : List (List ℕ)) (r : Result T E) → IsErr r → AppendsFront a b (joined (x ∷ y ∷ [])) → Puts a b (joined (x ∷ y ∷ xs)) r
-two_failed a b x y xs r e p = subst (λ l. Puts a b l r) (one_of_two x y xs) (puts_stopped a b (joined (x ∷ y ∷ []) ++ joined xs) r e (front_before a b (joined (x ∷ y ∷ [])) (joined xs) p))
-
--- the same bytes
-pub puts_same : {T E : Type 0} (a b : Option (List ℕ)) (xs ys : List ℕ) (r : Result T E) → xs ≡ ys → Puts a b xs r → Puts a b ys r
-puts_same a b xs ys r e p = subst (λ l. Puts a b l r) e p
-
 -- a text of three parts, where the second is of seven pieces
 text_of_three : (t x a b c d e f g y : List ℕ) → ((((((((t ++ x) ++ a) ++ b) ++ c) ++ d) ++ e) ++ f) ++ g) ++ y ≡ t ++ joined (x ∷ joined (a ∷ b ∷ c ∷ d ∷ e ∷ f ∷ g ∷ []) ∷ y ∷ [])
 unfolding joined

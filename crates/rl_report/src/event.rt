@@ -19,6 +19,7 @@ use rl_access::{End, Event, Model, Op, Refused, TraceItem};
 use rl_model::Item;
 
 // Appends a number that may be missing.
+#[inline]
 fn push_number(text: &mut Text, n: Option<u64>)
     requires room { length text.old + 19 ≤ 512 }
     ensures text { text.new ≡ text.old ++ number_text n }
@@ -31,7 +32,7 @@ fn push_number(text: &mut Text, n: Option<u64>)
     text.push_hex(n);
 }
 
-// Appends a map that may be missing.
+// Gathers a map that may be missing.
 fn put_map<K: Sink>(
     sink: &mut K,
     text: &mut Text,
@@ -76,7 +77,7 @@ fn kind_name(model: &Model, kind: u32) -> &[u8]
     model.chip().kind_name(kind)
 }
 
-// Writes an operation on a register.
+// Gathers an operation on a register.
 fn put_reg<K: Sink>(
     sink: &mut K,
     text: &mut Text,
@@ -99,7 +100,7 @@ fn put_reg<K: Sink>(
     put_map(sink, text, model, through)
 }
 
-// Writes an operation on a field.
+// Gathers an operation on a field.
 fn put_field<K: Sink>(
     sink: &mut K,
     text: &mut Text,
@@ -128,7 +129,7 @@ fn put_field<K: Sink>(
     put_map(sink, text, model, through)
 }
 
-// Writes an operation on a location.
+// Gathers an operation on a location.
 fn put_mem<K: Sink>(
     sink: &mut K,
     text: &mut Text,
@@ -153,7 +154,7 @@ fn put_mem<K: Sink>(
     put_map(sink, text, model, through)
 }
 
-// Writes a burst.
+// Gathers a burst.
 fn put_burst<K: Sink>(
     sink: &mut K,
     text: &mut Text,
@@ -192,7 +193,7 @@ fn put_reset<K: Sink>(sink: &mut K, text: &mut Text, model: &Model, kind: u32) -
     gather(sink, text, kind_name(model, kind))
 }
 
-// Writes an operation on a register, in canonical spelling.
+// Gathers an operation on a register, in canonical spelling.
 fn put_reg_op<K: Sink>(sink: &mut K, text: &mut Text, model: &Model, op: Op) -> Result<(), Failed>
     requires numbers { HasNumbers model.now.chip (length model.now.layout.maps) op }
     requires on_register { is_on_register op ≡ true }
@@ -231,7 +232,7 @@ fn put_reg_op<K: Sink>(sink: &mut K, text: &mut Text, model: &Model, op: Op) -> 
     }
 }
 
-// Writes an operation in canonical spelling.
+// Gathers an operation in canonical spelling.
 fn put_op<K: Sink>(sink: &mut K, text: &mut Text, model: &Model, op: Op) -> Result<(), Failed>
     requires { HasNumbers model.now.chip (length model.now.layout.maps) op }
     ensures bytes { Gathers (K.written sink.old) (K.written sink.new) text.old text.new (op_text model.now op) result }
@@ -465,6 +466,7 @@ fn push_value(text: &mut Text, before: &[u8], value: u64, count: u32)
 }
 
 // Appends how an operation ended.
+#[inline]
 fn push_end(text: &mut Text, model: &Model, event: &Event)
     requires fits { EventFits model.now event.now }
     requires room { length text.old + 40 ≤ 512 }
@@ -520,7 +522,7 @@ fn has_mark(differ: u64, place: u32) -> bool
     differ >> place & 1 == 1
 }
 
-// Writes the name of a register's field, where it differs.
+// Gathers the name of a register's field, where it differs.
 fn put_name<K: Sink>(
     sink: &mut K,
     text: &mut Text,
@@ -544,7 +546,7 @@ fn put_name<K: Sink>(
     gather(sink, text, name_of(model, first + place))
 }
 
-// Writes the names of the differing fields of a register.
+// Gathers the names of the differing fields of a register.
 fn put_names<K: Sink>(
     sink: &mut K,
     text: &mut Text,
@@ -565,7 +567,7 @@ fn put_names<K: Sink>(
     Ok(())
 }
 
-// Writes which fields of a register differ, if any.
+// Gathers which fields of a register differ, if any.
 fn put_differ<K: Sink>(
     sink: &mut K,
     text: &mut Text,
@@ -615,7 +617,7 @@ fn push_desired(text: &mut Text, model: &Model, event: &Event, reg: u32)
     push_value(text, b" desired 0x", event.desired, digits);
 }
 
-// Writes what is believed of the register of an event.
+// Gathers what is believed of the register of an event.
 fn put_register<K: Sink>(
     sink: &mut K,
     text: &mut Text,
@@ -638,7 +640,7 @@ fn put_register<K: Sink>(
     put_differ(sink, text, model, event, reg)
 }
 
-// Writes what is known after an operation that wasn't refused.
+// Gathers what is known after an operation that wasn't refused.
 fn put_after<K: Sink>(
     sink: &mut K,
     text: &mut Text,
@@ -665,7 +667,7 @@ fn is_refused(end: End) -> bool
     matches!(end, End::Refused { .. })
 }
 
-// Writes what stands after an operation: nothing where that is refused.
+// Gathers what stands after an operation: nothing where that is refused.
 fn put_rest<K: Sink>(
     sink: &mut K,
     text: &mut Text,
@@ -685,7 +687,7 @@ fn put_rest<K: Sink>(
     put_after(sink, text, model, event)
 }
 
-// Writes what came of an operation.
+// Gathers what came of an operation.
 fn put_result<K: Sink>(
     sink: &mut K,
     text: &mut Text,
@@ -760,6 +762,7 @@ fn word_of(item: &TraceItem) -> u64
 }
 
 // Appends an item's way, address, word, byte enables, tag and answer.
+#[inline(always)]
 fn push_transfer(text: &mut Text, model: &Model, item: &TraceItem)
     requires fits { ItemFits model.now.layout item.now }
     requires room { length text.old + 128 ≤ 512 }
@@ -779,6 +782,7 @@ fn push_transfer(text: &mut Text, model: &Model, item: &TraceItem)
 }
 
 // Gathers the line of a bus item.
+#[inline]
 fn put_item<K: Sink>(
     sink: &mut K,
     text: &mut Text,

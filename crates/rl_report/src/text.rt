@@ -111,6 +111,7 @@ impl Text {
     }
 
     // So many hexadecimal digits of a number that has no more.
+    #[inline(always)]
     pub(crate) fn push_padded(&mut self, n: u64, count: u32)
         requires some { 1 ≤ count }
         requires few { count ≤ 16 }
