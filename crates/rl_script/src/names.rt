@@ -1,5 +1,5 @@
 //! Names, and paths of names.
-ghost use Rattle.std.specs.Prelude.{◌≡◌, ◌==◌, ◌&&◌, nat_lt, if◌then◌else◌};
+ghost use Rattle.std.specs.Prelude.{◌≡◌, ◌&&◌, ◌||◌, nat_le, nat_lt};
 ghost use Rattle.std.specs.List.{list_all};
 ghost use Rattle.rl_script.specs.Names as spec;
 
@@ -144,15 +144,18 @@ fn are_in_name(text: &[u8]) -> bool
     text.iter().all(|byte| is_in_name(*byte))
 }
 
-/// Whether a byte may stand behind so many bytes of a name.
-fn may_follow(len: usize, byte: u8) -> bool
-    ensures { result ≡ (if len == 0 then spec.begins_name byte else spec.is_in_name byte && nat_lt len 32) }
+/// Whether a name may have so many bytes.
+fn is_name_len(len: usize) -> bool
+    ensures { result ≡ (nat_le 1 len && nat_le len 32) }
 {
-    if len == 0 {
-        begins_name(byte)
-    } else {
-        is_in_name(byte) && len < 32
-    }
+    matches!(len, 1..=32)
+}
+
+/// Whether a byte of a name may stand behind so many bytes of it.
+fn may_be_next(len: usize, byte: u8) -> bool
+    ensures { result ≡ (nat_lt 0 len || spec.begins_name byte) }
+{
+    len > 0 || begins_name(byte)
 }
 
 /// Counts the names on the way, and the bytes of each.
@@ -160,20 +163,20 @@ pub(crate) fn is_path(text: &[u8]) -> bool
     ensures { result ≡ spec.is_path text.now }
 {
     let mut names = 1usize;
-    let mut len = 0;
+    let mut len = 0usize;
     for byte in text {
-        if *byte == b'.' {
-            if len == 0 || names == 9 {
+        if is_in_name(*byte) {
+            if !may_be_next(len, *byte) {
+                return false;
+            }
+            len += 1;
+        } else {
+            if *byte != b'.' || !is_name_len(len) || names == 9 {
                 return false;
             }
             names += 1;
             len = 0;
-        } else {
-            if !may_follow(len, *byte) {
-                return false;
-            }
-            len += 1;
         }
     }
-    len > 0
+    is_name_len(len)
 }

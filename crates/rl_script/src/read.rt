@@ -46,12 +46,13 @@ fn read_bytes(alloc: Global, bytes: &[u8]) -> Result<Line, LineFault>
     let Some((word, rest)) = next_word(bytes) else {
         return Ok(Line::Blank);
     };
+    // By `return`, since the value of a `match` is copied once more.
     match Command::named(word) {
-        Some(Command::OnItem(item)) => read_item(alloc, item, rest),
-        Some(Command::BurstWrite) => read_burst_write(alloc, rest),
-        Some(Command::Reset) => read_reset(alloc, rest),
-        Some(Command::Seq) => read_seq(alloc, rest),
-        None => Err(LineFault::NoSuchCommand),
+        Some(Command::OnItem(item)) => return read_item(alloc, item, rest),
+        Some(Command::BurstWrite) => return read_burst_write(alloc, rest),
+        Some(Command::Reset) => return read_reset(alloc, rest),
+        Some(Command::Seq) => return read_seq(alloc, rest),
+        None => return Err(LineFault::NoSuchCommand),
     }
 }
 
@@ -86,11 +87,10 @@ fn read_item(alloc: Global, item: Item, text: &[u8]) -> Result<Line, LineFault>
     let (first, rest) = number_if(row.numbers >= 1, rest)?;
     let (second, rest) = number_if(row.numbers >= 2, rest)?;
     let map = map_if(alloc, named, rest)?;
-    if item.may_count(second) {
-        Ok(item.line(path, first, second, map))
-    } else {
-        Err(LineFault::CountOutOfRange)
+    if !item.may_count(second) {
+        return Err(LineFault::CountOutOfRange);
     }
+    Ok(item.line(path, first, second, map))
 }
 
 fn read_burst_write(alloc: Global, text: &[u8]) -> Result<Line, LineFault>

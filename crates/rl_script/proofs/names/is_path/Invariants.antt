@@ -8,5 +8,5 @@ abbrev pub invariant-loop-byte : goal.invariant-loop-byte
 invariant-loop-byte l = record {
   rest : goes_on l.names l.len (drop l.byte-index l.text) ≡ is_path l.text;
   names : l.names ≤ 9;
-  len : l.len ≤ 32;
+  len : l.len ≤ l.byte-index;
 }
