@@ -95,28 +95,29 @@ fn conclude_write(m: &mut Model, access: &Access, good: End, trace: &Trace) -> E
     }
 }
 
-/// A write of a register, told as an operation that ends so where no item failed.
+/// A write of a register, told in the event of an operation that has sent nothing yet and ends so where no
+/// item failed.
 pub(crate) fn write_as<D: Device>(
     m: &mut Model,
     d: &mut D,
     a: &mut Adapters,
-    op: Op,
     access: &Access,
     good: End,
-) -> Event
+    event: &mut Event,
+)
+    requires empty { event.old.trace ≡ [] }
     requires ready { IsReady m.old (map standing a.old.items) (D.state d.old) }
     requires access { IsAccessOn m.old access.now }
-    requires told { IsTold m.old op access.now.reg }
-    requires ends { has_end op good ≡ true }
-    requires within { IsEndWithin (digits_of m.old.chip op) good }
+    requires told { IsTold m.old event.old.op access.now.reg }
+    requires ends { has_end event.old.op good ≡ true }
+    requires within { IsEndWithin (digits_of m.old.chip event.old.op) good }
     ensures ready { IsReady m.new (map standing a.new.items) (D.state d.new) }
-    ensures sent { AreSent (adapter_for m.old.layout access.now.place) (port_for m.old.layout access.now.place) (access_ops m.old access.now true) result.trace (map standing a.old.items) (map standing a.new.items) (D.errors d.old) (D.errors d.new) (D.state d.old) (D.state d.new) }
-    ensures event { result ≡ register_event op access.now.reg result.trace (write_outcome m.old good access.now result.trace) }
-    ensures model { m.new ≡ (write_outcome m.old good access.now result.trace).model }
+    ensures sent { AreSent (adapter_for m.old.layout access.now.place) (port_for m.old.layout access.now.place) (access_ops m.old access.now true) event.new.trace (map standing a.old.items) (map standing a.new.items) (D.errors d.old) (D.errors d.new) (D.state d.old) (D.state d.new) }
+    ensures event { event.new ≡ register_event event.old.op access.now.reg event.new.trace (write_outcome m.old good access.now event.new.trace) }
+    ensures model { m.new ≡ (write_outcome m.old good access.now event.new.trace).model }
     ensures parts { IsSameChip m.old m.new }
-    ensures fits { EventFits m.new result }
+    ensures fits { EventFits m.new event.new }
 {
-    let mut event = Event::begun(op);
     let mut words = Words::new();
     operations(
         m,
@@ -129,8 +130,7 @@ pub(crate) fn write_as<D: Device>(
     );
     send(m, d, a, access.place, &words, &mut event.trace);
     let end = conclude_write(m, access, good, &event.trace);
-    m.conclude(access.reg, end, 0, &mut event);
-    event
+    m.conclude(access.reg, end, 0, event);
 }
 
 /// The value that the items of a read brought.

@@ -39,14 +39,15 @@ pub fn field_write<D: Device>(
         map: m.map_used(place, map),
         value,
     };
-    match m.fitting_field(field, value, m.way(place, true)) {
-        Ok(place) => {
-            let access = m.field_written(field, place, value);
-            forget_around(m, field, place, true);
-            write_as(m, d, a, op, &access, End::Done)
-        }
-        Err(why) => m.refuse(op, reg, why),
-    }
+    let place = match m.fitting_field(field, value, m.way(place, true)) {
+        Ok(place) => place,
+        Err(why) => return m.refuse(op, reg, why),
+    };
+    let access = m.field_written(field, place, value);
+    forget_around(m, field, place, true);
+    let mut event = Event::begun(op);
+    write_as(m, d, a, &access, End::Done, &mut event);
+    event
 }
 
 /// Reads a field over the bus: its own bytes alone where the access may be narrow, else the whole register.
@@ -71,18 +72,17 @@ pub fn field_read<D: Device>(
         field,
         map: m.map_used(place, map),
     };
-    match m.way(place, false) {
-        Ok(place) => {
-            let access = m.field_read(field, place);
-            forget_around(m, field, place, false);
-            let mut event = Event::begun(op);
-            let (whole, _) = read(m, d, a, &access, false, &mut event.trace);
-            let end = part_of(&shape, whole);
-            m.conclude(shape.reg, end, 0, &mut event);
-            event
-        }
-        Err(why) => m.refuse(op, shape.reg, why),
-    }
+    let place = match m.way(place, false) {
+        Ok(place) => place,
+        Err(why) => return m.refuse(op, shape.reg, why),
+    };
+    let access = m.field_read(field, place);
+    forget_around(m, field, place, false);
+    let mut event = Event::begun(op);
+    let (whole, _) = read(m, d, a, &access, false, &mut event.trace);
+    let end = part_of(&shape, whole);
+    m.conclude(shape.reg, end, 0, &mut event);
+    event
 }
 
 // Forgets what was gathered of the place, unless the access reaches the field's bytes alone.

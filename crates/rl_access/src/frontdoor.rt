@@ -1,5 +1,5 @@
 //! Accesses to registers over the bus.
-ghost use Rattle.std.specs.Prelude.{◌<◌, map as each, length, if◌then◌else◌};
+ghost use Rattle.std.specs.Prelude.{◌≡◌, ◌<◌, map as each, length, if◌then◌else◌};
 ghost use Rattle.rl_access.specs.Call.{Performs, scene};
 ghost use Rattle.rl_access.specs.Event.{EventFits};
 ghost use Rattle.rl_access.specs.Model.{IsReady, IsSameChip};
@@ -35,14 +35,15 @@ pub fn front_write<D: Device>(
         map: m.map_used(place, map),
         value,
     };
-    match m.fitting(Item::Reg(reg), value, m.way(place, true)) {
-        Ok(place) => {
-            let access = m.whole(reg, place, value);
-            m.forget(place);
-            write_as(m, d, a, op, &access, End::Done)
-        }
-        Err(why) => m.refuse(op, reg, why),
-    }
+    let place = match m.fitting(Item::Reg(reg), value, m.way(place, true)) {
+        Ok(place) => place,
+        Err(why) => return m.refuse(op, reg, why),
+    };
+    let access = m.whole(reg, place, value);
+    m.forget(place);
+    let mut event = Event::begun(op);
+    write_as(m, d, a, &access, End::Done, &mut event);
+    event
 }
 
 /// Reads a register over the bus.
@@ -66,76 +67,13 @@ pub fn front_read<D: Device>(
         reg,
         map: m.map_used(place, map),
     };
-    match m.way(place, false) {
-        Ok(place) => {
-            let access = m.whole_read(reg, place);
-            m.forget(place);
-            read_as(m, d, a, op, &access, false)
-        }
-        Err(why) => m.refuse(op, reg, why),
-    }
-}
-
-/// Reads a register to learn its value.
-fn mirror_register<D: Device>(
-    m: &mut Model,
-    d: &mut D,
-    a: &mut Adapters,
-    reg: u32,
-    map: Option<u32>,
-) -> Event
-    requires ready { IsReady m.old (each standing a.old.items) (D.state d.old) }
-    requires reg { reg < length m.old.chip.regs }
-    requires map { IsMapIn (length m.old.layout.maps) map }
-    ensures ready { IsReady m.new (each standing a.new.items) (D.state d.new) }
-    ensures parts { IsSameChip m.old m.new }
-    ensures fits { EventFits m.new result }
-    ensures performs { Performs (scene m.old (each standing a.old.items) (D.errors d.old) (D.state d.old)) (scene m.new (each standing a.new.items) (D.errors d.new) (D.state d.new)) (op.Mirror reg map) result }
-{
-    let place = m.place_of(Item::Reg(reg), map);
-    let op = Op::Mirror {
-        reg,
-        map: m.map_used(place, map),
+    let place = match m.way(place, false) {
+        Ok(place) => place,
+        Err(why) => return m.refuse(op, reg, why),
     };
-    match m.way(place, false) {
-        Ok(place) => {
-            let access = m.whole_read(reg, place);
-            m.forget(place);
-            read_as(m, d, a, op, &access, false)
-        }
-        Err(why) => m.refuse(op, reg, why),
-    }
-}
-
-/// Reads a register, and names the compared fields that differ from what was mirrored.
-fn check_register<D: Device>(
-    m: &mut Model,
-    d: &mut D,
-    a: &mut Adapters,
-    reg: u32,
-    map: Option<u32>,
-) -> Event
-    requires ready { IsReady m.old (each standing a.old.items) (D.state d.old) }
-    requires reg { reg < length m.old.chip.regs }
-    requires map { IsMapIn (length m.old.layout.maps) map }
-    ensures ready { IsReady m.new (each standing a.new.items) (D.state d.new) }
-    ensures parts { IsSameChip m.old m.new }
-    ensures fits { EventFits m.new result }
-    ensures performs { Performs (scene m.old (each standing a.old.items) (D.errors d.old) (D.state d.old)) (scene m.new (each standing a.new.items) (D.errors d.new) (D.state d.new)) (op.Check reg map) result }
-{
-    let place = m.place_of(Item::Reg(reg), map);
-    let op = Op::Check {
-        reg,
-        map: m.map_used(place, map),
-    };
-    match m.way(place, false) {
-        Ok(place) => {
-            let access = m.whole_read(reg, place);
-            m.forget(place);
-            read_as(m, d, a, op, &access, true)
-        }
-        Err(why) => m.refuse(op, reg, why),
-    }
+    let access = m.whole_read(reg, place);
+    m.forget(place);
+    read_as(m, d, a, op, &access, false)
 }
 
 /// Reads a register over the bus to learn its value. With `check` the event names the compared fields whose
@@ -156,9 +94,23 @@ pub fn mirror<D: Device>(
     ensures fits { EventFits m.new result }
     ensures performs { Performs (scene m.old (each standing a.old.items) (D.errors d.old) (D.state d.old)) (scene m.new (each standing a.new.items) (D.errors d.new) (D.state d.new)) (if check then op.Check reg map else op.Mirror reg map) result }
 {
+    let place = m.place_of(Item::Reg(reg), map);
+    let op = mirroring(reg, m.map_used(place, map), check);
+    let place = match m.way(place, false) {
+        Ok(place) => place,
+        Err(why) => return m.refuse(op, reg, why),
+    };
+    let access = m.whole_read(reg, place);
+    m.forget(place);
+    read_as(m, d, a, op, &access, check)
+}
+
+fn mirroring(reg: u32, map: Option<u32>, check: bool) -> Op
+    ensures { result ≡ (if check then op.Check reg map else op.Mirror reg map) }
+{
     if check {
-        check_register(m, d, a, reg, map)
+        Op::Check { reg, map }
     } else {
-        mirror_register(m, d, a, reg, map)
+        Op::Mirror { reg, map }
     }
 }

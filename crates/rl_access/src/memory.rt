@@ -180,15 +180,14 @@ pub fn mem_write<D: Device>(
         value,
     };
     let way = m.writable(mem, m.way(place, true));
-    match m.fitting(item, value, m.at_location(mem, index, way)) {
-        Ok(place) => {
-            let mut event = Event::begun(op);
-            let end = write_location(m, d, a, mem, place, index, value, &mut event.trace);
-            m.conclude_memory(end, 0, &mut event);
-            event
-        }
-        Err(why) => m.refuse_memory(op, why),
-    }
+    let place = match m.fitting(item, value, m.at_location(mem, index, way)) {
+        Ok(place) => place,
+        Err(why) => return m.refuse_memory(op, why),
+    };
+    let mut event = Event::begun(op);
+    let end = write_location(m, d, a, mem, place, index, value, &mut event.trace);
+    m.conclude_memory(end, 0, &mut event);
+    event
 }
 
 /// Reads a location of a memory over the bus.
@@ -214,15 +213,14 @@ pub fn mem_read<D: Device>(
         map: m.map_used(place, map),
         index,
     };
-    match m.at_location(mem, index, m.way(place, false)) {
-        Ok(place) => {
-            let mut event = Event::begun(op);
-            let end = read_location(m, d, a, mem, place, index, &mut event.trace);
-            m.conclude_memory(end, 0, &mut event);
-            event
-        }
-        Err(why) => m.refuse_memory(op, why),
-    }
+    let place = match m.at_location(mem, index, m.way(place, false)) {
+        Ok(place) => place,
+        Err(why) => return m.refuse_memory(op, why),
+    };
+    let mut event = Event::begun(op);
+    let end = read_location(m, d, a, mem, place, index, &mut event.trace);
+    m.conclude_memory(end, 0, &mut event);
+    event
 }
 
 /// Reads a location of a memory over the bus, and compares it with a value.
@@ -251,15 +249,14 @@ pub fn mem_check<D: Device>(
         index,
         value,
     };
-    match m.fitting(item, value, m.at_location(mem, index, m.way(place, false))) {
-        Ok(place) => {
-            let mut event = Event::begun(op);
-            let end = read_location(m, d, a, mem, place, index, &mut event.trace);
-            m.conclude_memory(end, differs(end, value), &mut event);
-            event
-        }
-        Err(why) => m.refuse_memory(op, why),
-    }
+    let place = match m.fitting(item, value, m.at_location(mem, index, m.way(place, false))) {
+        Ok(place) => place,
+        Err(why) => return m.refuse_memory(op, why),
+    };
+    let mut event = Event::begun(op);
+    let end = read_location(m, d, a, mem, place, index, &mut event.trace);
+    m.conclude_memory(end, differs(end, value), &mut event);
+    event
 }
 
 // 1 where a value was read that isn't the given one.

@@ -35,14 +35,15 @@ pub fn other_write<D: Device>(
         map: m.map_used(place, map),
         value,
     };
-    match m.fitting(Item::Reg(reg), value, m.watched_way(place, true)) {
-        Ok(place) => {
-            let access = m.whole(reg, place, value);
-            m.forget(place);
-            write_as(m, d, a, op, &access, End::Done)
-        }
-        Err(why) => m.refuse(op, reg, why),
-    }
+    let place = match m.fitting(Item::Reg(reg), value, m.watched_way(place, true)) {
+        Ok(place) => place,
+        Err(why) => return m.refuse(op, reg, why),
+    };
+    let access = m.whole(reg, place, value);
+    m.forget(place);
+    let mut event = Event::begun(op);
+    write_as(m, d, a, &access, End::Done, &mut event);
+    event
 }
 
 /// Another master reads a register through an explicit root.
@@ -66,12 +67,11 @@ pub fn other_read<D: Device>(
         reg,
         map: m.map_used(place, map),
     };
-    match m.watched_way(place, false) {
-        Ok(place) => {
-            let access = m.whole_read(reg, place);
-            m.forget(place);
-            read_as(m, d, a, op, &access, false)
-        }
-        Err(why) => m.refuse(op, reg, why),
-    }
+    let place = match m.watched_way(place, false) {
+        Ok(place) => place,
+        Err(why) => return m.refuse(op, reg, why),
+    };
+    let access = m.whole_read(reg, place);
+    m.forget(place);
+    read_as(m, d, a, op, &access, false)
 }

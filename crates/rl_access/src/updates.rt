@@ -38,17 +38,20 @@ pub fn update<D: Device>(
         reg,
         map: m.map_used(place, map),
     };
-    match m.way(place, true) {
-        Ok(place) if m.needs_update(reg) => {
-            law_of_update(m);
-            let word = m.update_word_of(reg);
-            let access = m.whole(reg, place, word);
-            m.forget(place);
-            write_as(m, d, a, op, &access, End::Sent { word })
-        }
-        Ok(_) => m.event(op, reg, End::Nothing, 0),
-        Err(why) => m.refuse(op, reg, why),
+    let place = match m.way(place, true) {
+        Ok(place) => place,
+        Err(why) => return m.refuse(op, reg, why),
+    };
+    if !m.needs_update(reg) {
+        return m.event(op, reg, End::Nothing, 0);
     }
+    law_of_update(m);
+    let word = m.update_word_of(reg);
+    let access = m.whole(reg, place, word);
+    m.forget(place);
+    let mut event = Event::begun(op);
+    write_as(m, d, a, &access, End::Sent { word }, &mut event);
+    event
 }
 
 // It does nothing; its contract is the law of update, at this model.

@@ -8,8 +8,8 @@ use Rattle.rl_access.specs.Rules.{Outcome, grant, register_event, way}
 use Rattle.rl_access.proofs.OverBus.{field_place_is, way_is, map_is, field_read_performs}
 use Rattle.rl_access.proofs.fields.field_read.Goals as goal
 
-pub returns-in-Ok-clause-performs : goal.returns-in-Ok-clause-performs
-returns-in-Ok-clause-performs g c =
+pub returns-clause-performs : goal.returns-clause-performs
+returns-clause-performs g c =
     let m = c.args.m.now in
     let reg = item.Reg (reg_of m.chip c.args.field) in
     let asked = op.FieldRead c.args.field c.args.map in

@@ -6,8 +6,8 @@ use Rattle.rl_access.proofs.OverBus.{way_is, map_is, is_read}
 use Rattle.rl_access.proofs.Performed.{read_performs}
 use Rattle.rl_access.proofs.frontdoor.front_read.Goals as goal
 
-pub returns-in-Ok-clause-performs : goal.returns-in-Ok-clause-performs
-returns-in-Ok-clause-performs g c =
+pub returns-clause-performs : goal.returns-clause-performs
+returns-clause-performs g c =
     let m = c.args.m.now in
     let reg = item.Reg c.args.reg in
     let asked = op.Read c.args.reg c.args.map in

@@ -5,8 +5,8 @@ use Rattle.rl_access.proofs.BackPerforms.{then_only}
 use Rattle.rl_access.proofs.MemoryPerforms.{way_is, map_is, mem_read_performs}
 use Rattle.rl_access.proofs.memory.mem_read.Goals as goal
 
-pub returns-in-Ok-clause-performs : goal.returns-in-Ok-clause-performs
-returns-in-Ok-clause-performs g c =
+pub returns-clause-performs : goal.returns-clause-performs
+returns-clause-performs g c =
     let m = c.args.m.now in
     let mem = c.args.mem in
     let way = way_is m mem c.args.map c.place_of-place.result false c.way.result c.place_of-place.ensures.place c.way.ensures.grant in
