@@ -218,6 +218,7 @@ fn log_burst_read<D: Device, K: Log>(
 }
 
 // Runs a line that is a burst of writes.
+#[inline(never)]
 fn write_burst<D: Device, K: Log>(
     m: &mut Model,
     d: &mut D,
@@ -248,6 +249,7 @@ fn write_burst<D: Device, K: Log>(
 }
 
 // Runs a line that is a burst of reads.
+#[inline(never)]
 fn read_burst<D: Device, K: Log>(
     m: &mut Model,
     d: &mut D,
@@ -278,6 +280,7 @@ fn read_burst<D: Device, K: Log>(
 }
 
 // Runs a line that is a sequence, with the lines around its events.
+#[inline(never)]
 fn sequence<D: Device, K: Log>(
     m: &mut Model,
     d: &mut D,
@@ -305,6 +308,7 @@ fn sequence<D: Device, K: Log>(
 }
 
 // Runs a line that is one operation.
+#[inline(never)]
 fn operation<D: Device, K: Log>(
     m: &mut Model,
     d: &mut D,
