@@ -81,6 +81,15 @@ op_named m _ = None
 
 -- ---- lines by what they are on
 
+-- on a register over the bus
+abbrev pub is_on_bus : Line → Bool
+is_on_bus (line.Write reg value map) = true
+is_on_bus (line.Read reg map) = true
+is_on_bus (line.Mirror reg map) = true
+is_on_bus (line.Check reg map) = true
+is_on_bus (line.Update reg map) = true
+is_on_bus _ = false
+
 abbrev pub is_on_memory : Line → Bool
 is_on_memory (line.MemWrite mem index value map) = true
 is_on_memory (line.MemCheck mem index value map) = true

@@ -2,7 +2,7 @@
 ghost use Rattle.std.specs.Prelude.{◌≡◌, ◌<◌, true, false, length, IfSome};
 ghost use Rattle.rl_access.specs.Operation.{IsMapIn, HasNumbers};
 ghost use Rattle.regrun.specs.Operations.{is_single};
-ghost use Rattle.regrun.specs.Named.{map_asked, reg_named, field_named, mem_named, block_named, block_asked, kind_named, op_named, is_on_memory, is_on_field, is_off_bus};
+ghost use Rattle.regrun.specs.Named.{map_asked, reg_named, field_named, mem_named, block_named, block_asked, kind_named, op_named, is_on_bus, is_on_field, is_on_memory, is_off_bus};
 
 use rl_access::{Model, Op};
 use rl_script::{Ident, Line, Path};
@@ -56,47 +56,34 @@ fn kind_named(model: &Model, name: &Ident) -> Option<u32>
     model.chip().kind_by_name(name.text())
 }
 
-// The operation of a line on a register over the bus, if the names are there.
-fn bus_op(model: &Model, line: &Line) -> Option<Op>
-    ensures named { is_on_memory line.now ≡ false → is_on_field line.now ≡ false → is_off_bus line.now ≡ false → result ≡ op_named model.now line.now }
+// The operation of a line on a register by another driver.
+fn other_op(model: &Model, line: &Line) -> Option<Op>
+    ensures named { is_on_bus line.now ≡ false → is_on_field line.now ≡ false → is_on_memory line.now ≡ false → is_off_bus line.now ≡ false → result ≡ op_named model.now line.now }
     ensures numbers { IfSome result (HasNumbers model.now.chip (length model.now.layout.maps)) }
     ensures single { IfSome result (λ op. is_single op ≡ true) }
 {
-    let (reg, name) = match line {
-        Line::Write { reg, map, .. }
-        | Line::Read { reg, map }
-        | Line::Mirror { reg, map }
-        | Line::Check { reg, map }
-        | Line::Update { reg, map }
-        | Line::OtherWrite { reg, map, .. }
-        | Line::OtherRead { reg, map } => (reg, map),
-        _ => return None,
-    };
-    let reg = reg_at(model, reg)?;
-    let map = map_asked(model, name)?;
     match line {
-        Line::Write { value, .. } => Some(Op::Write {
-            reg,
-            map,
-            value: *value,
-        }),
-        Line::Read { .. } => Some(Op::Read { reg, map }),
-        Line::Mirror { .. } => Some(Op::Mirror { reg, map }),
-        Line::Check { .. } => Some(Op::Check { reg, map }),
-        Line::Update { .. } => Some(Op::Update { reg, map }),
-        Line::OtherWrite { value, .. } => Some(Op::OtherWrite {
-            reg,
-            map,
-            value: *value,
-        }),
-        Line::OtherRead { .. } => Some(Op::OtherRead { reg, map }),
+        Line::OtherWrite { reg, value, map } => {
+            let reg = reg_at(model, reg)?;
+            let map = map_asked(model, map)?;
+            Some(Op::OtherWrite {
+                reg,
+                map,
+                value: *value,
+            })
+        }
+        Line::OtherRead { reg, map } => {
+            let reg = reg_at(model, reg)?;
+            let map = map_asked(model, map)?;
+            Some(Op::OtherRead { reg, map })
+        }
         _ => None,
     }
 }
 
 // The operation of a line on a register by the backdoor or on the model alone, or a reset.
 fn back_op(model: &Model, line: &Line) -> Option<Op>
-    ensures named { is_on_memory line.now ≡ false → is_on_field line.now ≡ false → result ≡ op_named model.now line.now }
+    ensures named { is_on_bus line.now ≡ false → is_on_field line.now ≡ false → is_on_memory line.now ≡ false → result ≡ op_named model.now line.now }
     ensures numbers { IfSome result (HasNumbers model.now.chip (length model.now.layout.maps)) }
     ensures single { IfSome result (λ op. is_single op ≡ true) }
 {
@@ -124,52 +111,13 @@ fn back_op(model: &Model, line: &Line) -> Option<Op>
         Line::Reset { kind } => Some(Op::Reset {
             kind: kind_named(model, kind)?,
         }),
-        _ => bus_op(model, line),
+        _ => other_op(model, line),
     }
 }
 
-// The operation of a line on a field.
-fn field_op(model: &Model, line: &Line) -> Option<Op>
-    ensures named { is_on_memory line.now ≡ false → result ≡ op_named model.now line.now }
-    ensures numbers { IfSome result (HasNumbers model.now.chip (length model.now.layout.maps)) }
-    ensures single { IfSome result (λ op. is_single op ≡ true) }
-{
-    match line {
-        Line::FieldWrite { field, value, map } => {
-            let field = field_at(model, field)?;
-            let map = map_asked(model, map)?;
-            Some(Op::FieldWrite {
-                field,
-                map,
-                value: *value,
-            })
-        }
-        Line::FieldRead { field, map } => {
-            let field = field_at(model, field)?;
-            let map = map_asked(model, map)?;
-            Some(Op::FieldRead { field, map })
-        }
-        Line::Set { field, value } => {
-            let field = field_at(model, field)?;
-            Some(Op::Set {
-                field,
-                value: *value,
-            })
-        }
-        Line::Hw { field, value } => {
-            let field = field_at(model, field)?;
-            Some(Op::Hw {
-                field,
-                value: *value,
-            })
-        }
-        _ => back_op(model, line),
-    }
-}
-
-// The operation of a line, if its names are there.
-pub(crate) fn op_of(model: &Model, line: &Line) -> Option<Op>
-    ensures named { result ≡ op_named model.now line.now }
+// The operation of a line on a memory.
+fn mem_op(model: &Model, line: &Line) -> Option<Op>
+    ensures named { is_on_bus line.now ≡ false → is_on_field line.now ≡ false → result ≡ op_named model.now line.now }
     ensures numbers { IfSome result (HasNumbers model.now.chip (length model.now.layout.maps)) }
     ensures single { IfSome result (λ op. is_single op ≡ true) }
 {
@@ -224,6 +172,85 @@ pub(crate) fn op_of(model: &Model, line: &Line) -> Option<Op>
                 index: *index,
                 value: *value,
             })
+        }
+        _ => back_op(model, line),
+    }
+}
+
+// The operation of a line on a field.
+fn field_op(model: &Model, line: &Line) -> Option<Op>
+    ensures named { is_on_bus line.now ≡ false → result ≡ op_named model.now line.now }
+    ensures numbers { IfSome result (HasNumbers model.now.chip (length model.now.layout.maps)) }
+    ensures single { IfSome result (λ op. is_single op ≡ true) }
+{
+    match line {
+        Line::FieldWrite { field, value, map } => {
+            let field = field_at(model, field)?;
+            let map = map_asked(model, map)?;
+            Some(Op::FieldWrite {
+                field,
+                map,
+                value: *value,
+            })
+        }
+        Line::FieldRead { field, map } => {
+            let field = field_at(model, field)?;
+            let map = map_asked(model, map)?;
+            Some(Op::FieldRead { field, map })
+        }
+        Line::Set { field, value } => {
+            let field = field_at(model, field)?;
+            Some(Op::Set {
+                field,
+                value: *value,
+            })
+        }
+        Line::Hw { field, value } => {
+            let field = field_at(model, field)?;
+            Some(Op::Hw {
+                field,
+                value: *value,
+            })
+        }
+        _ => mem_op(model, line),
+    }
+}
+
+// The operation of a line, if its names are there. Those on a register over the bus come first, as the most frequent.
+pub(crate) fn op_of(model: &Model, line: &Line) -> Option<Op>
+    ensures named { result ≡ op_named model.now line.now }
+    ensures numbers { IfSome result (HasNumbers model.now.chip (length model.now.layout.maps)) }
+    ensures single { IfSome result (λ op. is_single op ≡ true) }
+{
+    match line {
+        Line::Write { reg, value, map } => {
+            let reg = reg_at(model, reg)?;
+            let map = map_asked(model, map)?;
+            Some(Op::Write {
+                reg,
+                map,
+                value: *value,
+            })
+        }
+        Line::Read { reg, map } => {
+            let reg = reg_at(model, reg)?;
+            let map = map_asked(model, map)?;
+            Some(Op::Read { reg, map })
+        }
+        Line::Mirror { reg, map } => {
+            let reg = reg_at(model, reg)?;
+            let map = map_asked(model, map)?;
+            Some(Op::Mirror { reg, map })
+        }
+        Line::Check { reg, map } => {
+            let reg = reg_at(model, reg)?;
+            let map = map_asked(model, map)?;
+            Some(Op::Check { reg, map })
+        }
+        Line::Update { reg, map } => {
+            let reg = reg_at(model, reg)?;
+            let map = map_asked(model, map)?;
+            Some(Op::Update { reg, map })
         }
         _ => field_op(model, line),
     }
