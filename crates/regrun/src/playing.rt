@@ -4,7 +4,7 @@ ghost use Rattle.std.specs.declared.option.Option.{Option};
 ghost use Rattle.std.specs.Io.KnownBytes.{Keeps};
 ghost use Rattle.rl_bus.specs.Causes.{Rose};
 ghost use Rattle.rl_access.specs.Model.{IsReady, IsSameChip};
-ghost use Rattle.regrun.specs.Causes.{IsCaused};
+ghost use Rattle.regrun.specs.Causes.{IsCaused, NoneFailed};
 ghost use Rattle.regrun.specs.Endings.{end_status, IsCounted, PlayEnds};
 ghost use Rattle.regrun.specs.Log.{comes_of, said_by};
 ghost use Rattle.regrun.specs.Played.{coming, Breaks, EndsAs, IsTurn, IsWrittenOut, PassesTo};
@@ -18,6 +18,7 @@ ghost use Rattle.regrun.specs.World.{world};
 ghost use Rattle.rl_report.specs.Got.{Hands};
 ghost use Rattle.rl_script.specs.Reading.{read_of};
 ghost use Rattle.rl_report.specs.Lines.{first_line};
+ghost use Rattle.rl_report.specs.Pieces.{AppendsFront};
 ghost use Rattle.rl_report.specs.Reading.{input_of};
 
 use crate::buffered::Buffered;
@@ -300,6 +301,7 @@ fn settle<K: Sink>(status: Status, out: &mut Buffered<'_, K>) -> Status
     ensures told { Keeps (told K.written out.old) (told K.written out.new) }
     ensures whole { is_complete result ≡ true → Keeps (told K.written out.old) (K.written out.new.sink.now) }
     ensures at_fault { status ≡ Status.SourceFault → out.old.end ≡ 0 → Keeps (told K.written out.old) (K.written out.new.sink.now) }
+    ensures at_memory { result ≡ Status.Memory → NoneFailed (K.faults out.old.sink.now) (K.faults out.new.sink.now) → Keeps (told K.written out.old) (K.written out.new.sink.now) }
     ensures ends_kept { K.ends out.new.sink.now ≡ K.ends out.old.sink.now }
     ensures same_sink { out.new.sink.ghost_name ≡ out.old.sink.ghost_name }
 {
@@ -339,6 +341,11 @@ pub fn play<S: Source, K: Sink, D: Device>(
 
     // After a source that failed, the sink has exactly the log of the lines that were taken whole.
     ensures at_fault { result ≡ Status.SourceFault → Breaks 1 model.old (map standing adapters.old.items) (D.state device.old) (input_of lines.old (S.left source.old)) (S.left source.new) (K.written sink.old) (K.written sink.new) }
+
+    // Where memory ran out and no call of the sink failed, the sink keeps its earlier bytes, and behind them it has a
+    // front of the log.
+    ensures at_memory { result ≡ Status.Memory → NoneFailed (K.faults sink.old) (K.faults sink.new)
+        → IfSome (coming 1 no_counts model.old (map standing adapters.old.items) (D.state device.old) (input_of lines.old (S.left source.old))) (λ e. AppendsFront (K.written sink.old) (K.written sink.new) e.text) }
 
     // In any case the status goes by what happened in this call, and the counts rise by it.
     ensures ends { PlayEnds result counts.old counts.new }
