@@ -1,5 +1,5 @@
 -- The events of bursts and sequences, as they were written and counted.
-use Rattle.std.proofs.Common.{◌≡◌, ℕ, List, [], ◌∷◌, ◌++◌, Option, Some, None, Result, Ok, Err, IfSome, IfOk, refl, sym, ap, subst, ◌∙◌, append_assoc, append-nil}
+use Rattle.std.proofs.Common.{◌≡◌, ℕ, List, [], ◌∷◌, ◌++◌, Option, Some, None, Result, Ok, Err, IfSome, IfOk, OnOk, OnErr, refl, sym, ap, subst, ◌∙◌, append_assoc, append-nil}
 use Rattle.std.specs.Io.KnownBytes.{Appends}
 use Rattle.std.proofs.KnownBytes.{Appends-nil, Appends-trans}
 use Rattle.rl_bus.specs.Standing.{Standing}
@@ -8,20 +8,21 @@ use Rattle.rl_access.specs.declared.event.Event.{Event}
 use Rattle.rl_access.specs.declared.event.Op.{Op}
 use Rattle.rl_access.specs.declared.event.Refused.{Refused}
 use Rattle.rl_access.specs.declared.event.Tally.{Tally}
-use Rattle.rl_access.specs.Call.{Scene, scene, IsRefused}
+use Rattle.rl_access.specs.Call.{Scene, scene, IsRefused, Performs}
 use Rattle.rl_access.specs.HandsOver.{Told, TakesAll, BreaksAtLast}
 use Rattle.rl_access.specs.Model.{ModelData}
 use Rattle.rl_access.specs.Rules.{Grant}
 use Rattle.rl_access.specs.Runs.{IsBurst, IsRun, IsRefusedRun, no_tally, counted_all}
 use Rattle.rl_seq.specs.Plan.{Plan, IsSequence}
+use Rattle.rl_report.specs.EventText.{event_text}
 use Rattle.rl_report.specs.Pieces.{AppendsFront}
 use Rattle.rl_report.proofs.PieceLemmas.{front_after, front_before}
 use Rattle.regrun.specs.declared.counts.Counts.{Counts}
 use Rattle.regrun.specs.Course.{Course, alone, along, through, burst}
-use Rattle.regrun.specs.Recording.{IsWritten, IsBegun, with_events, told_text, events_text, IsRecorded}
-use Rattle.regrun.specs.World.{World, world, unchanged}
+use Rattle.regrun.specs.Recording.{IsWritten, IsBegun, with_event, with_events, told_text, events_text, IsRecorded}
+use Rattle.regrun.specs.World.{World, world, IsAt, Step, step_of, unchanged}
 use Rattle.regrun.proofs.Courses.{IsCourse, IsFrontOf, runs_along, breaks_along, runs_through, runs_into}
-use Rattle.regrun.proofs.Performing.{IsWorld, refused_alone}
+use Rattle.regrun.proofs.Performing.{IsWorld, refused_alone, step_from}
 
 events_append : (told more : List Told) → events_text (told ++ more) ≡ events_text told ++ events_text more
 events_append [] more = refl
@@ -34,6 +35,35 @@ front_events a b told c f h =
 
 abbrev here : (m : ModelData) (a : List Standing) (errors : ℕ) (d : State) → IsWorld (scene m a errors (Some d)) (world m a d)
 here m a errors d = record { model_is = refl; adapters_are = refl; device_is = refl }
+
+-- ---- one operation
+
+step_text : (s : Step) (n : ModelData) (b : List Standing) (now : Option State) (e : Event) → e ≡ s.event → IsAt n b now s.world → event_text n e ≡ events_text (alone s).told
+step_text s n b now e is at = ap (λ m. event_text m e) at.model_is ∙ ap (event_text s.world.model) is ∙ sym (append-nil (event_text s.world.model s.event))
+
+-- what was written of an event that is the step's
+step_recorded : {T E : Type 0} (s : Step) (n : ModelData) (b : List Standing) (now : Option State) (e : Event) (old new : Option (List ℕ)) (counts after : Counts) (r : Result T E) → e ≡ s.event → IsAt n b now s.world
+    → OnOk r (IsWritten old new counts after n e) → OnErr r (IsBegun old new counts after n e) → IsRecorded (alone s) old new counts after n b now r
+step_recorded s n b now e old new counts after (Ok x) is at whole part = record {
+  whole = subst (Appends old new) (step_text s n b now e is at) whole.text;
+  part = tt;
+  counted = whole.counted ∙ ap (with_event counts) is;
+  after = at;
+}
+step_recorded s n b now e old new counts after (Err x) is at whole part = record {
+  whole = tt;
+  part = subst (AppendsFront old new) (step_text s n b now e is at) part.text;
+  counted = tt;
+  after = tt;
+}
+
+pub op_recorded : {T E : Type 0} (m n : ModelData) (a b : List Standing) (errors later : ℕ) (before now : Option State) (op : Op) (e : Event) (old new : Option (List ℕ)) (counts after : Counts) (r : Result T E)
+    → Performs (scene m a errors before) (scene n b later now) op e → OnOk r (IsWritten old new counts after n e) → OnErr r (IsBegun old new counts after n e)
+    → IfSome before (λ d. IsRecorded (alone (step_of (world m a d) op)) old new counts after n b now r)
+op_recorded m n a b errors later None now op e old new counts after r p whole part = tt
+op_recorded m n a b errors later (Some d) now op e old new counts after r p whole part =
+    let st = step_from m n a b errors later (Some d) now op e p in
+    step_recorded (step_of (world m a d) op) n b now e old new counts after r st.event_is st.after whole part
 
 -- ---- by the recorder
 

@@ -3,7 +3,9 @@ ghost use Rattle.std.specs.Prelude.{◌≡◌, ◌<◌, ◌≤◌, ◌-◌, ◌+
 ghost use Rattle.std.specs.Io.KnownBytes.{WriteAppends, Keeps, append_known};
 ghost use Rattle.rl_bus.specs.Causes.{HasCause, Rose};
 
-use rl_report::{Failed, Sink};
+use crate::log::Log;
+use rl_access::{Event, Model};
+use rl_report::{Failed, Sink, write_event};
 
 const ROOM: usize = 4096;
 
@@ -171,5 +173,17 @@ impl<K: Sink> Sink for Buffered<'_, K> {
 
     fn finish(&mut self) -> Result<(), Failed> {
         self.close()
+    }
+}
+
+impl<K: Sink> Log for Buffered<'_, K> {
+    ghost is_out = { λ b. b.end ≡ 0 };
+
+    fn event(&mut self, model: &Model, event: &Event) -> Result<(), Failed> {
+        write_event(self, model, event)
+    }
+
+    fn flush(&mut self) -> Result<(), Failed> {
+        self.flush()
     }
 }

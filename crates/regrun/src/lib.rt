@@ -6,6 +6,7 @@ mod counts;
 mod digits;
 mod layout_text;
 mod line;
+mod log;
 mod opening;
 mod perform;
 mod playing;

@@ -14,16 +14,17 @@ ghost use Rattle.regrun.specs.Recording.{IsRecorded};
 ghost use Rattle.regrun.specs.World.{world, step_of};
 
 use crate::Counts;
+use crate::log::Log;
 use crate::perform::perform;
 use crate::recorder::Writing;
 use crate::resolve::{block_asked, map_asked, mem_at, op_of};
 use crate::texts::{LineRefusal, put_sequence_begin, put_sequence_end};
 use rl_access::{Model, Tally, burst_read, burst_write};
 use rl_bus::{Adapter, Adapters, Device};
-use rl_report::{Failed, Sink, write_event};
+use rl_report::Failed;
 use rl_script::{Ident, Line, Path, Sequence, Values};
 
-fn run_sequence<D: Device, K: Sink>(
+fn run_sequence<D: Device, K: Log>(
     m: &mut Model,
     d: &mut D,
     a: &mut Adapters,
@@ -51,7 +52,7 @@ fn run_sequence<D: Device, K: Sink>(
 
 // Runs a sequence, and writes its events.
 #[tactic(auto, using(crate::proofs::ReadyLemmas::steady_ends, crate::proofs::ReadyLemmas::steady_target, crate::proofs::ReadyLemmas::steady_name))]
-fn record_sequence<D: Device, K: Sink>(
+fn record_sequence<D: Device, K: Log>(
     m: &mut Model,
     d: &mut D,
     a: &mut Adapters,
@@ -75,7 +76,7 @@ fn record_sequence<D: Device, K: Sink>(
 
 // Runs a burst of writes, and writes its events.
 #[tactic(auto, using(crate::proofs::ReadyLemmas::steady_ends, crate::proofs::ReadyLemmas::steady_target, crate::proofs::ReadyLemmas::steady_name))]
-fn record_burst_write<D: Device, K: Sink>(
+fn record_burst_write<D: Device, K: Log>(
     m: &mut Model,
     d: &mut D,
     a: &mut Adapters,
@@ -101,7 +102,7 @@ fn record_burst_write<D: Device, K: Sink>(
 
 // Runs a burst of reads, and writes its events.
 #[tactic(auto, using(crate::proofs::ReadyLemmas::steady_ends, crate::proofs::ReadyLemmas::steady_target, crate::proofs::ReadyLemmas::steady_name))]
-fn record_burst_read<D: Device, K: Sink>(
+fn record_burst_read<D: Device, K: Log>(
     m: &mut Model,
     d: &mut D,
     a: &mut Adapters,
@@ -126,7 +127,7 @@ fn record_burst_read<D: Device, K: Sink>(
 }
 
 // The same, to a sink.
-fn log_sequence<D: Device, K: Sink>(
+fn log_sequence<D: Device, K: Log>(
     m: &mut Model,
     d: &mut D,
     a: &mut Adapters,
@@ -155,7 +156,7 @@ fn log_sequence<D: Device, K: Sink>(
 }
 
 // The same, to a sink.
-fn log_burst_write<D: Device, K: Sink>(
+fn log_burst_write<D: Device, K: Log>(
     m: &mut Model,
     d: &mut D,
     a: &mut Adapters,
@@ -186,7 +187,7 @@ fn log_burst_write<D: Device, K: Sink>(
 }
 
 // The same, to a sink.
-fn log_burst_read<D: Device, K: Sink>(
+fn log_burst_read<D: Device, K: Log>(
     m: &mut Model,
     d: &mut D,
     a: &mut Adapters,
@@ -217,7 +218,7 @@ fn log_burst_read<D: Device, K: Sink>(
 }
 
 // Runs a line that is a burst of writes.
-fn write_burst<D: Device, K: Sink>(
+fn write_burst<D: Device, K: Log>(
     m: &mut Model,
     d: &mut D,
     a: &mut Adapters,
@@ -247,7 +248,7 @@ fn write_burst<D: Device, K: Sink>(
 }
 
 // Runs a line that is a burst of reads.
-fn read_burst<D: Device, K: Sink>(
+fn read_burst<D: Device, K: Log>(
     m: &mut Model,
     d: &mut D,
     a: &mut Adapters,
@@ -277,7 +278,7 @@ fn read_burst<D: Device, K: Sink>(
 }
 
 // Runs a line that is a sequence, with the lines around its events.
-fn sequence<D: Device, K: Sink>(
+fn sequence<D: Device, K: Log>(
     m: &mut Model,
     d: &mut D,
     a: &mut Adapters,
@@ -304,7 +305,7 @@ fn sequence<D: Device, K: Sink>(
 }
 
 // Runs a line that is one operation.
-fn operation<D: Device, K: Sink>(
+fn operation<D: Device, K: Log>(
     m: &mut Model,
     d: &mut D,
     a: &mut Adapters,
@@ -323,14 +324,12 @@ fn operation<D: Device, K: Sink>(
     let Some(op) = op_of(m, line) else {
         return Ok(Some(LineRefusal::NoSuchName));
     };
-    let event = perform(m, d, a, op);
-    counts.count(&event);
-    write_event(out, m, &event)?;
+    perform(m, d, a, op, out, counts)?;
     Ok(None)
 }
 
 // Runs a line, and writes its log. Answers why it is refused, if a name isn't there.
-pub(crate) fn run_line<D: Device, K: Sink>(
+pub(crate) fn run_line<D: Device, K: Log>(
     m: &mut Model,
     d: &mut D,
     a: &mut Adapters,

@@ -1,27 +1,41 @@
-// One operation, by the call that does it.
+// One operation, by the call that does it, and its log.
 ghost use Rattle.std.specs.Prelude.{◌≡◌, true, false, List, length, map as each, IfSome};
-ghost use Rattle.rl_access.specs.Call.{Performs, scene};
-ghost use Rattle.rl_access.specs.Event.{EventFits};
+ghost use Rattle.rl_bus.specs.Causes.{HasCause};
+ghost use Rattle.rl_bus.specs.Standing.{Standing};
 ghost use Rattle.rl_access.specs.Model.{IsReady, IsDeviceOf, IsSameChip};
 ghost use Rattle.rl_access.specs.Operation.{HasNumbers};
-ghost use Rattle.rl_bus.specs.Standing.{Standing};
+ghost use Rattle.regrun.specs.Course.{alone};
 ghost use Rattle.regrun.specs.Operations.{is_single, is_over_bus};
-ghost use Rattle.regrun.specs.World.{IsStepOf, world};
+ghost use Rattle.regrun.specs.Recording.{IsRecorded};
+ghost use Rattle.regrun.specs.World.{world, step_of};
 
-use rl_access::{Event, Model, Op};
+use crate::Counts;
+use crate::log::Log;
+use crate::recorder::record;
+use rl_access::{Model, Op};
 use rl_bus::{Adapter, Adapters, Device};
+use rl_report::Failed;
 
 // Performs an operation on a register over the bus.
-fn perform_bus<D: Device>(m: &mut Model, d: &mut D, a: &mut Adapters, op: Op) -> Event
+fn perform_bus<D: Device, K: Log>(
+    m: &mut Model,
+    d: &mut D,
+    a: &mut Adapters,
+    op: Op,
+    out: &mut K,
+    counts: &mut Counts,
+) -> Result<(), Failed>
     requires ready { IsReady m.old (each standing a.old.items) (D.state d.old) }
     requires numbers { HasNumbers m.old.chip (length m.old.layout.maps) op }
     requires over_bus { is_over_bus op ≡ true }
     ensures ready { IsReady m.new (each standing a.new.items) (D.state d.new) }
     ensures parts { IsSameChip m.old m.new }
-    ensures fits { EventFits m.new result }
-    ensures performs { Performs (scene m.old (each standing a.old.items) (D.errors d.old) (D.state d.old)) (scene m.new (each standing a.new.items) (D.errors d.new) (D.state d.new)) op result }
+    ensures recorded { IfSome (D.state d.old) (λ device. IsRecorded (alone (step_of (world m.old (each standing a.old.items) device) op)) (K.written out.old) (K.written out.new) counts.old counts.new m.new (each standing a.new.items) (D.state d.new) result) }
+    ensures cause { HasCause (K.faults out.old) (K.faults out.new) result }
+    ensures ends_kept { K.ends out.new ≡ K.ends out.old }
+    ensures same_target { K.target out.new ≡ K.target out.old }
 {
-    match op {
+    let event = match op {
         Op::Write { reg, map, value } => rl_access::front_write(m, d, a, reg, map, value),
         Op::Read { reg, map } => rl_access::front_read(m, d, a, reg, map),
         Op::Mirror { reg, map } => rl_access::mirror(m, d, a, reg, map, false),
@@ -45,22 +59,30 @@ fn perform_bus<D: Device>(m: &mut Model, d: &mut D, a: &mut Adapters, op: Op) ->
             value,
         } => { rl_access::mem_check(m, d, a, mem, map, index, value) }
         _ => unreachable!(),
-    }
+    };
+    record(&event, m, out, counts)
 }
 
 // Performs an operation by the backdoor, on the device's own, or a reset.
-#[tactic(auto, using(crate::proofs::ReadyLemmas::device_same))]
-fn perform_back<D: Device>(m: &mut Model, d: &mut D, op: Op) -> Event
+fn perform_back<D: Device, K: Log>(
+    m: &mut Model,
+    d: &mut D,
+    op: Op,
+    out: &mut K,
+    counts: &mut Counts,
+) -> Result<(), Failed>
     requires device { IsDeviceOf m.old (D.state d.old) }
     requires numbers { HasNumbers m.old.chip (length m.old.layout.maps) op }
     requires single { is_single op ≡ true }
     requires over_bus { is_over_bus op ≡ false }
     ensures device { IsDeviceOf m.new (D.state d.new) }
     ensures parts { IsSameChip m.old m.new }
-    ensures fits { EventFits m.new result }
-    ensures performs { (adapters : List Standing) → Performs (scene m.old adapters (D.errors d.old) (D.state d.old)) (scene m.new adapters (D.errors d.new) (D.state d.new)) op result }
+    ensures recorded { (adapters : List Standing) → IfSome (D.state d.old) (λ device. IsRecorded (alone (step_of (world m.old adapters device) op)) (K.written out.old) (K.written out.new) counts.old counts.new m.new adapters (D.state d.new) result) }
+    ensures cause { HasCause (K.faults out.old) (K.faults out.new) result }
+    ensures ends_kept { K.ends out.new ≡ K.ends out.old }
+    ensures same_target { K.target out.new ≡ K.target out.old }
 {
-    match op {
+    let event = match op {
         Op::BackWrite { reg, value } => rl_access::back_write(m, d, reg, value),
         Op::BackRead { reg } => rl_access::back_read(m, d, reg, false),
         Op::BackCheck { reg } => rl_access::back_read(m, d, reg, true),
@@ -73,7 +95,8 @@ fn perform_back<D: Device>(m: &mut Model, d: &mut D, op: Op) -> Event
         Op::Set { field, value } => rl_access::set(m, field, value),
         Op::Show { reg } => rl_access::show(m, reg),
         _ => unreachable!(),
-    }
+    };
+    record(&event, m, out, counts)
 }
 
 fn is_over_bus(op: Op) -> bool
@@ -96,20 +119,29 @@ fn is_over_bus(op: Op) -> bool
     )
 }
 
-// Performs an operation that is no burst.
+// Performs an operation that is no burst, and writes its log.
 #[tactic(auto, using(crate::proofs::ReadyLemmas::ready_after))]
-pub(crate) fn perform<D: Device>(m: &mut Model, d: &mut D, a: &mut Adapters, op: Op) -> Event
+pub(crate) fn perform<D: Device, K: Log>(
+    m: &mut Model,
+    d: &mut D,
+    a: &mut Adapters,
+    op: Op,
+    out: &mut K,
+    counts: &mut Counts,
+) -> Result<(), Failed>
     requires ready { IsReady m.old (each standing a.old.items) (D.state d.old) }
     requires numbers { HasNumbers m.old.chip (length m.old.layout.maps) op }
     requires single { is_single op ≡ true }
     ensures ready { IsReady m.new (each standing a.new.items) (D.state d.new) }
     ensures parts { IsSameChip m.old m.new }
-    ensures fits { EventFits m.new result }
-    ensures step { IfSome (D.state d.old) (λ device. IsStepOf (world m.old (each standing a.old.items) device) op result m.new (each standing a.new.items) (D.state d.new)) }
+    ensures recorded { IfSome (D.state d.old) (λ device. IsRecorded (alone (step_of (world m.old (each standing a.old.items) device) op)) (K.written out.old) (K.written out.new) counts.old counts.new m.new (each standing a.new.items) (D.state d.new) result) }
+    ensures cause { HasCause (K.faults out.old) (K.faults out.new) result }
+    ensures ends_kept { K.ends out.new ≡ K.ends out.old }
+    ensures same_target { K.target out.new ≡ K.target out.old }
 {
     if is_over_bus(op) {
-        perform_bus(m, d, a, op)
+        perform_bus(m, d, a, op, out, counts)
     } else {
-        perform_back(m, d, op)
+        perform_back(m, d, op, out, counts)
     }
 }

@@ -23,6 +23,7 @@ ghost use Rattle.rl_report.specs.Reading.{input_of};
 
 use crate::buffered::Buffered;
 use crate::line::run_line;
+use crate::log::Log;
 use crate::texts::{LineRefusal, put_end, put_line_refused, refusal_of};
 use crate::{Counts, Status};
 use rl_access::Model;
@@ -41,10 +42,10 @@ enum Turn {
 }
 
 // Takes the next line. What was written before is out before the source is read.
-fn take_line<S: Source, K: Sink>(
+fn take_line<S: Source, L: Log>(
     lines: &mut LineReader,
     source: &mut S,
-    out: &mut Buffered<'_, K>,
+    out: &mut L,
 ) -> Result<Got, Status>
     requires found { lines.old.found ≡ true }
     requires going { lines.old.refused ≡ false }
@@ -52,19 +53,19 @@ fn take_line<S: Source, K: Sink>(
     ensures going { IfOk result (λ got. got ≢ Got.TooLong → lines.new.refused ≡ false) }
     ensures handed { IfOk result (λ got. IfSome (input_of lines.old (S.left source.old)) (λ bytes. Hands bytes got lines.new (S.left source.new))) }
     ensures ended { lines.old.ended ≡ true → lines.new.ended ≡ true }
-    ensures told { Keeps (told K.written out.old) (told K.written out.new) }
+    ensures told { Keeps (L.written out.old) (L.written out.new) }
     ensures broken { IfErr result (λ status. is_complete status ≡ false) }
 
     // A source that fails loses no byte, and nothing is kept back of what was written.
     ensures none_lost { result ≡ Err Status.SourceFault → Keeps (input_of lines.old (S.left source.old)) (input_of lines.new (S.left source.new)) }
     ensures none_whole { result ≡ Err Status.SourceFault → (first_line lines.new.pending ≡ lines.new.pending) × (lines.new.ended ≡ false) }
-    ensures flushed { result ≡ Err Status.SourceFault → out.new.end ≡ 0 }
+    ensures flushed { result ≡ Err Status.SourceFault → L.is_out out.new }
 
     ensures source_later { S.faults source.old ≤ S.faults source.new }
-    ensures sink_later { K.faults out.old.sink.now ≤ K.faults out.new.sink.now }
-    ensures cause { IfErr result (λ status. IsCaused status (S.faults source.old) (S.faults source.new) (K.faults out.old.sink.now) (K.faults out.new.sink.now)) }
-    ensures ends_kept { K.ends out.new.sink.now ≡ K.ends out.old.sink.now }
-    ensures same_sink { out.new.sink.ghost_name ≡ out.old.sink.ghost_name }
+    ensures sink_later { L.faults out.old ≤ L.faults out.new }
+    ensures cause { IfErr result (λ status. IsCaused status (S.faults source.old) (S.faults source.new) (L.faults out.old) (L.faults out.new)) }
+    ensures ends_kept { L.ends out.new ≡ L.ends out.old }
+    ensures same_target { L.target out.new ≡ L.target out.old }
 {
     if !lines.holds_line() && out.flush().is_err() {
         return Err(Status::SinkFault);
@@ -87,13 +88,13 @@ fn status_at_end(counts: &Counts) -> Status
 }
 
 // Ends a script whose lines were all run.
-fn end<K: Sink>(counts: &Counts, out: &mut Buffered<'_, K>) -> Status
-    ensures tells { Tells result (end_status counts.now) (told K.written out.old) (told K.written out.new) (end_text counts.now) }
+fn end<L: Log>(counts: &Counts, out: &mut L) -> Status
+    ensures tells { Tells result (end_status counts.now) (L.written out.old) (L.written out.new) (end_text counts.now) }
     ensures counted { IsCounted result counts.now }
-    ensures sink_later { K.faults out.old.sink.now ≤ K.faults out.new.sink.now }
-    ensures cause { IsCaused result 0 0 (K.faults out.old.sink.now) (K.faults out.new.sink.now) }
-    ensures ends_kept { K.ends out.new.sink.now ≡ K.ends out.old.sink.now }
-    ensures same_sink { out.new.sink.ghost_name ≡ out.old.sink.ghost_name }
+    ensures sink_later { L.faults out.old ≤ L.faults out.new }
+    ensures cause { IsCaused result 0 0 (L.faults out.old) (L.faults out.new) }
+    ensures ends_kept { L.ends out.new ≡ L.ends out.old }
+    ensures same_target { L.target out.new ≡ L.target out.old }
 {
     match put_end(out, counts) {
         Ok(()) => status_at_end(counts),
@@ -102,13 +103,13 @@ fn end<K: Sink>(counts: &Counts, out: &mut Buffered<'_, K>) -> Status
 }
 
 // Ends a script at a line that is refused.
-fn refuse<K: Sink>(number: u64, refusal: LineRefusal, out: &mut Buffered<'_, K>) -> Status
-    ensures tells { Tells result Status.Refused (told K.written out.old) (told K.written out.new) (refused_text number refusal) }
+fn refuse<L: Log>(number: u64, refusal: LineRefusal, out: &mut L) -> Status
+    ensures tells { Tells result Status.Refused (L.written out.old) (L.written out.new) (refused_text number refusal) }
     ensures counted { (counts : Counts) → IsCounted result counts }
-    ensures sink_later { K.faults out.old.sink.now ≤ K.faults out.new.sink.now }
-    ensures cause { IsCaused result 0 0 (K.faults out.old.sink.now) (K.faults out.new.sink.now) }
-    ensures ends_kept { K.ends out.new.sink.now ≡ K.ends out.old.sink.now }
-    ensures same_sink { out.new.sink.ghost_name ≡ out.old.sink.ghost_name }
+    ensures sink_later { L.faults out.old ≤ L.faults out.new }
+    ensures cause { IsCaused result 0 0 (L.faults out.old) (L.faults out.new) }
+    ensures ends_kept { L.ends out.new ≡ L.ends out.old }
+    ensures same_target { L.target out.new ≡ L.target out.old }
 {
     match put_line_refused(out, number, refusal) {
         Ok(()) => Status::Refused,
@@ -117,26 +118,26 @@ fn refuse<K: Sink>(number: u64, refusal: LineRefusal, out: &mut Buffered<'_, K>)
 }
 
 // Runs a line that was read, and writes its log, or ends the script at it.
-fn run_read<D: Device, K: Sink>(
+fn run_read<D: Device, L: Log>(
     number: u64,
     line: &[u8],
     read: &Result<Line, LineFault>,
     model: &mut Model,
     device: &mut D,
     adapters: &mut Adapters,
-    out: &mut Buffered<'_, K>,
+    out: &mut L,
     counts: &mut Counts,
 ) -> Turn
     requires ready { IsReady model.old (map standing adapters.old.items) (D.state device.old) }
     requires read { MatchResult read.now (λ l. read_of line.now ≡ Ok l) (λ fault. fault ≢ LineFault.Memory → read_of line.now ≡ Err fault) }
     ensures ready { IsReady model.new (map standing adapters.new.items) (D.state device.new) }
     ensures parts { IsSameChip model.old model.new }
-    ensures turn { IfSome (D.state device.old) (λ d. IsTurn number (comes_of (world model.old (map standing adapters.old.items) d) (said_by (read_of line.now))) (told K.written out.old) (told K.written out.new) counts.old counts.new (world model.old (map standing adapters.old.items) d) model.new (map standing adapters.new.items) (D.state device.new) result) }
+    ensures turn { IfSome (D.state device.old) (λ d. IsTurn number (comes_of (world model.old (map standing adapters.old.items) d) (said_by (read_of line.now))) (L.written out.old) (L.written out.new) counts.old counts.new (world model.old (map standing adapters.old.items) d) model.new (map standing adapters.new.items) (D.state device.new) result) }
     ensures counted { (status : Status) (total : Counts) → result ≡ Turn.Stop status → IsCounted status total }
-    ensures sink_later { K.faults out.old.sink.now ≤ K.faults out.new.sink.now }
-    ensures cause { (status : Status) → result ≡ Turn.Stop status → IsCaused status 0 0 (K.faults out.old.sink.now) (K.faults out.new.sink.now) }
-    ensures ends_kept { K.ends out.new.sink.now ≡ K.ends out.old.sink.now }
-    ensures same_sink { out.new.sink.ghost_name ≡ out.old.sink.ghost_name }
+    ensures sink_later { L.faults out.old ≤ L.faults out.new }
+    ensures cause { (status : Status) → result ≡ Turn.Stop status → IsCaused status 0 0 (L.faults out.old) (L.faults out.new) }
+    ensures ends_kept { L.ends out.new ≡ L.ends out.old }
+    ensures same_target { L.target out.new ≡ L.target out.old }
 {
     match read {
         Ok(line) => match run_line(model, device, adapters, line, out, counts) {
@@ -152,7 +153,7 @@ fn run_read<D: Device, K: Sink>(
 }
 
 // Runs a line that was taken, and writes its log, or ends the script at it.
-fn run_taken<D: Device, K: Sink>(
+fn run_taken<D: Device, L: Log>(
     alloc: Global,
     number: u64,
     got: Got,
@@ -160,7 +161,7 @@ fn run_taken<D: Device, K: Sink>(
     model: &mut Model,
     device: &mut D,
     adapters: &mut Adapters,
-    out: &mut Buffered<'_, K>,
+    out: &mut L,
     counts: &mut Counts,
 ) -> Turn
     requires ready { IsReady model.old (map standing adapters.old.items) (D.state device.old) }
@@ -168,12 +169,12 @@ fn run_taken<D: Device, K: Sink>(
     ensures parts { IsSameChip model.old model.new }
     ensures short { result ≡ Turn.Next → got ≢ Got.TooLong }
     ensures last { result ≡ Turn.Next → number ≤ 1000000 }
-    ensures turn { IfSome (D.state device.old) (λ d. IsTurn number (comes_of (world model.old (map standing adapters.old.items) d) (heard number got line.now)) (told K.written out.old) (told K.written out.new) counts.old counts.new (world model.old (map standing adapters.old.items) d) model.new (map standing adapters.new.items) (D.state device.new) result) }
+    ensures turn { IfSome (D.state device.old) (λ d. IsTurn number (comes_of (world model.old (map standing adapters.old.items) d) (heard number got line.now)) (L.written out.old) (L.written out.new) counts.old counts.new (world model.old (map standing adapters.old.items) d) model.new (map standing adapters.new.items) (D.state device.new) result) }
     ensures counted { (status : Status) (total : Counts) → result ≡ Turn.Stop status → IsCounted status total }
-    ensures sink_later { K.faults out.old.sink.now ≤ K.faults out.new.sink.now }
-    ensures cause { (status : Status) → result ≡ Turn.Stop status → IsCaused status 0 0 (K.faults out.old.sink.now) (K.faults out.new.sink.now) }
-    ensures ends_kept { K.ends out.new.sink.now ≡ K.ends out.old.sink.now }
-    ensures same_sink { out.new.sink.ghost_name ≡ out.old.sink.ghost_name }
+    ensures sink_later { L.faults out.old ≤ L.faults out.new }
+    ensures cause { (status : Status) → result ≡ Turn.Stop status → IsCaused status 0 0 (L.faults out.old) (L.faults out.new) }
+    ensures ends_kept { L.ends out.new ≡ L.ends out.old }
+    ensures same_target { L.target out.new ≡ L.target out.old }
 {
     if number > MOST_LINES {
         return Turn::Stop(refuse(number, LineRefusal::TooManyLines, out));
@@ -200,7 +201,7 @@ fn is_end(got: Got) -> bool
 }
 
 // Reads the next line, runs it and writes its log.
-fn play_line<S: Source, D: Device, K: Sink>(
+fn play_line<S: Source, D: Device, L: Log>(
     alloc: Global,
     number: u64,
     model: &mut Model,
@@ -208,7 +209,7 @@ fn play_line<S: Source, D: Device, K: Sink>(
     adapters: &mut Adapters,
     lines: &mut LineReader,
     source: &mut S,
-    out: &mut Buffered<'_, K>,
+    out: &mut L,
     counts: &mut Counts,
 ) -> Turn
     requires ready { IsReady model.old (map standing adapters.old.items) (D.state device.old) }
@@ -219,20 +220,20 @@ fn play_line<S: Source, D: Device, K: Sink>(
     ensures found { lines.new.found ≡ true }
     ensures going { result ≡ Turn.Next → lines.new.refused ≡ false }
     ensures last { result ≡ Turn.Next → number ≤ 1000000 }
-    ensures next { result ≡ Turn.Next → IfSome (coming number counts.old model.old (map standing adapters.old.items) (D.state device.old) (input_of lines.old (S.left source.old))) (λ e. PassesTo e (coming (number + 1) counts.new model.new (map standing adapters.new.items) (D.state device.new) (input_of lines.new (S.left source.new))) (told K.written out.old) (told K.written out.new)) }
-    ensures stop { (status : Status) → result ≡ Turn.Stop status → IfSome (coming number counts.old model.old (map standing adapters.old.items) (D.state device.old) (input_of lines.old (S.left source.old))) (λ e. EndsAs e status (told K.written out.old) (told K.written out.new) counts.new model.new (map standing adapters.new.items) (D.state device.new)) }
+    ensures next { result ≡ Turn.Next → IfSome (coming number counts.old model.old (map standing adapters.old.items) (D.state device.old) (input_of lines.old (S.left source.old))) (λ e. PassesTo e (coming (number + 1) counts.new model.new (map standing adapters.new.items) (D.state device.new) (input_of lines.new (S.left source.new))) (L.written out.old) (L.written out.new)) }
+    ensures stop { (status : Status) → result ≡ Turn.Stop status → IfSome (coming number counts.old model.old (map standing adapters.old.items) (D.state device.old) (input_of lines.old (S.left source.old))) (λ e. EndsAs e status (L.written out.old) (L.written out.new) counts.new model.new (map standing adapters.new.items) (D.state device.new)) }
     ensures ended { lines.old.ended ≡ true → lines.new.ended ≡ true }
     ensures unended { result ≡ Turn.Stop Status.SourceFault → lines.old.ended ≡ false }
-    ensures at_fault { result ≡ Turn.Stop Status.SourceFault → Breaks number model.old (map standing adapters.old.items) (D.state device.old) (input_of lines.old (S.left source.old)) (S.left source.new) (told K.written out.old) (told K.written out.new) }
-    ensures later_fault { result ≡ Turn.Next → lines.new.ended ≡ false → (left last : Option (List ℕ)) → Breaks (number + 1) model.new (map standing adapters.new.items) (D.state device.new) (input_of lines.new (S.left source.new)) left (told K.written out.new) last
-        → Breaks number model.old (map standing adapters.old.items) (D.state device.old) (input_of lines.old (S.left source.old)) left (told K.written out.old) last }
-    ensures flushed { result ≡ Turn.Stop Status.SourceFault → out.new.end ≡ 0 }
+    ensures at_fault { result ≡ Turn.Stop Status.SourceFault → Breaks number model.old (map standing adapters.old.items) (D.state device.old) (input_of lines.old (S.left source.old)) (S.left source.new) (L.written out.old) (L.written out.new) }
+    ensures later_fault { result ≡ Turn.Next → lines.new.ended ≡ false → (left last : Option (List ℕ)) → Breaks (number + 1) model.new (map standing adapters.new.items) (D.state device.new) (input_of lines.new (S.left source.new)) left (L.written out.new) last
+        → Breaks number model.old (map standing adapters.old.items) (D.state device.old) (input_of lines.old (S.left source.old)) left (L.written out.old) last }
+    ensures flushed { result ≡ Turn.Stop Status.SourceFault → L.is_out out.new }
     ensures counted { (status : Status) → result ≡ Turn.Stop status → IsCounted status counts.new }
     ensures source_later { S.faults source.old ≤ S.faults source.new }
-    ensures sink_later { K.faults out.old.sink.now ≤ K.faults out.new.sink.now }
-    ensures cause { (status : Status) → result ≡ Turn.Stop status → IsCaused status (S.faults source.old) (S.faults source.new) (K.faults out.old.sink.now) (K.faults out.new.sink.now) }
-    ensures ends_kept { K.ends out.new.sink.now ≡ K.ends out.old.sink.now }
-    ensures same_sink { out.new.sink.ghost_name ≡ out.old.sink.ghost_name }
+    ensures sink_later { L.faults out.old ≤ L.faults out.new }
+    ensures cause { (status : Status) → result ≡ Turn.Stop status → IsCaused status (S.faults source.old) (S.faults source.new) (L.faults out.old) (L.faults out.new) }
+    ensures ends_kept { L.ends out.new ≡ L.ends out.old }
+    ensures same_target { L.target out.new ≡ L.target out.old }
 {
     let got = match take_line(lines, source, out) {
         Ok(got) => got,
@@ -255,14 +256,14 @@ fn play_line<S: Source, D: Device, K: Sink>(
 }
 
 // Runs the lines that are left, and writes the log of each and the last line.
-pub(crate) fn play_lines<S: Source, D: Device, K: Sink>(
+pub(crate) fn play_lines<S: Source, D: Device, L: Log>(
     alloc: Global,
     model: &mut Model,
     device: &mut D,
     adapters: &mut Adapters,
     lines: &mut LineReader,
     source: &mut S,
-    out: &mut Buffered<'_, K>,
+    out: &mut L,
     counts: &mut Counts,
 ) -> Status
     requires ready { IsReady model.old (map standing adapters.old.items) (D.state device.old) }
@@ -270,16 +271,16 @@ pub(crate) fn play_lines<S: Source, D: Device, K: Sink>(
     requires going { lines.old.refused ≡ false }
     ensures ready { IsReady model.new (map standing adapters.new.items) (D.state device.new) }
     ensures parts { IsSameChip model.old model.new }
-    ensures log { IfSome (coming 1 counts.old model.old (map standing adapters.old.items) (D.state device.old) (input_of lines.old (S.left source.old))) (λ e. EndsAs e result (told K.written out.old) (told K.written out.new) counts.new model.new (map standing adapters.new.items) (D.state device.new)) }
-    ensures at_fault { result ≡ Status.SourceFault → Breaks 1 model.old (map standing adapters.old.items) (D.state device.old) (input_of lines.old (S.left source.old)) (S.left source.new) (told K.written out.old) (told K.written out.new) }
+    ensures log { IfSome (coming 1 counts.old model.old (map standing adapters.old.items) (D.state device.old) (input_of lines.old (S.left source.old))) (λ e. EndsAs e result (L.written out.old) (L.written out.new) counts.new model.new (map standing adapters.new.items) (D.state device.new)) }
+    ensures at_fault { result ≡ Status.SourceFault → Breaks 1 model.old (map standing adapters.old.items) (D.state device.old) (input_of lines.old (S.left source.old)) (S.left source.new) (L.written out.old) (L.written out.new) }
     ensures unended { result ≡ Status.SourceFault → lines.old.ended ≡ false }
-    ensures flushed { result ≡ Status.SourceFault → out.new.end ≡ 0 }
+    ensures flushed { result ≡ Status.SourceFault → L.is_out out.new }
     ensures counted { IsCounted result counts.new }
     ensures source_later { S.faults source.old ≤ S.faults source.new }
-    ensures sink_later { K.faults out.old.sink.now ≤ K.faults out.new.sink.now }
-    ensures cause { IsCaused result (S.faults source.old) (S.faults source.new) (K.faults out.old.sink.now) (K.faults out.new.sink.now) }
-    ensures ends_kept { K.ends out.new.sink.now ≡ K.ends out.old.sink.now }
-    ensures same_sink { out.new.sink.ghost_name ≡ out.old.sink.ghost_name }
+    ensures sink_later { L.faults out.old ≤ L.faults out.new }
+    ensures cause { IsCaused result (S.faults source.old) (S.faults source.new) (L.faults out.old) (L.faults out.new) }
+    ensures ends_kept { L.ends out.new ≡ L.ends out.old }
+    ensures same_target { L.target out.new ≡ L.target out.old }
 {
     let mut number = 1u64;
     loop {

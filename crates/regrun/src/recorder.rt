@@ -1,16 +1,40 @@
-// The events of a burst or a sequence, written as they come.
-use crate::Counts;
-use rl_access::{Event, Model, Recorder};
-use rl_report::{Failed, Sink, write_event};
+// Events, counted and written as they come.
+ghost use Rattle.std.specs.Prelude.{◌≡◌, OnOk, OnErr};
+ghost use Rattle.rl_bus.specs.Causes.{HasCause};
+ghost use Rattle.rl_access.specs.Event.{EventFits};
+ghost use Rattle.regrun.specs.Recording.{IsWritten, IsBegun};
 
-// Writes each event, and counts it.
+use crate::Counts;
+use crate::log::Log;
+use rl_access::{Event, Model, Recorder};
+use rl_report::Failed;
+
+// Counts an event, and writes it.
+pub(crate) fn record<K: Log>(
+    event: &Event,
+    model: &Model,
+    out: &mut K,
+    counts: &mut Counts,
+) -> Result<(), Failed>
+    requires { EventFits model.now event.now }
+    ensures whole { OnOk result (IsWritten (K.written out.old) (K.written out.new) counts.old counts.new model.now event.now) }
+    ensures part { OnErr result (IsBegun (K.written out.old) (K.written out.new) counts.old counts.new model.now event.now) }
+    ensures cause { HasCause (K.faults out.old) (K.faults out.new) result }
+    ensures ends_kept { K.ends out.new ≡ K.ends out.old }
+    ensures same_target { K.target out.new ≡ K.target out.old }
+{
+    counts.count(event);
+    out.event(model, event)
+}
+
+// Counts each event of a burst or a sequence, and writes it.
 #[derive(Drop)]
 pub(crate) struct Writing<'a, K> {
     pub(crate) sink: &'a mut K,
     pub(crate) counts: Counts,
 }
 
-impl<K: Sink> Recorder for Writing<'_, K> {
+impl<K: Log> Recorder for Writing<'_, K> {
     ghost use Rattle.std.specs.Prelude.{[], ◌∷◌};
     ghost use Rattle.regrun.specs.Recording.{IsWritten, IsBegun};
 
@@ -23,7 +47,6 @@ impl<K: Sink> Recorder for Writing<'_, K> {
     ghost breaks = { λ old model event new. IsBegun (K.written old.sink.now) (K.written new.sink.now) old.counts new.counts model event };
 
     fn step(&mut self, model: &Model, event: &Event) -> Result<(), Failed> {
-        self.counts.count(event);
-        write_event(self.sink, model, event)
+        record(event, model, self.sink, &mut self.counts)
     }
 }

@@ -18,12 +18,13 @@ ghost use Rattle.regrun.specs.Telling.{Tells};
 ghost use Rattle.regrun.specs.Told.{told};
 
 use crate::buffered::Buffered;
+use crate::log::Log;
 use crate::opening::open;
 use crate::playing::play_lines;
 use crate::soak::{mirror_sum, put_soak_line, soak_session};
 use crate::top::{fresh_lines, open_session};
 use crate::{Counts, Status};
-use rl_access::Model;
+use rl_access::{Event, Model};
 use rl_bench::Bench;
 use rl_bus::{Adapter, Adapters};
 use rl_desc::Desc;
@@ -84,6 +85,18 @@ impl Sink for Quiet {
     }
 }
 
+impl Log for Quiet {
+    ghost is_out = { λ _. Unit };
+
+    fn event(&mut self, _model: &Model, _event: &Event) -> Result<(), Failed> {
+        Ok(())
+    }
+
+    fn flush(&mut self) -> Result<(), Failed> {
+        Ok(())
+    }
+}
+
 // Runs a session with nothing written.
 fn run_quietly(
     alloc: Global,
@@ -104,9 +117,8 @@ fn run_quietly(
     ensures cause { IsCaused result 0 0 0 0 }
 {
     let mut quiet = Quiet {};
-    let mut out = Buffered::new(&mut quiet);
     play_lines(
-        alloc, model, bench, adapters, lines, source, &mut out, counts,
+        alloc, model, bench, adapters, lines, source, &mut quiet, counts,
     )
 }
 

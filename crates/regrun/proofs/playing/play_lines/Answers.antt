@@ -18,7 +18,7 @@ loop-number-init g c = record {
   unended = λ ended. ended;
   breaking = λ ended left last h. h;
   ends_kept = refl;
-  same_sink = refl;
+  same_target = refl;
 }
 
 pub loop-number-preserved : goal.loop-number-preserved
@@ -38,7 +38,7 @@ loop-number-preserved g c =
       unended = λ ended. i.unended (still_going _ _ e.ended ended);
       breaking = λ ended left last h. i.breaking (still_going _ _ e.ended ended) left last (e.later_fault c.in-Next.is ended left last h);
       ends_kept = e.ends_kept ∙ i.ends_kept;
-      same_sink = e.same_sink ∙ i.same_sink;
+      same_target = e.same_target ∙ i.same_target;
     }
 
 pub returns-in-Stop-clause-log : goal.returns-in-Stop-clause-log

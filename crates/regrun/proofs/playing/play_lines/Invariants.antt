@@ -4,7 +4,6 @@ use Rattle.std.specs.declared.option.Option.{Option}
 use Rattle.rl_access.specs.Model.{IsReady, IsSameChip}
 use Rattle.rl_report.specs.Reading.{input_of}
 use Rattle.regrun.specs.Played.{coming, Breaks, PassesTo}
-use Rattle.regrun.specs.Told.{told}
 use Rattle.regrun.proofs.playing.play_lines.Given as goal
 
 abbrev pub invariant-loop-number : goal.invariant-loop-number
@@ -16,15 +15,15 @@ invariant-loop-number g l =
       going : l.lines.refused ≡ false;
       in_range : l.number ≤ 1000001;
       source_later : g.S.Source.faults l.initial.source ≤ g.S.Source.faults l.source;
-      sink_later : g.K.Sink.faults l.initial.out.sink.now ≤ g.K.Sink.faults l.out.sink.now;
+      sink_later : g.L.Sink.faults l.initial.out ≤ g.L.Sink.faults l.out;
       going_on : IfSome (coming 1 l.initial.counts l.initial.model (map (λ b. (goal.Adapter-dyn g (b.vtable, b.value)).standing b.value) l.initial.adapters.items) (g.D.Device.state l.initial.device) (input_of l.initial.lines (g.S.Source.left l.initial.source)))
           (λ e. PassesTo e (coming l.number l.counts l.model (map (λ b. (goal.Adapter-dyn g (b.vtable, b.value)).standing b.value) l.adapters.items) (g.D.Device.state l.device) (input_of l.lines (g.S.Source.left l.source)))
-          (told g.K.Sink.written l.initial.out) (told g.K.Sink.written l.out));
+          (g.L.Sink.written l.initial.out) (g.L.Sink.written l.out));
       unended : l.lines.ended ≡ false → l.initial.lines.ended ≡ false;
-      breaking : l.lines.ended ≡ false → (left last : Option (List ℕ)) → Breaks l.number l.model (map (λ b. (goal.Adapter-dyn g (b.vtable, b.value)).standing b.value) l.adapters.items) (g.D.Device.state l.device) (input_of l.lines (g.S.Source.left l.source)) left (told g.K.Sink.written l.out) last
-          → Breaks 1 l.initial.model (map (λ b. (goal.Adapter-dyn g (b.vtable, b.value)).standing b.value) l.initial.adapters.items) (g.D.Device.state l.initial.device) (input_of l.initial.lines (g.S.Source.left l.initial.source)) left (told g.K.Sink.written l.initial.out) last;
-      ends_kept : g.K.Sink.ends l.out.sink.now ≡ g.K.Sink.ends l.initial.out.sink.now;
-      same_sink : l.out.sink.ghost_name ≡ l.initial.out.sink.ghost_name;
+      breaking : l.lines.ended ≡ false → (left last : Option (List ℕ)) → Breaks l.number l.model (map (λ b. (goal.Adapter-dyn g (b.vtable, b.value)).standing b.value) l.adapters.items) (g.D.Device.state l.device) (input_of l.lines (g.S.Source.left l.source)) left (g.L.Sink.written l.out) last
+          → Breaks 1 l.initial.model (map (λ b. (goal.Adapter-dyn g (b.vtable, b.value)).standing b.value) l.initial.adapters.items) (g.D.Device.state l.initial.device) (input_of l.initial.lines (g.S.Source.left l.initial.source)) left (g.L.Sink.written l.initial.out) last;
+      ends_kept : g.L.Sink.ends l.out ≡ g.L.Sink.ends l.initial.out;
+      same_target : g.L.Sink.target l.out ≡ g.L.Sink.target l.initial.out;
     }
 
 abbrev pub decreases-loop-number : goal.decreases-loop-number
