@@ -1,5 +1,6 @@
 pub mod BufferLemmas
 pub mod Courses
+pub mod DoneLemmas
 pub mod EndingLemmas
 pub mod FaultLemmas
 pub mod HexLemmas
@@ -17,3 +18,4 @@ pub mod SequenceLemmas
 pub mod SessionLemmas
 pub mod WordLemmas
 pub mod TextLemmas
+pub mod Traces

@@ -3,8 +3,11 @@ ghost use Rattle.std.specs.Prelude.{◌≡◌, ◌≢◌, ◌≤◌, ◌+◌, �
 ghost use Rattle.std.specs.declared.option.Option.{Option};
 ghost use Rattle.std.specs.Io.KnownBytes.{Keeps};
 ghost use Rattle.rl_bus.specs.Causes.{Rose};
-ghost use Rattle.rl_access.specs.Model.{IsReady, IsSameChip};
+ghost use Rattle.rl_bus.specs.Standing.{Standing};
+ghost use Rattle.rl_bus.specs.State.{State};
+ghost use Rattle.rl_access.specs.Model.{ModelData, IsReady, IsSameChip};
 ghost use Rattle.regrun.specs.Causes.{IsCaused, NoneFailed};
+ghost use Rattle.regrun.specs.Done.{Does, DoesFirst};
 ghost use Rattle.regrun.specs.Endings.{end_status, IsCounted, PlayEnds};
 ghost use Rattle.regrun.specs.Log.{comes_of, said_by};
 ghost use Rattle.regrun.specs.Played.{coming, Breaks, EndsAs, IsTurn, IsWrittenOut, PassesTo};
@@ -227,6 +230,9 @@ fn play_line<S: Source, D: Device, L: Log>(
     ensures at_fault { result ≡ Turn.Stop Status.SourceFault → Breaks number model.old (map standing adapters.old.items) (D.state device.old) (input_of lines.old (S.left source.old)) (S.left source.new) (L.written out.old) (L.written out.new) }
     ensures later_fault { result ≡ Turn.Next → lines.new.ended ≡ false → (left last : Option (List ℕ)) → Breaks (number + 1) model.new (map standing adapters.new.items) (D.state device.new) (input_of lines.new (S.left source.new)) left (L.written out.new) last
         → Breaks number model.old (map standing adapters.old.items) (D.state device.old) (input_of lines.old (S.left source.old)) left (L.written out.old) last }
+    ensures done_next { result ≡ Turn.Next → (total : Counts) (last : ModelData) (standings : List Standing) (state : Option State) → Does (number + 1) model.new (map standing adapters.new.items) (D.state device.new) (input_of lines.new (S.left source.new)) counts.new total last standings state
+        → Does number model.old (map standing adapters.old.items) (D.state device.old) (input_of lines.old (S.left source.old)) counts.old total last standings state }
+    ensures done_stop { (status : Status) → result ≡ Turn.Stop status → Does number model.old (map standing adapters.old.items) (D.state device.old) (input_of lines.old (S.left source.old)) counts.old counts.new model.new (map standing adapters.new.items) (D.state device.new) }
     ensures flushed { result ≡ Turn.Stop Status.SourceFault → L.is_out out.new }
     ensures counted { (status : Status) → result ≡ Turn.Stop status → IsCounted status counts.new }
     ensures source_later { S.faults source.old ≤ S.faults source.new }
@@ -274,6 +280,7 @@ pub(crate) fn play_lines<S: Source, D: Device, L: Log>(
     ensures log { IfSome (coming 1 counts.old model.old (map standing adapters.old.items) (D.state device.old) (input_of lines.old (S.left source.old))) (λ e. EndsAs e result (L.written out.old) (L.written out.new) counts.new model.new (map standing adapters.new.items) (D.state device.new)) }
     ensures at_fault { result ≡ Status.SourceFault → Breaks 1 model.old (map standing adapters.old.items) (D.state device.old) (input_of lines.old (S.left source.old)) (S.left source.new) (L.written out.old) (L.written out.new) }
     ensures unended { result ≡ Status.SourceFault → lines.old.ended ≡ false }
+    ensures done { Does 1 model.old (map standing adapters.old.items) (D.state device.old) (input_of lines.old (S.left source.old)) counts.old counts.new model.new (map standing adapters.new.items) (D.state device.new) }
     ensures flushed { result ≡ Status.SourceFault → L.is_out out.new }
     ensures counted { IsCounted result counts.new }
     ensures source_later { S.faults source.old ≤ S.faults source.new }
@@ -347,6 +354,10 @@ pub fn play<S: Source, K: Sink, D: Device>(
     // front of the log.
     ensures at_memory { result ≡ Status.Memory → NoneFailed (K.faults sink.old) (K.faults sink.new)
         → IfSome (coming 1 no_counts model.old (map standing adapters.old.items) (D.state device.old) (input_of lines.old (S.left source.old))) (λ e. AppendsFront (K.written sink.old) (K.written sink.new) e.text) }
+
+    // However it ends: model, adapters and device are as after the first events of the script, as many as the count
+    // of events rose by, and the counts rose by what these count.
+    ensures done { DoesFirst model.old (map standing adapters.old.items) (D.state device.old) (input_of lines.old (S.left source.old)) counts.old counts.new model.new (map standing adapters.new.items) (D.state device.new) }
 
     // In any case the status goes by what happened in this call, and the counts rise by it.
     ensures ends { PlayEnds result counts.old counts.new }
