@@ -1,11 +1,13 @@
 pub mod BufferLemmas
 pub mod Courses
+pub mod DoneLemmas
 pub mod EndingLemmas
 pub mod FaultLemmas
 pub mod HexLemmas
 pub mod JudgedLemmas
 pub mod LayoutLemmas
 pub mod ListingLemmas
+pub mod MemoryLemmas
 pub mod NamedLemmas
 pub mod OpeningLemmas
 pub mod Performing
@@ -16,3 +18,4 @@ pub mod SequenceLemmas
 pub mod SessionLemmas
 pub mod WordLemmas
 pub mod TextLemmas
+pub mod Traces

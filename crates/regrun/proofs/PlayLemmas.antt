@@ -36,6 +36,7 @@ use Rattle.regrun.specs.Texts.{end_text, refused_text}
 use Rattle.regrun.specs.World.{World, world, IsAt}
 use Rattle.regrun.proofs.BufferLemmas.{keeps_then_appends}
 use Rattle.regrun.proofs.EndingLemmas.{front_none, front_later}
+use Rattle.regrun.proofs.Traces.{done_none}
 
 -- ---- the lines of an input
 
@@ -46,7 +47,7 @@ line_more true b bs more = refl
 line_more false b [] more = refl
 line_more false b (x ∷ xs) more = ap (onto_first b) (more (omega arith))
 
-lines_more : (bytes : List ℕ) → 0 < length bytes → lines_of bytes ≡ first_line bytes ∷ lines_of (after_line bytes)
+pub lines_more : (bytes : List ℕ) → 0 < length bytes → lines_of bytes ≡ first_line bytes ∷ lines_of (after_line bytes)
 lines_more [] h = absurd (omega arith)
 lines_more (b ∷ bs) h = line_more (b == 10) b bs (lines_more bs)
 
@@ -69,7 +70,7 @@ heard_said number bytes line got.TooLong new left some h is =
     sym (long_said number (length (first_line bytes)) (handed got.Line (strip_last 13 (first_line bytes))) h)
 heard_said number bytes line got.End new left some h is = absurd (some refl)
 
-hands_some : (bytes : List ℕ) (g : Got) (new : Reading) (left : Option (List ℕ)) → g ≢ got.End → Hands bytes g new left → 0 < length bytes
+pub hands_some : (bytes : List ℕ) (g : Got) (new : Reading) (left : Option (List ℕ)) → g ≢ got.End → Hands bytes g new left → 0 < length bytes
 hands_some bytes got.Line new left some h = h.some
 hands_some bytes got.TooLong new left some h = long_some bytes h
 hands_some bytes got.End new left some h = absurd (some refl)
@@ -109,6 +110,8 @@ unknown_stops number given why status old mid new counts now w m a st u t = reco
       let same : why ≡ other = u.why_is ∙ err_is (there given) (ap there u.none) e in
       subst (λ y. EndsAs (stops number y counts w) status old new now m a st) same (stops_over number why status old mid new counts now w m a st u.text t u.counted u.after);
   broken = λ entry e. absurd (err_ok (there given) (ap there u.none) e);
+  stays = λ other e. (u.counted, u.after);
+  done = λ entry e. absurd (err_ok (there given) (ap there u.none) e);
 }
 
 -- a line whose name isn't there
@@ -123,6 +126,22 @@ pub unknown_turn : (before : Option State) (number : ℕ) (m n : ModelData) (a b
     → IfSome before (λ d. IsTurn number (comes_of (world m a d) s) old new counts now (world m a d) n b after (Stop status))
 unknown_turn None number m n a b after line s o why status old mid new counts now is some h t = tt
 unknown_turn (Some d) number m n a b after line s o why status old mid new counts now is some h t = unknown_one number (world m a d) line s o why status old mid new counts now n b after is some h t
+
+abbrev here : (m : ModelData) (a : List Standing) (d : State) → IsAt m a (Some d) (world m a d)
+here m a d = record { model_is = refl; adapters_are = refl; device_is = refl }
+
+-- a line before which the run broke off
+pub early_turn : (before : Option State) (number : ℕ) (m : ModelData) (a : List Standing) (s : Result Line LineRefusal) (status : Status) (old new : Option (List ℕ)) (counts : Counts) → is_complete status ≡ false → Keeps old new
+    → IfSome before (λ d. IsTurn number (comes_of (world m a d) s) old new counts counts (world m a d) m a before (Stop status))
+early_turn None number m a s status old new counts early same = tt
+early_turn (Some d) number m a s status old new counts early same =
+    let w = world m a d in
+    record {
+      refused = λ why e. record { whole = λ c. absurd (true≢false (sym c ∙ early)); part = front_none old new (refused_text number why) same };
+      broken = λ entry e. (early, front_none old new entry.text same);
+      stays = λ other e. (refl, here m a d);
+      done = λ entry e. done_none entry.course.steps w counts counts m a (Some d) refl (here m a d);
+    }
 
 -- the same line, said otherwise
 pub same_turn : (before : Option State) (number : ℕ) (m n : ModelData) (a b : List Standing) (after : Option State) (r : Turn) (s other : Result Line LineRefusal) (old new : Option (List ℕ)) (counts now : Counts) → s ≡ other

@@ -29,8 +29,8 @@ events_append [] more = refl
 events_append (t ∷ told) more = ap (λ l. told_text t ++ l) (events_append told more) ∙ sym (append_assoc (told_text t) (events_text told) (events_text more))
 
 -- a front of some of the events is one of all
-front_events : (a b : Option (List ℕ)) (told : List Told) (c : Course) → IsFrontOf told c → AppendsFront a b (events_text told) → AppendsFront a b (events_text c.told)
-front_events a b told c f h =
+front_events : (a b : Option (List ℕ)) (told : List Told) (s : Scene) (c : Course) → IsFrontOf told s c → AppendsFront a b (events_text told) → AppendsFront a b (events_text c.told)
+front_events a b told s c f h =
     subst (AppendsFront a b) (sym (events_append told f.rest) ∙ ap events_text f.all) (front_before a b (events_text told) (events_text f.rest) h)
 
 abbrev here : (m : ModelData) (a : List Standing) (errors : ℕ) (d : State) → IsWorld (scene m a errors (Some d)) (world m a d)
@@ -49,12 +49,14 @@ step_recorded s n b now e old new counts after (Ok x) is at whole part = record 
   part = tt;
   counted = whole.counted ∙ ap (with_event counts) is;
   after = at;
+  done = tt;
 }
 step_recorded s n b now e old new counts after (Err x) is at whole part = record {
   whole = tt;
   part = subst (AppendsFront old new) (step_text s n b now e is at) part.text;
   counted = tt;
   after = tt;
+  done = λ w. record { done = s ∷ []; others = []; split = refl; counted = part.counted ∙ ap (with_event counts) is; after = at };
 }
 
 pub op_recorded : {T E : Type 0} (m n : ModelData) (a b : List Standing) (errors later : ℕ) (before now : Option State) (op : Op) (e : Event) (old new : Option (List ℕ)) (counts after : Counts) (r : Result T E)
@@ -89,6 +91,11 @@ module _ {R : Type 0} (written : R → Option (List ℕ)) (counts : R → Counts
   last_begun (t ∷ u ∷ told) old new (mid, first, rest) =
       front_after (written old) (written mid) (written new) (told_text t) (events_text (u ∷ told)) first.text (last_begun (u ∷ told) mid new rest)
 
+  last_counted : (told : List Told) (old new : R) → BreaksAtLast Takes Breaks old told new → counts new ≡ with_events (counts old) told
+  last_counted [] old new h = absurd h
+  last_counted (t ∷ []) old new h = h.counted
+  last_counted (t ∷ u ∷ told) old new (mid, first, rest) = last_counted (u ∷ told) mid new rest ∙ ap (λ c. with_events c (u ∷ told)) first.counted
+
   -- all events of a course
   recorded_all : {T E : Type 0} (c : Course) (told : List Told) (old new : R) (s : Scene) (x : T) → IsCourse told s c → TakesAll Takes old told new
       → IsRecorded {E = E} c (written old) (written new) (counts old) (counts new) s.model s.adapters s.device (Ok x)
@@ -97,16 +104,18 @@ module _ {R : Type 0} (written : R → Option (List ℕ)) (counts : R → Counts
     part = tt;
     counted = all_counted told old new h ∙ ap (with_events (counts old)) course.told_is;
     after = course.world;
+    done = tt;
   }
 
   -- the recorder failed at one of them
-  recorded_part : {T E : Type 0} (c : Course) (told : List Told) (old new : R) (s : Scene) (e : E) → IsFrontOf told c → BreaksAtLast Takes Breaks old told new
+  recorded_part : {T E : Type 0} (c : Course) (told : List Told) (old new : R) (s : Scene) (e : E) → IsFrontOf told s c → BreaksAtLast Takes Breaks old told new
       → IsRecorded {T = T} c (written old) (written new) (counts old) (counts new) s.model s.adapters s.device (Err e)
   recorded_part c told old new s e front h = record {
     whole = tt;
-    part = front_events (written old) (written new) told c front (last_begun told old new h);
+    part = front_events (written old) (written new) told s c front (last_begun told old new h);
     counted = tt;
     after = tt;
+    done = λ w. record { done = front.front; others = front.others; split = front.split; counted = last_counted told old new h ∙ front.counted (counts old); after = front.leads w };
   }
 
   -- ---- a sequence
@@ -155,8 +164,17 @@ module _ {R : Type 0} (written : R → Option (List ℕ)) (counts : R → Counts
       recorded_all (alone (unchanged w op why)) (record { model = s.model; event = q.event } ∷ []) old rec new tally (refused_told s new w op why q.event h q.refused) q.handed.all
   refused_run s new w op why old rec (Err e) h q =
       let course = refused_told s new w op why q.event h q.refused in
+      let one = refused_alone s new w op why q.event h q.refused in
       recorded_part (alone (unchanged w op why)) (record { model = s.model; event = q.event } ∷ []) old rec new e
-      (record { rest = []; all = append-nil (record { model = s.model; event = q.event } ∷ []) ∙ course.told_is }) q.handed.part
+      (record {
+        rest = [];
+        all = append-nil (record { model = s.model; event = q.event } ∷ []) ∙ course.told_is;
+        front = unchanged w op why ∷ [];
+        others = [];
+        split = refl;
+        counted = λ counts. ap (λ e. with_event counts e) one.0;
+        leads = λ v. one.1;
+      }) q.handed.part
 
   by_grant : {E : Type 0} (granted : Grant) (op : Op) (ops : List Op) (s new : Scene) (w : World) (old rec : R) (r : Result Tally E) → IsWorld s w → IsBurst Takes Breaks old rec s new granted op ops r
       → IsRecorded (burst w granted op ops) (written old) (written rec) (counts old) (counts rec) new.model new.adapters new.device r

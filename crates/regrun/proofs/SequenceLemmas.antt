@@ -1,5 +1,5 @@
 -- The log of a sequence: a line, its events, and a line.
-use Rattle.std.proofs.Common.{◌≡◌, ℕ, List, [], ◌∷◌, ◌++◌, Option, Some, None, IfSome, IfOk, Result, Ok, Err, IsErr, sym, ap, subst, ◌∙◌, append-nil, option_map}
+use Rattle.std.proofs.Common.{◌≡◌, ℕ, List, [], ◌∷◌, ◌++◌, Option, Some, None, IfSome, IfOk, Result, Ok, Err, IsErr, refl, sym, ap, subst, ◌∙◌, append-nil, option_map}
 use Rattle.std.specs.Io.KnownBytes.{Appends}
 use Rattle.std.proofs.KnownBytes.{Appends-trans}
 use Rattle.std.proofs.lemmas.Bool.{true≢false}
@@ -19,6 +19,7 @@ use Rattle.regrun.specs.Entry.{Entry, plan_of, framed, begin_text, closing_text,
 use Rattle.regrun.specs.Played.{BrokeOff, IsLineRun}
 use Rattle.regrun.specs.Recording.{events_text, IsRecorded}
 use Rattle.regrun.specs.World.{World, world}
+use Rattle.regrun.proofs.Traces.{done_all, done_none, trace_along}
 
 -- ---- fronts of the three parts
 
@@ -42,7 +43,7 @@ all_three old mid later new x y z first second third =
 
 -- ---- the log
 
-broke_line : (given : Option Entry) (w : World) (old new : Option (List ℕ)) (counts now : Counts) (m : ModelData) (a : List Standing) (st : Option State) (r : Result (Option LineRefusal) Failed) → IsErr r → BrokeOff given old new
+broke_line : (given : Option Entry) (w : World) (old new : Option (List ℕ)) (counts now : Counts) (m : ModelData) (a : List Standing) (st : Option State) (r : Result (Option LineRefusal) Failed) → IsErr r → BrokeOff given w old new counts now m a st
     → IsLineRun given w old new counts now m a st r
 broke_line given w old new counts now m a st (Ok None) e b = absurd (true≢false (sym e))
 broke_line given w old new counts now m a st (Ok (Some why)) e b = absurd (true≢false (sym e))
@@ -51,17 +52,18 @@ broke_line given w old new counts now m a st (Err failed) e b = b
 abbrev entry_for : Sequence → Option (List ℕ) → World → ModelData → Option ℕ → Entry
 entry_for which over w m block = framed which over (along w (plan_of which m block))
 
-pub begin_failed : (before : Option State) (m : ModelData) (a : List Standing) (which : Sequence) (over : Option (List ℕ)) (asked : Option (Option ℕ)) (block : Option ℕ) (old new : Option (List ℕ)) (counts now : Counts)
+pub begin_failed : (before : Option State) (m : ModelData) (a : List Standing) (which : Sequence) (over : Option (List ℕ)) (asked : Option (Option ℕ)) (block : Option ℕ) (old new : Option (List ℕ)) (counts : Counts)
     (r : Result (Option LineRefusal) Failed) → IsReady m a before → IsErr r → asked ≡ Some block → AppendsFront old new (begin_text which over)
-    → IfSome before (λ d. IsLineRun (option_map (λ block. framed which over (along (world m a d) (plan_of which m block))) asked) (world m a d) old new counts now m a before r)
-begin_failed None m a which over asked block old new counts now r ready e is h = tt
-begin_failed (Some d) m a which over asked block old new counts now r ready e is h =
+    → IfSome before (λ d. IsLineRun (option_map (λ block. framed which over (along (world m a d) (plan_of which m block))) asked) (world m a d) old new counts counts m a before r)
+begin_failed None m a which over asked block old new counts r ready e is h = tt
+begin_failed (Some d) m a which over asked block old new counts r ready e is h =
     let make = entry_for which over (world m a d) m in
     let entry = make block in
-    broke_line (option_map make asked) (world m a d) old new counts now m a (Some d) r e (record {
+    broke_line (option_map make asked) (world m a d) old new counts counts m a (Some d) r e (record {
       entry = entry;
       is = ap (option_map make) is;
       text = front_of_begin old new (begin_text which over) (events_text entry.course.told) (closed_text which over (counted_all no_tally entry.course.told)) h;
+      done = done_none entry.course.steps (world m a d) counts counts m a (Some d) refl (record { model_is = refl; adapters_are = refl; device_is = refl });
     })
 
 pub events_failed : {F : Type 0} (before : Option State) (m n : ModelData) (a b : List Standing) (after : Option State) (which : Sequence) (over : Option (List ℕ)) (asked : Option (Option ℕ)) (block : Option ℕ) (old mid new : Option (List ℕ)) (counts now : Counts)
@@ -76,6 +78,7 @@ events_failed (Some d) m n a b after which over asked block old mid new counts n
       entry = entry;
       is = ap (option_map make) is;
       text = front_of_events old mid new (begin_text which over) (events_text entry.course.told) (closed_text which over (counted_all no_tally entry.course.told)) first h.part;
+      done = h.done (world m a d);
     })
 
 -- the counts of the line behind the events
@@ -99,6 +102,7 @@ closing_failed F (Some d) m n a b after which over asked block old mid later new
       is = ap (option_map make) is;
       text = front_of_closing old mid later new (begin_text which over) (events_text entry.course.told) (closed_text which over told) first h.whole
           (subst (AppendsFront later new) (closing_is which over told tally line of same) last);
+      done = done_all entry.course (world m a d) counts now n b after (trace_along (plan_of which m block) (world m a d)) h.counted h.after;
     })
 
 pub sequence_done : (F : Type 0) (before : Option State) (m n : ModelData) (a b : List Standing) (after : Option State) (which : Sequence) (over : Option (List ℕ)) (asked : Option (Option ℕ)) (block : Option ℕ) (old mid later new : Option (List ℕ)) (counts now line : Counts)

@@ -9,3 +9,7 @@ pub record IsCaused (status : Status) (source source_now sink sink_now : ℕ) : 
   pub source_fault : status ≡ SourceFault → Rose source source_now
   pub sink_fault : status ≡ SinkFault → Rose sink sink_now
   pub known : status ≢ Words
+
+-- No call failed: the count of faults didn't rise.
+abbrev pub NoneFailed : (before now : ℕ) → Type 0
+NoneFailed before now = Rose before now → ⊥

@@ -11,21 +11,23 @@ pub record Course : Type 0 where
   -- each event, with the model right after it
   pub told : List Told
   pub world : World
+  -- each event, with all that stands right after it
+  pub steps : List Step
 
 abbrev pub told_of : Step → Told
 told_of s = record { model = s.world.model; event = s.event }
 
 -- no operation
 abbrev pub nothing_done : World → Course
-nothing_done w = record { told = []; world = w }
+nothing_done w = record { told = []; world = w; steps = [] }
 
 -- one operation
 abbrev pub alone : Step → Course
-alone s = record { told = told_of s ∷ []; world = s.world }
+alone s = record { told = told_of s ∷ []; world = s.world; steps = s ∷ [] }
 
 -- one operation, and then others
 abbrev pub first_then : Step → Course → Course
-first_then s others = record { told = told_of s ∷ others.told; world = others.world }
+first_then s others = record { told = told_of s ∷ others.told; world = others.world; steps = s ∷ others.steps }
 
 -- each operation, up to and with the first that ends by a bus error
 unfoldable pub through : World → List Op → Course

@@ -1,5 +1,6 @@
 pub mod Causes
 pub mod Course
+pub mod Done
 pub mod Endings
 pub mod Entry
 pub mod Heard

@@ -16,7 +16,7 @@ use Rattle.regrun.specs.declared.texts.LineRefusal.TheVariants.{NoSuchName}
 use Rattle.regrun.specs.Endings.{Writes, added}
 use Rattle.regrun.specs.Entry.{Entry}
 use Rattle.regrun.specs.Log.{Ending, script_from, lines_text, after_text, stops}
-use Rattle.regrun.specs.Recording.{with_events}
+use Rattle.regrun.specs.Recording.{IsDone, with_events}
 use Rattle.regrun.specs.Statuses.{is_complete}
 use Rattle.regrun.specs.World.{World, world, IsAt}
 
@@ -64,16 +64,17 @@ pub record IsUnknown (given : Option Entry) (why : LineRefusal) (old new : Optio
   pub counted : now ≡ counts
   pub after : IsAt model adapters device w
 
--- a front of its text was written before the sink failed
-pub record BrokeOff (given : Option Entry) (old new : Option (List ℕ)) : Type 0 where
+-- a front of its text was written before the sink failed, and the first of its events were done
+pub record BrokeOff (given : Option Entry) (w : World) (old new : Option (List ℕ)) (counts now : Counts) (model : ModelData) (adapters : List Standing) (device : Option State) : Type 0 where
   pub entry : Entry
   pub is : given ≡ Some entry
   pub text : AppendsFront old new entry.text
+  pub done : IsDone entry.course.steps w counts now model adapters device
 
 abbrev pub IsLineRun : Option Entry → World → (old new : Option (List ℕ)) → (counts now : Counts) → ModelData → List Standing → Option State → Result (Option LineRefusal) Failed → Type 0
 IsLineRun given w old new counts now model adapters device (Ok None) = Ran given old new counts now model adapters device
 IsLineRun given w old new counts now model adapters device (Ok (Some why)) = IsUnknown given why old new counts now w model adapters device
-IsLineRun given w old new counts now model adapters device (Err failed) = BrokeOff given old new
+IsLineRun given w old new counts now model adapters device (Err failed) = BrokeOff given w old new counts now model adapters device
 
 -- ---- a turn: what a line comes to, as it was written and done
 
@@ -89,6 +90,8 @@ pub record RanOn (comes : Result Entry LineRefusal) (old new : Option (List ℕ)
 pub record Stopped (number : ℕ) (comes : Result Entry LineRefusal) (status : Status) (old new : Option (List ℕ)) (counts now : Counts) (w : World) (model : ModelData) (adapters : List Standing) (device : Option State) : Type 0 where
   pub refused : (why : LineRefusal) → comes ≡ Err why → EndsAs (stops number why counts w) status old new now model adapters device
   pub broken : (entry : Entry) → comes ≡ Ok entry → (is_complete status ≡ false) × AppendsFront old new entry.text
+  pub stays : (why : LineRefusal) → comes ≡ Err why → (now ≡ counts) × IsAt model adapters device w
+  pub done : (entry : Entry) → comes ≡ Ok entry → IsDone entry.course.steps w counts now model adapters device
 
 abbrev pub IsTurn : (number : ℕ) → Result Entry LineRefusal → (old new : Option (List ℕ)) → (counts now : Counts) → World → ModelData → List Standing → Option State → Turn → Type 0
 IsTurn number comes old new counts now w model adapters device Next = RanOn comes old new counts now model adapters device

@@ -11,7 +11,7 @@ use Rattle.rl_report.specs.EventText.{event_text}
 use Rattle.rl_report.specs.Pieces.{AppendsFront}
 use Rattle.regrun.specs.declared.counts.Counts.{Counts}
 use Rattle.regrun.specs.Course.{Course}
-use Rattle.regrun.specs.World.{IsAt}
+use Rattle.regrun.specs.World.{World, Step, IsAt}
 
 -- ---- counts
 
@@ -52,6 +52,25 @@ abbrev pub events_text : List Told → List ℕ
 events_text [] = []
 events_text (t ∷ told) = told_text t ++ events_text told
 
+-- ---- the first of some events
+
+-- what stands after these
+abbrev pub led_to : World → List Step → World
+led_to w [] = w
+led_to w (s ∷ steps) = led_to s.world steps
+
+abbrev pub with_steps : Counts → List Step → Counts
+with_steps counts [] = counts
+with_steps counts (s ∷ steps) = with_steps (with_event counts s.event) steps
+
+-- The first of these events were done and counted, no others, and they led here.
+pub record IsDone (steps : List Step) (w : World) (counts now : Counts) (model : ModelData) (adapters : List Standing) (device : Option State) : Type 0 where
+  pub done : List Step
+  pub others : List Step
+  pub split : done ++ others ≡ steps
+  pub counted : now ≡ with_steps counts done
+  pub after : IsAt model adapters device (led_to w done)
+
 -- ---- a course
 
 -- its events were written and counted, and it led here; where the sink failed, a front of their text was written
@@ -60,3 +79,5 @@ pub record IsRecorded {T E : Type 0} (c : Course) (old new : Option (List ℕ)) 
   pub part : OnErr r (AppendsFront old new (events_text c.told))
   pub counted : OnOk r (now ≡ with_events counts c.told)
   pub after : OnOk r (IsAt model adapters device c.world)
+  -- at least one was done, so this holds whatever stood before
+  pub done : OnErr r ((w : World) → IsDone c.steps w counts now model adapters device)

@@ -3,8 +3,11 @@ ghost use Rattle.std.specs.Prelude.{◌≡◌, ◌≢◌, ◌≤◌, ◌+◌, �
 ghost use Rattle.std.specs.declared.option.Option.{Option};
 ghost use Rattle.std.specs.Io.KnownBytes.{Keeps};
 ghost use Rattle.rl_bus.specs.Causes.{Rose};
-ghost use Rattle.rl_access.specs.Model.{IsReady, IsSameChip};
-ghost use Rattle.regrun.specs.Causes.{IsCaused};
+ghost use Rattle.rl_bus.specs.Standing.{Standing};
+ghost use Rattle.rl_bus.specs.State.{State};
+ghost use Rattle.rl_access.specs.Model.{ModelData, IsReady, IsSameChip};
+ghost use Rattle.regrun.specs.Causes.{IsCaused, NoneFailed};
+ghost use Rattle.regrun.specs.Done.{Does, DoesFirst};
 ghost use Rattle.regrun.specs.Endings.{end_status, IsCounted, PlayEnds};
 ghost use Rattle.regrun.specs.Log.{comes_of, said_by};
 ghost use Rattle.regrun.specs.Played.{coming, Breaks, EndsAs, IsTurn, IsWrittenOut, PassesTo};
@@ -18,6 +21,7 @@ ghost use Rattle.regrun.specs.World.{world};
 ghost use Rattle.rl_report.specs.Got.{Hands};
 ghost use Rattle.rl_script.specs.Reading.{read_of};
 ghost use Rattle.rl_report.specs.Lines.{first_line};
+ghost use Rattle.rl_report.specs.Pieces.{AppendsFront};
 ghost use Rattle.rl_report.specs.Reading.{input_of};
 
 use crate::buffered::Buffered;
@@ -226,6 +230,9 @@ fn play_line<S: Source, D: Device, L: Log>(
     ensures at_fault { result ≡ Turn.Stop Status.SourceFault → Breaks number model.old (map standing adapters.old.items) (D.state device.old) (input_of lines.old (S.left source.old)) (S.left source.new) (L.written out.old) (L.written out.new) }
     ensures later_fault { result ≡ Turn.Next → lines.new.ended ≡ false → (left last : Option (List ℕ)) → Breaks (number + 1) model.new (map standing adapters.new.items) (D.state device.new) (input_of lines.new (S.left source.new)) left (L.written out.new) last
         → Breaks number model.old (map standing adapters.old.items) (D.state device.old) (input_of lines.old (S.left source.old)) left (L.written out.old) last }
+    ensures done_next { result ≡ Turn.Next → (total : Counts) (last : ModelData) (standings : List Standing) (state : Option State) → Does (number + 1) model.new (map standing adapters.new.items) (D.state device.new) (input_of lines.new (S.left source.new)) counts.new total last standings state
+        → Does number model.old (map standing adapters.old.items) (D.state device.old) (input_of lines.old (S.left source.old)) counts.old total last standings state }
+    ensures done_stop { (status : Status) → result ≡ Turn.Stop status → Does number model.old (map standing adapters.old.items) (D.state device.old) (input_of lines.old (S.left source.old)) counts.old counts.new model.new (map standing adapters.new.items) (D.state device.new) }
     ensures flushed { result ≡ Turn.Stop Status.SourceFault → L.is_out out.new }
     ensures counted { (status : Status) → result ≡ Turn.Stop status → IsCounted status counts.new }
     ensures source_later { S.faults source.old ≤ S.faults source.new }
@@ -273,6 +280,7 @@ pub(crate) fn play_lines<S: Source, D: Device, L: Log>(
     ensures log { IfSome (coming 1 counts.old model.old (map standing adapters.old.items) (D.state device.old) (input_of lines.old (S.left source.old))) (λ e. EndsAs e result (L.written out.old) (L.written out.new) counts.new model.new (map standing adapters.new.items) (D.state device.new)) }
     ensures at_fault { result ≡ Status.SourceFault → Breaks 1 model.old (map standing adapters.old.items) (D.state device.old) (input_of lines.old (S.left source.old)) (S.left source.new) (L.written out.old) (L.written out.new) }
     ensures unended { result ≡ Status.SourceFault → lines.old.ended ≡ false }
+    ensures done { Does 1 model.old (map standing adapters.old.items) (D.state device.old) (input_of lines.old (S.left source.old)) counts.old counts.new model.new (map standing adapters.new.items) (D.state device.new) }
     ensures flushed { result ≡ Status.SourceFault → L.is_out out.new }
     ensures counted { IsCounted result counts.new }
     ensures source_later { S.faults source.old ≤ S.faults source.new }
@@ -301,6 +309,7 @@ fn settle<K: Sink>(status: Status, out: &mut Buffered<'_, K>) -> Status
     ensures told { Keeps (told K.written out.old) (told K.written out.new) }
     ensures whole { is_complete result ≡ true → Keeps (told K.written out.old) (K.written out.new.sink.now) }
     ensures at_fault { status ≡ Status.SourceFault → out.old.end ≡ 0 → Keeps (told K.written out.old) (K.written out.new.sink.now) }
+    ensures at_memory { result ≡ Status.Memory → NoneFailed (K.faults out.old.sink.now) (K.faults out.new.sink.now) → Keeps (told K.written out.old) (K.written out.new.sink.now) }
     ensures ends_kept { K.ends out.new.sink.now ≡ K.ends out.old.sink.now }
     ensures same_sink { out.new.sink.ghost_name ≡ out.old.sink.ghost_name }
 {
@@ -340,6 +349,15 @@ pub fn play<S: Source, K: Sink, D: Device>(
 
     // After a source that failed, the sink has exactly the log of the lines that were taken whole.
     ensures at_fault { result ≡ Status.SourceFault → Breaks 1 model.old (map standing adapters.old.items) (D.state device.old) (input_of lines.old (S.left source.old)) (S.left source.new) (K.written sink.old) (K.written sink.new) }
+
+    // Where memory ran out and no call of the sink failed, the sink keeps its earlier bytes, and behind them it has a
+    // front of the log.
+    ensures at_memory { result ≡ Status.Memory → NoneFailed (K.faults sink.old) (K.faults sink.new)
+        → IfSome (coming 1 no_counts model.old (map standing adapters.old.items) (D.state device.old) (input_of lines.old (S.left source.old))) (λ e. AppendsFront (K.written sink.old) (K.written sink.new) e.text) }
+
+    // However it ends: model, adapters and device are as after the first events of the script, as many as the count
+    // of events rose by, and the counts rose by what these count.
+    ensures done { DoesFirst model.old (map standing adapters.old.items) (D.state device.old) (input_of lines.old (S.left source.old)) counts.old counts.new model.new (map standing adapters.new.items) (D.state device.new) }
 
     // In any case the status goes by what happened in this call, and the counts rise by it.
     ensures ends { PlayEnds result counts.old counts.new }

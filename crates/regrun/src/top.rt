@@ -4,8 +4,8 @@ ghost use Rattle.std.specs.Io.KnownBytes.{Keeps};
 ghost use Rattle.std.specs.declared.option.Option.{Option};
 ghost use Rattle.rl_bus.specs.Causes.{Rose};
 ghost use Rattle.rl_bus.specs.Standing.{kinds_of};
-ghost use Rattle.regrun.specs.Causes.{IsCaused};
-ghost use Rattle.regrun.specs.Judged.{ending_judged, judged, map_judged, soak_judged, BreaksOff, IsJudged, IsTold};
+ghost use Rattle.regrun.specs.Causes.{IsCaused, NoneFailed};
+ghost use Rattle.regrun.specs.Judged.{ending_judged, judged, judged_of, map_judged, soak_judged, BreaksOff, IsJudged, IsTold};
 ghost use Rattle.regrun.specs.Log.{behind, first_world, script_from};
 ghost use Rattle.regrun.specs.Played.{BreaksAfter};
 ghost use Rattle.regrun.specs.Recording.{no_counts};
@@ -20,6 +20,7 @@ ghost use Rattle.rl_map.specs.LayoutText.{layout_text};
 ghost use Rattle.rl_map.specs.Maps.{IsBuiltWith};
 ghost use Rattle.rl_report.specs.Lines.{lines_of};
 ghost use Rattle.rl_report.specs.Opening.{separator_at, FindsHead, TakesNoHead};
+ghost use Rattle.rl_report.specs.Pieces.{AppendsFront};
 ghost use Rattle.rl_report.specs.Reading.{input_of};
 ghost use Rattle.rl_bench.specs.Flaws.{AreFlawsOf};
 
@@ -306,6 +307,7 @@ fn finish<K: Sink>(status: Status, out: &mut Buffered<'_, K>) -> Status
     ensures whole { is_complete result ≡ true → Keeps (told K.written out.old) (K.written out.new.sink.now) }
     ensures at_fault { status ≡ Status.SourceFault → out.old.end ≡ 0 → Keeps (told K.written out.old) (K.written out.new.sink.now) }
     ensures unwritten { status ≡ Status.SourceFault → out.new ≡ out.old }
+    ensures at_memory { result ≡ Status.Memory → NoneFailed (K.faults out.old.sink.now) (K.faults out.new.sink.now) → Keeps (told K.written out.old) (K.written out.new.sink.now) }
     ensures same_sink { out.new.sink.ghost_name ≡ out.old.sink.ghost_name }
 {
     if status.is_complete() {
@@ -385,6 +387,11 @@ pub fn regrun<S: Source, K: Sink>(
 
     // After a source that failed, `map` has written nothing: the sink is as before.
     ensures unwritten { task_built (map string_bytes words.now) ≡ Some Built.Map → result ≡ Status.SourceFault → sink.new ≡ sink.old }
+
+    // Where memory ran out and no call of the sink failed, the sink keeps its earlier bytes, and behind them it has a
+    // front of the log.
+    ensures at_memory { (task : Built) → task_built (map string_bytes words.now) ≡ Some task → result ≡ Status.Memory → NoneFailed (K.faults sink.old) (K.faults sink.new)
+        → IfSome (judged_of task (S.left source.old) (map standing adapters.old.items)) (λ j. AppendsFront (K.written sink.old) (K.written sink.new) j.text) }
 
     // No fault is made up.
     ensures source_later { S.faults source.old ≤ S.faults source.new }

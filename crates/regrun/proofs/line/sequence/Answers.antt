@@ -4,7 +4,7 @@ use Rattle.regrun.proofs.line.sequence.Goals as goal
 
 pub returns-in_err-put_sequence_begin-clause-run : goal.returns-in_err-put_sequence_begin-clause-run
 returns-in_err-put_sequence_begin-clause-run g c =
-    begin_failed _ _ _ _ c.args.path.now _ _ _ _ c.args.counts.now c.args.counts.now _ c.requires.ready c.from_residual.ensures.0 (sym c.block_asked.ensures.named ∙ c.in-Some.is) c.in_err-put_sequence_begin.ensures.bytes.part
+    begin_failed _ _ _ _ c.args.path.now _ _ _ _ c.args.counts.now _ c.requires.ready c.from_residual.ensures.0 (sym c.block_asked.ensures.named ∙ c.in-Some.is) c.in_err-put_sequence_begin.ensures.bytes.part
 
 pub returns-in_err-tally-clause-run : goal.returns-in_err-tally-clause-run
 returns-in_err-tally-clause-run g c =

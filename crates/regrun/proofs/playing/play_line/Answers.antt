@@ -4,6 +4,7 @@ use Rattle.regrun.specs.declared.status.Status.TheVariants.{SourceFault}
 use Rattle.regrun.specs.Statuses.{is_complete}
 use Rattle.regrun.proofs.EndingLemmas.{counted_none}
 use Rattle.regrun.proofs.FaultLemmas.{still_going, breaks_here, breaks_later}
+use Rattle.regrun.proofs.DoneLemmas.{does_none, does_next, does_stop}
 use Rattle.regrun.proofs.PlayLemmas.{early_stops, ends_at_end, next_passes, stop_ends}
 use Rattle.regrun.proofs.playing.play_line.Goals as goal
 
@@ -53,3 +54,21 @@ returns-clause-later_fault g c =
     let not_end : c.in-Ok.got ≢ got.End = c.is_end.ensures.more c.if-is_end.false in
     breaks_later _ _ _ _ _ _ _ _ _ _ c.in-Ok.got _ c.take_line.new.lines _ _ _ _ _ left last not_end (c.run_taken.ensures.short is) c.in-Ok.ensures.handed c.line.ensures refl c.in-Ok.ensures.told
     (rw is at c.run_taken.ensures.turn) going f
+
+pub returns-in-Err-clause-done_stop : goal.returns-in-Err-clause-done_stop
+returns-in-Err-clause-done_stop g c = λ status e. does_none _ _ _ _ _ _
+
+pub returns-then-is_end-clause-done_stop : goal.returns-then-is_end-clause-done_stop
+returns-then-is_end-clause-done_stop g c = λ status e. does_none _ _ _ _ _ _
+
+pub returns-clause-done_stop : goal.returns-clause-done_stop
+returns-clause-done_stop g c =
+    λ status is.
+    let not_end : c.in-Ok.got ≢ got.End = c.is_end.ensures.more c.if-is_end.false in
+    does_stop _ _ _ _ _ _ _ _ _ _ c.in-Ok.got _ c.take_line.new.lines _ _ status _ _ not_end c.in-Ok.ensures.handed c.line.ensures refl (rw is at c.run_taken.ensures.turn)
+
+pub returns-clause-done_next : goal.returns-clause-done_next
+returns-clause-done_next g c =
+    λ is total last standings state f.
+    let not_end : c.in-Ok.got ≢ got.End = c.is_end.ensures.more c.if-is_end.false in
+    does_next _ _ _ total _ _ last _ _ standings _ _ state _ c.in-Ok.got _ c.take_line.new.lines _ _ _ _ not_end (c.run_taken.ensures.short is) c.in-Ok.ensures.handed c.line.ensures refl (rw is at c.run_taken.ensures.turn) f

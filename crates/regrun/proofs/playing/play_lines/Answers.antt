@@ -17,6 +17,7 @@ loop-number-init g c = record {
   going_on = passes_first _ _ _ (Appends-nil _);
   unended = λ ended. ended;
   breaking = λ ended left last h. h;
+  doing = λ total last standings state h. h;
   ends_kept = refl;
   same_target = refl;
 }
@@ -37,6 +38,7 @@ loop-number-preserved g c =
       going_on = passes_both _ _ _ _ _ _ i.going_on (e.next c.in-Next.is);
       unended = λ ended. i.unended (still_going _ _ e.ended ended);
       breaking = λ ended left last h. i.breaking (still_going _ _ e.ended ended) left last (e.later_fault c.in-Next.is ended left last h);
+      doing = λ total last standings state h. i.doing total last standings state (e.done_next c.in-Next.is total last standings state h);
       ends_kept = e.ends_kept ∙ i.ends_kept;
       same_target = e.same_target ∙ i.same_target;
     }
@@ -55,3 +57,6 @@ returns-in-Stop-clause-flushed g c = λ is. c.play_line.ensures.flushed (c.in-St
 
 pub returns-in-Stop-clause-unended : goal.returns-in-Stop-clause-unended
 returns-in-Stop-clause-unended g c = λ is. c.loop-number.invariant.unended (c.play_line.ensures.unended (c.in-Stop.is ∙ ap Stop is))
+
+pub returns-in-Stop-clause-done : goal.returns-in-Stop-clause-done
+returns-in-Stop-clause-done g c = c.loop-number.invariant.doing _ _ _ _ (c.play_line.ensures.done_stop _ c.in-Stop.is)

@@ -1,8 +1,10 @@
 use Rattle.std.proofs.Common.{◌≡◌, sym, ap, ◌∙◌, rules}
 use Rattle.regrun.specs.declared.words.Built.TheVariants as built
+use Rattle.regrun.specs.Causes.{NoneFailed}
 use Rattle.regrun.specs.Judged.{judged, map_judged}
 use Rattle.regrun.proofs.FaultLemmas.{off_written, same_status}
 use Rattle.regrun.proofs.JudgedLemmas.{judged_written, all_written}
+use Rattle.regrun.proofs.MemoryLemmas.{none_later, task_front}
 use Rattle.regrun.proofs.top.regrun.Goals as goal
 
 pub returns-clause-run : goal.returns-clause-run
@@ -47,4 +49,15 @@ returns-clause-unwritten g c = λ asked is.
     let fault = same_status _ _ f.kept is in
     let all = f.unwritten fault ∙ c.perform_task-status.ensures.unwritten map fault in
     let w = ap (λ b. b.sink.now) all ∙ c.new-out.ensures.sink in
+    search (rules, w)
+
+pub returns-clause-at_memory : goal.returns-clause-at_memory
+returns-clause-at_memory g c = λ task asked is none.
+    let found = sym c.in-Some.is ∙ c.task_built.ensures ∙ asked in
+    let same : c.in-Some.task ≡ task = cc in
+    let f = c.finish.ensures in
+    let p = c.perform_task-status.ensures in
+    let quiet : NoneFailed (g.K.Sink.faults c.args.sink.now) (g.K.Sink.faults c.finish.new.out.sink.now) = search (rules, none) in
+    let kept = f.at_memory is (none_later _ _ _ (rw c.new-out.ensures.sink at p.sink_later) quiet) in
+    let w = task_front task _ _ _ _ _ _ _ (λ e. rw c.new-out.ensures.told at (p.run (same ∙ e))) (λ e. rw c.new-out.ensures.told at (p.map (same ∙ e))) (λ n e. rw c.new-out.ensures.told at (p.soak n (same ∙ e))) kept in
     search (rules, w)

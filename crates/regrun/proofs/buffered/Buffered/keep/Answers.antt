@@ -1,4 +1,4 @@
-use Rattle.std.proofs.Common.{◌+◌, ◌++◌, length, slice_range, ap, ◌∙◌, arith}
+use Rattle.std.proofs.Common.{◌++◌, length, slice_range, ap, ◌∙◌, arith}
 use Rattle.rl_report.proofs.RangeLemmas.{spliced}
 use Rattle.regrun.proofs.buffered.Buffered.keep.Goals as goal
 
