@@ -2,8 +2,8 @@
 use Rattle.std.proofs.Common.{◌≡◌, ◌≢◌, ℕ, ◌+◌, ◌<◌, ◌≤◌, Bool, true, false, if◌then◌else◌, nat_lt, List, [], ◌∷◌, ◌++◌, ◌==◌, length, Option, Some, None, IfSome, Result, Ok, Err, MatchResult, refl, sym, ap, subst, ◌∙◌, append_assoc, arith}
 use Rattle.std.specs.Io.KnownBytes.{Appends, Keeps}
 use Rattle.std.specs.Io.BufRead.{strip_last}
-use Rattle.std.proofs.KnownBytes.{Appends-trans}
-use Rattle.std.proofs.lemmas.Bool.{lt-ltb, le-ltb, true≢false}
+use Rattle.std.proofs.KnownBytes.{Appends-nil, Appends-trans}
+use Rattle.std.proofs.lemmas.Bool.{lt-ltb, le-ltb, eqb-true, true≢false}
 use Rattle.rl_bus.specs.Standing.{Standing}
 use Rattle.rl_bus.specs.State.{State}
 use Rattle.rl_access.specs.Model.{ModelData}
@@ -16,7 +16,9 @@ use Rattle.rl_report.proofs.PieceLemmas.{front_after, front_before}
 use Rattle.rl_script.specs.declared.fault.LineFault.{LineFault}
 use Rattle.rl_script.specs.declared.fault.LineFault.TheVariants.{Memory}
 use Rattle.rl_script.specs.declared.line.Line.{Line}
-use Rattle.rl_script.specs.Reading.{read_of}
+use Rattle.rl_script.specs.declared.line.Line.TheVariants as say
+use Rattle.rl_script.specs.Reading.{read_of, by_words}
+use Rattle.rl_script.specs.Words.{words_of}
 use Rattle.regrun.specs.declared.counts.Counts.{Counts}
 use Rattle.regrun.specs.declared.playing.Turn.{Turn}
 use Rattle.regrun.specs.declared.playing.Turn.TheVariants.{Next, Stop}
@@ -25,7 +27,8 @@ use Rattle.regrun.specs.declared.status.Status.TheVariants.{Refused}
 use Rattle.regrun.specs.declared.texts.LineRefusal.{LineRefusal}
 use Rattle.regrun.specs.declared.texts.LineRefusal.TheVariants.{TooLong, TooManyLines}
 use Rattle.regrun.specs.Endings.{end_status}
-use Rattle.regrun.specs.Entry.{Entry, entry_of}
+use Rattle.regrun.specs.Course.{nothing_done}
+use Rattle.regrun.specs.Entry.{Entry, entry_of, plain}
 use Rattle.regrun.specs.Log.{Ending, script_from, goes_on, comes_of, there, after_text, stops, said, said_by}
 use Rattle.regrun.specs.Played.{coming, EndsAs, IsTurn, RanOn, Stopped, PassesTo, IsUnknown, IsLineRun}
 use Rattle.regrun.specs.Recording.{with_events}
@@ -149,6 +152,23 @@ pub same_turn : (before : Option State) (number : ℕ) (m n : ModelData) (a b : 
     → IfSome before (λ d. IsTurn number (comes_of (world m a d) other) old new counts now (world m a d) n b after r)
 same_turn before number m n a b after r s other old new counts now is h =
     subst (λ s. IfSome before (λ d. IsTurn number (comes_of (world m a d) s) old new counts now (world m a d) n b after r)) is h
+
+-- ---- a line with nothing in it
+
+empty_said : (line : List ℕ) → (length line == 0) ≡ true → said_by (read_of line) ≡ Ok say.Blank
+unfolding read_of by_words words_of
+empty_said [] is = refl
+empty_said (b ∷ bs) is = absurd (omega (arith, eqb-true _ _ is))
+
+empty_one : (w : World) (m : ModelData) (a : List Standing) (st : Option State) (old : Option (List ℕ)) (counts : Counts) → IsAt m a st w → RanOn (comes_of w (Ok say.Blank)) old old counts counts m a st
+empty_one w m a st old counts here = record { entry = plain (nothing_done w); is = refl; text = Appends-nil old; counted = refl; after = here }
+
+pub empty_turn : (before : Option State) (number : ℕ) (m : ModelData) (a : List Standing) (g : Got) (line : List ℕ) (old : Option (List ℕ)) (counts : Counts) → number ≤ 1000000 → g ≢ got.TooLong → (length line == 0) ≡ true
+    → IfSome before (λ d. IsTurn number (comes_of (world m a d) (heard number g line)) old old counts counts (world m a d) m a before Next)
+empty_turn None number m a g line old counts few short is = tt
+empty_turn (Some d) number m a g line old counts few short is =
+    subst (λ s. RanOn (comes_of (world m a d) s) old old counts counts m a (Some d)) (sym (empty_said line is) ∙ heard_read number g line few short)
+    (empty_one (world m a d) m a (Some d) old counts (record { model_is = refl; adapters_are = refl; device_is = refl }))
 
 -- ---- a line of a script
 

@@ -185,6 +185,10 @@ fn run_taken<D: Device, L: Log>(
     if is_too_long(got) {
         return Turn::Stop(refuse(number, LineRefusal::TooLong, out));
     }
+    // An empty line says nothing, and scripts have many.
+    if line.is_empty() {
+        return Turn::Next;
+    }
     let read = read_line(alloc, line);
     run_read(number, line, &read, model, device, adapters, out, counts)
 }
