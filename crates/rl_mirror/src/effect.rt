@@ -27,6 +27,7 @@ impl Effect {
     ghost use Rattle.rl_mirror.specs.Effect.{effect_bit};
 
     /// The bits under a policy, for a field with this spent mark.
+    #[inline(always)]
     #[tactic(auto, using(rl_policy::proofs::BitLemmas::word_bits))]
     pub(crate) fn on(self, policy: Policy, spent: bool) -> u64
         ensures { (b : ℕ) → b < 64 → bit result b ≡ effect_bit self policy spent b }

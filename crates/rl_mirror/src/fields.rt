@@ -77,6 +77,9 @@ fn mark_at(chip: &Chip, reg: u32, k: u32, spent: &[bool]) -> bool
 }
 
 /// The word with what `effect` makes of each field of the set, and the bits of `kept` elsewhere.
+///
+/// It is inlined so that each caller's loop has the one effect that the caller asks for.
+#[inline(always)]
 pub(crate) fn overlaid(
     chip: &Chip,
     reg: u32,
@@ -93,8 +96,8 @@ pub(crate) fn overlaid(
 {
     let mut word = kept;
     for k in 0..field_count(chip, reg) {
+        let field = field_at(chip, reg, k);
         if has_place(fields, k) {
-            let field = field_at(chip, reg, k);
             let by = effect.on(field.policy, mark_at(chip, reg, k, spent));
             word = replaced(word, by, window(field.lsb, field.width));
         }
@@ -128,6 +131,7 @@ pub(crate) fn wished(
 }
 
 /// The word with what `effect` makes of each field, and 0 in the bits without a field.
+#[inline(always)]
 pub(crate) fn assembled(chip: &Chip, reg: u32, spent: &[bool], effect: Effect) -> u64
     requires { reg < length chip.now.regs }
     ensures sound { IsSound chip.now }
@@ -172,7 +176,7 @@ fn spends_place(chip: &Chip, reg: u32, fields: u64, k: u32) -> bool
     requires few { k < 64 }
     ensures { result ≡ (bit fields k && spends_mark (policy_in (fields_of chip.now reg) k)) }
 {
-    has_place(fields, k) && spends(field_at(chip, reg, k).policy)
+    spends(field_at(chip, reg, k).policy) && has_place(fields, k)
 }
 
 /// Marks the fields of the set that take one write alone as spent.
@@ -206,6 +210,9 @@ pub(crate) fn differing(chip: &Chip, reg: u32, read: u64, mirrored: u64) -> u64
     ensures value { result ≡ differing (fields_of chip.now reg) read mirrored }
     ensures fits { result < 2 ^ count_of chip.now reg }
 {
+    if read == mirrored {
+        return 0;
+    }
     let mut places = 0;
     for k in 0..field_count(chip, reg) {
         if !differs(&field_at(chip, reg, k), read, mirrored) {

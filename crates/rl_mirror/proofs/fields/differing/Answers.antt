@@ -1,14 +1,37 @@
-use Rattle.std.proofs.Common.{◌≡◌, ℕ, ◌<◌, ◌≤◌, ◌^◌, Bool, true, false, length, sym, ap, subst, ◌∙◌, arith}
-use Rattle.std.proofs.lemmas.Nat.{or_lt}
+use Rattle.std.proofs.Common.{◌≡◌, ℕ, ◌<◌, ◌≤◌, ◌^◌, Bool, true, false, ◌&&◌, eqb, List, length, refl, sym, ap, subst, ◌∙◌, arith}
+use Rattle.std.proofs.lemmas.Bool.{eq-eqb}
+use Rattle.std.proofs.lemmas.Nat.{or_lt, pow_pos}
 use Rattle.rl_policy.specs.Bits.{bit}
 use Rattle.rl_policy.proofs.BitLemmas.{bit-zero, bit-or, is_from_bits}
 use Rattle.rl_model.specs.declared.rows.Field.{Field}
-use Rattle.rl_mirror.specs.Compared.{differs, differing}
-use Rattle.rl_mirror.specs.Fields.{fields_of, count_of, field_in}
+use Rattle.rl_model.specs.Rows.{FieldSeen}
+use Rattle.rl_mirror.specs.Compared.{is_compared, differs, differing}
+use Rattle.rl_mirror.specs.Fields.{fields_of, count_of, field_in, part_of}
 use Rattle.rl_mirror.proofs.FieldLemmas.{length-fields_of}
 use Rattle.rl_mirror.proofs.SetLemmas.{among, among-zero, among-added, among-passed, among-all, among-none}
 use Rattle.rl_mirror.proofs.WordLemmas.{small_from_bits}
 use Rattle.rl_mirror.proofs.fields.differing.Goals as goal
+
+-- the mirrored bits themselves
+none_differs : (fs : List FieldSeen) (read mirrored : ℕ) → read ≡ mirrored → 0 ≡ differing fs read mirrored
+unfolding differing
+none_differs fs read mirrored e =
+    is_from_bits (length fs) 0 (λ k. differs (field_in fs k).shape read mirrored) (pow_pos (length fs)) (λ k l. bit-zero k ∙ here (field_in fs k).shape)
+  where
+    neither : (t : Bool) → false ≡ (t && false)
+    neither true = refl
+    neither false = refl
+
+    here : (f : Field) → false ≡ differs f read mirrored
+    here f =
+        let same : eqb (part_of f read) (part_of f mirrored) ≡ true = eq-eqb (part_of f read) (part_of f mirrored) (ap (part_of f) e) in
+        rw same (neither (is_compared f))
+
+pub returns-then-read-mirrored : goal.returns-then-read-mirrored
+returns-then-read-mirrored c = record {
+  value = none_differs (fields_of c.args.chip.now c.args.reg) c.args.read c.args.mirrored c.if-read-mirrored.true;
+  fits = pow_pos (count_of c.args.chip.now c.args.reg);
+}
 
 pub loop-k-init : goal.loop-k-init
 loop-k-init c = record {

@@ -19,12 +19,12 @@ loop-k-preserved c =
     elim c.if-has_place.branch [
       | then-has_place w ↦
           let chosen : bit c.args.fields k ≡ true = sym c.has_place.ensures ∙ w.if-has_place.true in
-          let policy : w.field_at-field.result.policy ≡ policy_in fs k = ap (λ (f : Field). f.policy) w.field_at-field.ensures.field in
+          let policy : c.field_at-field.result.policy ≡ policy_in fs k = ap (λ (f : Field). f.policy) c.field_at-field.ensures.field in
           record {
             fits = omega (arith, w.word-is);
             bits = λ b l.
                 ap (λ (n : ℕ). bit n b) w.word-is
-                ∙ taken _ fs k b w.field_at-field.result (part b) (bit c.args.kept b) _ _ _ _ (field_list c.args.chip.now c.args.reg c.field_count-k-end.ensures.sound c.requires.reg) place w.field_at-field.ensures.field
+                ∙ taken _ fs k b c.field_at-field.result (part b) (bit c.args.kept b) _ _ _ _ (field_list c.args.chip.now c.args.reg c.field_count-k-end.ensures.sound c.requires.reg) place c.field_at-field.ensures.field
                 (w.window.ensures b l) (w.replaced-word.ensures b l) (w.on-by.ensures b l ∙ rw (chosen, policy, w.mark_at.ensures) refl) (c.loop-k.invariant.bits b l);
           }
       | else-has_place w ↦
