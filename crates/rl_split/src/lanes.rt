@@ -26,6 +26,9 @@ fn is_chosen(word: &Word, chosen: u8, lane: u32) -> bool
 }
 
 /// The lanes of a word that carry a chosen byte.
+///
+/// It is inlined so that neither the word nor its lanes are put down in memory.
+#[inline(always)]
 pub(crate) fn lanes_for(word: &Word, chosen: u8) -> Lanes
     requires { AreInCell (lanes_of word.now) }
     ensures { result ≡ lanes_for chosen word.now }
