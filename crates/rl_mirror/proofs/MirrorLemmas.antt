@@ -17,7 +17,7 @@ use Rattle.rl_model.specs.declared.rows.Field.{Field}
 use Rattle.rl_model.specs.Chip.{IsSound}
 use Rattle.rl_mirror.proofs.PlaceLemmas.{IsFieldList, is_place, covers_is}
 use Rattle.rl_mirror.proofs.FieldLemmas.{seated, field_list, length-fields_of, field_in-fields_of}
-use Rattle.rl_mirror.proofs.WordLemmas.{is_word_by_field, owned-word_by_field, owned_bit, owned_zero, word_is_value, bytes_pow}
+use Rattle.rl_mirror.proofs.WordLemmas.{is_word_by_field, owned_bit, owned_zero, word_is_value, bytes_pow}
 use Rattle.rl_model.specs.Rows.{FieldSeen, ChipData}
 use Rattle.rl_mirror.specs.declared.effect.Effect.{Effect}
 use Rattle.rl_mirror.specs.declared.effect.Effect.TheVariants.{Written, Learned, Updating, Neutral}
@@ -54,13 +54,6 @@ pub raw_is : (c : ChipData) (reg value : ℕ) (m : MirrorData) (bits : ℕ) → 
     → record { mirrored = set m.mirrored reg bits; desired = set m.desired reg bits; spent = m.spent } ≡ predict_raw c reg value m
 unfolding predict_raw
 raw_is c reg value m bits e = rw e refl
-
--- bits without a field tell nothing
-pub raw_owned : (c : ChipData) (reg value bits : ℕ) (m : MirrorData) → bits ≡ owned (fields_of c reg) value → predict_raw c reg bits m ≡ predict_raw c reg value m
-unfolding predict_raw
-raw_owned c reg value bits m e =
-    let same : owned (fields_of c reg) bits ≡ owned (fields_of c reg) value = ap (owned (fields_of c reg)) e ∙ owned-word_by_field (fields_of c reg) (λ k b. bit value b) in
-    rw same refl
 
 -- ---- resets
 

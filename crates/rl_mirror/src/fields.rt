@@ -105,7 +105,26 @@ pub(crate) fn overlaid(
     word
 }
 
+/// The same for an effect that is told apart at each field, where it is seldom asked for.
+#[inline(never)]
+fn overlaid_apart(
+    chip: &Chip,
+    reg: u32,
+    spent: &[bool],
+    fields: u64,
+    effect: Effect,
+    kept: u64,
+) -> u64
+    requires reg { reg < length chip.now.regs }
+    requires kept { kept ≡ owned (fields_of chip.now reg) kept }
+    ensures held { IsValueOf chip.now reg result }
+    ensures value { result ≡ overlaid chip.now reg spent.now fields effect kept }
+{
+    overlaid(chip, reg, spent, fields, effect, kept)
+}
+
 /// The same over a desired word, which is `known` where the mirrored word is the desired one.
+#[inline(always)]
 pub(crate) fn wished(
     chip: &Chip,
     reg: u32,
@@ -126,7 +145,7 @@ pub(crate) fn wished(
     if desired == mirrored {
         known
     } else {
-        overlaid(chip, reg, spent, fields, effect, desired)
+        overlaid_apart(chip, reg, spent, fields, effect, desired)
     }
 }
 

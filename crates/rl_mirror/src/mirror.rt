@@ -2,7 +2,7 @@
 ghost use Rattle.std.specs.Prelude.{◌≡◌, ◌↔◌, false, ℕ, ◌+◌, ◌^◌, ◌<◌, length, IfOk};
 ghost use Rattle.rl_mirror.specs.Compared.{differ};
 ghost use Rattle.rl_mirror.specs.Fields.{field_of, size_of, count_of, fields_of};
-ghost use Rattle.rl_mirror.specs.Mirror.{mirrored_of, desired_of, is_spent, marks_in, IsValueOf, IsMirrorOf, HasNoWish};
+ghost use Rattle.rl_mirror.specs.Mirror.{mirrored_of, desired_of, is_spent, marks_in, IsMirrorOf, HasNoWish};
 ghost use Rattle.rl_mirror.specs.Reachable.{IsReachable};
 ghost use Rattle.rl_mirror.specs.Prediction.{written, predict_write, predict_read, predict_raw, reset, set, fresh, needs_update, update_word_of, neutral_around};
 
@@ -114,18 +114,7 @@ impl Mirror {
         ensures built { IsMirrorOf chip.now self.new }
         ensures reach { IsReachable chip.now self.old → IsReachable chip.now self.new }
     {
-        self.predict_owned(chip, reg, owned(chip, reg, value));
-    }
-
-    /// The same where each bit of the value belongs to a field.
-    pub fn predict_owned(&mut self, chip: &Chip, reg: u32, bits: u64)
-        requires reg { reg < length chip.now.regs }
-        requires built { IsMirrorOf chip.now self.old }
-        requires owned { IsValueOf chip.now reg bits }
-        ensures value { self.new ≡ predict_raw chip.now reg bits self.old }
-        ensures built { IsMirrorOf chip.now self.new }
-        ensures reach { IsReachable chip.now self.old → IsReachable chip.now self.new }
-    {
+        let bits = owned(chip, reg, value);
         self.mirrored[reg as usize] = bits;
         self.desired[reg as usize] = bits;
     }
@@ -254,7 +243,6 @@ impl Mirror {
         requires built { IsMirrorOf chip.now self.now }
         ensures value { result ≡ written (fields_of chip.now reg) (marks_in chip.now self.now.spent reg) bits word }
         ensures fits { result < 256 ^ size_of chip.now reg }
-        ensures held { IsValueOf chip.now reg result }
     {
         let effect = Effect::Written { stored: bits, word };
         assembled(chip, reg, &self.spent, effect)
