@@ -15,7 +15,7 @@ ghost use Rattle.rl_access.specs.Rules.{access_ops, write_outcome, read_outcome,
 ghost use Rattle.rl_access.specs.declared.event.End.TheVariants as end;
 
 use crate::access::Access;
-use crate::event::{End, Event, Op};
+use crate::event::{End, Event};
 use crate::model::Model;
 use crate::send::send_all;
 use crate::trace::Trace;
@@ -204,29 +204,28 @@ pub(crate) fn read<D: Device>(
     conclude_read(m, access, check, &words, trace)
 }
 
-/// A read of a register, told as an operation.
+/// A read of a register, told in the event of an operation that has sent nothing yet.
 pub(crate) fn read_as<D: Device>(
     m: &mut Model,
     d: &mut D,
     a: &mut Adapters,
-    op: Op,
     access: &Access,
     check: bool,
-) -> Event
+    event: &mut Event,
+)
+    requires empty { event.old.trace ≡ [] }
     requires ready { IsReady m.old (map standing a.old.items) (D.state d.old) }
     requires access { IsAccessOn m.old access.now }
-    requires told { IsTold m.old op access.now.reg }
-    requires ends { (value : ℕ) → has_end op (end.Value value) ≡ true }
-    requires digits { 16 ^ digits_of m.old.chip op ≡ 256 ^ (place_at m.old.layout access.now.place).bytes }
+    requires told { IsTold m.old event.old.op access.now.reg }
+    requires ends { (value : ℕ) → has_end event.old.op (end.Value value) ≡ true }
+    requires digits { 16 ^ digits_of m.old.chip event.old.op ≡ 256 ^ (place_at m.old.layout access.now.place).bytes }
     ensures ready { IsReady m.new (map standing a.new.items) (D.state d.new) }
-    ensures sent { AreSent (adapter_for m.old.layout access.now.place) (port_for m.old.layout access.now.place) (access_ops m.old access.now false) result.trace (map standing a.old.items) (map standing a.new.items) (D.errors d.old) (D.errors d.new) (D.state d.old) (D.state d.new) }
-    ensures event { result ≡ register_event op access.now.reg result.trace (read_outcome m.old check access.now result.trace) }
-    ensures model { m.new ≡ (read_outcome m.old check access.now result.trace).model }
+    ensures sent { AreSent (adapter_for m.old.layout access.now.place) (port_for m.old.layout access.now.place) (access_ops m.old access.now false) event.new.trace (map standing a.old.items) (map standing a.new.items) (D.errors d.old) (D.errors d.new) (D.state d.old) (D.state d.new) }
+    ensures event { event.new ≡ register_event event.old.op access.now.reg event.new.trace (read_outcome m.old check access.now event.new.trace) }
+    ensures model { m.new ≡ (read_outcome m.old check access.now event.new.trace).model }
     ensures parts { IsSameChip m.old m.new }
-    ensures fits { EventFits m.new result }
+    ensures fits { EventFits m.new event.new }
 {
-    let mut event = Event::begun(op);
     let (end, differ) = read(m, d, a, access, check, &mut event.trace);
-    m.conclude(access.reg, end, differ, &mut event);
-    event
+    m.conclude(access.reg, end, differ, event);
 }

@@ -73,7 +73,9 @@ pub fn front_read<D: Device>(
     };
     let access = m.whole_read(reg, place);
     m.forget(place);
-    read_as(m, d, a, op, &access, false)
+    let mut event = Event::begun(op);
+    read_as(m, d, a, &access, false, &mut event);
+    event
 }
 
 /// Reads a register over the bus to learn its value. With `check` the event names the compared fields whose
@@ -102,7 +104,9 @@ pub fn mirror<D: Device>(
     };
     let access = m.whole_read(reg, place);
     m.forget(place);
-    read_as(m, d, a, op, &access, check)
+    let mut event = Event::begun(op);
+    read_as(m, d, a, &access, check, &mut event);
+    event
 }
 
 fn mirroring(reg: u32, map: Option<u32>, check: bool) -> Op

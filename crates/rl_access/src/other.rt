@@ -73,5 +73,7 @@ pub fn other_read<D: Device>(
     };
     let access = m.whole_read(reg, place);
     m.forget(place);
-    read_as(m, d, a, op, &access, false)
+    let mut event = Event::begun(op);
+    read_as(m, d, a, &access, false, &mut event);
+    event
 }
