@@ -3,6 +3,7 @@ pub mod BuildLemmas
 pub mod CellLemmas
 pub mod DepositLemmas
 pub mod HeldLemmas
+pub mod HintLemmas
 pub mod LaneLemmas
 pub mod ListLemmas
 pub mod MaskLemmas

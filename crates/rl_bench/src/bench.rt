@@ -3,7 +3,10 @@ ghost use Rattle.std.specs.Prelude.{◌≡◌, ℕ, ◌+◌, ◌<◌, ◌≤◌,
 ghost use Rattle.std.specs.Prelude.{filter, slice_get, option_copied};
 ghost use Rattle.rl_bus.specs.Setup.{is_named, stands_at, stands_for};
 ghost use Rattle.rl_bench.specs.Beats.{IsQuiet, HasBeats, beats_of};
-ghost use Rattle.rl_bench.specs.Stretch.{IsStretch};
+ghost use Rattle.std.specs.Prelude.{All};
+ghost use Rattle.std.specs.List.Sorted.{IsNonDecreasingBy};
+ghost use Rattle.rl_map.specs.Layout.{key_of};
+ghost use Rattle.rl_bench.specs.Stretch.{IsStretch, IsHint};
 ghost use Rattle.rl_bench.specs.Board.{FitCells, IsSetup, HasRoom};
 ghost use Rattle.rl_bench.specs.Tables.{setup_held};
 
@@ -15,6 +18,7 @@ use crate::build::shapes_of;
 use crate::cells::Cells;
 use crate::find::{Stretch, find_word, words_at};
 use crate::flaw::Flaw;
+use crate::hints::Hints;
 use crate::reset::reset_cells;
 use crate::rows::count_locations;
 use crate::tables::Tables;
@@ -31,11 +35,14 @@ pub struct Bench {
     beats: Vec<u32>,
     /// The words that the last item found: the next one's are mostly near.
     near: Stretch,
+    /// The words of the addresses that were found last.
+    hints: Hints,
     items: u64,
     failures: u64,
     ghost quiet: { IsQuiet (setup_held board.tables).words beats.items },
     ghost fit: { FitCells (setup_held board.tables) cells },
     ghost beaten: { HasBeats (setup_held board.tables).words beats.items },
+    ghost hinted: { All (IsHint (setup_held board.tables).words) hints.slots.items },
 }
 
 // The words at an address, its beat, the word of a direction at the beat, and how many there are.
@@ -47,15 +54,35 @@ struct Found<'a> {
     count: usize,
 }
 
+// The words at an item's address, from its slot or near the last ones or by a search.
+fn stretch_at(words: &[WordRow], hints: &Hints, near: Stretch, port: u32, address: u64) -> Stretch
+    requires rise { IsNonDecreasingBy key_of words.now }
+    requires hints { All (IsHint words.now) hints.now.slots.items }
+    ensures { IsStretch (stands_at port address) words.now result.first result.end }
+{
+    match hints.find(words, port, address) {
+        Some(at) => at,
+        None => words_at(words, near, port, address),
+    }
+}
+
 // The words at an item's address, and the one at the beat.
-fn find<'a>(board: &'a Board, beats: &[u32], near: Stretch, port: u32, op: &BusOp) -> Found<'a>
+fn find<'a>(
+    board: &'a Board,
+    beats: &[u32],
+    hints: &Hints,
+    near: Stretch,
+    port: u32,
+    op: &BusOp,
+) -> Found<'a>
+    requires { All (IsHint (setup_held board.now.tables).words) hints.now.slots.items }
     ensures at { IsStretch (stands_at port op.now.address) (setup_held board.now.tables).words result.at.first result.at.end }
     ensures beat { result.beat ≡ beats_of (setup_held board.now.tables).words beats.now port op.now.address }
     ensures word { option_copied result.word ≡ slice_get (filter (stands_for port op.now.address op.now.write) (setup_held board.now.tables).words) (beats_of (setup_held board.now.tables).words beats.now port op.now.address) }
     ensures count { result.count ≡ length (filter (stands_for port op.now.address op.now.write) (setup_held board.now.tables).words) }
 {
     let words = board.tables.words();
-    let at = words_at(words, near, port, op.address);
+    let at = stretch_at(words, hints, near, port, op.address);
     let beat = beat_at(beats, at);
     let here = find_word(words, at, port, op.address, op.write, beat);
     Found {
@@ -145,6 +172,7 @@ impl Bench {
             cells,
             beats,
             near: Stretch { first: 0, end: 0 },
+            hints: Hints::new(alloc)?,
             items: 0,
             failures: 0,
         })
@@ -162,8 +190,9 @@ impl Bench {
     {
         self.items = self.items.saturating_add(1);
         let board = &self.board;
-        let found = find(board, &self.beats, self.near, port, op);
+        let found = find(board, &self.beats, &self.hints, self.near, port, op);
         self.near = found.at;
+        self.hints.keep(port, op.address, found.at);
         let Some(word) = found.word else {
             self.failures = self.failures.saturating_add(1);
             return Answer {

@@ -35,7 +35,8 @@ fn is_before(word: &WordRow, port: u32, address: u64) -> bool
     key(word.port, word.address) < key(port, address)
 }
 
-fn stands_at(word: &WordRow, port: u32, address: u64) -> bool
+/// Whether a word stands at an address of a port.
+pub fn stands_at(word: &WordRow, port: u32, address: u64) -> bool
     ensures test { result ≡ stands_at port address word.now }
     ensures key { stands_at port address word.now ≡ false → key_of word.now ≢ port * 2 ^ 64 + address }
 {
@@ -173,10 +174,11 @@ pub fn resets_of(resets: &[ResetRow], field: u32) -> Stretch
     Stretch { first, end }
 }
 
-fn stands_for(word: &WordRow, port: u32, address: u64, write: bool) -> bool
-    ensures { result ≡ stands_for port address write word.now }
+// Whether a word lets items of a direction through.
+fn lets_through(word: &WordRow, write: bool) -> bool
+    ensures { (port address : ℕ) → stands_at port address word.now ≡ true → result ≡ stands_for port address write word.now }
 {
-    word.port == port && word.address == address && if write { word.writes } else { word.reads }
+    if write { word.writes } else { word.reads }
 }
 
 /// The word at the beat among those of the direction at an address.
@@ -196,7 +198,7 @@ pub fn find_word(
     let mut count = 0;
     for k in at.first..at.end {
         let word = &words[k];
-        if !stands_for(word, port, address, write) {
+        if !lets_through(word, write) {
             continue;
         }
         if beat as usize == count {

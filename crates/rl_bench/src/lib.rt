@@ -15,6 +15,7 @@ mod cells;
 mod effects;
 mod find;
 mod flaw;
+mod hints;
 mod lanes;
 mod reset;
 mod rows;

@@ -1,4 +1,6 @@
-use Rattle.std.proofs.Common.{◌≡◌, ◌<◌, [], length, get_or, take, sym, ap, ◌∙◌, arith}
+use Rattle.std.proofs.Common.{◌≡◌, ℕ, ◌+◌, ◌<◌, Bool, false, List, [], length, get_or, take, sym, ap, ◌∙◌, arith}
+use Rattle.std.proofs.lemmas.List.{append-nil}
+use Rattle.std.proofs.lemmas.List.Elements.{filter_more}
 use Rattle.std.specs.Prelude.{filter, slice_get, option_copied}
 use Rattle.rl_bus.specs.Setup.{stands_for}
 use Rattle.rl_bench.proofs.ListLemmas.{found_here, found_other, count_here}
@@ -6,11 +8,29 @@ use Rattle.rl_bench.proofs.StretchLemmas.{none_taken, all_taken, not_for}
 use Rattle.rl_bench.proofs.find.find_word.Goals as goal
 use Rattle.rl_bench.proofs.find.find_word.Goals.{then-beat-count, else-beat-count}
 
+-- one more that doesn't pass
+filter_other : {X : Type 0} (p : X → Bool) (xs : List X) (i : ℕ) (d : X) → i < length xs → p (get_or xs i d) ≡ false → filter p (take i xs) ≡ filter p (take (i + 1) xs)
+filter_other p xs i d l h = sym (rw h at (filter_more p xs i d l) ∙ append-nil (filter p (take i xs)))
+
 pub loop-k-init : goal.loop-k-init
 loop-k-init c =
     let q = stands_for c.args.port c.args.address c.args.write in
     let none : filter q (take c.args.at.first c.args.words.now) ≡ [] = none_taken q c.args.words.now c.args.at.first (λ k d l m. not_for c.args.port c.args.address c.args.write (get_or c.args.words.now k d) (c.requires.before k d l)) in
     record { found = sym (ap (λ xs. slice_get xs c.args.beat) none); count = sym (ap length none); behind = omega arith }
+
+pub loop-k-preserved-then-not-lets_through : goal.loop-k-preserved-then-not-lets_through
+loop-k-preserved-then-not-lets_through c =
+    let p = stands_for c.args.port c.args.address c.args.write in
+    let was = c.loop-k.invariant in
+    let i = c.loop-k.k in
+    let l : i < length c.args.words.now = omega (arith, c.loop-k-test.true, c.requires.within) in
+    let other = sym (c.lets_through.ensures c.args.port c.args.address (c.requires.inside i _ c.loop-k.auto.k (omega (arith, c.loop-k-test.true)))) ∙ c.if-not-lets_through.true in
+    let same = filter_other p c.args.words.now i _ l other in
+    record {
+      found = was.found ∙ ap (λ xs. slice_get xs c.args.beat) same;
+      count = was.count ∙ ap length same;
+      behind = omega (arith, was.behind);
+    }
 
 pub loop-k-preserved : goal.loop-k-preserved
 loop-k-preserved c =
@@ -18,7 +38,7 @@ loop-k-preserved c =
     let was = c.loop-k.invariant in
     let i = c.loop-k.k in
     let l : i < length c.args.words.now = omega (arith, c.loop-k-test.true, c.requires.within) in
-    let stands = sym c.stands_for.ensures ∙ c.if-not-stands_for.false in
+    let stands = sym (c.lets_through.ensures c.args.port c.args.address (c.requires.inside i _ c.loop-k.auto.k (omega (arith, c.loop-k-test.true)))) ∙ c.if-not-lets_through.false in
     record {
       found = elim c.if-beat-count.branch [
         | then-beat-count w ↦ ap option_copied w.found-is ∙ found_here p c.args.words.now i c.args.beat _ l stands (w.if-beat-count.true ∙ was.count)

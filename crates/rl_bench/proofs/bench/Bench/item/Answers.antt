@@ -118,3 +118,19 @@ invariant_of-self-2-clause-beaten c =
     let ws = c.set_beat.new.beats in
     let e : (with_items b.beats ws).items ≡ ws = with_items_is b.beats ws (c.set_beat.auto.beats ∙ c.deref_mut-2.ensures.len) in
     λ p a write more. ap length e ∙ c.set_beat.auto.beats ∙ ap length c.deref_mut-2.ensures.value ∙ b.beaten p a write more
+
+pub invariant_of-self-clause-hinted : goal.invariant_of-self-clause-hinted
+invariant_of-self-clause-hinted c = c.keep.ensures c.args.self.now.board.tables.words.value.items c.find-found.ensures.at c.args.self.now.hinted
+
+pub invariant_of-self-then-is_faulty-clause-hinted : goal.invariant_of-self-then-is_faulty-clause-hinted
+invariant_of-self-then-is_faulty-clause-hinted c = c.keep.ensures c.args.self.now.board.tables.words.value.items c.find-found.ensures.at c.args.self.now.hinted
+
+pub invariant_of-self-2-clause-hinted : goal.invariant_of-self-2-clause-hinted
+invariant_of-self-2-clause-hinted c = c.keep.ensures c.args.self.now.board.tables.words.value.items c.find-found.ensures.at c.args.self.now.hinted
+
+pub invariant_of-self-then-is_faulty-clause-beaten : goal.invariant_of-self-then-is_faulty-clause-beaten
+invariant_of-self-then-is_faulty-clause-beaten c =
+    let b = c.args.self.now in
+    let ws = c.send_back.new.beats in
+    let e : (with_items b.beats ws).items ≡ ws = with_items_is b.beats ws (c.send_back.auto.beats ∙ c.deref_mut.ensures.len) in
+    λ p a write more. ap length e ∙ c.send_back.auto.beats ∙ ap length c.deref_mut.ensures.value ∙ b.beaten p a write more

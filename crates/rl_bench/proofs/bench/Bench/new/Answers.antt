@@ -36,4 +36,5 @@ invariant_of-result c =
       quiet = λ p a few. ap (λ (b : ℕ → ℕ → ℕ). b p a) none;
       fit = c.reset_cells.ensures.fit;
       beaten = subst (λ ws. HasBeats ws beats) c.words-words.ensures (first_beaten words queues beats (length words) c.in_ok-queues.ensures refl first);
+      hinted = c.in_ok-new.ensures (setup_held c.args.tables).words;
     }
