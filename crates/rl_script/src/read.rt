@@ -1,5 +1,5 @@
 //! What a line says.
-ghost use Rattle.std.specs.Prelude.{◌≡◌, ◌≢◌, Ok, Err, IfOk, MatchResult};
+ghost use Rattle.std.specs.Prelude.{◌≡◌, ◌≢◌, ◌-◌, length, drop, Ok, Err, IfOk, MatchResult};
 ghost use Rattle.rl_script.specs.declared.fault.LineFault.TheVariants.{Memory};
 ghost use Rattle.std.specs.List.{list_all};
 ghost use Rattle.rl_script.specs.Words.{words_of};
@@ -64,11 +64,36 @@ fn is_ascii(byte: u8) -> bool
     matches!(byte, b'\t' | b' '..=b'~')
 }
 
-fn are_ascii(bytes: &[u8]) -> bool
+fn all_ascii(bytes: &[u8]) -> bool
     ensures { result ≡ list_all spec.is_ascii bytes.now }
 {
     // To the end, with no branch in between, so that many bytes are tested at once.
     bytes.iter().fold(true, |all, byte| all & is_ascii(*byte))
+}
+
+/// By chunks of 16 bytes, since a chunk is tested at once and a byte by itself takes as long. The
+/// last chunk goes first, and the others may end within it.
+fn are_ascii(bytes: &[u8]) -> bool
+    ensures { result ≡ list_all spec.is_ascii bytes.now }
+{
+    match bytes.split_last_chunk::<16>() {
+        Some((_, last)) => all_ascii(last) && chunks_are_ascii(bytes),
+        None => all_ascii(bytes),
+    }
+}
+
+fn chunks_are_ascii(bytes: &[u8]) -> bool
+    requires { AreAscii (drop (length bytes.now - 16) bytes.now) }
+    ensures { result ≡ list_all spec.is_ascii bytes.now }
+{
+    let mut rest = bytes;
+    while let Some((chunk, after)) = rest.split_first_chunk::<16>() {
+        if !all_ascii(chunk) {
+            return false;
+        }
+        rest = after;
+    }
+    true
 }
 
 fn read_item(alloc: Global, item: Item, text: &[u8]) -> Result<Line, LineFault>
