@@ -1,11 +1,10 @@
 //! The table of commands, each with its operands.
-ghost use Rattle.std.specs.Prelude.{◌≡◌, find, ℕ, Ok};
+ghost use Rattle.std.specs.Prelude.{◌≡◌, find, ℕ};
 ghost use Rattle.std.specs.Str.{bytes_eq};
 ghost use Rattle.rl_script.specs.declared.command.Kind.TheVariants as Kind;
 ghost use Rattle.rl_script.specs.Commands.{row_of, kind_of, line_of, may_count, item_name, command_name, command_named, items, register_items, other_items, field_items, backdoor_items, memory_items, other_commands, sequence_name, sequence_named};
 
 use self::Command::OnItem;
-use crate::fault::LineFault;
 use crate::line::{Line, Sequence};
 use crate::names::{Ident, Path};
 
@@ -254,94 +253,82 @@ impl Item {
     }
 
     /// What the command says with these operands.
+    // Inlined with its parts, so that the line is built where it is wanted and not copied on the way.
     #[inline(always)]
-    pub(crate) fn line(
-        self,
-        path: Path,
-        first: u64,
-        second: u64,
-        map: Option<Ident>,
-    ) -> Result<Line, LineFault>
-        ensures { result ≡ Ok (line_of self path first second map) }
+    pub(crate) fn line(self, path: Path, first: u64, second: u64, map: Option<Ident>) -> Line
+        ensures { result ≡ line_of self path first second map }
     {
-        // By `return` and in an `Ok` from the start, since each step between copies the line.
         match self.kind() {
-            Kind::Register => return self.register_line(path, first, map),
-            Kind::Field => return self.field_line(path, first, map),
-            Kind::Memory => return self.memory_line(path, first, second, map),
+            Kind::Register => self.register_line(path, first, map),
+            Kind::Field => self.field_line(path, first, map),
+            Kind::Memory => self.memory_line(path, first, second, map),
         }
     }
 
     #[inline(always)]
-    fn register_line(self, reg: Path, value: u64, map: Option<Ident>) -> Result<Line, LineFault>
+    fn register_line(self, reg: Path, value: u64, map: Option<Ident>) -> Line
         requires { kind_of self ≡ Kind.Register }
-        ensures { (second : ℕ) → result ≡ Ok (line_of self reg value second map) }
+        ensures { (second : ℕ) → result ≡ line_of self reg value second map }
     {
         match self {
-            Item::Write => return Ok(Line::Write { reg, value, map }),
-            Item::Read => return Ok(Line::Read { reg, map }),
-            Item::Mirror => return Ok(Line::Mirror { reg, map }),
-            Item::Check => return Ok(Line::Check { reg, map }),
-            Item::Update => return Ok(Line::Update { reg, map }),
-            Item::OtherWrite => return Ok(Line::OtherWrite { reg, value, map }),
-            Item::OtherRead => return Ok(Line::OtherRead { reg, map }),
-            Item::Show => return Ok(Line::Show { reg }),
-            Item::BackRead => return Ok(Line::BackRead { reg }),
-            Item::BackCheck => return Ok(Line::BackCheck { reg }),
-            Item::Peek => return Ok(Line::Peek { reg }),
-            Item::BackWrite => return Ok(Line::BackWrite { reg, value }),
-            Item::Poke => return Ok(Line::Poke { reg, value }),
+            Item::Write => Line::Write { reg, value, map },
+            Item::Read => Line::Read { reg, map },
+            Item::Mirror => Line::Mirror { reg, map },
+            Item::Check => Line::Check { reg, map },
+            Item::Update => Line::Update { reg, map },
+            Item::OtherWrite => Line::OtherWrite { reg, value, map },
+            Item::OtherRead => Line::OtherRead { reg, map },
+            Item::Show => Line::Show { reg },
+            Item::BackRead => Line::BackRead { reg },
+            Item::BackCheck => Line::BackCheck { reg },
+            Item::Peek => Line::Peek { reg },
+            Item::BackWrite => Line::BackWrite { reg, value },
+            Item::Poke => Line::Poke { reg, value },
             _ => unreachable!(),
         }
     }
 
     #[inline(always)]
-    fn field_line(self, field: Path, value: u64, map: Option<Ident>) -> Result<Line, LineFault>
+    fn field_line(self, field: Path, value: u64, map: Option<Ident>) -> Line
         requires { kind_of self ≡ Kind.Field }
-        ensures { (second : ℕ) → result ≡ Ok (line_of self field value second map) }
+        ensures { (second : ℕ) → result ≡ line_of self field value second map }
     {
         match self {
-            Item::FieldWrite => return Ok(Line::FieldWrite { field, value, map }),
-            Item::FieldRead => return Ok(Line::FieldRead { field, map }),
-            Item::Set => return Ok(Line::Set { field, value }),
-            Item::Hw => return Ok(Line::Hw { field, value }),
+            Item::FieldWrite => Line::FieldWrite { field, value, map },
+            Item::FieldRead => Line::FieldRead { field, map },
+            Item::Set => Line::Set { field, value },
+            Item::Hw => Line::Hw { field, value },
             _ => unreachable!(),
         }
     }
 
     #[inline(always)]
-    fn memory_line(
-        self,
-        mem: Path,
-        index: u64,
-        value: u64,
-        map: Option<Ident>,
-    ) -> Result<Line, LineFault>
+    fn memory_line(self, mem: Path, index: u64, value: u64, map: Option<Ident>) -> Line
         requires { kind_of self ≡ Kind.Memory }
-        ensures { result ≡ Ok (line_of self mem index value map) }
+        ensures { result ≡ line_of self mem index value map }
     {
         match self {
-            Item::MemWrite => return Ok(Line::MemWrite {
+            Item::MemWrite => Line::MemWrite {
                 mem,
                 index,
                 value,
                 map,
-            }),
-            Item::MemCheck => return Ok(Line::MemCheck {
+            },
+            Item::MemCheck => Line::MemCheck {
                 mem,
                 index,
                 value,
                 map,
-            }),
-            Item::MemRead => return Ok(Line::MemRead { mem, index, map }),
-            Item::BurstRead => return Ok(Line::BurstRead {
+            },
+            Item::MemRead => Line::MemRead { mem, index, map },
+            Item::BurstRead => Line::BurstRead {
                 mem,
                 first: index,
                 count: value,
                 map,
-            }),
-            Item::MemPeek => return Ok(Line::MemPeek { mem, index }),
-            Item::MemPoke => return Ok(Line::MemPoke { mem, index, value }),
+            },
+            Item::MemPeek => Line::MemPeek { mem, index },
+            Item::MemPoke => Line::MemPoke { mem, index, value },
             _ => unreachable!(),
         }
     }

@@ -129,7 +129,7 @@ fn read_operands(
     if !item.may_count(second) {
         return Err(LineFault::CountOutOfRange);
     }
-    item.line(path, first, second, map)
+    Ok(item.line(path, first, second, map))
 }
 
 fn read_burst_write(alloc: Global, text: &[u8]) -> Result<Line, LineFault>
