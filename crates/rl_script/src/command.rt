@@ -253,6 +253,8 @@ impl Item {
     }
 
     /// What the command says with these operands.
+    // Inlined with its parts, so that the line is built where it is wanted and not copied on the way.
+    #[inline(always)]
     pub(crate) fn line(self, path: Path, first: u64, second: u64, map: Option<Ident>) -> Line
         ensures { result ≡ line_of self path first second map }
     {
@@ -263,6 +265,7 @@ impl Item {
         }
     }
 
+    #[inline(always)]
     fn register_line(self, reg: Path, value: u64, map: Option<Ident>) -> Line
         requires { kind_of self ≡ Kind.Register }
         ensures { (second : ℕ) → result ≡ line_of self reg value second map }
@@ -285,6 +288,7 @@ impl Item {
         }
     }
 
+    #[inline(always)]
     fn field_line(self, field: Path, value: u64, map: Option<Ident>) -> Line
         requires { kind_of self ≡ Kind.Field }
         ensures { (second : ℕ) → result ≡ line_of self field value second map }
@@ -298,6 +302,7 @@ impl Item {
         }
     }
 
+    #[inline(always)]
     fn memory_line(self, mem: Path, index: u64, value: u64, map: Option<Ident>) -> Line
         requires { kind_of self ≡ Kind.Memory }
         ensures { result ≡ line_of self mem index value map }

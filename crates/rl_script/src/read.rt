@@ -1,21 +1,23 @@
 //! What a line says.
-ghost use Rattle.std.specs.Prelude.{◌≡◌, ◌≢◌, Ok, Err, IfOk, MatchResult};
+ghost use Rattle.std.specs.Prelude.{◌≡◌, ◌≢◌, ◌-◌, length, drop, Ok, Err, IfOk, MatchResult};
 ghost use Rattle.rl_script.specs.declared.fault.LineFault.TheVariants.{Memory};
 ghost use Rattle.std.specs.List.{list_all};
 ghost use Rattle.rl_script.specs.Words.{words_of};
 ghost use Rattle.rl_script.specs.Reading.{AreAscii, Gives, read_of, item_of, burst_of, reset_of, seq_of};
 ghost use Rattle.rl_script.specs.Spelling.{IsLine, HasGoodCount};
 ghost use Rattle.rl_script.specs.Kept.{kept_burst_at};
+ghost use Rattle.rl_script.specs.Cut.{operands_of};
 ghost use Rattle.rl_script.specs.Reading as spec;
 
 use crate::command::{Command, Item};
 use crate::fault::LineFault;
 use crate::line::{Line, Sequence};
 use crate::operands::{
-    block_of, map_if, name_of, number_at, number_if, numbers_at, path_at, path_of, word_at,
+    block_of, map_if, map_of, map_word, name_of, number_at, numbers_at, path_at, path_of, value_if,
+    word_at, word_or,
 };
 use crate::values::Values;
-use crate::words::{begins_with, count_words, next_word};
+use crate::words::{count_words, next_word};
 use std::alloc::Global;
 
 const MOST_BYTES: usize = 4096;
@@ -62,31 +64,68 @@ fn is_ascii(byte: u8) -> bool
     matches!(byte, b'\t' | b' '..=b'~')
 }
 
-fn are_ascii(bytes: &[u8]) -> bool
+fn all_ascii(bytes: &[u8]) -> bool
     ensures { result ≡ list_all spec.is_ascii bytes.now }
 {
     // To the end, with no branch in between, so that many bytes are tested at once.
     bytes.iter().fold(true, |all, byte| all & is_ascii(*byte))
 }
 
-#[tactic(auto, unfolding(crate::specs::Reading::item_of, crate::specs::Reading::item_at, crate::specs::Reading::path_at))]
+/// By chunks of 16 bytes, since a chunk is tested at once and a byte by itself takes as long. The
+/// last chunk goes first, and the others may end within it.
+fn are_ascii(bytes: &[u8]) -> bool
+    ensures { result ≡ list_all spec.is_ascii bytes.now }
+{
+    match bytes.split_last_chunk::<16>() {
+        Some((_, last)) => all_ascii(last) && chunks_are_ascii(bytes),
+        None => all_ascii(bytes),
+    }
+}
+
+fn chunks_are_ascii(bytes: &[u8]) -> bool
+    requires { AreAscii (drop (length bytes.now - 16) bytes.now) }
+    ensures { result ≡ list_all spec.is_ascii bytes.now }
+{
+    let mut rest = bytes;
+    while let Some((chunk, after)) = rest.split_first_chunk::<16>() {
+        if !all_ascii(chunk) {
+            return false;
+        }
+        rest = after;
+    }
+    true
+}
+
 fn read_item(alloc: Global, item: Item, text: &[u8]) -> Result<Line, LineFault>
     requires { AreAscii text.now }
     ensures { Gives (λ line. line) result (item_of item (words_of text.now)) }
 {
     let row = item.row();
-    let Some((word, rest)) = next_word(text) else {
-        return Err(LineFault::WrongCount);
-    };
-    let words = count_words(begins_with(b'@', word), rest);
-    let named = row.map && words.has_map;
-    if words.count != row.numbers + usize::from(named) {
-        return Err(LineFault::WrongCount);
-    }
-    let path = path_of(alloc, word)?;
-    let (first, rest) = number_if(row.numbers >= 1, rest)?;
-    let (second, rest) = number_if(row.numbers >= 2, rest)?;
-    let map = map_if(alloc, named, rest)?;
+    let (path, rest) = word_at(text)?;
+    let (first, rest) = word_or(row.numbers >= 1, path, rest)?;
+    let (second, rest) = word_or(row.numbers >= 2, first, rest)?;
+    let (named, map) = map_word(row.map, second, rest)?;
+    read_operands(alloc, item, path, first, second, named, map)
+}
+
+/// The operands, once it is known that there are as many words as there should be.
+#[tactic(auto, unfolding(crate::specs::Cut::operands_of))]
+fn read_operands(
+    alloc: Global,
+    item: Item,
+    path: &[u8],
+    first: &[u8],
+    second: &[u8],
+    named: bool,
+    map: &[u8],
+) -> Result<Line, LineFault>
+    ensures { Gives (λ line. line) result (operands_of item path.now first.now second.now named map.now) }
+{
+    let numbers = item.row().numbers;
+    let path = path_of(alloc, path)?;
+    let first = value_if(numbers >= 1, first)?;
+    let second = value_if(numbers >= 2, second)?;
+    let map = map_of(alloc, named, map)?;
     if !item.may_count(second) {
         return Err(LineFault::CountOutOfRange);
     }

@@ -1,11 +1,11 @@
-use Rattle.std.proofs.Common.{◌∙◌, ◌&&◌, true, rules, tests}
-use Rattle.std.proofs.lemmas.Iterator.{YieldsList-from_slice}
-use Rattle.std.proofs.lemmas.Iterator.Consumers.{fold_from_yields_List}
+use Rattle.std.proofs.Common.{◌≡◌, ◌-◌, false, length, drop, sym, ◌∙◌}
+use Rattle.std.specs.List.{list_all}
 use Rattle.rl_script.specs.Reading.{is_ascii}
-use Rattle.rl_script.proofs.ByteLemmas.{fold-and}
+use Rattle.rl_script.proofs.ChunkLemmas.{last_fails}
 use Rattle.rl_script.proofs.read.are_ascii.Goals as goal
 
-pub returns : goal.returns
-returns c =
-    fold_from_yields_List _ (λ all x. all && is_ascii x) true c.fold.result c.fold.ensures.ran (YieldsList-from_slice c.args.bytes.now cc) (λ a x b q k. search (rules, tests))
-    ∙ fold-and is_ascii c.args.bytes.now
+pub returns-else-all_ascii : goal.returns-else-all_ascii
+returns-else-all_ascii c =
+    let t = c.args.bytes.now in
+    let e : list_all is_ascii (drop (length t - 16) t) ≡ false = rw (← c.in-Some.ensures.cases.1) (sym c.all_ascii.ensures ∙ c.if-all_ascii.false) in
+    c.if-all_ascii.false ∙ sym (last_fails t (length t - 16) e)
