@@ -210,3 +210,23 @@ is_on_register (op.Poke reg value) = true
 is_on_register (op.OtherWrite reg map value) = true
 is_on_register (op.OtherRead reg map) = true
 is_on_register _ = false
+
+abbrev pub is_on_field : Op → Bool
+is_on_field (op.FieldWrite field map value) = true
+is_on_field (op.FieldRead field map) = true
+is_on_field (op.Set field value) = true
+is_on_field (op.Hw field value) = true
+is_on_field _ = false
+
+-- the operation is on a memory's location, over the bus
+abbrev pub is_on_location : Op → Bool
+is_on_location (op.MemWrite mem map index value) = true
+is_on_location (op.MemRead mem map index) = true
+is_on_location (op.MemCheck mem map index value) = true
+is_on_location _ = false
+
+-- the same by the backdoor
+abbrev pub is_behind_location : Op → Bool
+is_behind_location (op.MemPeek mem index) = true
+is_behind_location (op.MemPoke mem index value) = true
+is_behind_location _ = false

@@ -2,6 +2,7 @@ pub mod EventText
 pub mod Got
 pub mod Opening
 pub mod Lines
+pub mod Memory
 pub mod Numbers
 pub mod Pieces
 pub mod Reading

@@ -7,7 +7,7 @@ ghost use Rattle.rl_map.specs.Layout.{port_at};
 ghost use Rattle.rl_mirror.specs.Fields.{field_of, first_of, count_of, size_of};
 ghost use Rattle.rl_access.specs.Event.{EventFits, ItemFits};
 ghost use Rattle.rl_access.specs.Operation.{HasNumbers, IsMapIn, register_of, reg_of, location_size, field_digits, digits_of};
-ghost use Rattle.rl_report.specs.EventText.{number_text, map_text, kind_text, reg_text, field_text, mem_text, burst_text, op_text, why_text, end_text, name_text, names_text, is_show, is_done, is_check, has_differ, desired_text, differ_text, after_text, is_refused, rest_text, result_text, event_line, way_text, answer_text, word_of, transfer_text, item_line, event_text, ends_as_reset_of, is_on_register};
+ghost use Rattle.rl_report.specs.EventText.{number_text, map_text, kind_text, reg_text, field_text, mem_text, burst_text, op_text, why_text, end_text, name_text, names_text, is_show, is_done, is_check, has_differ, desired_text, differ_text, after_text, is_refused, rest_text, result_text, event_line, way_text, answer_text, word_of, transfer_text, item_line, event_text, ends_as_reset_of, is_on_register, is_on_field, is_on_location, is_behind_location};
 ghost use Rattle.rl_report.specs.Numbers.{padded};
 ghost use Rattle.rl_report.specs.Pieces.{Puts, Gathers, joined};
 
@@ -232,9 +232,10 @@ fn put_reg_op<K: Sink>(sink: &mut K, text: &mut Text, model: &Model, op: Op) -> 
     }
 }
 
-// Gathers an operation in canonical spelling.
-fn put_op<K: Sink>(sink: &mut K, text: &mut Text, model: &Model, op: Op) -> Result<(), Failed>
-    requires { HasNumbers model.now.chip (length model.now.layout.maps) op }
+// Gathers an operation on a field, in canonical spelling.
+fn put_field_op<K: Sink>(sink: &mut K, text: &mut Text, model: &Model, op: Op) -> Result<(), Failed>
+    requires numbers { HasNumbers model.now.chip (length model.now.layout.maps) op }
+    requires on_field { is_on_field op ≡ true }
     ensures bytes { Gathers (K.written sink.old) (K.written sink.new) text.old text.new (op_text model.now op) result }
     ensures cause { HasCause (K.faults sink.old) (K.faults sink.new) result }
     ensures ends_kept { K.ends sink.new ≡ K.ends sink.old }
@@ -255,6 +256,20 @@ fn put_op<K: Sink>(sink: &mut K, text: &mut Text, model: &Model, op: Op) -> Resu
         ),
         Op::Set { field, value } => put_field(sink, text, model, b"set ", field, Some(value), None),
         Op::Hw { field, value } => put_field(sink, text, model, b"hw ", field, Some(value), None),
+        _ => unreachable!(),
+    }
+}
+
+// Gathers an operation on a location over the bus, in canonical spelling.
+fn put_mem_op<K: Sink>(sink: &mut K, text: &mut Text, model: &Model, op: Op) -> Result<(), Failed>
+    requires numbers { HasNumbers model.now.chip (length model.now.layout.maps) op }
+    requires on_location { is_on_location op ≡ true }
+    ensures bytes { Gathers (K.written sink.old) (K.written sink.new) text.old text.new (op_text model.now op) result }
+    ensures cause { HasCause (K.faults sink.old) (K.faults sink.new) result }
+    ensures ends_kept { K.ends sink.new ≡ K.ends sink.old }
+    ensures same_target { K.target sink.new ≡ K.target sink.old }
+{
+    match op {
         Op::MemWrite {
             mem,
             map,
@@ -292,6 +307,25 @@ fn put_op<K: Sink>(sink: &mut K, text: &mut Text, model: &Model, op: Op) -> Resu
                 map,
             )
         }
+        _ => unreachable!(),
+    }
+}
+
+// Gathers an operation on a location by the backdoor, in canonical spelling.
+fn put_back_mem_op<K: Sink>(
+    sink: &mut K,
+    text: &mut Text,
+    model: &Model,
+    op: Op,
+) -> Result<(), Failed>
+    requires numbers { HasNumbers model.now.chip (length model.now.layout.maps) op }
+    requires behind_location { is_behind_location op ≡ true }
+    ensures bytes { Gathers (K.written sink.old) (K.written sink.new) text.old text.new (op_text model.now op) result }
+    ensures cause { HasCause (K.faults sink.old) (K.faults sink.new) result }
+    ensures ends_kept { K.ends sink.new ≡ K.ends sink.old }
+    ensures same_target { K.target sink.new ≡ K.target sink.old }
+{
+    match op {
         Op::MemPeek { mem, index } => put_mem(
             sink,
             text,
@@ -314,6 +348,26 @@ fn put_op<K: Sink>(sink: &mut K, text: &mut Text, model: &Model, op: Op) -> Resu
                 None,
             )
         }
+        _ => unreachable!(),
+    }
+}
+
+// Gathers an operation in canonical spelling.
+fn put_op<K: Sink>(sink: &mut K, text: &mut Text, model: &Model, op: Op) -> Result<(), Failed>
+    requires { HasNumbers model.now.chip (length model.now.layout.maps) op }
+    ensures bytes { Gathers (K.written sink.old) (K.written sink.new) text.old text.new (op_text model.now op) result }
+    ensures cause { HasCause (K.faults sink.old) (K.faults sink.new) result }
+    ensures ends_kept { K.ends sink.new ≡ K.ends sink.old }
+    ensures same_target { K.target sink.new ≡ K.target sink.old }
+{
+    match op {
+        Op::FieldWrite { .. } | Op::FieldRead { .. } | Op::Set { .. } | Op::Hw { .. } => {
+            put_field_op(sink, text, model, op)
+        }
+        Op::MemWrite { .. } | Op::MemRead { .. } | Op::MemCheck { .. } => {
+            put_mem_op(sink, text, model, op)
+        }
+        Op::MemPeek { .. } | Op::MemPoke { .. } => put_back_mem_op(sink, text, model, op),
         Op::BurstWrite {
             mem,
             map,

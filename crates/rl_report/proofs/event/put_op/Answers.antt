@@ -1,7 +1,4 @@
 use Rattle.rl_report.proofs.event.put_op.Goals as goal
 
-pub returns-in-FieldWrite-clause-bytes : goal.returns-in-FieldWrite-clause-bytes
-returns-in-FieldWrite-clause-bytes g c = rw c.in-FieldWrite.is c.put_field.ensures.bytes
-
 pub returns-in-BurstRead-clause-bytes : goal.returns-in-BurstRead-clause-bytes
 returns-in-BurstRead-clause-bytes g c = rw c.in-BurstRead.is c.put_burst-in-BurstRead.ensures.bytes

@@ -1,5 +1,6 @@
 use Rattle.std.proofs.Common.{◌≡◌, ℕ, ◌+◌, ◌≤◌, List, [], ◌++◌, length, take, drop, arith, sym, ap, ◌∙◌, take-append-drop, take_at, length-take-le, length-drop}
 use Rattle.std.proofs.lemmas.List.{drop-drop, drop_all, take_rest}
+use Rattle.rl_report.specs.Memory.{SourceData}
 use Rattle.rl_report.proofs.memory.MemSourceSource.read.Goals as goal
 
 -- what was copied out of the rest, and what is left of it
@@ -14,8 +15,10 @@ ended bytes at n e none = drop_all (at + n) bytes (omega (arith, length-drop at 
 
 pub returns-clause-bytes : goal.returns-clause-bytes
 returns-clause-bytes c =
-    let bytes = c.args.self.now.bytes.items in
-    let at = c.args.self.now.at in
+    let s = c.self.inside in
+    let bytes = s.bytes.items in
+    let at = s.at in
     let n = c.copy_front-count.result in
     let h = rw (c.deref-2.ensures.value, take_rest bytes at) at c.copy_front-count.ensures in
-    (moved bytes _ _ at n h.copied (omega arith), λ none room. ended bytes at n none (omega arith))
+    let left = ap (λ (d : SourceData). d.left) c.self.view_is in
+    (sym left ∙ moved bytes _ _ at n h.copied (omega arith), λ none room. ended bytes at n none (omega arith))
