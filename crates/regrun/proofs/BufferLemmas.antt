@@ -1,8 +1,10 @@
 -- What a buffered sink tells.
-use Rattle.std.proofs.Common.{ℕ, List, ◌++◌, Some, None, take, drop, refl, sym, ap, ◌∙◌, append_assoc}
+use Rattle.std.proofs.Common.{◌≡◌, ℕ, ◌≤◌, List, ◌++◌, Some, None, length, take, drop, refl, sym, ap, ◌∙◌, append_assoc, arith}
+use Rattle.std.proofs.lemmas.List.{length-take, take-append-le}
 use Rattle.std.proofs.lemmas.List.{take-append-drop}
 use Rattle.std.specs.declared.option.Option.{Option}
 use Rattle.std.specs.Io.KnownBytes.{Appends, Keeps, append_known}
+use Rattle.regrun.specs.Earlier.{KeepsEarlier}
 
 -- bytes that were kept back were written
 pub told_after : (a b : Option (List ℕ)) (kept : List ℕ) (n : ℕ) → Appends a b (take n kept) → Keeps (append_known a kept) (append_known b (drop n kept))
@@ -35,3 +37,13 @@ keeps_then_appends None b c more h k = tt
 keeps_then_appends (Some xs) None c more h k = absurd h
 keeps_then_appends (Some xs) (Some ys) None more h k = absurd k
 keeps_then_appends (Some xs) (Some ys) (Some zs) more h k = k ∙ ap (λ l. l ++ more) h
+
+-- more bytes behind them leave the earlier ones
+pub earlier_grown : (earlier old new : Option (List ℕ)) (more : List ℕ) → KeepsEarlier earlier old → Appends old new more → KeepsEarlier earlier new
+earlier_grown None old new more kept h = tt
+earlier_grown (Some xs) None new more kept h = absurd (cc)
+earlier_grown (Some xs) (Some ys) None more kept h = absurd h
+earlier_grown (Some xs) (Some ys) (Some zs) more kept h =
+    let front : take (length xs) ys ≡ xs = cc in
+    let within : length xs ≤ length ys = omega (arith, length-take (length xs) ys, ap length front) in
+    ap Some (ap (take (length xs)) h ∙ take-append-le (length xs) ys more within ∙ front)

@@ -1,14 +1,16 @@
 -- What a run has told, and what of it was written.
-use Rattle.std.proofs.Common.{◌≡◌, ◌≢◌, ℕ, ◌≤◌, arith, slice_range, OnOk, Bool, true, false, if◌then◌else◌, List, [], ◌∷◌, ◌++◌, Result, Ok, Err, Some, None, refl, sym, ap, subst, ◌∙◌, append_assoc, append-nil}
+use Rattle.std.proofs.Common.{◌≡◌, ◌≢◌, ℕ, ◌≤◌, arith, slice_range, OnOk, Bool, true, false, if◌then◌else◌, List, [], ◌∷◌, ◌++◌, length, take, drop, take-append-drop, Result, Ok, Err, Some, None, refl, sym, ap, subst, ◌∙◌, append_assoc, append-nil}
 use Rattle.std.specs.declared.option.Option.{Option}
 use Rattle.std.specs.Io.KnownBytes.{Appends, Keeps, append_known}
 use Rattle.std.proofs.lemmas.Bool.{true≢false}
+use Rattle.std.proofs.lemmas.List.{append_cancel_left}
 use Rattle.rl_desc.specs.Data.{DescData}
 use Rattle.rl_report.specs.Pieces.{AppendsFront}
 use Rattle.regrun.specs.declared.counts.Counts.{Counts}
 use Rattle.regrun.specs.declared.status.Status.{Status}
 use Rattle.regrun.specs.declared.status.Status.TheVariants.{Passed, Found, Refused, SinkFault}
-use Rattle.regrun.specs.Endings.{Writes, is_clean, end_status, IsCounted}
+use Rattle.regrun.specs.Earlier.{KeepsEarlier}
+use Rattle.regrun.specs.Endings.{is_clean, end_status, IsCounted}
 use Rattle.regrun.specs.Session.{refusal_of}
 use Rattle.regrun.specs.Statuses.{is_complete}
 use Rattle.regrun.specs.Telling.{Tells, Stops}
@@ -58,17 +60,31 @@ appends_keeps (Some xs) None c text h k = absurd h
 appends_keeps (Some xs) (Some ys) None text h k = absurd k
 appends_keeps (Some xs) (Some ys) (Some zs) text h k = k ∙ h
 
-joined_front : (xs ts w kept front rest text : List ℕ) → w ++ kept ≡ ts → ts ≡ xs ++ front → front ++ rest ≡ text → w ++ (kept ++ rest) ≡ xs ++ text
-joined_front xs ts w kept front rest text told grown split =
-    sym (append_assoc w kept rest) ∙ ap (λ l. l ++ rest) told ∙ ap (λ l. l ++ rest) grown ∙ append_assoc xs front rest ∙ ap (λ l. xs ++ l) split
+-- what begins with these bytes is these bytes and its rest
+begins_with : (xs ys : List ℕ) → Some (take (length xs) ys) ≡ Some xs → ys ≡ xs ++ drop (length xs) ys
+begins_with xs ys h =
+    let front : take (length xs) ys ≡ xs = cc in
+    sym (take-append-drop (length xs) ys) ∙ ap (λ l. l ++ drop (length xs) ys) front
 
--- a front of what was told, where some of it is kept back
-held_front : (old told new : Option (List ℕ)) (kept front rest text : List ℕ) → front ++ rest ≡ text → Appends old told front → Keeps told (append_known new kept)
-    → Appends old (append_known new (kept ++ rest)) text
-held_front None told new kept front rest text split grown held = tt
-held_front (Some xs) None new kept front rest text split grown held = absurd grown
-held_front (Some xs) (Some ts) None kept front rest text split grown held = absurd held
-held_front (Some xs) (Some ts) (Some w) kept front rest text split grown held = joined_front xs ts w kept front rest text held grown split
+-- of a front that was told, what isn't kept back
+not_kept : (xs ts w more kept front : List ℕ) → w ++ kept ≡ ts → ts ≡ xs ++ front → w ≡ xs ++ more → more ++ kept ≡ front
+not_kept xs ts w more kept front held told grown =
+    append_cancel_left xs (more ++ kept) front (sym (append_assoc xs more kept) ∙ ap (λ l. l ++ kept) (sym grown) ∙ held ∙ told)
+
+-- a front was told, where the earlier bytes stay: what isn't kept back of it is a front, too
+pub front_written : (old told new : Option (List ℕ)) (kept text : List ℕ) → KeepsEarlier old new → Keeps told (append_known new kept) → AppendsFront old told text → AppendsFront old new text
+front_written None told new kept text keeps held f = record { front = []; rest = text; split = refl; appended = tt }
+front_written (Some xs) None new kept text keeps held f = absurd f.appended
+front_written (Some xs) (Some ts) None kept text keeps held f = absurd held
+front_written (Some xs) (Some ts) (Some w) kept text keeps held f =
+    let more = drop (length xs) w in
+    let grown = begins_with xs w keeps in
+    record {
+      front = more;
+      rest = kept ++ f.rest;
+      split = sym (append_assoc more kept f.rest) ∙ ap (λ l. l ++ f.rest) (not_kept xs ts w more kept f.front held f.appended grown) ∙ f.split;
+      appended = grown;
+    }
 
 -- ---- what a run told
 
@@ -115,13 +131,13 @@ front_of_none old new text f = record { front = f.front; rest = text; split = ap
 pub not_sink_fault : (status : Status) → is_complete status ≡ true → status ≢ SinkFault
 not_sink_fault status c e = true≢false (sym c ∙ ap is_complete e)
 
-pub writes_told : (status result expected : Status) (old told new : Option (List ℕ)) (kept text : List ℕ) → (result ≢ SinkFault → result ≡ status) → Keeps told (append_known new kept)
-    → (is_complete result ≡ true → Keeps told new) → Tells status expected old told text → Writes result expected old new text
-writes_told status result expected old told new kept text same held whole t = record {
+pub tells_written : (status result expected : Status) (old told new : Option (List ℕ)) (kept text : List ℕ) → (result ≢ SinkFault → result ≡ status) → KeepsEarlier old new → Keeps told (append_known new kept)
+    → (is_complete result ≡ true → Keeps told new) → Tells status expected old told text → Tells result expected old new text
+tells_written status result expected old told new kept text same keeps held whole t = record {
   whole = λ c. let is : result ≡ status = same (not_sink_fault result c) in
       let w = t.whole (subst (λ s. is_complete s ≡ true) is c) in
       (is ∙ w.0, appends_keeps old told new text w.1 (whole c));
-  part = record { rest = kept ++ t.part.rest; whole = held_front old told new kept t.part.front t.part.rest text t.part.split t.part.appended held };
+  part = front_written old told new kept text keeps held t.part;
 }
 
 pub counted_kept : (status result : Status) (counts : Counts) → (result ≢ SinkFault → result ≡ status) → IsCounted status counts → IsCounted result counts

@@ -7,7 +7,6 @@ pub mod HexLemmas
 pub mod JudgedLemmas
 pub mod LayoutLemmas
 pub mod ListingLemmas
-pub mod MemoryLemmas
 pub mod NamedLemmas
 pub mod OpeningLemmas
 pub mod Performing

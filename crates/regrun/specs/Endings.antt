@@ -1,24 +1,8 @@
--- How a run ends, and what is written then.
-use Rattle.std.specs.Prelude.{◌≡◌, ◌==◌, ℕ, ◌+◌, ◌-◌, ◌^◌, min, List, Bool, true, ◌&&◌, if◌then◌else◌, false, Option}
-use Rattle.std.specs.Io.KnownBytes.{Appends, append_known}
+-- The status of a run by what it counted.
+use Rattle.std.specs.Prelude.{◌≡◌, ◌==◌, ℕ, ◌+◌, ◌-◌, ◌^◌, min, Bool, true, false, ◌&&◌, if◌then◌else◌}
 use Rattle.regrun.specs.declared.counts.Counts.{Counts}
 use Rattle.regrun.specs.declared.status.Status.{Status}
 use Rattle.regrun.specs.declared.status.Status.TheVariants.{Passed, Found}
-use Rattle.regrun.specs.Statuses.{is_complete}
-
--- ---- the whole text, or a front of it
-
--- What is there now is a front of what was there and the text.
-pub record HoldsFront (old new : Option (List ℕ)) (text : List ℕ) : Type 0 where
-  pub rest : List ℕ
-  pub whole : Appends old (append_known new rest) text
-
--- A run that came to its last line has this status and wrote the whole text; any other one wrote a front of it.
-pub record Writes (status expected : Status) (old new : Option (List ℕ)) (text : List ℕ) : Type 0 where
-  pub whole : is_complete status ≡ true → (status ≡ expected) × Appends old new text
-  pub part : HoldsFront old new text
-
--- ---- the status by the counts
 
 -- nothing differed, and nothing failed on the bus
 abbrev pub is_clean : Counts → Bool

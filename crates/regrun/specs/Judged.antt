@@ -9,7 +9,6 @@ use Rattle.regrun.specs.declared.status.Status.{Status}
 use Rattle.regrun.specs.declared.status.Status.TheVariants.{Refused}
 use Rattle.regrun.specs.declared.words.Built.{Built}
 use Rattle.regrun.specs.declared.words.Built.TheVariants.{Run, Map, Soak}
-use Rattle.regrun.specs.Endings.{Writes}
 use Rattle.regrun.specs.Log.{Ending, script_ending, behind, first_world, lines_text}
 use Rattle.regrun.specs.Session.{opening_of, map_text, map_status}
 use Rattle.regrun.specs.Soak.{mirror_sum, soak_line_text, soak_text}
@@ -70,11 +69,6 @@ judged_of (Soak n) left adapters = Some (soak_judged n adapters)
 
 -- the whole text, with its status, and the adapters stand so; where it didn't come to its last line, a front of the text
 pub record IsJudged (j : Judged) (status : Status) (old new : Option (List ℕ)) (adapters : List Standing) : Type 0 where
-  pub writes : Writes status j.status old new j.text
-  pub adapters_are : is_complete status ≡ true → adapters ≡ j.adapters
-
--- the same of a sink that may still keep bytes back
-pub record IsTold (j : Judged) (status : Status) (old new : Option (List ℕ)) (adapters : List Standing) : Type 0 where
   pub tells : Tells status j.status old new j.text
   pub adapters_are : is_complete status ≡ true → adapters ≡ j.adapters
 

@@ -1,6 +1,7 @@
 pub mod Causes
 pub mod Course
 pub mod Done
+pub mod Earlier
 pub mod Endings
 pub mod Entry
 pub mod Heard

@@ -13,11 +13,12 @@ use Rattle.regrun.specs.declared.playing.Turn.TheVariants.{Next, Stop}
 use Rattle.regrun.specs.declared.status.Status.{Status}
 use Rattle.regrun.specs.declared.texts.LineRefusal.{LineRefusal}
 use Rattle.regrun.specs.declared.texts.LineRefusal.TheVariants.{NoSuchName}
-use Rattle.regrun.specs.Endings.{Writes, added}
+use Rattle.regrun.specs.Endings.{added}
 use Rattle.regrun.specs.Entry.{Entry}
 use Rattle.regrun.specs.Log.{Ending, script_from, lines_text, after_text, stops}
 use Rattle.regrun.specs.Recording.{IsDone, with_events}
 use Rattle.regrun.specs.Statuses.{is_complete}
+use Rattle.regrun.specs.Telling.{Tells}
 use Rattle.regrun.specs.World.{World, world, IsAt}
 
 -- ---- how a script ends
@@ -35,9 +36,9 @@ pub record IsPlayed (e : Ending) (status : Status) (counts : Counts) (model : Mo
   pub counts_are : counts ≡ e.counts
   pub after : IsAt model adapters device e.world
 
--- of a sink that keeps nothing back: what is there is what was there and the text, or a front of that; the counts rose
+-- the text was written, or a front of it, and the counts rose
 pub record IsWrittenOut (e : Ending) (status : Status) (old new : Option (List ℕ)) (counts now : Counts) (model : ModelData) (adapters : List Standing) (device : Option State) : Type 0 where
-  pub writes : Writes status e.status old new e.text
+  pub tells : Tells status e.status old new e.text
   pub counted : is_complete status ≡ true → now ≡ added counts e.counts
   pub after : is_complete status ≡ true → IsAt model adapters device e.world
 

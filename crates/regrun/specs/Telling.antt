@@ -1,4 +1,4 @@
--- How a run ends, of a sink that may still keep bytes back.
+-- How a run ends, and what it told until then.
 use Rattle.std.specs.Prelude.{◌≡◌, ℕ, List, true, Option, Result, Err}
 use Rattle.std.specs.Io.KnownBytes.{Appends}
 use Rattle.rl_desc.specs.Data.{DescData}

@@ -3,9 +3,9 @@ use Rattle.std.specs.Prelude.{ℕ, List, slice_range, Option}
 use Rattle.std.specs.Io.KnownBytes.{append_known}
 use Rattle.regrun.specs.declared.buffered.Buffered.{Buffered}
 
-abbrev pub kept_back : {K : Type 0} → Buffered K → List ℕ
+abbrev pub kept_back : {K E : Type 0} → {g h : _} → Buffered K E g h → List ℕ
 kept_back b = slice_range b.bytes b.start b.end
 
 -- what was written, and behind it what is kept back
-abbrev pub told : {K : Type 0} → (K → Option (List ℕ)) → Buffered K → Option (List ℕ)
+abbrev pub told : {K E : Type 0} → {g h : _} → (K → Option (List ℕ)) → Buffered K E g h → Option (List ℕ)
 told written b = append_known (written b.sink.now) (kept_back b)

@@ -1,20 +1,40 @@
 // A sink that keeps bytes back, until it is told to write them or has no more room.
 ghost use Rattle.std.specs.Prelude.{◌≡◌, ◌<◌, ◌≤◌, ◌-◌, ◌+◌, ◌++◌, IfOk, OnOk, OnErr, slice_range, length, take, drop, min};
 ghost use Rattle.std.specs.Io.KnownBytes.{WriteAppends, Keeps, append_known};
+ghost use Rattle.std.proofs.Props.{props};
 ghost use Rattle.rl_bus.specs.Causes.{HasCause, Rose};
+ghost use Rattle.regrun.specs.Earlier.{KeepsEarlier};
 
 use crate::log::Log;
 use rl_access::{Event, Model};
 use rl_report::{Failed, Sink, write_event};
+use std::marker::{Brand, PhantomData};
 
 const ROOM: usize = 4096;
 
+// Names the bytes that a sink had when a call began. It is no data: only proofs read it.
+pub(crate) trait Earlier {
+    ghost use Rattle.std.specs.Prelude.{ℕ, List};
+    ghost use Rattle.std.specs.declared.option.Option.{Option};
+
+    ghost bytes: { Option (List ℕ) };
+}
+
+impl Earlier for Brand {
+    ghost use Rattle.std.specs.Prelude.{None};
+
+    ghost bytes = { None };
+}
+
+// The sink keeps the earlier bytes, whatever is written through this one.
 #[derive(Drop)]
-pub(crate) struct Buffered<'a, K> {
+pub(crate) struct Buffered<'a, K: Sink, E: Earlier> {
     sink: &'a mut K,
     bytes: [u8; ROOM],
     start: usize,
     end: usize,
+    earlier: PhantomData<E>,
+    ghost keeps_earlier: { KeepsEarlier E.bytes (K.written sink.now) } by { Prim.hlevel props },
     ghost ordered: { start ≤ end },
     ghost within: { end ≤ 4096 },
 }
@@ -46,11 +66,12 @@ fn copy_behind(bytes: &mut [u8], end: usize, piece: &[u8])
     bytes[end..end + piece.len()].copy_from_slice(piece);
 }
 
-impl<'a, K: Sink> Buffered<'a, K> {
+impl<'a, K: Sink, E: Earlier> Buffered<'a, K, E> {
     ghost use Rattle.regrun.specs.Told.{kept_back, told};
 
     // A sink before this one, with nothing kept back.
-    pub(crate) fn new(sink: &'a mut K) -> Buffered<'a, K>
+    pub(crate) fn new(sink: &'a mut K) -> Buffered<'a, K, E>
+        requires { K.written sink.old ≡ E.bytes }
         ensures sink { result.sink.now ≡ sink.old }
         ensures same_sink { result.sink.ghost_name ≡ sink.entry.ghost_name }
         ensures empty { result.end ≡ 0 }
@@ -61,6 +82,7 @@ impl<'a, K: Sink> Buffered<'a, K> {
             bytes: [0; ROOM],
             start: 0,
             end: 0,
+            earlier: PhantomData,
         }
     }
 
@@ -151,7 +173,7 @@ impl<'a, K: Sink> Buffered<'a, K> {
     }
 }
 
-impl<K: Sink> Sink for Buffered<'_, K> {
+impl<K: Sink, E: Earlier> Sink for Buffered<'_, K, E> {
     ghost use Rattle.std.specs.Io.KnownBytes.{append_known};
     ghost use Rattle.regrun.specs.Told.{kept_back};
 
@@ -176,7 +198,7 @@ impl<K: Sink> Sink for Buffered<'_, K> {
     }
 }
 
-impl<K: Sink> Log for Buffered<'_, K> {
+impl<K: Sink, E: Earlier> Log for Buffered<'_, K, E> {
     ghost is_out = { λ b. b.end ≡ 0 };
 
     fn event(&mut self, model: &Model, event: &Event) -> Result<(), Failed> {

@@ -8,6 +8,7 @@ ghost use Rattle.rl_bus.specs.State.{State};
 ghost use Rattle.rl_access.specs.Model.{ModelData, IsReady, IsSameChip};
 ghost use Rattle.regrun.specs.Causes.{IsCaused, NoneFailed};
 ghost use Rattle.regrun.specs.Done.{Does, DoesFirst};
+ghost use Rattle.regrun.specs.Earlier.{KeepsEarlier};
 ghost use Rattle.regrun.specs.Endings.{end_status, IsCounted, PlayEnds};
 ghost use Rattle.regrun.specs.Log.{comes_of, said_by};
 ghost use Rattle.regrun.specs.Played.{coming, Breaks, EndsAs, IsTurn, IsWrittenOut, PassesTo};
@@ -21,10 +22,9 @@ ghost use Rattle.regrun.specs.World.{world};
 ghost use Rattle.rl_report.specs.Got.{Hands};
 ghost use Rattle.rl_script.specs.Reading.{read_of};
 ghost use Rattle.rl_report.specs.Lines.{first_line};
-ghost use Rattle.rl_report.specs.Pieces.{AppendsFront};
 ghost use Rattle.rl_report.specs.Reading.{input_of};
 
-use crate::buffered::Buffered;
+use crate::buffered::{Buffered, Earlier};
 use crate::line::run_line;
 use crate::log::Log;
 use crate::texts::{LineRefusal, put_end, put_line_refused, refusal_of};
@@ -34,6 +34,7 @@ use rl_bus::{Adapter, Adapters, Device};
 use rl_report::{Failed, Got, LineReader, Sink, Source};
 use rl_script::{Line, LineFault, read_line};
 use std::alloc::Global;
+use std::marker::Brand;
 
 const MOST_LINES: u64 = 1_000_000;
 
@@ -305,7 +306,7 @@ pub(crate) fn play_lines<S: Source, D: Device, L: Log>(
 }
 
 // Writes what is kept back of a run that is over.
-fn settle<K: Sink>(status: Status, out: &mut Buffered<'_, K>) -> Status
+fn settle<K: Sink, E: Earlier>(status: Status, out: &mut Buffered<'_, K, E>) -> Status
     requires { status ≢ Status.Words }
     ensures sink_later { K.faults out.old.sink.now ≤ K.faults out.new.sink.now }
     ensures kept { result ≢ Status.SinkFault → result ≡ status }
@@ -324,6 +325,40 @@ fn settle<K: Sink>(status: Status, out: &mut Buffered<'_, K>) -> Status
         Err(Failed) if status.is_complete() => Status::SinkFault,
         _ => status,
     }
+}
+
+// Runs the lines that are left through a buffer. Whatever the answer, the sink keeps the bytes that it had before.
+fn play_through<S: Source, K: Sink, D: Device, E: Earlier>(
+    alloc: Global,
+    model: &mut Model,
+    device: &mut D,
+    adapters: &mut Adapters,
+    lines: &mut LineReader,
+    source: &mut S,
+    sink: &mut K,
+    counts: &mut Counts,
+) -> Status
+    requires ready { IsReady model.old (map standing adapters.old.items) (D.state device.old) }
+    requires found { lines.old.found ≡ true }
+    requires going { lines.old.refused ≡ false }
+    requires earlier { K.written sink.old ≡ E.bytes }
+    ensures ready { IsReady model.new (map standing adapters.new.items) (D.state device.new) }
+    ensures parts { IsSameChip model.old model.new }
+    ensures log { IfSome (coming 1 counts.old model.old (map standing adapters.old.items) (D.state device.old) (input_of lines.old (S.left source.old))) (λ e. EndsAs e result (K.written sink.old) (K.written sink.new) counts.new model.new (map standing adapters.new.items) (D.state device.new)) }
+    ensures at_fault { result ≡ Status.SourceFault → Breaks 1 model.old (map standing adapters.old.items) (D.state device.old) (input_of lines.old (S.left source.old)) (S.left source.new) (K.written sink.old) (K.written sink.new) }
+    ensures keeps_earlier { KeepsEarlier (K.written sink.old) (K.written sink.new) }
+    ensures done { Does 1 model.old (map standing adapters.old.items) (D.state device.old) (input_of lines.old (S.left source.old)) counts.old counts.new model.new (map standing adapters.new.items) (D.state device.new) }
+    ensures counted { IsCounted result counts.new }
+    ensures source_later { S.faults source.old ≤ S.faults source.new }
+    ensures sink_later { K.faults sink.old ≤ K.faults sink.new }
+    ensures cause { IsCaused result (S.faults source.old) (S.faults source.new) (K.faults sink.old) (K.faults sink.new) }
+    ensures ends_kept { K.ends sink.new ≡ K.ends sink.old }
+{
+    let mut out = Buffered::<K, E>::new(sink);
+    let status = play_lines(
+        alloc, model, device, adapters, lines, source, &mut out, counts,
+    );
+    settle(status, &mut out)
 }
 
 /// Runs the lines that are left on a device, and writes the log of each and the last line.
@@ -347,17 +382,16 @@ pub fn play<S: Source, K: Sink, D: Device>(
     ensures parts { IsSameChip model.old model.new }
 
     // Where the device tells its state and the source its bytes: what is written is the log of the lines that are
-    // left, from the device and the model as they are, with its status, and the counts rise by what it counts.
+    // left, from the device and the model as they are, with its status, and the counts rise by what it counts; else
+    // it is a front of that log.
     ensures log { IfSome (coming 1 no_counts model.old (map standing adapters.old.items) (D.state device.old) (input_of lines.old (S.left source.old)))
         (λ e. IsWrittenOut e result (K.written sink.old) (K.written sink.new) counts.old counts.new model.new (map standing adapters.new.items) (D.state device.new)) }
 
     // After a source that failed, the sink has exactly the log of the lines that were taken whole.
     ensures at_fault { result ≡ Status.SourceFault → Breaks 1 model.old (map standing adapters.old.items) (D.state device.old) (input_of lines.old (S.left source.old)) (S.left source.new) (K.written sink.old) (K.written sink.new) }
 
-    // Where memory ran out and no call of the sink failed, the sink keeps its earlier bytes, and behind them it has a
-    // front of the log.
-    ensures at_memory { result ≡ Status.Memory → NoneFailed (K.faults sink.old) (K.faults sink.new)
-        → IfSome (coming 1 no_counts model.old (map standing adapters.old.items) (D.state device.old) (input_of lines.old (S.left source.old))) (λ e. AppendsFront (K.written sink.old) (K.written sink.new) e.text) }
+    // However it ends, the sink keeps the bytes that it had before.
+    ensures keeps_earlier { KeepsEarlier (K.written sink.old) (K.written sink.new) }
 
     // However it ends: model, adapters and device are as after the first events of the script, as many as the count
     // of events rose by, and the counts rose by what these count.
@@ -374,10 +408,9 @@ pub fn play<S: Source, K: Sink, D: Device>(
     ensures ends_kept { K.ends sink.new ≡ K.ends sink.old }
 {
     let mut own = Counts::new();
-    let mut out = Buffered::new(sink);
-    let status = play_lines(
-        alloc, model, device, adapters, lines, source, &mut out, &mut own,
+    let status = play_through::<S, K, D, Brand>(
+        alloc, model, device, adapters, lines, source, sink, &mut own,
     );
     counts.add(&own);
-    settle(status, &mut out)
+    status
 }

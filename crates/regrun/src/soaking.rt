@@ -8,7 +8,7 @@ ghost use Rattle.rl_bus.specs.Standing.{kinds_of};
 ghost use Rattle.rl_report.specs.Lines.{lines_of};
 ghost use Rattle.rl_report.specs.Reading.{input_of};
 ghost use Rattle.regrun.specs.Causes.{IsCaused};
-ghost use Rattle.regrun.specs.Judged.{soak_ending, soak_judged, IsTold};
+ghost use Rattle.regrun.specs.Judged.{soak_ending, soak_judged, IsJudged};
 ghost use Rattle.regrun.specs.Log.{first_world, script_from};
 ghost use Rattle.regrun.specs.Played.{coming, IsPlayed};
 ghost use Rattle.regrun.specs.Recording.{no_counts};
@@ -17,7 +17,7 @@ ghost use Rattle.regrun.specs.Statuses.{is_complete};
 ghost use Rattle.regrun.specs.Telling.{Tells};
 ghost use Rattle.regrun.specs.Told.{told};
 
-use crate::buffered::Buffered;
+use crate::buffered::{Buffered, Earlier};
 use crate::log::Log;
 use crate::opening::open;
 use crate::playing::play_lines;
@@ -123,9 +123,9 @@ fn run_quietly(
 }
 
 // Writes the line of a soak that came to its end.
-fn put_line<K: Sink>(
+fn put_line<K: Sink, E: Earlier>(
     status: Status,
-    out: &mut Buffered<'_, K>,
+    out: &mut Buffered<'_, K, E>,
     n: u64,
     counts: &Counts,
     sum: u64,
@@ -144,13 +144,13 @@ fn put_line<K: Sink>(
 }
 
 // Runs the session of a description, and writes its line.
-fn soak_desc<K: Sink>(
+fn soak_desc<K: Sink, E: Earlier>(
     alloc: Global,
     n: u64,
     desc: Desc,
     lines: &mut LineReader,
     source: &mut Text,
-    out: &mut Buffered<'_, K>,
+    out: &mut Buffered<'_, K, E>,
     adapters: &mut Adapters,
 ) -> Status
     requires kinds { desc.layout.kinds ≡ kinds_of (map standing adapters.old.items) }
@@ -159,7 +159,7 @@ fn soak_desc<K: Sink>(
     requires found { lines.old.found ≡ true }
     requires going { lines.old.refused ≡ false }
     ensures kinds { kinds_of (map standing adapters.new.items) ≡ kinds_of (map standing adapters.old.items) }
-    ensures tells { IfSome (input_of lines.old (Some (drop source.old.at source.old.bytes.items))) (λ bytes. IsTold (soak_ending n (script_from 1 no_counts (first_world desc (map standing adapters.old.items)) (lines_of bytes))) result (told K.written out.old) (told K.written out.new) (map standing adapters.new.items)) }
+    ensures tells { IfSome (input_of lines.old (Some (drop source.old.at source.old.bytes.items))) (λ bytes. IsJudged (soak_ending n (script_from 1 no_counts (first_world desc (map standing adapters.old.items)) (lines_of bytes))) result (told K.written out.old) (told K.written out.new) (map standing adapters.new.items)) }
     ensures sink_later { K.faults out.old.sink.now ≤ K.faults out.new.sink.now }
     ensures cause { IsCaused result 0 0 (K.faults out.old.sink.now) (K.faults out.new.sink.now) }
     ensures ends_kept { K.ends out.new.sink.now ≡ K.ends out.old.sink.now }
@@ -186,15 +186,15 @@ fn soak_desc<K: Sink>(
 }
 
 // Makes the session of a number, runs it and writes one line.
-pub(crate) fn put_soak<K: Sink>(
+pub(crate) fn put_soak<K: Sink, E: Earlier>(
     alloc: Global,
     n: u64,
-    out: &mut Buffered<'_, K>,
+    out: &mut Buffered<'_, K, E>,
     adapters: &mut Adapters,
 ) -> Status
     requires few { length (map standing adapters.old.items) < 2 ^ 32 }
     ensures kinds { kinds_of (map standing adapters.new.items) ≡ kinds_of (map standing adapters.old.items) }
-    ensures tells { IsTold (soak_judged n (map standing adapters.old.items)) result (told K.written out.old) (told K.written out.new) (map standing adapters.new.items) }
+    ensures tells { IsJudged (soak_judged n (map standing adapters.old.items)) result (told K.written out.old) (told K.written out.new) (map standing adapters.new.items) }
     ensures sink_later { K.faults out.old.sink.now ≤ K.faults out.new.sink.now }
     ensures cause { IsCaused result 0 0 (K.faults out.old.sink.now) (K.faults out.new.sink.now) }
     ensures ends_kept { K.ends out.new.sink.now ≡ K.ends out.old.sink.now }

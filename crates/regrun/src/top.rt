@@ -5,7 +5,8 @@ ghost use Rattle.std.specs.declared.option.Option.{Option};
 ghost use Rattle.rl_bus.specs.Causes.{Rose};
 ghost use Rattle.rl_bus.specs.Standing.{kinds_of};
 ghost use Rattle.regrun.specs.Causes.{IsCaused, NoneFailed};
-ghost use Rattle.regrun.specs.Judged.{ending_judged, judged, judged_of, map_judged, soak_judged, BreaksOff, IsJudged, IsTold};
+ghost use Rattle.regrun.specs.Earlier.{KeepsEarlier};
+ghost use Rattle.regrun.specs.Judged.{ending_judged, judged, map_judged, soak_judged, BreaksOff, IsJudged};
 ghost use Rattle.regrun.specs.Log.{behind, first_world, script_from};
 ghost use Rattle.regrun.specs.Played.{BreaksAfter};
 ghost use Rattle.regrun.specs.Recording.{no_counts};
@@ -20,11 +21,10 @@ ghost use Rattle.rl_map.specs.LayoutText.{layout_text};
 ghost use Rattle.rl_map.specs.Maps.{IsBuiltWith};
 ghost use Rattle.rl_report.specs.Lines.{lines_of};
 ghost use Rattle.rl_report.specs.Opening.{separator_at, FindsHead, TakesNoHead};
-ghost use Rattle.rl_report.specs.Pieces.{AppendsFront};
 ghost use Rattle.rl_report.specs.Reading.{input_of};
 ghost use Rattle.rl_bench.specs.Flaws.{AreFlawsOf};
 
-use crate::buffered::Buffered;
+use crate::buffered::{Buffered, Earlier};
 use crate::layout_text::put_layout;
 use crate::opening::{described, open};
 use crate::playing::play_lines;
@@ -36,6 +36,7 @@ use rl_bus::{Adapter, Adapters};
 use rl_desc::{Desc, DescFault};
 use rl_report::{Failed, Head, HeadFault, LineReader, Sink, Source, put_all};
 use std::alloc::{AllocError, Global};
+use std::marker::Brand;
 
 // A reader that has taken nothing yet.
 pub(crate) fn fresh_lines(alloc: Global) -> Result<LineReader, AllocError>
@@ -47,7 +48,7 @@ pub(crate) fn fresh_lines(alloc: Global) -> Result<LineReader, AllocError>
 }
 
 // Ends a session that is refused, with this last line.
-fn refuse<K: Sink>(line: &[u8], out: &mut Buffered<'_, K>) -> Status
+fn refuse<K: Sink, E: Earlier>(line: &[u8], out: &mut Buffered<'_, K, E>) -> Status
     ensures tells { Tells result Status.Refused (told K.written out.old) (told K.written out.new) line.now }
     ensures sink_later { K.faults out.old.sink.now ≤ K.faults out.new.sink.now }
     ensures cause { IsCaused result 0 0 (K.faults out.old.sink.now) (K.faults out.new.sink.now) }
@@ -61,11 +62,11 @@ fn refuse<K: Sink>(line: &[u8], out: &mut Buffered<'_, K>) -> Status
 }
 
 // Reads the bytes before the separator, or ends the session.
-fn read_head<S: Source, K: Sink>(
+fn read_head<S: Source, K: Sink, E: Earlier>(
     lines: &mut LineReader,
     source: &mut S,
     head: &mut Vec<u8>,
-    out: &mut Buffered<'_, K>,
+    out: &mut Buffered<'_, K, E>,
 ) -> Result<(), Status>
     requires empty { head.old.items ≡ [] }
     requires first { lines.old.asked ≡ false }
@@ -103,7 +104,10 @@ fn read_head<S: Source, K: Sink>(
 }
 
 // Ends a session whose description is refused.
-fn refuse_description<K: Sink>(fault: &DescFault, out: &mut Buffered<'_, K>) -> Status
+fn refuse_description<K: Sink, E: Earlier>(
+    fault: &DescFault,
+    out: &mut Buffered<'_, K, E>,
+) -> Status
     requires { fault.now ≢ DescFault.Memory }
     ensures tells { Tells result Status.Refused (told K.written out.old) (told K.written out.new) (description_refused_text fault.now) }
     ensures sink_later { K.faults out.old.sink.now ≤ K.faults out.new.sink.now }
@@ -118,11 +122,11 @@ fn refuse_description<K: Sink>(fault: &DescFault, out: &mut Buffered<'_, K>) -> 
 }
 
 // Reads the description that opens a session, or ends the session.
-fn read_desc<K: Sink>(
+fn read_desc<K: Sink, E: Earlier>(
     alloc: Global,
     head: &[u8],
     adapters: &Adapters,
-    out: &mut Buffered<'_, K>,
+    out: &mut Buffered<'_, K, E>,
 ) -> Result<Desc, Status>
     requires few { length (map standing adapters.now.items) < 2 ^ 32 }
     ensures kinds { IfOk result (λ desc. desc.layout.kinds ≡ kinds_of (map standing adapters.now.items)) }
@@ -147,11 +151,11 @@ fn read_desc<K: Sink>(
 }
 
 // Reads a session up to its separator, and its description, or ends it.
-pub(crate) fn open_session<S: Source, K: Sink>(
+pub(crate) fn open_session<S: Source, K: Sink, E: Earlier>(
     alloc: Global,
     lines: &mut LineReader,
     source: &mut S,
-    out: &mut Buffered<'_, K>,
+    out: &mut Buffered<'_, K, E>,
     adapters: &Adapters,
 ) -> Result<Desc, Status>
     requires few { length (map standing adapters.now.items) < 2 ^ 32 }
@@ -187,12 +191,12 @@ pub(crate) fn open_session<S: Source, K: Sink>(
 }
 
 // Runs the session that a description opens.
-fn run_session<S: Source, K: Sink>(
+fn run_session<S: Source, K: Sink, E: Earlier>(
     alloc: Global,
     desc: Desc,
     lines: &mut LineReader,
     source: &mut S,
-    out: &mut Buffered<'_, K>,
+    out: &mut Buffered<'_, K, E>,
     adapters: &mut Adapters,
 ) -> Status
     requires kinds { desc.layout.kinds ≡ kinds_of (map standing adapters.old.items) }
@@ -201,7 +205,7 @@ fn run_session<S: Source, K: Sink>(
     requires found { lines.old.found ≡ true }
     requires going { lines.old.refused ≡ false }
     ensures kinds { kinds_of (map standing adapters.new.items) ≡ kinds_of (map standing adapters.old.items) }
-    ensures tells { IfSome (input_of lines.old (S.left source.old)) (λ bytes. IsTold (ending_judged (script_from 1 no_counts (first_world desc (map standing adapters.old.items)) (lines_of bytes))) result (told K.written out.old) (told K.written out.new) (map standing adapters.new.items)) }
+    ensures tells { IfSome (input_of lines.old (S.left source.old)) (λ bytes. IsJudged (ending_judged (script_from 1 no_counts (first_world desc (map standing adapters.old.items)) (lines_of bytes))) result (told K.written out.old) (told K.written out.new) (map standing adapters.new.items)) }
     ensures at_fault { result ≡ Status.SourceFault → IfSome (input_of lines.old (S.left source.old)) (λ bytes. BreaksAfter 1 (first_world desc (map standing adapters.old.items)) bytes (S.left source.new) (told K.written out.old) (told K.written out.new)) }
     ensures unended { result ≡ Status.SourceFault → lines.old.ended ≡ false }
     ensures flushed { result ≡ Status.SourceFault → out.new.end ≡ 0 }
@@ -228,15 +232,15 @@ fn run_session<S: Source, K: Sink>(
 }
 
 // Reads a session, runs it and writes its log.
-fn run<S: Source, K: Sink>(
+fn run<S: Source, K: Sink, E: Earlier>(
     alloc: Global,
     source: &mut S,
-    out: &mut Buffered<'_, K>,
+    out: &mut Buffered<'_, K, E>,
     adapters: &mut Adapters,
 ) -> Status
     requires few { length (map standing adapters.old.items) < 2 ^ 32 }
     ensures kinds { kinds_of (map standing adapters.new.items) ≡ kinds_of (map standing adapters.old.items) }
-    ensures tells { IfSome (S.left source.old) (λ bytes. IsTold (judged bytes (map standing adapters.old.items)) result (told K.written out.old) (told K.written out.new) (map standing adapters.new.items)) }
+    ensures tells { IfSome (S.left source.old) (λ bytes. IsJudged (judged bytes (map standing adapters.old.items)) result (told K.written out.old) (told K.written out.new) (map standing adapters.new.items)) }
     ensures at_fault { result ≡ Status.SourceFault → IfSome (S.left source.old) (λ bytes. BreaksOff bytes (map standing adapters.old.items) (S.left source.new) (told K.written out.old) (told K.written out.new)) }
     ensures flushed { result ≡ Status.SourceFault → out.old.end ≡ 0 → out.new.end ≡ 0 }
     ensures source_later { S.faults source.old ≤ S.faults source.new }
@@ -255,7 +259,7 @@ fn run<S: Source, K: Sink>(
 }
 
 // Writes where the items of a description stand.
-fn put_description<K: Sink>(desc: &Desc, out: &mut Buffered<'_, K>) -> Status
+fn put_description<K: Sink, E: Earlier>(desc: &Desc, out: &mut Buffered<'_, K, E>) -> Status
     requires { IsBuiltWith desc.now.layout desc.now.chip }
     ensures tells { Tells result Status.Passed (told K.written out.old) (told K.written out.new) (layout_text desc.now.chip desc.now.layout) }
     ensures sink_later { K.faults out.old.sink.now ≤ K.faults out.new.sink.now }
@@ -270,14 +274,14 @@ fn put_description<K: Sink>(desc: &Desc, out: &mut Buffered<'_, K>) -> Status
 }
 
 // Reads a description, and writes where its items stand.
-fn show_layout<S: Source, K: Sink>(
+fn show_layout<S: Source, K: Sink, E: Earlier>(
     alloc: Global,
     source: &mut S,
-    out: &mut Buffered<'_, K>,
+    out: &mut Buffered<'_, K, E>,
     adapters: &Adapters,
 ) -> Status
     requires few { length (map standing adapters.now.items) < 2 ^ 32 }
-    ensures tells { IfSome (S.left source.old) (λ bytes. IsTold (map_judged bytes (map standing adapters.now.items)) result (told K.written out.old) (told K.written out.new) (map standing adapters.now.items)) }
+    ensures tells { IfSome (S.left source.old) (λ bytes. IsJudged (map_judged bytes (map standing adapters.now.items)) result (told K.written out.old) (told K.written out.new) (map standing adapters.now.items)) }
     ensures unwritten { result ≡ Status.SourceFault → out.new ≡ out.old }
     ensures source_later { S.faults source.old ≤ S.faults source.new }
     ensures sink_later { K.faults out.old.sink.now ≤ K.faults out.new.sink.now }
@@ -296,7 +300,7 @@ fn show_layout<S: Source, K: Sink>(
 }
 
 // Writes what is kept back, and ends the output of a run that came to its last line.
-fn finish<K: Sink>(status: Status, out: &mut Buffered<'_, K>) -> Status
+fn finish<K: Sink, E: Earlier>(status: Status, out: &mut Buffered<'_, K, E>) -> Status
     requires { status ≢ Status.Words }
     ensures sink_later { K.faults out.old.sink.now ≤ K.faults out.new.sink.now }
     ensures kept { result ≢ Status.SinkFault → result ≡ status }
@@ -324,18 +328,18 @@ fn finish<K: Sink>(status: Status, out: &mut Buffered<'_, K>) -> Status
 }
 
 // Does what the words ask for. What is kept back isn't written yet.
-fn perform_task<S: Source, K: Sink>(
+fn perform_task<S: Source, K: Sink, E: Earlier>(
     alloc: Global,
     task: Built,
     source: &mut S,
-    out: &mut Buffered<'_, K>,
+    out: &mut Buffered<'_, K, E>,
     adapters: &mut Adapters,
 ) -> Status
     requires few { length (map standing adapters.old.items) < 2 ^ 32 }
     ensures kinds { kinds_of (map standing adapters.new.items) ≡ kinds_of (map standing adapters.old.items) }
-    ensures run { task ≡ Built.Run → IfSome (S.left source.old) (λ bytes. IsTold (judged bytes (map standing adapters.old.items)) result (told K.written out.old) (told K.written out.new) (map standing adapters.new.items)) }
-    ensures map { task ≡ Built.Map → IfSome (S.left source.old) (λ bytes. IsTold (map_judged bytes (map standing adapters.old.items)) result (told K.written out.old) (told K.written out.new) (map standing adapters.new.items)) }
-    ensures soak { (n : ℕ) → task ≡ Built.Soak n → IsTold (soak_judged n (map standing adapters.old.items)) result (told K.written out.old) (told K.written out.new) (map standing adapters.new.items) }
+    ensures run { task ≡ Built.Run → IfSome (S.left source.old) (λ bytes. IsJudged (judged bytes (map standing adapters.old.items)) result (told K.written out.old) (told K.written out.new) (map standing adapters.new.items)) }
+    ensures map { task ≡ Built.Map → IfSome (S.left source.old) (λ bytes. IsJudged (map_judged bytes (map standing adapters.old.items)) result (told K.written out.old) (told K.written out.new) (map standing adapters.new.items)) }
+    ensures soak { (n : ℕ) → task ≡ Built.Soak n → IsJudged (soak_judged n (map standing adapters.old.items)) result (told K.written out.old) (told K.written out.new) (map standing adapters.new.items) }
     ensures at_fault { task ≡ Built.Run → result ≡ Status.SourceFault → IfSome (S.left source.old) (λ bytes. BreaksOff bytes (map standing adapters.old.items) (S.left source.new) (told K.written out.old) (told K.written out.new)) }
     ensures flushed { task ≡ Built.Run → result ≡ Status.SourceFault → out.old.end ≡ 0 → out.new.end ≡ 0 }
     ensures unwritten { task ≡ Built.Map → result ≡ Status.SourceFault → out.new ≡ out.old }
@@ -350,6 +354,34 @@ fn perform_task<S: Source, K: Sink>(
         Built::Map => show_layout(alloc, source, out, adapters),
         Built::Soak(n) => put_soak(alloc, n, out, adapters),
     }
+}
+
+// Does what the words ask for, and writes it out. Whatever the answer, the sink keeps the bytes that it had before.
+fn run_task<S: Source, K: Sink, E: Earlier>(
+    alloc: Global,
+    task: Built,
+    source: &mut S,
+    sink: &mut K,
+    adapters: &mut Adapters,
+) -> Status
+    requires few { length (map standing adapters.old.items) < 2 ^ 32 }
+    requires earlier { K.written sink.old ≡ E.bytes }
+    ensures run { task ≡ Built.Run → IfSome (S.left source.old) (λ bytes. IsJudged (judged bytes (map standing adapters.old.items)) result (K.written sink.old) (K.written sink.new) (map standing adapters.new.items)) }
+    ensures map { task ≡ Built.Map → IfSome (S.left source.old) (λ bytes. IsJudged (map_judged bytes (map standing adapters.old.items)) result (K.written sink.old) (K.written sink.new) (map standing adapters.new.items)) }
+    ensures soak { (n : ℕ) → task ≡ Built.Soak n → IsJudged (soak_judged n (map standing adapters.old.items)) result (K.written sink.old) (K.written sink.new) (map standing adapters.new.items) }
+    ensures at_fault { task ≡ Built.Run → result ≡ Status.SourceFault → IfSome (S.left source.old) (λ bytes. BreaksOff bytes (map standing adapters.old.items) (S.left source.new) (K.written sink.old) (K.written sink.new)) }
+    ensures unwritten { task ≡ Built.Map → result ≡ Status.SourceFault → sink.new ≡ sink.old }
+    ensures keeps_earlier { KeepsEarlier (K.written sink.old) (K.written sink.new) }
+    ensures source_later { S.faults source.old ≤ S.faults source.new }
+    ensures sink_later { K.faults sink.old ≤ K.faults sink.new }
+    ensures cause { IsCaused result (S.faults source.old) (S.faults source.new) (K.faults sink.old) (K.faults sink.new) }
+    ensures ended { is_complete result ≡ true → Rose (K.ends sink.old) (K.ends sink.new) }
+    ensures not_ended { is_complete result ≡ false → K.ends sink.new ≡ K.ends sink.old }
+    ensures kinds { kinds_of (map standing adapters.new.items) ≡ kinds_of (map standing adapters.old.items) }
+{
+    let mut out = Buffered::<K, E>::new(sink);
+    let status = perform_task(alloc, task, source, &mut out, adapters);
+    finish(status, &mut out)
 }
 
 /// Does all that the program does, by its words.
@@ -373,7 +405,7 @@ pub fn regrun<S: Source, K: Sink>(
     ensures untouched { result ≡ Status.Words → (source.new ≡ source.old) × (sink.new ≡ sink.old) × (adapters.new ≡ adapters.old) }
 
     // The headline. Where the source tells its bytes, `run` writes the judged log, and answers its status: the
-    // adapters then stand as its items leave them.
+    // adapters then stand as its items leave them. With any other answer it wrote a front of that log.
     ensures run { task_built (map string_bytes words.now) ≡ Some Built.Run → IfSome (S.left source.old)
         (λ bytes. IsJudged (judged bytes (map standing adapters.old.items)) result (K.written sink.old) (K.written sink.new) (map standing adapters.new.items)) }
     ensures map { task_built (map string_bytes words.now) ≡ Some Built.Map → IfSome (S.left source.old)
@@ -388,10 +420,8 @@ pub fn regrun<S: Source, K: Sink>(
     // After a source that failed, `map` has written nothing: the sink is as before.
     ensures unwritten { task_built (map string_bytes words.now) ≡ Some Built.Map → result ≡ Status.SourceFault → sink.new ≡ sink.old }
 
-    // Where memory ran out and no call of the sink failed, the sink keeps its earlier bytes, and behind them it has a
-    // front of the log.
-    ensures at_memory { (task : Built) → task_built (map string_bytes words.now) ≡ Some task → result ≡ Status.Memory → NoneFailed (K.faults sink.old) (K.faults sink.new)
-        → IfSome (judged_of task (S.left source.old) (map standing adapters.old.items)) (λ j. AppendsFront (K.written sink.old) (K.written sink.new) j.text) }
+    // However it ends, the sink keeps the bytes that it had before.
+    ensures keeps_earlier { KeepsEarlier (K.written sink.old) (K.written sink.new) }
 
     // No fault is made up.
     ensures source_later { S.faults source.old ≤ S.faults source.new }
@@ -408,7 +438,5 @@ pub fn regrun<S: Source, K: Sink>(
     let Some(task) = task_built(words) else {
         return Status::Words;
     };
-    let mut out = Buffered::new(sink);
-    let status = perform_task(alloc, task, source, &mut out, adapters);
-    finish(status, &mut out)
+    run_task::<S, K, Brand>(alloc, task, source, sink, adapters)
 }
