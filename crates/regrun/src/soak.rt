@@ -1,6 +1,7 @@
 // A session that is made from a number, and the line that is written of it.
-ghost use Rattle.std.specs.Prelude.{◌≡◌, ◌<◌, ◌≤◌, ◌++◌, [], map, length, OnOk, IfOk};
+ghost use Rattle.std.specs.Prelude.{◌≡◌, ◌<◌, ◌≤◌, ◌++◌, [], ◌∷◌, map, length, OnOk, IfOk};
 ghost use Rattle.rl_bus.specs.Causes.{HasCause};
+ghost use Rattle.rl_policy.specs.Numbers.{hex_digits};
 ghost use Rattle.rl_report.specs.Pieces.{Puts, joined};
 ghost use Rattle.regrun.specs.Soak.{next_state, drawn, policy_of, map_of, reg_text, maps_text, place_text, rows_text, step_of, verb_text, value_pieces, line_text, script_text, description_text, soak_text, mirror_sum, soak_line_text};
 
@@ -183,21 +184,23 @@ fn push_description(text: &mut Vec<u8>) -> Result<(), AllocError>
     push_places(text)
 }
 
-fn push_value(text: &mut Vec<u8>, step: Step, v: u64) -> Result<(), AllocError>
-    ensures { OnOk result (text.new.items ≡ text.old.items ++ joined (value_pieces step v)) }
+// Hexadecimal digits behind a text.
+fn push_hex(text: &mut Vec<u8>, before: &[u8], v: u64) -> Result<(), AllocError>
+    ensures { OnOk result (text.new.items ≡ text.old.items ++ joined (before.now ∷ hex_digits v ∷ [])) }
 {
     let mut digits = [0u8; 16];
     let len = spell(&mut digits, v);
+    text.extend_from_slice(before)?;
+    text.extend_from_slice(front(&digits, len))
+}
+
+fn push_value(text: &mut Vec<u8>, step: Step, v: u64) -> Result<(), AllocError>
+    ensures { OnOk result (text.new.items ≡ text.old.items ++ joined (value_pieces step v)) }
+{
     match step {
-        Step::Write => {
-            let pieces: [&[u8]; 2] = [b" 0x", front(&digits, len)];
-            push_pieces(text, &pieces)
-        }
-        Step::Set | Step::FieldWrite => {
-            let pieces: [&[u8]; 2] = [b".f 0x", front(&digits, len)];
-            push_pieces(text, &pieces)
-        }
-        Step::Read | Step::Check | Step::Update | Step::Peek => push_pieces(text, &[]),
+        Step::Write => push_hex(text, b" 0x", v),
+        Step::Set | Step::FieldWrite => push_hex(text, b".f 0x", v),
+        Step::Read | Step::Check | Step::Update | Step::Peek => Ok(()),
     }
 }
 
