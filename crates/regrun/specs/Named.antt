@@ -90,13 +90,18 @@ is_on_bus (line.Check reg map) = true
 is_on_bus (line.Update reg map) = true
 is_on_bus _ = false
 
+-- on a memory over the bus
 abbrev pub is_on_memory : Line → Bool
 is_on_memory (line.MemWrite mem index value map) = true
 is_on_memory (line.MemCheck mem index value map) = true
 is_on_memory (line.MemRead mem index map) = true
-is_on_memory (line.MemPeek mem index) = true
-is_on_memory (line.MemPoke mem index value) = true
 is_on_memory _ = false
+
+-- on a memory by the backdoor
+abbrev pub is_behind_memory : Line → Bool
+is_behind_memory (line.MemPeek mem index) = true
+is_behind_memory (line.MemPoke mem index value) = true
+is_behind_memory _ = false
 
 abbrev pub is_on_field : Line → Bool
 is_on_field (line.FieldWrite field value map) = true
