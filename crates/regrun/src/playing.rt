@@ -382,8 +382,8 @@ pub fn play<S: Source, K: Sink, D: Device>(
     ensures parts { IsSameChip model.old model.new }
 
     // Where the device tells its state and the source its bytes: what is written is the log of the lines that are
-    // left, from the device and the model as they are, with its status, and the counts rise by what it counts; else
-    // it is a front of that log.
+    // left, from the device and the model as they are, with its status, and the counts rise by what it counts.
+    // After any fault, and where memory ran out, it is a front of that log.
     ensures log { IfSome (coming 1 no_counts model.old (map standing adapters.old.items) (D.state device.old) (input_of lines.old (S.left source.old)))
         (λ e. IsWrittenOut e result (K.written sink.old) (K.written sink.new) counts.old counts.new model.new (map standing adapters.new.items) (D.state device.new)) }
 

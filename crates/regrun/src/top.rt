@@ -405,7 +405,7 @@ pub fn regrun<S: Source, K: Sink>(
     ensures untouched { result ≡ Status.Words → (source.new ≡ source.old) × (sink.new ≡ sink.old) × (adapters.new ≡ adapters.old) }
 
     // The headline. Where the source tells its bytes, `run` writes the judged log, and answers its status: the
-    // adapters then stand as its items leave them. With any other answer it wrote a front of that log.
+    // adapters then stand as its items leave them. After any fault, and where memory ran out, it wrote a front of that.
     ensures run { task_built (map string_bytes words.now) ≡ Some Built.Run → IfSome (S.left source.old)
         (λ bytes. IsJudged (judged bytes (map standing adapters.old.items)) result (K.written sink.old) (K.written sink.new) (map standing adapters.new.items)) }
     ensures map { task_built (map string_bytes words.now) ≡ Some Built.Map → IfSome (S.left source.old)
