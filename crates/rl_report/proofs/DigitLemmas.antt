@@ -1,6 +1,6 @@
 -- The hexadecimal digits of a number, two at a time.
-use Rattle.std.proofs.Common.{◌≡◌, ℕ, zero, suc, ◌+◌, ◌-◌, ◌*◌, ◌/◌, ◌%◌, ◌<◌, ◌≤◌, Bool, true, ◌&&◌, T, eqb, List, [], ◌∷◌, ◌++◌, length, drop, slice_range, get_or, refl, sym, ap, ◌∙◌, inl, inr, arith, eq-zero-or-pos, eqb→eq, append_assoc, append-nil, length-append}
-use Rattle.std.proofs.lemmas.List.{take_all, drop_all, drop-append-le}
+use Rattle.std.proofs.Common.{◌≡◌, ℕ, zero, suc, ◌+◌, ◌-◌, ◌*◌, ◌/◌, ◌%◌, ◌<◌, ◌≤◌, Bool, true, ◌&&◌, T, eqb, List, [], ◌∷◌, ◌++◌, length, drop, get_or, refl, sym, ap, ◌∙◌, inl, inr, arith, eq-zero-or-pos, eqb→eq, append_assoc, append-nil, length-append}
+use Rattle.std.proofs.lemmas.List.{drop_all}
 use lib.Ieee.Fits.{and_l, and_r}
 use Rattle.io.specs.Digits.{hex_digit_ascii, last_digits}
 use Rattle.rl_report.specs.Numbers.{padded}
@@ -46,20 +46,6 @@ two_more (suc (suc k)) rest old new h e =
 pub len_digits : (k n : ℕ) → length (last_digits 16 k n) ≡ k
 len_digits zero n = refl
 len_digits (suc k) n = let rest = len_digits k (n / 16) in omega (arith, rest, length-append (last_digits 16 k (n / 16)) (hex_digit_ascii (n % 16) ∷ []))
-
-last_of : (m k t n : ℕ) → t ≡ m + k → drop m (last_digits 16 t n) ≡ last_digits 16 k n
-last_of m zero t n e = drop_all m (last_digits 16 t n) (omega (arith, len_digits t n))
-last_of m (suc k) zero n e = absurd (omega arith)
-last_of m (suc k) (suc t) n e =
-    drop-append-le m (last_digits 16 t (n / 16)) (hex_digit_ascii (n % 16) ∷ []) (omega (arith, len_digits t (n / 16)))
-    ∙ ap (λ l. l ++ hex_digit_ascii (n % 16) ∷ []) (last_of m k t (n / 16) (omega arith))
-
--- the last of sixteen digits
-pub last_of_all : (count n : ℕ) (text : List ℕ) → count ≤ 16 → text ≡ padded 16 n → slice_range text (16 - count) 16 ≡ padded count n
-unfolding padded
-last_of_all count n text few is =
-    let size : length (drop (16 - count) text) ≤ 16 - (16 - count) = omega (arith, ap length (ap (drop (16 - count)) is ∙ last_of (16 - count) count 16 n (omega arith)), len_digits count n) in
-    take_all (16 - (16 - count)) (drop (16 - count) text) size ∙ ap (drop (16 - count)) is ∙ last_of (16 - count) count 16 n (omega arith)
 
 -- the digits that are put, at the start and at the end
 pub none_put : (n : ℕ) (text : List ℕ) → last_digits 16 (length text) n ++ drop (length text) text ≡ padded (length text) n

@@ -191,9 +191,9 @@ event_text m e = joined (event_line m e ∷ flat_map (item_line m.layout) e.trac
 -- ---- which operations end without a value, and which are on a register
 
 -- the operation is a reset, which has no value
-abbrev pub ends_as_reset_of : Op → Bool
-ends_as_reset_of (op.Reset kind) = true
-ends_as_reset_of _ = false
+abbrev pub is_reset : Op → Bool
+is_reset (op.Reset kind) = true
+is_reset _ = false
 
 abbrev pub is_on_register : Op → Bool
 is_on_register (op.Write reg map value) = true
@@ -226,7 +226,7 @@ is_on_location (op.MemCheck mem map index value) = true
 is_on_location _ = false
 
 -- the same by the backdoor
-abbrev pub is_behind_location : Op → Bool
-is_behind_location (op.MemPeek mem index) = true
-is_behind_location (op.MemPoke mem index value) = true
-is_behind_location _ = false
+abbrev pub is_location_by_backdoor : Op → Bool
+is_location_by_backdoor (op.MemPeek mem index) = true
+is_location_by_backdoor (op.MemPoke mem index value) = true
+is_location_by_backdoor _ = false

@@ -7,7 +7,7 @@ ghost use Rattle.rl_map.specs.Layout.{port_at};
 ghost use Rattle.rl_mirror.specs.Fields.{field_of, first_of, count_of, size_of};
 ghost use Rattle.rl_access.specs.Event.{EventFits, ItemFits};
 ghost use Rattle.rl_access.specs.Operation.{HasNumbers, IsMapIn, register_of, reg_of, location_size, field_digits, digits_of};
-ghost use Rattle.rl_report.specs.EventText.{number_text, map_text, kind_text, reg_text, field_text, mem_text, burst_text, op_text, why_text, end_text, name_text, names_text, is_show, is_done, is_check, has_differ, desired_text, differ_text, after_text, is_refused, rest_text, result_text, event_line, way_text, answer_text, word_of, transfer_text, item_line, event_text, ends_as_reset_of, is_on_register, is_on_field, is_on_location, is_behind_location};
+ghost use Rattle.rl_report.specs.EventText.{number_text, map_text, kind_text, reg_text, field_text, mem_text, burst_text, op_text, why_text, end_text, name_text, names_text, is_show, is_done, is_check, has_differ, desired_text, differ_text, after_text, is_refused, rest_text, result_text, event_line, way_text, answer_text, word_of, transfer_text, item_line, event_text, is_reset, is_on_register, is_on_field, is_on_location, is_location_by_backdoor};
 ghost use Rattle.rl_report.specs.Numbers.{padded};
 ghost use Rattle.rl_report.specs.Pieces.{Puts, Gathers, joined};
 
@@ -319,7 +319,7 @@ fn put_back_mem_op<K: Sink>(
     op: Op,
 ) -> Result<(), Failed>
     requires numbers { HasNumbers model.now.chip (length model.now.layout.maps) op }
-    requires behind_location { is_behind_location op ≡ true }
+    requires by_backdoor { is_location_by_backdoor op ≡ true }
     ensures bytes { Gathers (K.written sink.old) (K.written sink.new) text.old text.new (op_text model.now op) result }
     ensures cause { HasCause (K.faults sink.old) (K.faults sink.new) result }
     ensures ends_kept { K.ends sink.new ≡ K.ends sink.old }
@@ -471,7 +471,7 @@ fn field_digits(model: &Model, field: u32) -> u32
 // The digits of a value that an operation reads or sends.
 fn digits_of(model: &Model, op: Op) -> u32
     requires numbers { HasNumbers model.now.chip (length model.now.layout.maps) op }
-    requires ends { ends_as_reset_of op ≡ false }
+    requires ends { is_reset op ≡ false }
     ensures value { result ≡ digits_of model.now.chip op }
     ensures some { 1 ≤ result }
     ensures few { result ≤ 16 }

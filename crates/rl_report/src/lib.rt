@@ -15,7 +15,6 @@ mod text;
 pub use event::{write_event, write_event_line, write_item};
 pub use lines::{Got, LineReader};
 pub use memory::{MemSink, MemSource};
-pub use numbers::Digits;
 pub use opening::{Head, HeadFault};
 pub use pieces::{put_all, put_pieces};
 pub use rl_bus::Failed;

@@ -174,7 +174,9 @@ impl LineReader {
         ensures none_lost { OnErr result (Keeps (input_of self.old (S.left source.old)) (input_of self.new (S.left source.new))) }
         ensures line { result ≢ Ok Got.Line → self.new.line ≡ self.old.line }
 
-        // It reads only where it holds no whole line.
+        // It reads only where it holds no whole line, and never again after the end.
+        ensures unread { HoldsLine self.old → source.new ≡ source.old }
+        ensures unread_at_end { self.old.ended ≡ true → source.new ≡ source.old }
         ensures asks { OnErr result (HoldsLine self.old → ⊥) }
         ensures none_whole { OnErr result ((first_line self.new.pending ≡ self.new.pending) × (self.new.ended ≡ false)) }
         ensures held { length self.new.pending ≤ 8192 }
@@ -182,6 +184,8 @@ impl LineReader {
         // After the end it answers the end again.
         ensures end { result ≡ Ok Got.End → (self.new.ended ≡ true) × (self.new.pending ≡ []) }
         ensures again { self.old.ended ≡ true → self.old.pending ≡ [] → result ≡ Ok Got.End }
+        ensures closed { result ≡ Ok Got.End → self.new.closed ≡ true }
+        ensures still { result ≢ Ok Got.End → self.new.closed ≡ self.old.closed }
 
         ensures phase { IsLaterPhase self.old self.new }
         ensures refused { self.new.refused ≡ true ↔ result ≡ Ok Got.TooLong }
@@ -221,6 +225,8 @@ impl LineReader {
         ensures asked { self.new.asked ≡ true }
         ensures found { (self.new.found ≡ true) ↔ (result ≡ Ok Head.Found) }
         ensures refused { self.new.refused ≡ self.old.refused }
+        ensures ended { self.old.ended ≡ true → self.new.ended ≡ true }
+        ensures closed { self.new.closed ≡ self.old.closed }
         ensures line { self.new.line ≡ self.old.line }
         ensures later { S.faults source.old ≤ S.faults source.new }
         ensures cause { result ≡ Err HeadFault.Source → Rose (S.faults source.old) (S.faults source.new) }
@@ -325,6 +331,8 @@ impl LineReader {
         ensures held { length self.new.pending ≤ 8192 }
         ensures end { result ≡ Some Got.End → (self.new.ended ≡ true) × (self.new.pending ≡ []) }
         ensures again { self.old.ended ≡ true → self.old.pending ≡ [] → result ≡ Some Got.End }
+        ensures closed { result ≡ Some Got.End → self.new.closed ≡ true }
+        ensures still { result ≢ Some Got.End → self.new.closed ≡ self.old.closed }
         ensures phase { IsLaterPhase self.old self.new }
         ensures kept { IfNone result (self.new ≡ self.old) }
         ensures short { IfNone result (length self.old.pending ≤ 4096) }

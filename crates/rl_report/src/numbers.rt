@@ -1,11 +1,7 @@
 // Numbers as text, with no memory taken.
-ghost use Rattle.std.specs.Prelude.{◌≡◌, ◌+◌, ◌/◌, ◌%◌, ◌^◌, ◌<◌, ◌≤◌, ◌∷◌, length, drop};
+ghost use Rattle.std.specs.Prelude.{◌≡◌, ◌+◌, ◌/◌, ◌%◌, ◌<◌, ◌≤◌, ◌∷◌, length, drop};
 ghost use Rattle.io.specs.Digits.{hex_digit_ascii, IsDigitCount};
-ghost use Rattle.rl_policy.specs.Numbers.{hex_digits};
-ghost use Rattle.rl_report.specs.Numbers.{padded, digits_if, lanes_text};
-
-use rl_policy::spell;
-use std::marker::Model;
+ghost use Rattle.rl_report.specs.Numbers.{padded, lanes_text};
 
 // The two hexadecimal digits of each byte.
 static PAIRS: [u8; 512] =
@@ -13,100 +9,6 @@ static PAIRS: [u8; 512] =
 
 // The four binary digits of each number below 16.
 static FOURS: [u8; 64] = *b"0000000100100011010001010110011110001001101010111100110111101111";
-
-/// Up to 16 digits of a number.
-#[derive(Drop)]
-pub struct Digits {
-    text: [u8; 16],
-    start: usize,
-    end: usize,
-}
-
-impl Model for Digits {
-    ghost use Rattle.std.specs.Prelude.{ℕ, List, slice_range, length, ◌≡◌, ◌≤◌};
-
-    ghost Value = { List ℕ };
-
-    ghost view = { λ d. slice_range d.text d.start d.end };
-
-    ghost invariant = { λ d. (d.start ≤ d.end) × (d.end ≤ 16) × (length d.text ≡ 16) };
-}
-
-impl Digits {
-    /// Hexadecimal digits, with no zero in front.
-    pub fn hex(n: u64) -> Digits
-        ensures { result ≡ hex_digits n }
-    {
-        let mut text = [0u8; 16];
-        let end = spell(&mut text, n);
-        Digits {
-            text,
-            start: 0,
-            end,
-        }
-    }
-
-    /// The hexadecimal digits of a number that may be missing.
-    pub fn hex_if(n: Option<u64>) -> Digits
-        ensures { result ≡ digits_if n }
-    {
-        match n {
-            Some(n) => Digits::hex(n),
-            None => Digits {
-                text: [0; 16],
-                start: 0,
-                end: 0,
-            },
-        }
-    }
-
-    /// So many hexadecimal digits of a number that has no more.
-    pub fn padded(n: u64, count: u32) -> Digits
-        requires some { 1 ≤ count }
-        requires few { count ≤ 16 }
-        requires fits { n < 16 ^ count }
-        ensures { result ≡ padded count n }
-    {
-        let mut text = [0u8; 16];
-        write_digits(&mut text, n);
-        Digits {
-            text,
-            start: 16 - count as usize,
-            end: 16,
-        }
-    }
-
-    /// The byte enables of a word of so many bytes: a digit for each, the highest byte first.
-    pub fn lanes(lanes: u8, bytes: u8) -> Digits
-        requires { bytes ≤ 8 }
-        ensures { result ≡ lanes_text bytes lanes }
-    {
-        let mut text = [0u8; 16];
-        for k in 0..bytes {
-            text[k as usize] = lane_digit(lanes, bytes - 1 - k);
-        }
-        Digits {
-            text,
-            start: 0,
-            end: bytes as usize,
-        }
-    }
-
-    // The digits as text, with how many they are at most.
-    pub(crate) fn short_text(&self) -> &[u8]
-        ensures value { result.now ≡ self.now }
-        ensures few { length result.now ≤ 16 }
-    {
-        &self.text[self.start..self.end]
-    }
-
-    /// The digits as text.
-    pub fn text(&self) -> &[u8]
-        ensures { result.now ≡ self.now }
-    {
-        self.short_text()
-    }
-}
 
 // Writes the two digits of a byte.
 fn write_pair(text: &mut [u8], at: usize, byte: u64)
@@ -155,11 +57,4 @@ pub(crate) fn digit_count(n: u64) -> u32
         return 1;
     }
     (67 - n.leading_zeros()) / 4
-}
-
-fn lane_digit(lanes: u8, lane: u8) -> u8
-    requires { lane < 8 }
-    ensures { result ≡ 48 + lanes / 2 ^ lane % 2 }
-{
-    b'0' + (lanes >> lane & 1)
 }

@@ -19,7 +19,9 @@ pub enum Head {
 /// Why a call of `read_head` gave up.
 #[derive(Clone, Copy, Debug, PartialEq, Eq)]
 pub enum HeadFault {
+    /// A read of the source failed.
     Source,
+    /// There was no memory for the bytes before the separator.
     Memory,
 }
 

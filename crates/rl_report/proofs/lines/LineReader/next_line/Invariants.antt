@@ -1,4 +1,4 @@
--- What the reader gives from here on stays, and so do its last line and the source's count.
+-- What the reader gives from here on stays, and so do its last line and the source's count. A reader that needn't read hasn't.
 use Rattle.std.proofs.Common.{◌≡◌, ◌-◌, ◌≤◌, true, false, cond, length}
 use Rattle.std.specs.Io.KnownBytes.{Keeps}
 use Rattle.rl_report.specs.Reading.{input_of, HoldsLine}
@@ -15,7 +15,9 @@ invariant-loop-got g l =
       found : l.self.found ≡ l.initial.self.found;
       holds : HoldsLine l.initial.self → l.self.pending ≡ l.initial.self.pending;
       empty : l.initial.self.ended ≡ true → l.self.pending ≡ l.initial.self.pending;
-      stays_closed : l.initial.self.closed ≡ true → l.self.closed ≡ true;
+      unread : HoldsLine l.initial.self → l.source ≡ l.initial.source;
+      unread_at_end : l.initial.self.ended ≡ true → l.source ≡ l.initial.source;
+      closed : l.self.closed ≡ l.initial.self.closed;
       stays_ended : l.initial.self.ended ≡ true → l.self.ended ≡ true;
       later : g.S.Source.faults l.initial.source ≤ g.S.Source.faults l.source;
     }

@@ -12,6 +12,8 @@ loop-taken-init g c =
       asked = ap (λ r. r.asked) c.begin.ensures;
       found = ap (λ r. r.found) c.begin.ensures;
       refused = ap (λ r. r.refused) c.begin.ensures;
+      ended = λ e. ap (λ r. r.ended) c.begin.ensures ∙ e;
+      closed = ap (λ r. r.closed) c.begin.ensures;
       line = ap (λ r. r.line) c.begin.ensures;
       later = omega arith;
     }

@@ -15,6 +15,8 @@ invariant-loop-taken g l =
       asked : l.self.asked ≡ true;
       found : l.self.found ≡ false;
       refused : l.self.refused ≡ l.fn.self.refused;
+      ended : l.fn.self.ended ≡ true → l.self.ended ≡ true;
+      closed : l.self.closed ≡ l.fn.self.closed;
       line : l.self.line ≡ l.fn.self.line;
       later : g.S.Source.faults l.fn.source ≤ g.S.Source.faults l.source;
     }
