@@ -24,6 +24,7 @@ use Rattle.regrun.specs.declared.playing.Turn.TheVariants.{Next}
 use Rattle.regrun.specs.declared.status.Status.{Status}
 use Rattle.regrun.specs.declared.status.Status.TheVariants.{SourceFault, SinkFault}
 use Rattle.regrun.specs.declared.texts.LineRefusal.{LineRefusal}
+use Rattle.regrun.specs.Causes.{IsCaused}
 use Rattle.regrun.specs.Heard.{heard}
 use Rattle.regrun.specs.Judged.{BreaksOff, taken_by, taken_text}
 use Rattle.regrun.specs.Log.{behind, comes_of, first_world, lines_text, said, text_on}
@@ -246,6 +247,10 @@ off_written (Some bytes) adapters left old told new h same =
 
 pub same_status : (status result : Status) → (result ≢ SinkFault → result ≡ status) → result ≡ SourceFault → status ≡ SourceFault
 same_status status result kept is = sym (kept (λ e. let f : SourceFault ≡ SinkFault = sym is ∙ e in absurd (cc))) ∙ is
+
+-- a source that didn't fail is no cause
+pub no_source : (status : Status) (sink now : ℕ) → IsCaused status 0 0 sink now → status ≢ SourceFault
+no_source status sink now h is = omega (arith, h.source_fault is)
 
 pub written_out : (a b : Option (List ℕ)) (bytes : List ℕ) (start end : ℕ) → start ≤ end → Keeps a (append_known b (slice_range bytes start end)) → end ≡ 0 → Keeps a b
 written_out a b bytes start end ordered h none = keeps_when_empty a b b (slice_range bytes start end) h (none_kept bytes start end ordered none) (keeps_refl b)

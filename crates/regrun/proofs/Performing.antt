@@ -11,11 +11,16 @@ use Rattle.rl_access.specs.Call.{Scene, scene, IsRefused, IsDone, Performs}
 use Rattle.rl_access.specs.Items.{moved_on_by_all, adapter_for}
 use Rattle.rl_access.specs.Model.{ModelData}
 use Rattle.rl_access.specs.Rules.{Grant, grant, named, outcome, event_of, IsSampled, device_after}
-use Rattle.regrun.specs.World.{World, IsAt, IsStepOf, Step, world, found_by, items_at, done_at, unchanged, step_by, step_of}
+use Rattle.regrun.specs.World.{World, IsAt, Step, world, found_by, items_at, done_at, unchanged, step_by, step_of}
 
 -- the scene is this world
 abbrev pub IsWorld : Scene → World → Type 0
 IsWorld s w = IsAt s.model s.adapters s.device w
+
+-- the operation was done, with this event, and led to this model, these adapters and this device
+pub record IsStepOf (w : World) (op : Op) (event : Event) (model : ModelData) (adapters : List Standing) (device : Option State) : Type 0 where
+  pub event_is : event ≡ (step_of w op).event
+  pub after : IsAt model adapters device (step_of w op).world
 
 -- ---- what the device was found to have
 

@@ -1,5 +1,5 @@
 -- The judged log of a session, and what `map` and `soak` write: the text, the status, and how the adapters stand afterwards.
-use Rattle.std.specs.Prelude.{◌≡◌, ℕ, List, [], ◌++◌, true, Option, Some, option_map, Result, Ok, Err}
+use Rattle.std.specs.Prelude.{◌≡◌, ℕ, List, [], ◌++◌, true, Option, Some, Result, Ok, Err}
 use Rattle.std.specs.Io.KnownBytes.{Appends}
 use Rattle.rl_bus.specs.Standing.{Standing, kinds_of}
 use Rattle.rl_desc.specs.Data.{DescData}
@@ -7,8 +7,6 @@ use Rattle.rl_report.specs.Lines.{whole_lines}
 use Rattle.rl_report.specs.Opening.{separator_at}
 use Rattle.regrun.specs.declared.status.Status.{Status}
 use Rattle.regrun.specs.declared.status.Status.TheVariants.{Refused}
-use Rattle.regrun.specs.declared.words.Built.{Built}
-use Rattle.regrun.specs.declared.words.Built.TheVariants.{Run, Map, Soak}
 use Rattle.regrun.specs.Log.{Ending, script_ending, behind, first_world, lines_text}
 use Rattle.regrun.specs.Session.{opening_of, map_text, map_status}
 use Rattle.regrun.specs.Soak.{mirror_sum, soak_line_text, soak_text}
@@ -56,14 +54,6 @@ soak_by n (Err line) adapters = refused line adapters
 -- the line of the session that is made from a number
 abbrev pub soak_judged : ℕ → List Standing → Judged
 soak_judged n adapters = soak_by n (opening_of (soak_text n) (kinds_of adapters)) adapters
-
--- ---- by the words
-
--- where the source tells its bytes
-abbrev pub judged_of : Built → (left : Option (List ℕ)) → List Standing → Option Judged
-judged_of Run left adapters = option_map (λ bytes. judged bytes adapters) left
-judged_of Map left adapters = option_map (λ bytes. map_judged bytes adapters) left
-judged_of (Soak n) left adapters = Some (soak_judged n adapters)
 
 -- ---- what was written of it
 

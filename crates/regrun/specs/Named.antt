@@ -98,10 +98,10 @@ is_on_memory (line.MemRead mem index map) = true
 is_on_memory _ = false
 
 -- on a memory by the backdoor
-abbrev pub is_behind_memory : Line → Bool
-is_behind_memory (line.MemPeek mem index) = true
-is_behind_memory (line.MemPoke mem index value) = true
-is_behind_memory _ = false
+abbrev pub is_memory_by_backdoor : Line → Bool
+is_memory_by_backdoor (line.MemPeek mem index) = true
+is_memory_by_backdoor (line.MemPoke mem index value) = true
+is_memory_by_backdoor _ = false
 
 abbrev pub is_on_field : Line → Bool
 is_on_field (line.FieldWrite field value map) = true

@@ -69,8 +69,3 @@ step_by w op (Err why) = unchanged w op why
 -- the operation is refused by its first cause, or done
 unfoldable pub step_of : World → Op → Step
 step_of w op = step_by w op (grant w.model op)
-
--- the operation was done, with this event, and led here
-pub record IsStepOf (w : World) (op : Op) (event : Event) (model : ModelData) (adapters : List Standing) (device : Option State) : Type 0 where
-  pub event_is : event ≡ (step_of w op).event
-  pub after : IsAt model adapters device (step_of w op).world

@@ -20,6 +20,7 @@ pub(crate) trait Earlier {
     ghost bytes: { Option (List ℕ) };
 }
 
+// A call through `Brand` picks its own bytes; these are never used.
 impl Earlier for Brand {
     ghost use Rattle.std.specs.Prelude.{None};
 

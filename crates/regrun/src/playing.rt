@@ -1,5 +1,5 @@
 // The lines of a script, one after another.
-ghost use Rattle.std.specs.Prelude.{◌≡◌, ◌≢◌, ◌≤◌, ◌+◌, ℕ, List, map, true, false, Ok, Err, MatchResult, IfOk, IfErr, IfSome};
+ghost use Rattle.std.specs.Prelude.{◌≡◌, ◌≢◌, ◌≤◌, ◌+◌, ℕ, List, map, true, false, Ok, Err, MatchResult, IfOk, IfErr, IfSome, OnOk};
 ghost use Rattle.std.specs.declared.option.Option.{Option};
 ghost use Rattle.std.specs.Io.KnownBytes.{Keeps};
 ghost use Rattle.rl_bus.specs.Causes.{Rose};
@@ -22,7 +22,7 @@ ghost use Rattle.regrun.specs.World.{world};
 ghost use Rattle.rl_report.specs.Got.{Hands};
 ghost use Rattle.rl_script.specs.Reading.{read_of};
 ghost use Rattle.rl_report.specs.Lines.{first_line};
-ghost use Rattle.rl_report.specs.Reading.{input_of};
+ghost use Rattle.rl_report.specs.Reading.{input_of, HoldsLine};
 
 use crate::buffered::{Buffered, Earlier};
 use crate::line::run_line;
@@ -64,6 +64,9 @@ fn take_line<S: Source, L: Log>(
     ensures none_lost { result ≡ Err Status.SourceFault → Keeps (input_of lines.old (S.left source.old)) (input_of lines.new (S.left source.new)) }
     ensures none_whole { result ≡ Err Status.SourceFault → (first_line lines.new.pending ≡ lines.new.pending) × (lines.new.ended ≡ false) }
     ensures flushed { result ≡ Err Status.SourceFault → L.is_out out.new }
+
+    // Where no whole line was here, nothing is kept back of what was written before, and nothing is written since.
+    ensures out_first { OnOk result ((HoldsLine lines.old → ⊥) → L.is_out out.new) }
 
     ensures source_later { S.faults source.old ≤ S.faults source.new }
     ensures sink_later { L.faults out.old ≤ L.faults out.new }
@@ -109,7 +112,7 @@ fn end<L: Log>(counts: &Counts, out: &mut L) -> Status
 // Ends a script at a line that is refused.
 fn refuse<L: Log>(number: u64, refusal: LineRefusal, out: &mut L) -> Status
     ensures tells { Tells result Status.Refused (L.written out.old) (L.written out.new) (refused_text number refusal) }
-    ensures counted { (counts : Counts) → IsCounted result counts }
+    ensures counted { (result ≢ Status.Passed) × (result ≢ Status.Found) }
     ensures sink_later { L.faults out.old ≤ L.faults out.new }
     ensures cause { IsCaused result 0 0 (L.faults out.old) (L.faults out.new) }
     ensures ends_kept { L.ends out.new ≡ L.ends out.old }
@@ -137,7 +140,7 @@ fn run_read<D: Device, L: Log>(
     ensures ready { IsReady model.new (map standing adapters.new.items) (D.state device.new) }
     ensures parts { IsSameChip model.old model.new }
     ensures turn { IfSome (D.state device.old) (λ d. IsTurn number (comes_of (world model.old (map standing adapters.old.items) d) (said_by (read_of line.now))) (L.written out.old) (L.written out.new) counts.old counts.new (world model.old (map standing adapters.old.items) d) model.new (map standing adapters.new.items) (D.state device.new) result) }
-    ensures counted { (status : Status) (total : Counts) → result ≡ Turn.Stop status → IsCounted status total }
+    ensures counted { (status : Status) → result ≡ Turn.Stop status → (status ≢ Status.Passed) × (status ≢ Status.Found) }
     ensures sink_later { L.faults out.old ≤ L.faults out.new }
     ensures cause { (status : Status) → result ≡ Turn.Stop status → IsCaused status 0 0 (L.faults out.old) (L.faults out.new) }
     ensures ends_kept { L.ends out.new ≡ L.ends out.old }
@@ -174,7 +177,7 @@ fn run_taken<D: Device, L: Log>(
     ensures short { result ≡ Turn.Next → got ≢ Got.TooLong }
     ensures last { result ≡ Turn.Next → number ≤ 1000000 }
     ensures turn { IfSome (D.state device.old) (λ d. IsTurn number (comes_of (world model.old (map standing adapters.old.items) d) (heard number got line.now)) (L.written out.old) (L.written out.new) counts.old counts.new (world model.old (map standing adapters.old.items) d) model.new (map standing adapters.new.items) (D.state device.new) result) }
-    ensures counted { (status : Status) (total : Counts) → result ≡ Turn.Stop status → IsCounted status total }
+    ensures counted { (status : Status) → result ≡ Turn.Stop status → (status ≢ Status.Passed) × (status ≢ Status.Found) }
     ensures sink_later { L.faults out.old ≤ L.faults out.new }
     ensures cause { (status : Status) → result ≡ Turn.Stop status → IsCaused status 0 0 (L.faults out.old) (L.faults out.new) }
     ensures ends_kept { L.ends out.new ≡ L.ends out.old }

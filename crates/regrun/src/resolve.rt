@@ -2,7 +2,7 @@
 ghost use Rattle.std.specs.Prelude.{◌≡◌, ◌<◌, true, false, length, IfSome};
 ghost use Rattle.rl_access.specs.Operation.{IsMapIn, HasNumbers};
 ghost use Rattle.regrun.specs.Operations.{is_single};
-ghost use Rattle.regrun.specs.Named.{map_asked, reg_named, field_named, mem_named, block_named, block_asked, kind_named, op_named, is_on_bus, is_on_field, is_on_memory, is_behind_memory, is_off_bus};
+ghost use Rattle.regrun.specs.Named.{map_asked, reg_named, field_named, mem_named, block_named, block_asked, kind_named, op_named, is_on_bus, is_on_field, is_on_memory, is_memory_by_backdoor, is_off_bus};
 
 use rl_access::{Model, Op};
 use rl_script::{Ident, Line, Path};
@@ -58,7 +58,7 @@ fn kind_named(model: &Model, name: &Ident) -> Option<u32>
 
 // The operation of a line on a register by another driver.
 fn other_op(model: &Model, line: &Line) -> Option<Op>
-    ensures named { is_on_bus line.now ≡ false → is_on_field line.now ≡ false → is_on_memory line.now ≡ false → is_behind_memory line.now ≡ false → is_off_bus line.now ≡ false → result ≡ op_named model.now line.now }
+    ensures named { is_on_bus line.now ≡ false → is_on_field line.now ≡ false → is_on_memory line.now ≡ false → is_memory_by_backdoor line.now ≡ false → is_off_bus line.now ≡ false → result ≡ op_named model.now line.now }
     ensures numbers { IfSome result (HasNumbers model.now.chip (length model.now.layout.maps)) }
     ensures single { IfSome result (λ op. is_single op ≡ true) }
 {
@@ -83,7 +83,7 @@ fn other_op(model: &Model, line: &Line) -> Option<Op>
 
 // The operation of a line on a register by the backdoor or on the model alone, or a reset.
 fn back_op(model: &Model, line: &Line) -> Option<Op>
-    ensures named { is_on_bus line.now ≡ false → is_on_field line.now ≡ false → is_on_memory line.now ≡ false → is_behind_memory line.now ≡ false → result ≡ op_named model.now line.now }
+    ensures named { is_on_bus line.now ≡ false → is_on_field line.now ≡ false → is_on_memory line.now ≡ false → is_memory_by_backdoor line.now ≡ false → result ≡ op_named model.now line.now }
     ensures numbers { IfSome result (HasNumbers model.now.chip (length model.now.layout.maps)) }
     ensures single { IfSome result (λ op. is_single op ≡ true) }
 {

@@ -74,6 +74,7 @@ impl Sink for Quiet {
 
     ghost faults = { λ _. 0 };
 
+    // At its end, so that `finish` need count nothing.
     ghost ends = { λ _. 2 ^ 64 - 1 };
 
     fn write(&mut self, piece: &[u8]) -> Result<usize, Failed> {

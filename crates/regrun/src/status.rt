@@ -3,7 +3,7 @@
 /// How a call ended: this project's own codes, by which the program ends.
 #[derive(Clone, Copy, Debug, PartialEq, Eq)]
 pub enum Status {
-    /// The input was read to its end, and nothing differed or failed on the bus.
+    /// The input was read as far as the words ask (`map`: to the separator), and nothing differed or failed.
     Passed,
     /// The input was read to its end, and something differed or failed on the bus.
     Found,

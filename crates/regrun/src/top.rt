@@ -50,6 +50,7 @@ pub(crate) fn fresh_lines(alloc: Global) -> Result<LineReader, AllocError>
 // Ends a session that is refused, with this last line.
 fn refuse<K: Sink, E: Earlier>(line: &[u8], out: &mut Buffered<'_, K, E>) -> Status
     ensures tells { Tells result Status.Refused (told K.written out.old) (told K.written out.new) line.now }
+    ensures none_found { result ≢ Status.Found }
     ensures sink_later { K.faults out.old.sink.now ≤ K.faults out.new.sink.now }
     ensures cause { IsCaused result 0 0 (K.faults out.old.sink.now) (K.faults out.new.sink.now) }
     ensures ends_kept { K.ends out.new.sink.now ≡ K.ends out.old.sink.now }
@@ -85,6 +86,7 @@ fn read_head<S: Source, K: Sink, E: Earlier>(
     ensures told { OnOk result (Keeps (told K.written out.old) (told K.written out.new)) }
     ensures stops { IfErr result (λ status. IfSome (input_of lines.old (S.left source.old))
         (λ bytes. (kinds : List AdapterKind) → Stops (opening_of bytes kinds) status (told K.written out.old) (told K.written out.new))) }
+    ensures none_found { IfErr result (λ status. status ≢ Status.Found) }
     ensures source_later { S.faults source.old ≤ S.faults source.new }
     ensures sink_later { K.faults out.old.sink.now ≤ K.faults out.new.sink.now }
     ensures cause { IfErr result (λ status. IsCaused status (S.faults source.old) (S.faults source.new) (K.faults out.old.sink.now) (K.faults out.new.sink.now)) }
@@ -110,6 +112,7 @@ fn refuse_description<K: Sink, E: Earlier>(
 ) -> Status
     requires { fault.now ≢ DescFault.Memory }
     ensures tells { Tells result Status.Refused (told K.written out.old) (told K.written out.new) (description_refused_text fault.now) }
+    ensures none_found { result ≢ Status.Found }
     ensures sink_later { K.faults out.old.sink.now ≤ K.faults out.new.sink.now }
     ensures cause { IsCaused result 0 0 (K.faults out.old.sink.now) (K.faults out.new.sink.now) }
     ensures ends_kept { K.ends out.new.sink.now ≡ K.ends out.old.sink.now }
@@ -135,6 +138,7 @@ fn read_desc<K: Sink, E: Earlier>(
     ensures opening { IfOk result (λ desc. opening_after (Ok head.now) (kinds_of (map standing adapters.now.items)) ≡ Ok desc) }
     ensures told { OnOk result (Keeps (told K.written out.old) (told K.written out.new)) }
     ensures stops { IfErr result (λ status. Stops (opening_after (Ok head.now) (kinds_of (map standing adapters.now.items))) status (told K.written out.old) (told K.written out.new)) }
+    ensures none_found { IfErr result (λ status. status ≢ Status.Found) }
     ensures sink_later { K.faults out.old.sink.now ≤ K.faults out.new.sink.now }
     ensures cause { IfErr result (λ status. IsCaused status 0 0 (K.faults out.old.sink.now) (K.faults out.new.sink.now)) }
     ensures ends_kept { K.ends out.new.sink.now ≡ K.ends out.old.sink.now }
@@ -179,6 +183,7 @@ pub(crate) fn open_session<S: Source, K: Sink, E: Earlier>(
     ensures told { OnOk result (Keeps (told K.written out.old) (told K.written out.new)) }
     ensures stops { IfErr result (λ status. IfSome (input_of lines.old (S.left source.old))
         (λ bytes. Stops (opening_of bytes (kinds_of (map standing adapters.now.items))) status (told K.written out.old) (told K.written out.new))) }
+    ensures none_found { IfErr result (λ status. status ≢ Status.Found) }
     ensures source_later { S.faults source.old ≤ S.faults source.new }
     ensures sink_later { K.faults out.old.sink.now ≤ K.faults out.new.sink.now }
     ensures cause { IfErr result (λ status. IsCaused status (S.faults source.old) (S.faults source.new) (K.faults out.old.sink.now) (K.faults out.new.sink.now)) }
@@ -262,6 +267,7 @@ fn run<S: Source, K: Sink, E: Earlier>(
 fn put_description<K: Sink, E: Earlier>(desc: &Desc, out: &mut Buffered<'_, K, E>) -> Status
     requires { IsBuiltWith desc.now.layout desc.now.chip }
     ensures tells { Tells result Status.Passed (told K.written out.old) (told K.written out.new) (layout_text desc.now.chip desc.now.layout) }
+    ensures none_found { result ≢ Status.Found }
     ensures sink_later { K.faults out.old.sink.now ≤ K.faults out.new.sink.now }
     ensures cause { IsCaused result 0 0 (K.faults out.old.sink.now) (K.faults out.new.sink.now) }
     ensures ends_kept { K.ends out.new.sink.now ≡ K.ends out.old.sink.now }
@@ -283,6 +289,7 @@ fn show_layout<S: Source, K: Sink, E: Earlier>(
     requires few { length (map standing adapters.now.items) < 2 ^ 32 }
     ensures tells { IfSome (S.left source.old) (λ bytes. IsJudged (map_judged bytes (map standing adapters.now.items)) result (told K.written out.old) (told K.written out.new) (map standing adapters.now.items)) }
     ensures unwritten { result ≡ Status.SourceFault → out.new ≡ out.old }
+    ensures none_found { result ≢ Status.Found }
     ensures source_later { S.faults source.old ≤ S.faults source.new }
     ensures sink_later { K.faults out.old.sink.now ≤ K.faults out.new.sink.now }
     ensures cause { IsCaused result (S.faults source.old) (S.faults source.new) (K.faults out.old.sink.now) (K.faults out.new.sink.now) }
@@ -343,6 +350,9 @@ fn perform_task<S: Source, K: Sink, E: Earlier>(
     ensures at_fault { task ≡ Built.Run → result ≡ Status.SourceFault → IfSome (S.left source.old) (λ bytes. BreaksOff bytes (map standing adapters.old.items) (S.left source.new) (told K.written out.old) (told K.written out.new)) }
     ensures flushed { task ≡ Built.Run → result ≡ Status.SourceFault → out.old.end ≡ 0 → out.new.end ≡ 0 }
     ensures unwritten { task ≡ Built.Map → result ≡ Status.SourceFault → out.new ≡ out.old }
+    ensures map_adapters { task ≡ Built.Map → adapters.new ≡ adapters.old }
+    ensures map_status { task ≡ Built.Map → result ≢ Status.Found }
+    ensures soak_unread { (n : ℕ) → task ≡ Built.Soak n → (source.new ≡ source.old) × (result ≢ Status.SourceFault) }
     ensures source_later { S.faults source.old ≤ S.faults source.new }
     ensures sink_later { K.faults out.old.sink.now ≤ K.faults out.new.sink.now }
     ensures cause { IsCaused result (S.faults source.old) (S.faults source.new) (K.faults out.old.sink.now) (K.faults out.new.sink.now) }
@@ -371,6 +381,9 @@ fn run_task<S: Source, K: Sink, E: Earlier>(
     ensures soak { (n : ℕ) → task ≡ Built.Soak n → IsJudged (soak_judged n (map standing adapters.old.items)) result (K.written sink.old) (K.written sink.new) (map standing adapters.new.items) }
     ensures at_fault { task ≡ Built.Run → result ≡ Status.SourceFault → IfSome (S.left source.old) (λ bytes. BreaksOff bytes (map standing adapters.old.items) (S.left source.new) (K.written sink.old) (K.written sink.new)) }
     ensures unwritten { task ≡ Built.Map → result ≡ Status.SourceFault → sink.new ≡ sink.old }
+    ensures map_adapters { task ≡ Built.Map → adapters.new ≡ adapters.old }
+    ensures map_status { task ≡ Built.Map → result ≢ Status.Found }
+    ensures soak_unread { (n : ℕ) → task ≡ Built.Soak n → (source.new ≡ source.old) × (result ≢ Status.SourceFault) }
     ensures keeps_earlier { KeepsEarlier (K.written sink.old) (K.written sink.new) }
     ensures source_later { S.faults source.old ≤ S.faults source.new }
     ensures sink_later { K.faults sink.old ≤ K.faults sink.new }
@@ -419,6 +432,13 @@ pub fn regrun<S: Source, K: Sink>(
 
     // After a source that failed, `map` has written nothing: the sink is as before.
     ensures unwritten { task_built (map string_bytes words.now) ≡ Some Built.Map → result ≡ Status.SourceFault → sink.new ≡ sink.old }
+
+    // Whatever it answers, `map` leaves the adapters, and it compares nothing.
+    ensures map_adapters { task_built (map string_bytes words.now) ≡ Some Built.Map → adapters.new ≡ adapters.old }
+    ensures map_status { task_built (map string_bytes words.now) ≡ Some Built.Map → result ≢ Status.Found }
+
+    // `soak` doesn't read the source, and so never fails by it.
+    ensures soak_unread { (n : ℕ) → task_built (map string_bytes words.now) ≡ Some (Built.Soak n) → (source.new ≡ source.old) × (result ≢ Status.SourceFault) }
 
     // However it ends, the sink keeps the bytes that it had before.
     ensures keeps_earlier { KeepsEarlier (K.written sink.old) (K.written sink.new) }

@@ -2,7 +2,7 @@ use Rattle.std.proofs.Common.{◌≡◌, ◌≢◌, false, Err, refl, ap, subst,
 use Rattle.rl_report.specs.declared.lines.Got.TheVariants as got
 use Rattle.regrun.specs.declared.status.Status.TheVariants.{SourceFault}
 use Rattle.regrun.specs.Statuses.{is_complete}
-use Rattle.regrun.proofs.EndingLemmas.{counted_none}
+use Rattle.regrun.proofs.EndingLemmas.{counted_none, counted_other}
 use Rattle.regrun.proofs.FaultLemmas.{still_going, breaks_here, breaks_later}
 use Rattle.regrun.proofs.DoneLemmas.{does_none, does_next, does_stop}
 use Rattle.regrun.proofs.PlayLemmas.{early_stops, ends_at_end, next_passes, stop_ends}
@@ -72,3 +72,8 @@ returns-clause-done_next g c =
     λ is total last standings state f.
     let not_end : c.in-Ok.got ≢ got.End = c.is_end.ensures.more c.if-is_end.false in
     does_next _ _ _ total _ _ last _ _ standings _ _ state _ c.in-Ok.got _ c.take_line.new.lines _ _ _ _ not_end (c.run_taken.ensures.short is) c.in-Ok.ensures.handed c.line.ensures refl (rw is at c.run_taken.ensures.turn) f
+
+pub returns-clause-counted : goal.returns-clause-counted
+returns-clause-counted g c = λ status is.
+    let n = c.run_taken.ensures.counted status is in
+    counted_other status _ n.0 n.1

@@ -31,3 +31,21 @@ returns-clause-unwritten g c = λ asked is.
     let found = sym c.in-Some.is ∙ c.task_built.ensures ∙ asked in
     let map : c.in-Some.task ≡ built.Map = cc in
     c.run_task.ensures.unwritten map is
+
+pub returns-clause-map_adapters : goal.returns-clause-map_adapters
+returns-clause-map_adapters g c = λ asked.
+    let found = sym c.in-Some.is ∙ c.task_built.ensures ∙ asked in
+    let map : c.in-Some.task ≡ built.Map = cc in
+    c.run_task.ensures.map_adapters map
+
+pub returns-clause-map_status : goal.returns-clause-map_status
+returns-clause-map_status g c = λ asked.
+    let found = sym c.in-Some.is ∙ c.task_built.ensures ∙ asked in
+    let map : c.in-Some.task ≡ built.Map = cc in
+    c.run_task.ensures.map_status map
+
+pub returns-clause-soak_unread : goal.returns-clause-soak_unread
+returns-clause-soak_unread g c = λ n asked.
+    let found = sym c.in-Some.is ∙ c.task_built.ensures ∙ asked in
+    let soak : c.in-Some.task ≡ built.Soak n = cc in
+    c.run_task.ensures.soak_unread n soak

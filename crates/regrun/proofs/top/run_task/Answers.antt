@@ -1,4 +1,5 @@
-use Rattle.std.proofs.Common.{ap, ◌∙◌, rules}
+use Rattle.std.proofs.Common.{◌≡◌, sym, ap, ◌∙◌, rules}
+use Rattle.regrun.specs.declared.status.Status.TheVariants.{Found, SinkFault}
 use Rattle.regrun.specs.Judged.{judged, map_judged}
 use Rattle.regrun.proofs.FaultLemmas.{off_written, same_status}
 use Rattle.regrun.proofs.JudgedLemmas.{judged_written, all_written}
@@ -45,3 +46,13 @@ returns-clause-unwritten g c = λ map is.
     let all = f.unwritten fault ∙ c.perform_task-status.ensures.unwritten map fault in
     let w = ap (λ b. b.sink.now) all ∙ c.new-out.ensures.sink in
     search (rules, w)
+
+pub returns-clause-map_status : goal.returns-clause-map_status
+returns-clause-map_status g c = λ map is.
+    let same = c.finish.ensures.kept (λ fault. let both : Found ≡ SinkFault = sym is ∙ fault in absurd (cc)) in
+    c.perform_task-status.ensures.map_status map (sym same ∙ is)
+
+pub returns-clause-soak_unread : goal.returns-clause-soak_unread
+returns-clause-soak_unread g c = λ n soak.
+    let p = c.perform_task-status.ensures.soak_unread n soak in
+    (p.0, λ is. p.1 (same_status _ _ c.finish.ensures.kept is))
