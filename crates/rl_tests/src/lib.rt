@@ -18,3 +18,5 @@ mod accesses;
 mod parts;
 #[cfg(test)]
 mod sessions;
+#[cfg(test)]
+mod watching;
