@@ -1,4 +1,8 @@
-//! What the policies promise of updates. These functions do nothing; their contracts are the laws.
+//! Laws of updates: which desired bits a write of the update word leaves, and what keeps desired bits
+//! among them. These functions do nothing; their contracts are the laws.
+//!
+//! The update words and the laws are this project's own; the effects of writes that they speak of are those
+//! of IEEE 1800.2.
 ghost use Rattle.rl_policy.specs.Reach.{UpdateReaches, KeepsReach};
 
 /// A write of the update word leaves the desired bit exactly where the policy can reach it.

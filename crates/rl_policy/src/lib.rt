@@ -1,8 +1,9 @@
 //! Field access policies over whole words, words as bits, and numbers as text.
 //!
 //! A field of a register has an access policy, which says what a bus write and a bus read do to its
-//! bits. The policies and their effects are those of IEEE 1800.2; the value 0 of a read of a write-only
-//! field, the update words and the neutral words are this project's own.
+//! bits. The policies, and what a write and a read leave under each, are those of IEEE 1800.2. This
+//! project's own are: that a write-only field reads as 0, the desired value after a `set`, the update words
+//! and the neutral words, the law of what an update can reach, and how numbers are written.
 #![tactic(auto)]
 
 pub mod law;

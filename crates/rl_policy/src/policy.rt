@@ -11,35 +11,65 @@ use crate::word::{mask, repeated, replaced};
 
 /// What a bus write and a bus read do to the bits of a field: the field access policies of IEEE 1800.2.
 ///
-/// A name begins with `R` or `W` for a read or a write. `W1` and `W0` before a letter act where a 1 or a 0
-/// is written. `C`, `S` and `T` clear, set and toggle. `O` is "only". The variants stand in the order in
-/// which the policies are numbered, from 0.
+/// In the names `R` is a read and `W` a write; `C`, `S` and `T` clear, set and toggle. `W1` and `W0` before
+/// one of these letters act on the bits where a 1 or a 0 is written: `W1SRC` is "write 1 to set, read to
+/// clear". `RO` is read only and `WO` write only. `W1` alone is write once, where only the first write after
+/// a hard reset takes effect, and `WO1` is write only, once. Where no effect of a read is named, a read
+/// changes nothing.
+///
+/// What a read of a write-only field answers, 0, is this project's own choice. The variants stand in the
+/// order in which the policies are numbered, from 0.
 #[derive(Debug, Clone, Copy, PartialEq, Eq)]
 pub enum Policy {
+    /// Read only: a write and a read change nothing.
     Ro,
+    /// A write stores what is written; a read changes nothing.
     Rw,
+    /// A read clears; a write changes nothing.
     Rc,
+    /// A read sets; a write changes nothing.
     Rs,
+    /// A write stores what is written; a read clears.
     Wrc,
+    /// A write stores what is written; a read sets.
     Wrs,
+    /// A write clears, whatever is written; a read changes nothing.
     Wc,
+    /// A write sets, whatever is written; a read changes nothing.
     Ws,
+    /// A write sets, whatever is written; a read clears.
     Wsrc,
+    /// A write clears, whatever is written; a read sets.
     Wcrs,
+    /// A written 1 clears its bit; a written 0 and a read change nothing.
     W1c,
+    /// A written 1 sets its bit; a written 0 and a read change nothing.
     W1s,
+    /// A written 1 toggles its bit; a written 0 and a read change nothing.
     W1t,
+    /// A written 0 clears its bit; a written 1 and a read change nothing.
     W0c,
+    /// A written 0 sets its bit; a written 1 and a read change nothing.
     W0s,
+    /// A written 0 toggles its bit; a written 1 and a read change nothing.
     W0t,
+    /// A written 1 sets its bit, and a written 0 changes nothing; a read clears.
     W1src,
+    /// A written 1 clears its bit, and a written 0 changes nothing; a read sets.
     W1crs,
+    /// A written 0 sets its bit, and a written 1 changes nothing; a read clears.
     W0src,
+    /// A written 0 clears its bit, and a written 1 changes nothing; a read sets.
     W0crs,
+    /// Write only: a write stores what is written; a read answers 0 and changes nothing.
     Wo,
+    /// Write only: a write clears, whatever is written; a read answers 0 and changes nothing.
     Woc,
+    /// Write only: a write sets, whatever is written; a read answers 0 and changes nothing.
     Wos,
+    /// Write once: the first write after a hard reset stores what is written, later ones change nothing.
     W1,
+    /// Write only, once: written as `W1`; a read answers 0 and changes nothing.
     Wo1,
 }
 
@@ -153,7 +183,7 @@ impl Policy {
         }
     }
 
-    /// The bits that a read answers.
+    /// The bits that a read answers: those stored, or 0 for a write-only field.
     #[tactic(auto, using(crate::proofs::BitLemmas::word_bits))]
     pub fn answered(self, cur: u64) -> u64
         ensures { (i : ℕ) → i < 64 → bit result i ≡ value_read self (bit cur i) }
@@ -161,7 +191,8 @@ impl Policy {
         if write_only(self) { 0 } else { cur }
     }
 
-    /// The bits to write so that the desired ones result, as far as the policy can reach them.
+    /// The update bits, this project's own: those to write so that the desired ones result, as far as the
+    /// policy can reach them.
     #[tactic(auto, using(crate::proofs::BitLemmas::word_bits))]
     pub fn updating(self, desired: u64, mirrored: u64) -> u64
         ensures { (i : ℕ) → i < 64 → bit result i ≡ update_bit self (bit desired i) (bit mirrored i) }
@@ -174,7 +205,8 @@ impl Policy {
         }
     }
 
-    /// The bits to write so that a field keeps its bits as far as it can.
+    /// The neutral bits, this project's own: those to write so that a field keeps its bits as far as its
+    /// policy allows that.
     #[tactic(auto, using(crate::proofs::BitLemmas::word_bits))]
     pub fn neutral(self, mirrored: u64) -> u64
         ensures { (i : ℕ) → i < 64 → bit result i ≡ neutral_bit self (bit mirrored i) }
@@ -238,6 +270,8 @@ pub fn read_value(p: Policy, width: u32, cur: u64) -> u64
 }
 
 /// The desired value of a field after `v` was set: the value that a write of `v` over it would leave.
+///
+/// This rule is this project's own.
 pub fn set_value(p: Policy, width: u32, desired: u64, v: u64, spent: bool) -> u64
     requires some { 1 ≤ width }
     requires most { width ≤ 64 }
