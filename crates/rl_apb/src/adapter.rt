@@ -1,4 +1,4 @@
-// The adapter for APB: aligned words of at most 4 bytes at 32-bit addresses, with no enables in a read.
+// The adapter for APB.
 ghost use Rattle.std.specs.Prelude.{true, false};
 ghost use Rattle.rl_bus.specs.Standing.{Standing};
 ghost use Rattle.rl_apb.specs.Kinds.{apb_kind};
@@ -8,8 +8,11 @@ use rl_bus::{
     trail_of_answer, trail_of_operation,
 };
 
-/// The adapter of an APB bus (ARM IHI 0024): aligned words of at most 4 bytes at 32-bit addresses.
-/// A write carries byte enables as PSTRB; a read has none. PSLVERR is the failure of an answer.
+/// The adapter of an APB bus (ARM IHI 0024, with the signals of APB4).
+///
+/// Of the standard are the byte enables of a write, which are PSTRB, that a read has none, and that
+/// PSLVERR is the failure of a transfer. This project's own are the kind's limits, which are words of
+/// 1, 2 and 4 bytes, addresses of 32 bits, and aligned addresses alone, and the serials and the trail.
 #[derive(Clone, Copy, Debug, PartialEq, Eq, Drop)]
 pub struct ApbAdapter {
     pub next_serial: u64,

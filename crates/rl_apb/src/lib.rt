@@ -1,5 +1,5 @@
 //! The adapter for APB, and the pins of a transfer by cycle, after ARM IHI 0024 with the signals of
-//! APB4.
+//! APB4. Where the standard leaves a choice open, each item says which one is this project's own.
 #![tactic(auto)]
 
 mod adapter;

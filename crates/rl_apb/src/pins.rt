@@ -13,7 +13,7 @@ ghost use Rattle.std.specs.Prelude.{
 
 use rl_bus::{ApbResponse, ApbTransfer};
 
-/// The signals of APB in one cycle, with the names of ARM IHI 0024. The values of the completer are
+/// The signals of APB4 in one cycle, with the names of ARM IHI 0024. The values of the completer are
 /// `pready`, `prdata` and `pslverr`; all others are the requester's.
 #[derive(Clone, Copy, Debug, PartialEq, Eq)]
 pub struct Pins {
@@ -32,8 +32,10 @@ pub struct Pins {
 /// The pins in cycle `k` of a transfer with its response, counted from 0. A transfer takes
 /// `waits + 2` cycles: the setup phase, and an access phase that ends where the completer is ready.
 ///
-/// PPROT is always 0. That PWDATA is 0 in a read, and PRDATA and PSLVERR 0 before the last cycle, is
-/// this project's own: APB leaves them open there.
+/// The phases, PENABLE, the steady values of the requester through all cycles, the wait cycles with
+/// PREADY low, and PSTRB of 0 in a read are those of the standard. Where it leaves a value open, the one
+/// here is this project's own: PPROT is always 0, PWDATA is 0 in a read, PREADY is low in the setup
+/// phase, PRDATA and PSLVERR are 0 before the last cycle, and PRDATA of a write is the response's.
 pub fn cycles(transfer: &ApbTransfer, response: &ApbResponse, k: u32) -> Pins
     requires in_range { k ≤ response.now.waits + 1 }
     ensures selected { result.psel ≡ true }

@@ -37,6 +37,11 @@ IsReplyTo (form.Plain plain) (reply.Apb response) = ⊥
 IsReplyTo (form.Apb apb) (reply.Plain response) = ⊥
 IsReplyTo (form.Apb apb) (reply.Apb response) = response.serial ≡ apb.serial
 
+-- a response without wait cycles: PREADY is high in the first cycle of the access phase
+abbrev pub IsAtOnce : Response → Type 0
+IsAtOnce (reply.Plain response) = Unit {0}
+IsAtOnce (reply.Apb response) = response.waits ≡ 0
+
 -- what a response answers
 abbrev pub answered_by : Response → Answer
 answered_by (reply.Plain response) = record { word = response.word; failed = response.failed }

@@ -1,4 +1,9 @@
 //! Bus operations, the adapters that carry them, and the devices that answer.
+//!
+//! An operation ([`BusOp`]) goes through an [`Adapter`], which turns it into a [`Transfer`] on the
+//! wires; a [`Device`] answers with a [`Response`], which the adapter turns back into an [`Answer`].
+//! [`exchange`] is that whole way. Operation and adapter are those of IEEE 1800.2; the tags, the trail
+//! and the device with its tables and flaws are this project's own.
 #![tactic(auto)]
 
 mod adapter;

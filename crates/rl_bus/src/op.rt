@@ -29,6 +29,7 @@ pub struct Answer {
 /// a read carry byte enables; without them all lanes are enabled.
 #[derive(Clone, Copy, Debug, PartialEq, Eq)]
 pub struct AdapterKind {
+    /// By this name a root map chooses its adapter.
     pub name: ShortName,
     pub most_bytes: u8,
     pub most_address: u64,

@@ -9,6 +9,7 @@ use crate::{
 };
 
 /// The adapter of a bus that carries every operation as it is, with byte enables in both directions.
+/// The bus is this project's own.
 #[derive(Clone, Copy, Debug, PartialEq, Eq, Drop)]
 pub struct PlainAdapter {
     pub next_tag: u64,

@@ -2,7 +2,7 @@
 
 use rl_policy::Policy;
 
-/// A register, or a location of a memory.
+/// A register, or a location of a memory, by their numbers. `index` counts the locations of the memory.
 #[derive(Clone, Copy, Debug, PartialEq, Eq)]
 pub enum Cell {
     Reg { reg: u32 },
@@ -30,7 +30,9 @@ pub struct ResetRow {
 #[derive(Clone, Copy, Debug)]
 pub struct MemRow {
     pub first: u32,
+    /// How many bytes a location has.
     pub bytes: u32,
+    /// How many locations it has.
     pub size: u32,
     pub writable: bool,
 }
@@ -38,7 +40,9 @@ pub struct MemRow {
 /// Which byte of a cell each enabled lane of a bus word carries.
 #[derive(Clone, Copy, Debug)]
 pub struct Lanes {
+    /// Bit `l` says that lane `l` carries a byte of the cell.
     pub enabled: u8,
+    /// The byte of the cell that lane `l` carries, counted from its lowest.
     pub bytes: [u8; 8],
 }
 

@@ -1,15 +1,25 @@
 // What stands on the wires, in the form of each adapter.
 ghost use Rattle.std.specs.Prelude.{◌≡◌, ◌≤◌, ◌^◌, ◌-◌, ◌<◌, true, false};
-ghost use Rattle.rl_bus.specs.Wire.{carried_by, tag_of, IsWellFormed, IsReplyTo, answered_by};
+ghost use Rattle.rl_bus.specs.Wire.{
+  carried_by,
+  tag_of,
+  IsWellFormed,
+  IsReplyTo,
+  IsAtOnce,
+  answered_by,
+};
 
 use crate::{Answer, BusOp};
 
+/// An operation as it is, and its tag.
 #[derive(Clone, Copy, Debug, PartialEq, Eq)]
 pub struct PlainTransfer {
     pub op: BusOp,
+    /// The number that its adapter gave it. The response carries the same.
     pub tag: u64,
 }
 
+/// An answer as it is, and the tag of the transfer that it belongs to.
 #[derive(Clone, Copy, Debug, PartialEq, Eq)]
 pub struct PlainResponse {
     pub word: u64,
@@ -17,30 +27,47 @@ pub struct PlainResponse {
     pub tag: u64,
 }
 
+/// The requester's side of one APB transfer: PWRITE, PADDR, PWDATA and PSTRB of ARM IHI 0024.
+///
+/// The width of the data bus and the serial stand beside the signals; the serial is this project's
+/// own.
 #[derive(Clone, Copy, Debug, PartialEq, Eq)]
 pub struct ApbTransfer {
+    /// PWRITE: a write, and otherwise a read.
     pub write: bool,
     pub paddr: u32,
     pub pwdata: u32,
+    /// Bit `l` enables byte `l` of PWDATA. APB has no strobes in a read: there this is no signal, and
+    /// the transfer reads all bytes.
     pub pstrb: u8,
+    /// The width of the data bus in bytes: 1, 2 or 4.
     pub bytes: u8,
+    /// The number that its adapter gave it. The response carries the same.
     pub serial: u64,
 }
 
+/// The completer's side of one APB transfer: PRDATA and PSLVERR in its last cycle, and how many wait
+/// cycles came before.
 #[derive(Clone, Copy, Debug, PartialEq, Eq)]
 pub struct ApbResponse {
+    /// The word read. APB says nothing of it in a write: that a write has one is this project's own.
     pub prdata: u32,
+    /// The transfer failed.
     pub pslverr: bool,
+    /// In how many cycles of the access phase PREADY is low.
     pub waits: u8,
+    /// The serial of the transfer.
     pub serial: u64,
 }
 
+/// What an adapter sends to a device.
 #[derive(Clone, Copy, Debug, PartialEq, Eq)]
 pub enum Transfer {
     Plain(PlainTransfer),
     Apb(ApbTransfer),
 }
 
+/// What a device sends back, in the form of the transfer.
 #[derive(Clone, Copy, Debug, PartialEq, Eq)]
 pub enum Response {
     Plain(PlainResponse),
@@ -98,12 +125,13 @@ impl Response {
     }
 }
 
-/// The response to a transfer with this answer.
+/// The response to a transfer with this answer, without wait cycles.
 pub fn response_to(transfer: &Transfer, answer: Answer) -> Response
     requires well_formed { IsWellFormed transfer.now }
     requires small { answer.word < 256 ^ (carried_by transfer.now).bytes }
     ensures reply { IsReplyTo transfer.now result }
     ensures answer { answered_by result ≡ answer }
+    ensures at_once { IsAtOnce result }
 {
     match transfer {
         Transfer::Plain(plain) => Response::Plain(PlainResponse {
