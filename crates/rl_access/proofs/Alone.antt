@@ -10,7 +10,7 @@ use Rattle.rl_model.specs.Rows.{ChipData}
 use Rattle.rl_map.specs.Layout.{place_at}
 use Rattle.rl_split.specs.Access.{IsChoice}
 use Rattle.rl_split.specs.Narrow.{bytes_of_field}
-use Rattle.rl_mirror.specs.Fields.{field_of, first_of, size_of}
+use Rattle.rl_model.specs.Fields.{field_of, first_of, size_of}
 use Rattle.rl_access.specs.Access.{IsAccessOn, IsPlaceFor, IsFieldIn}
 use Rattle.rl_access.specs.Model.{ModelData, IsModel}
 use Rattle.rl_access.specs.Operation.{reg_of}

@@ -6,7 +6,7 @@ use Rattle.rl_bus.specs.State.{State, poked, hw_set, reset_by}
 use Rattle.rl_bus.specs.declared.op.BusOp.{BusOp}
 use Rattle.rl_bus.specs.declared.table.Cell.TheVariants as cell
 use Rattle.rl_mirror.specs.Compared.{differ}
-use Rattle.rl_mirror.specs.Fields.{fields_of}
+use Rattle.rl_model.specs.Fields.{fields_of}
 use Rattle.rl_mirror.specs.Mirror.{marks_in}
 use Rattle.rl_mirror.specs.Prediction.{written, shown, left_by_read, predict_read, reset}
 use Rattle.rl_access.specs.declared.event.End.{End}

@@ -6,7 +6,7 @@ use Rattle.rl_map.specs.Layout.{place_of}
 use Rattle.rl_model.specs.declared.rows.Field.{Field}
 use Rattle.rl_model.specs.declared.rows.Item.{Item}
 use Rattle.rl_model.specs.declared.rows.Item.TheVariants as item
-use Rattle.rl_mirror.specs.Fields.{field_of}
+use Rattle.rl_model.specs.Fields.{field_of}
 use Rattle.rl_mirror.specs.Prediction.{predict_read, set, needs_update, update_word_of, neutral_around}
 use Rattle.rl_access.specs.declared.access.Access.{Access}
 use Rattle.rl_access.specs.declared.event.End.{End}

@@ -10,7 +10,7 @@ use Rattle.rl_model.specs.declared.rows.Item.{Item}
 use Rattle.rl_model.specs.declared.rows.Item.TheVariants as item
 use Rattle.rl_map.specs.Layout.{LayoutData, place_at, IsLocation, words_of, IsSound}
 use Rattle.rl_split.specs.Access.{IsChoice, all_bytes}
-use Rattle.rl_mirror.specs.Fields.{size_of, count_of}
+use Rattle.rl_model.specs.Fields.{size_of, count_of}
 use Rattle.rl_mirror.specs.Mirror.{mirrored_of, desired_of}
 use Rattle.rl_access.specs.declared.event.End.{End}
 use Rattle.rl_access.specs.declared.event.Op.{Op}

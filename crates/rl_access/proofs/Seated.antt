@@ -6,7 +6,7 @@ use Rattle.rl_model.specs.declared.rows.Field.{Field}
 use Rattle.rl_model.specs.declared.rows.RegRow.{RegRow}
 use Rattle.rl_model.specs.Rows.{ChipData}
 use Rattle.rl_model.specs.Chip.{IsSound, IsFieldOf}
-use Rattle.rl_mirror.specs.Fields.{field_of, no_field, first_of, size_of}
+use Rattle.rl_model.specs.Fields.{field_of, no_field, first_of, size_of}
 use Rattle.rl_access.specs.Access.{IsFieldIn}
 use Rattle.rl_access.specs.Operation.{reg_of}
 

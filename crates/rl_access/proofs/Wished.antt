@@ -1,7 +1,7 @@
 -- What an update brings about.
 use Rattle.std.proofs.Common.{◌≡◌, ◌⊎◌, ℕ, ◌<◌, ◌-◌, ◌^◌, false, length, List, Option, None, Some, sym, ap, ◌∙◌, subst, inl, inr}
 use Rattle.rl_policy.specs.Reach.{is_one_sided}
-use Rattle.rl_mirror.specs.Fields.{field_of}
+use Rattle.rl_model.specs.Fields.{field_of}
 use Rattle.rl_mirror.specs.Mirror.{MirrorData}
 use Rattle.rl_mirror.specs.Prediction.{predict_write, update_word_of}
 use Rattle.rl_mirror.specs.Reachable.{IsReachable, IsReached, IsBrought, UpdateBrings, after_update}

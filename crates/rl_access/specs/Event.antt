@@ -2,7 +2,7 @@
 use Rattle.std.specs.Prelude.{◌≡◌, true, ℕ, ◌^◌, ◌*◌, ◌<◌, ◌≤◌, Option, None, Some, length, All}
 use Rattle.rl_map.specs.Layout.{LayoutData, port_at}
 use Rattle.rl_model.specs.Rows.{ChipData}
-use Rattle.rl_mirror.specs.Fields.{size_of, count_of}
+use Rattle.rl_model.specs.Fields.{size_of, count_of}
 use Rattle.rl_access.specs.declared.event.Event.{Event}
 use Rattle.rl_access.specs.declared.event.Op.{Op}
 use Rattle.rl_access.specs.declared.event.End.{End}

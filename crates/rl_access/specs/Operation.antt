@@ -3,7 +3,7 @@ use Rattle.std.specs.Prelude.{ℕ, ◌*◌, ◌<◌, Option, None, Some, Bool, t
 use Rattle.std.specs.Int.{div_ceil}
 use Rattle.std.specs.Option.{option_map_or}
 use Rattle.rl_model.specs.Rows.{ChipData}
-use Rattle.rl_mirror.specs.Fields.{field_of, size_of}
+use Rattle.rl_model.specs.Fields.{field_of, size_of}
 use Rattle.rl_access.specs.declared.event.Op.{Op}
 use Rattle.rl_access.specs.declared.event.Op.TheVariants as op
 use Rattle.rl_access.specs.declared.event.End.{End}

@@ -13,7 +13,8 @@ use Rattle.rl_map.specs.Layout.{LayoutData, place_at, port_at, place_of, has_rig
 use Rattle.rl_split.specs.Access.{all_bytes, ops_of, joined}
 use Rattle.rl_split.specs.Narrow.{is_narrow, bytes_of_field}
 use Rattle.rl_mirror.specs.Compared.{differ}
-use Rattle.rl_mirror.specs.Fields.{field_of, first_of, size_of, fields_of, owned, part_of}
+use Rattle.rl_model.specs.Fields.{field_of, first_of, size_of, fields_of}
+use Rattle.rl_mirror.specs.Fields.{owned, part_of}
 use Rattle.rl_mirror.specs.Mirror.{mirrored_of, desired_of, marks_in}
 use Rattle.rl_mirror.specs.Prediction.{predict_write, predict_read, predict_raw, reset, set, needs_update, update_word_of, neutral_around, written, shown, left_by_read}
 use Rattle.rl_access.specs.declared.event.End.{End}

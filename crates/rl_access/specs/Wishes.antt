@@ -1,7 +1,7 @@
 -- What an update brings about.
 use Rattle.std.specs.Prelude.{◌≡◌, ◌⊎◌, ℕ, ◌<◌, false, length}
 use Rattle.rl_policy.specs.Reach.{is_one_sided}
-use Rattle.rl_mirror.specs.Fields.{field_of}
+use Rattle.rl_model.specs.Fields.{field_of}
 use Rattle.rl_mirror.specs.Reachable.{IsReached, IsBrought}
 use Rattle.rl_access.specs.declared.event.End.{End}
 use Rattle.rl_access.specs.declared.event.End.TheVariants as end

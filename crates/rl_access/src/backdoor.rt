@@ -3,7 +3,7 @@ ghost use Rattle.std.specs.Prelude.{◌≡◌, ◌*◌, ◌<◌, ◌≤◌, ◌^
 ghost use Rattle.rl_bus.specs.Standing.{Standing};
 ghost use Rattle.rl_bus.specs.State.{poked, hw_set, reset_by};
 ghost use Rattle.rl_bus.specs.declared.table.Cell.TheVariants as cell;
-ghost use Rattle.rl_mirror.specs.Fields.{size_of, count_of, fields_of};
+ghost use Rattle.rl_model.specs.Fields.{size_of, count_of, fields_of};
 ghost use Rattle.rl_mirror.specs.Mirror.{marks_in};
 ghost use Rattle.rl_mirror.specs.Prediction.{shown, left_by_read, written};
 ghost use Rattle.rl_access.specs.Backdoor.{IsFound, IsReadBehind};

@@ -5,7 +5,7 @@ ghost use Rattle.rl_bus.specs.Wire.{Fits};
 ghost use Rattle.rl_map.specs.Layout.{IsLocation, place_at};
 ghost use Rattle.rl_split.specs.Access.{IsChoice, kind_of, bus_bytes_of, ops_of};
 ghost use Rattle.rl_split.specs.Lists.{ops_in};
-ghost use Rattle.rl_mirror.specs.Fields.{size_of, count_of};
+ghost use Rattle.rl_model.specs.Fields.{size_of, count_of};
 ghost use Rattle.rl_access.specs.Access.{IsAccessOn, HasBytes, IsValueWithin, IsWholeTrace};
 ghost use Rattle.rl_access.specs.Event.{EventFits, ItemFits, IsEndWithin, IsTold};
 ghost use Rattle.rl_access.specs.Items.{AreItemsOf, AreSent, port_for, adapter_for, words_answered, failed_at};

@@ -7,7 +7,7 @@ ghost use Rattle.rl_split.specs.Access.{all_bytes};
 ghost use Rattle.rl_split.specs.Narrow.{bytes_of_field};
 ghost use Rattle.rl_access.specs.declared.event.End.TheVariants as end;
 ghost use Rattle.rl_mirror.specs.Compared.{differ};
-ghost use Rattle.rl_mirror.specs.Fields.{field_of, first_of, count_of, size_of};
+ghost use Rattle.rl_model.specs.Fields.{field_of, first_of, count_of, size_of};
 ghost use Rattle.rl_mirror.specs.Prediction.{predict_write, predict_read, predict_raw, reset, set, fresh, needs_update, update_word_of};
 ghost use Rattle.rl_access.specs.Access.{IsAccessOn, IsPlaceFor, IsFieldIn};
 ghost use Rattle.rl_access.specs.Event.{EventFits, ItemFits, IsEndWithin, IsTold};

@@ -2,7 +2,7 @@
 ghost use Rattle.std.specs.Prelude.{◌≡◌, ◌<◌, ◌≤◌, ◌^◌, ◌+◌, length, nat_lt, Ok, IfOk, IfSome, Some};
 ghost use Rattle.rl_map.specs.Layout.{place_of, has_right};
 ghost use Rattle.rl_model.specs.Chip.{HasItem};
-ghost use Rattle.rl_mirror.specs.Fields.{field_of};
+ghost use Rattle.rl_model.specs.Fields.{field_of};
 ghost use Rattle.rl_access.specs.Access.{IsPlaceFor};
 ghost use Rattle.rl_access.specs.Rules.{
   only_where,

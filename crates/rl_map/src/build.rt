@@ -40,7 +40,9 @@ impl Layout {
     ///
     /// # Errors
     ///
-    /// The first condition that fails, maps before places, with its row. Or want of memory.
+    /// `Bad` is the first condition that fails: maps come before places, each in description order, and the
+    /// conditions of a row in the order of its checks, for a place a shared address last. `Memory` is an
+    /// allocation that failed.
     pub fn build(
         alloc: Global,
         chip: &Chip,

@@ -5,31 +5,50 @@ ghost use Rattle.rl_map.specs.declared.fault.MapFault.TheVariants.{Memory};
 use rl_model::{Array, Spot};
 use std::alloc::{AllocError, AllocFailed};
 
-/// The conditions of maps and places.
-///
-/// `SharedAddress` carries the least address that the place shares, and the number of the first earlier
-/// place that shares it.
+/// The conditions of maps and places. They are this project's own.
 #[derive(Clone, Copy, Debug, PartialEq, Eq)]
 pub enum MapCause {
+    /// More than 64 maps, 4,096 places, or 1,048,576 words of all places.
     TooMany,
+    /// A map's name isn't a letter or `_` and then letters, digits and `_`, or has more than 32 bytes.
     BadName,
+    /// An earlier map has the name.
     DuplicateName,
+    /// A map's parent is no earlier map, or a place's map isn't there.
     NoSuchMap,
+    /// More than four maps from the map up to its root.
     TooDeep,
+    /// A map's width isn't 1, 2, 4 or 8 bytes, or a root is wider than its adapter's bus may be.
     BadBytes,
+    /// No kind of adapter at hand has the name that a root gives.
     NoSuchAdapter,
+    /// No register or memory has the path that a place gives.
     NoSuchItem,
+    /// An earlier place has the same map and the same item.
     PlacedTwice,
+    /// A memory is placed where a map on the path up to the root is of a FIFO kind.
     MemInFifo,
+    /// A byte of the item would stand above the last address that the adapter takes.
     AddressOverflow,
+    /// A word stands at no multiple of the bus width under an adapter that takes aligned addresses alone, or
+    /// a byte-addressed map has it at no multiple of its width where its parent counts words.
     Unaligned,
-    SharedAddress { address: u64, other: u32 },
+    /// A word stands at an address of a word of an earlier place of the port, and the two places have a right
+    /// in common or one of them has a FIFO kind on its path.
+    SharedAddress {
+        /// The least such address.
+        address: u64,
+        /// The number of the first earlier place that has a word there and clashes.
+        other: u32,
+    },
 }
 
 /// Why a layout is not built: the first condition that fails with its row, or want of memory.
 #[derive(Clone, Copy, Debug, PartialEq, Eq)]
 pub enum MapFault {
+    /// The first condition that fails, and where.
     Bad { cause: MapCause, spot: Spot },
+    /// The allocator had no memory left.
     Memory,
 }
 

@@ -1,4 +1,5 @@
-//! What holds of every path of maps and every item.
+//! What holds of every path of maps and every item. These functions do nothing; their contracts are the
+//! laws, which are this project's own.
 ghost use Rattle.rl_map.specs.Laws.{EverySeatApart, EveryAddressApart, EveryItemPartitioned, ByteAddressedAlike};
 
 /// No two bytes of an item have one lane of one word; the bytes of one word have one address.

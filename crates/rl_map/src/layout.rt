@@ -72,7 +72,7 @@ impl Layout {
         kept.count()
     }
 
-    /// The `k`-th word of a location in the order in which they are sent.
+    /// The `k`-th word of a location, counted from 0, in the order in which they are sent.
     pub fn word(&self, place: u32, index: u32, k: u32) -> Word
         requires location { IsLocation self.now place index }
         requires number { k < length (words_of self.now place index) }
@@ -83,9 +83,10 @@ impl Layout {
         kept.word(index, k)
     }
 
-    /// What stands at an address of a port for reads, or for writes.
+    /// What stands at an address of a port for writes, or for reads; none where no place with the right of
+    /// that direction has a word there.
     ///
-    /// A read-only and a write-only place may share an address: an item is then of the place that has the
+    /// A read-only and a write-only place may share an address: a bus item is then of the place that has the
     /// right of its direction.
     pub fn find(&self, port: u32, address: u64, write: bool) -> Option<Here>
         requires { port < length self.now.ports }
@@ -103,7 +104,8 @@ impl Layout {
         }
     }
 
-    /// The word that a beat of an address names, by ascending order.
+    /// The word that a beat of an address names: of those of one direction that stand there, the one with
+    /// this number in the order in which they are sent. There are several only where a map on the path is a FIFO.
     pub fn word_at(&self, port: u32, address: u64, beat: u32, write: bool) -> Word
         requires port { port < length self.now.ports }
         requires beat { beat < length (standing self.now port address write) }
@@ -117,6 +119,7 @@ impl Layout {
         }
     }
 
+    /// How many places there are.
     pub fn places(&self) -> u32
         ensures count { result ≡ length self.now.places }
         ensures sound { IsSound self.now }
@@ -124,7 +127,7 @@ impl Layout {
         self.places.len() as u32
     }
 
-    /// The first place of an item, or its place in the given map.
+    /// The first place of an item or, where a map is given, its place in that map; none where it has none.
     pub fn place_of(&self, item: Item, map: Option<u32>) -> Option<u32>
         ensures place { result ≡ place_of self.now item map }
         ensures there { IfSome result (λ p. (p < length self.now.places) × ((place_at self.now p).item ≡ item)) }
@@ -149,7 +152,7 @@ impl Layout {
         self.places[place as usize].map
     }
 
-    /// The rights of a place.
+    /// What the bus may do with the item at a place.
     pub fn rights(&self, place: u32) -> Rights
         requires { place < length self.now.places }
         ensures { result ≡ (place_at self.now place).rights }
@@ -174,6 +177,7 @@ impl Layout {
         self.places[place as usize].port
     }
 
+    /// How many ports there are.
     pub fn ports(&self) -> u32
         ensures count { result ≡ length self.now.ports }
         ensures sound { IsSound self.now }
@@ -181,7 +185,7 @@ impl Layout {
         self.ports.len() as u32
     }
 
-    /// The width of a port: 1, 2, 4 or 8.
+    /// The width of a port in bytes: 1, 2, 4 or 8.
     pub fn port_bytes(&self, port: u32) -> u32
         requires { port < length self.now.ports }
         ensures { result ≡ (port_at self.now port).bytes }
@@ -206,7 +210,7 @@ impl Layout {
         self.ports[port as usize].explicit
     }
 
-    /// The place of the port's adapter kind among those that the layout was built with.
+    /// The number of the port's adapter kind among those that the layout was built with.
     pub fn adapter(&self, port: u32) -> u32
         requires { port < length self.now.ports }
         ensures adapter { result ≡ (port_at self.now port).adapter }
@@ -224,7 +228,7 @@ impl Layout {
         self.ports[port as usize].kind
     }
 
-    /// The map with a name.
+    /// The map with this name, or none where no map has it.
     pub fn map_by_name(&self, name: &[u8]) -> Option<u32>
         ensures map { result ≡ map_named self.now name.now }
         ensures in_range { IfSome result (λ m. m < length self.now.maps) }
@@ -255,18 +259,11 @@ impl Layout {
     }
 
     /// The words of all locations of all places by port and address, those of one address by place,
-    /// location and order.
-    pub fn rows(&self) -> &[WordRow]
-        ensures { result.now ≡ self.now.rows }
-    {
-        self.rows.as_slice()
-    }
-
-    /// The table of `rows`, for an owner more: nothing is copied.
+    /// location and order. The table gets an owner more, and nothing is copied.
     ///
     /// # Errors
     ///
-    /// Want of memory.
+    /// An allocation that failed.
     pub fn shared_rows(&self) -> Result<Rc<Vec<WordRow>>, AllocError>
         ensures { IfOk result (λ rows. rows.value.items ≡ self.now.rows) }
     {

@@ -1,8 +1,10 @@
 //! Address maps: where each byte of each register and memory stands on the bus.
 //!
 //! A layout is a tree of maps with the places of registers and memories in them. The endian kinds,
-//! submaps with an offset and rights per map follow IEEE 1800.2; the time order of words, the lanes of
-//! a narrower child map and word addressing are this project's own.
+//! submaps with an offset and rights per map follow IEEE 1800.2. This project's own are the time order of
+//! words, the lanes of a narrower child map, the addresses of word-addressed maps, the limits, and the
+//! conditions with their order. Items are named by their paths in the chip, names joined by dots; maps have
+//! one name each.
 #![tactic(auto)]
 
 mod address;
@@ -12,6 +14,7 @@ mod find;
 mod kept;
 pub mod laws;
 mod layout;
+mod limits;
 mod links;
 mod maps;
 mod name;

@@ -9,6 +9,7 @@ ghost use Rattle.rl_bus.specs.Lanes.{IsWidth};
 
 use crate::fault::{MapCause, MapFault, refusal, row_at};
 use crate::find::map_number;
+use crate::limits::{MOST_LEVELS, MOST_MAPS};
 use crate::name::is_name;
 use crate::parts::MapNode;
 use crate::path::{Level, Path};
@@ -17,7 +18,7 @@ use rl_bus::AdapterKind;
 use rl_model::{Array, Name, Spot};
 use std::alloc::{AllocError, Global};
 
-/// The place of the first kind with a name.
+/// The number of the first kind with a name.
 fn kind_number(kinds: &[AdapterKind], name: &[u8]) -> Option<usize>
     ensures { result ≡ kind_number kinds.now name.now }
 {
@@ -53,7 +54,7 @@ fn check_name(maps: &[MapRow], map: &MapNode, spot: Spot) -> Result<(), MapFault
     ensures few { OnOk result (length maps.now < 64) }
     ensures fault { Passes result (first_of spot (name_checks maps.now map.now)) (λ _. ⊤) }
 {
-    if maps.len() >= 64 {
+    if maps.len() >= MOST_MAPS {
         return Err(refusal(spot, MapCause::TooMany));
     }
     if !is_name(map.name.text()) {
@@ -78,7 +79,7 @@ fn path_under(maps: &[MapRow], map: &MapNode, spot: Spot) -> Result<Path, MapFau
             None => Err(refusal(spot, MapCause::NoSuchMap)),
             Some(number) => {
                 let above = &maps[number];
-                if above.path.levels().len() >= 4 {
+                if above.path.levels().len() >= MOST_LEVELS {
                     return Err(refusal(spot, MapCause::TooDeep));
                 }
                 Ok(Path::under(level, &above.path))

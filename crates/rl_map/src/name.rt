@@ -1,7 +1,9 @@
-//! Names.
+//! Names of maps.
 ghost use Rattle.std.specs.Prelude.{◌≡◌};
 ghost use Rattle.std.specs.List.{list_all};
 ghost use Rattle.rl_model.specs.Rules.{is_letter, is_name_byte, is_name};
+
+use crate::limits::LONGEST_NAME;
 
 fn is_letter(c: u8) -> bool
     ensures { result ≡ is_letter c }
@@ -31,7 +33,9 @@ pub(crate) fn is_name(text: &[u8]) -> bool
     ensures { result ≡ is_name text.now }
 {
     match text {
-        [first, rest @ ..] => rest.len() < 32 && is_letter(*first) && are_name_bytes(rest),
+        [first, rest @ ..] => rest.len() < LONGEST_NAME
+            && is_letter(*first)
+            && are_name_bytes(rest),
         [] => false,
     }
 }

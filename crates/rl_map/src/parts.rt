@@ -4,30 +4,38 @@ use rl_model::{Name, Rights};
 
 /// An address map.
 ///
-/// `word` is true for a word-addressed map, whose addresses count words of its own width. `parent` is the
-/// name of an earlier map, in which this map stands at `offset`; a map without it is a root. `base`,
-/// `adapter` and `explicit` are used in a root alone: where its addresses begin, the name of the kind of
-/// adapter that carries its operations, and whether a predictor watches its bus.
+/// `base`, `adapter` and `explicit` are used in a root alone, and `offset` in a map with a parent.
 #[derive(Debug, Drop)]
 pub struct MapNode {
+    /// One name, without dots.
     pub name: Name,
+    /// Where the root's addresses begin on its bus.
     pub base: u64,
+    /// The width in bytes: 1, 2, 4 or 8.
     pub bytes: u64,
+    /// Where the words of a wider item stand.
     pub kind: Kind,
+    /// Whether addresses count words of the map's own width, and not bytes.
     pub word: bool,
+    /// The name of an earlier map in which this one stands, or none for a root.
     pub parent: Option<Name>,
+    /// Where the map starts in its parent, in the parent's unit of addresses.
     pub offset: u64,
+    /// The name of the kind of adapter that carries the root's operations.
     pub adapter: Name,
+    /// Whether a predictor watches the root's bus, in place of implicit prediction.
     pub explicit: bool,
 }
 
-/// A register or a memory in a map, by the map's name and the item's path.
-///
-/// `offset` counts in the unit of the map.
+/// A register or a memory in a map.
 #[derive(Debug, Drop)]
 pub struct PlacePart {
+    /// The name of the map.
     pub map: Name,
+    /// The path of the register or memory, its names joined by dots.
     pub item: Name,
+    /// Where the item starts in the map, in the map's unit of addresses.
     pub offset: u64,
+    /// What the bus may do with the item here.
     pub rights: Rights,
 }

@@ -1,9 +1,15 @@
 //! A path of address maps, from an item's own map up to the root.
+//!
+//! An item is cut into words anew at each map of its path. How the words of a narrower map lie in the lanes
+//! of a wider one, and what an address of a word-addressed map is in its parent, are this project's own.
 ghost use Rattle.std.specs.Prelude.{◌≡◌, ℕ, ◌+◌, ◌*◌, ◌<◌, ◌≤◌, ◌^◌, ◌↔◌, IsTrue, List, [], ◌∷◌, ◌++◌, length};
 
 use std::marker::Model;
 
-/// The order of a map's words in an item that is wider than the map, as IEEE 1800.2 has it.
+/// Where the words of an item that is wider than the map stand: the endian kinds of IEEE 1800.2.
+///
+/// The order of the words in time, which is that of ascending addresses without a FIFO, and the same rule at
+/// each map of a path are this project's own.
 #[derive(Clone, Copy, Debug, PartialEq, Eq)]
 pub enum Kind {
     /// The least significant word first, at ascending addresses.
@@ -21,6 +27,7 @@ pub enum Kind {
 pub struct Level {
     /// The width in bytes: 1, 2, 4 or 8.
     pub bytes: u64,
+    /// Where the words of a wider item stand.
     pub kind: Kind,
     /// Addresses count words of the map's own width, and not bytes.
     pub word: bool,

@@ -19,6 +19,7 @@ use crate::address::{is_place_above, is_place_unaligned};
 use crate::fault::{MapCause, MapFault, refusal, row_at};
 use crate::find::map_number;
 use crate::kept::PlaceWords;
+use crate::limits::{MOST_PLACES, MOST_WORDS};
 use crate::links::ItemLinks;
 use crate::parts::PlacePart;
 use crate::path::Level;
@@ -198,7 +199,8 @@ fn check_fifo(row: &PlaceRow) -> Result<(), MapCause>
     }
 }
 
-/// Refuses words past the limit, and addresses that the port's adapter doesn't take.
+/// Refuses words past the limit, addresses that the port's adapter doesn't take, and those that aren't
+/// aligned.
 fn check_words(row: &PlaceRow, path: &[Level], port: &PortRow, words: usize) -> Result<(), MapCause>
     requires path { IsPath path.now }
     requires size { row.now.bytes ≤ 8 }
@@ -211,7 +213,7 @@ fn check_words(row: &PlaceRow, path: &[Level], port: &PortRow, words: usize) -> 
     ensures fault { Tells result (word_checks words (placed_at row.now path.now port.now)) }
 {
     let more = u64::from(row.size) * u64::from(location(row, 0).count(path));
-    if words as u64 + more > 1_048_576 {
+    if words as u64 + more > MOST_WORDS {
         return Err(MapCause::TooMany);
     }
     if is_place_above(row, path, port) {
@@ -242,7 +244,7 @@ fn checked_place(
     ensures exact { IfOk result (λ row. row ≡ place_row chip.now maps.now part.now) }
     ensures fault { Tells result (own_checks chip.now maps.now places.now words part.now (place_of_part chip.now maps.now ports.now part.now)) }
 {
-    if places.len() >= 4096 {
+    if places.len() >= MOST_PLACES {
         return Err(MapCause::TooMany);
     }
     let row = place_row(chip, maps, part)?;

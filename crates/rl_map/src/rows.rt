@@ -40,12 +40,14 @@ pub(crate) struct PlaceRow {
     pub(crate) fifo: bool,
 }
 
-/// What stands at an address of a port: a place, the location of its item, and how many of its words
-/// stand there.
+/// What stands at an address of a port for one direction.
 #[derive(Clone, Copy, Debug, PartialEq, Eq)]
 pub struct Here {
+    /// The number of the place.
     pub place: u32,
+    /// The location of the place's item; 0 for a register.
     pub index: u32,
+    /// How many of its words stand at the address: more than one only where a map on the path is a FIFO.
     pub count: u32,
 }
 

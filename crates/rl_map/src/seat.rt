@@ -17,12 +17,14 @@ pub(crate) struct Location {
 
 /// Where one byte of a register or of a location of a memory stands on the bus.
 ///
-/// `order` numbers the byte's word in time among those of its item; bytes with one order share a word.
-/// `address` is the root's, and `lane` the byte of the bus word, counted from the lowest.
+/// The order of words in time and the lanes of narrower maps are this project's own.
 #[derive(Clone, Copy, Debug, PartialEq, Eq)]
 pub struct Seat {
+    /// The number in time of the byte's word among those of its item; bytes with one order share a word.
     pub order: u32,
+    /// The address on the root's bus.
     pub address: u64,
+    /// The byte of the bus word, counted from the lowest.
     pub lane: u32,
 }
 

@@ -11,14 +11,15 @@ use crate::seat::{Location, Seat};
 use std::marker::Model;
 
 /// The bytes of an item that one bus operation carries.
-///
-/// Bit `l` of `lanes` is set where lane `l` has a byte of the item, and then `bytes` has there the number
-/// of that byte, counted from the lowest. `bytes` is 0 in every other lane.
 #[derive(Clone, Copy, Debug, PartialEq, Eq)]
 pub struct Word {
+    /// The number of the word in time among those of its item; not each number has a word.
     pub order: u32,
+    /// The address on the root's bus.
     pub address: u64,
+    /// Bit `l` is set where lane `l` has a byte of the item.
     pub lanes: u8,
+    /// For each such lane the number of its byte in the item, counted from the lowest, and 0 elsewhere.
     pub bytes: [u8; 8],
 }
 

@@ -10,7 +10,7 @@ use Rattle.rl_model.specs.declared.rows.Field.{Field}
 use Rattle.rl_model.specs.declared.rows.RegRow.{RegRow}
 use Rattle.rl_model.specs.Rows.{FieldSeen, ChipData}
 use Rattle.rl_model.specs.Chip.{IsSound, IsFieldOf}
-use Rattle.rl_mirror.specs.Fields.{no_field, field_of, first_of, count_of, size_of, fields_of, field_in, covers}
+use Rattle.rl_model.specs.Fields.{no_field, field_of, first_of, count_of, size_of, fields_of, field_in, covers}
 use Rattle.rl_mirror.proofs.PlaceLemmas.{IsFieldList}
 
 -- the row of a register

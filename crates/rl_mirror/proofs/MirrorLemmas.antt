@@ -22,7 +22,8 @@ use Rattle.rl_model.specs.Rows.{FieldSeen, ChipData}
 use Rattle.rl_mirror.specs.declared.effect.Effect.{Effect}
 use Rattle.rl_mirror.specs.declared.effect.Effect.TheVariants.{Written, Learned, Updating, Neutral}
 use Rattle.rl_mirror.specs.Effect.{effect_bit}
-use Rattle.rl_mirror.specs.Fields.{field_of, first_of, count_of, size_of, fields_of, field_in, policy_in, place_at, word_by_field, owned}
+use Rattle.rl_model.specs.Fields.{field_of, first_of, count_of, size_of, fields_of, field_in, policy_in, place_at}
+use Rattle.rl_mirror.specs.Fields.{word_by_field, owned}
 use Rattle.rl_mirror.specs.Mirror.{MirrorData, mirrored_of, desired_of, is_spent, marks_in, IsValueOf, IsMirrorOf}
 use Rattle.rl_mirror.specs.Prediction.{written, predict_write, predict_read, predict_raw, learned_by_write, learned_by_read, spent_after, after_reset, reset, blank, set as set_field, update_word, update_word_of, neutral_word, neutral_around}
 

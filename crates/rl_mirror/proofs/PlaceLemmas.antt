@@ -7,7 +7,7 @@ use Rattle.std.proofs.lemmas.Iterator.Adapters.{position_from-zero}
 use Rattle.std.proofs.lemmas.List.Quantifiers.{position-Some}
 use Rattle.rl_model.specs.declared.rows.Field.{Field}
 use Rattle.rl_model.specs.Rows.{FieldSeen}
-use Rattle.rl_mirror.specs.Fields.{no_field, field_in, covers, place_at}
+use Rattle.rl_model.specs.Fields.{no_field, field_in, covers, place_at}
 
 -- the fields of a register of so many bits
 pub record IsFieldList (bits : ℕ) (fs : List FieldSeen) : Type 0 where

@@ -14,7 +14,8 @@ use Rattle.rl_policy.proofs.TableLemmas.{keeps_reach, update_reaches}
 use Rattle.rl_model.specs.declared.rows.Field.{Field}
 use Rattle.rl_model.specs.Rows.{FieldSeen, ChipData}
 use Rattle.rl_model.specs.Chip.{IsSound, value_for}
-use Rattle.rl_mirror.specs.Fields.{field_of, first_of, size_of, fields_of, field_in, policy_in, covers, place_at, word_by_field, part_of, owned}
+use Rattle.rl_model.specs.Fields.{field_of, first_of, size_of, fields_of, field_in, policy_in, covers, place_at}
+use Rattle.rl_mirror.specs.Fields.{word_by_field, part_of, owned}
 use Rattle.rl_mirror.specs.Mirror.{MirrorData, mirrored_of, desired_of, is_spent, marks_in, IsMirrorOf}
 use Rattle.rl_mirror.specs.Prediction.{learned_bit, reset_bit, learned_by_write, learned_by_read, after_reset, is_spent_by, spent_after, predict_write, predict_read, predict_raw, reset, blank, fresh, set as set_field, update_word, update_word_of}
 use Rattle.rl_mirror.specs.Reachable.{IsSettled, IsReached, IsReachable, after_update, UpdateBrings}

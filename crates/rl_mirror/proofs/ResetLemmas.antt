@@ -9,7 +9,7 @@ use Rattle.rl_model.specs.Rows.{FieldSeen, ChipData}
 use Rattle.rl_model.specs.Chip.{IsSound, value_for}
 use Rattle.rl_policy.specs.Bits.{bit, from_bits, put_bit}
 use Rattle.rl_policy.proofs.BitLemmas.{is_from_bits, from_bits-same}
-use Rattle.rl_mirror.specs.Fields.{no_field, field_of, covers}
+use Rattle.rl_model.specs.Fields.{no_field, field_of, covers}
 use Rattle.rl_mirror.specs.Prediction.{reset_bit}
 use Rattle.rl_mirror.proofs.FieldLemmas.{seated}
 

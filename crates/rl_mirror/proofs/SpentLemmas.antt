@@ -8,7 +8,7 @@ use Rattle.rl_policy.specs.Bits.{bit}
 use Rattle.rl_policy.specs.Table.{spends_mark}
 use Rattle.rl_model.specs.Rows.{ChipData}
 use Rattle.rl_model.specs.Chip.{IsSound}
-use Rattle.rl_mirror.specs.Fields.{field_of, first_of, count_of}
+use Rattle.rl_model.specs.Fields.{field_of, first_of, count_of}
 use Rattle.rl_mirror.specs.Prediction.{is_spent_by, spent_after}
 use Rattle.rl_mirror.proofs.FieldLemmas.{owner_is, seated}
 use Rattle.rl_mirror.proofs.SetLemmas.{among, among-passed, among-zero}

@@ -6,7 +6,8 @@ use Rattle.rl_policy.specs.Bits.{bit}
 use Rattle.rl_policy.proofs.BitLemmas.{bit-from_bits}
 use Rattle.rl_model.specs.declared.rows.Field.{Field}
 use Rattle.rl_model.specs.Rows.{FieldSeen, ChipData}
-use Rattle.rl_mirror.specs.Fields.{fields_of, field_in, covers, owned, part_of}
+use Rattle.rl_model.specs.Fields.{fields_of, field_in, covers}
+use Rattle.rl_mirror.specs.Fields.{owned, part_of}
 use Rattle.rl_mirror.specs.Mirror.{MirrorData, mirrored_of, desired_of, IsMirrorOf, HasNoWish}
 use Rattle.rl_mirror.proofs.WordLemmas.{word_by_field-same}
 

@@ -10,7 +10,8 @@ use Rattle.rl_policy.specs.Bits.{bit, from_bits}
 use Rattle.rl_policy.proofs.BitLemmas.{bit-from_bits, is_from_bits, from_bits-lt, from_bits-same, same_from_bits, bit-above, bit-zero}
 use Rattle.rl_model.specs.Rows.{FieldSeen, ChipData}
 use Rattle.rl_model.specs.Chip.{IsSound}
-use Rattle.rl_mirror.specs.Fields.{field_in, covers, place_at, word_by_field, owned, fields_of, size_of}
+use Rattle.rl_model.specs.Fields.{field_in, covers, place_at, fields_of, size_of}
+use Rattle.rl_mirror.specs.Fields.{word_by_field, owned}
 use Rattle.rl_mirror.specs.Mirror.{IsValueOf}
 use Rattle.rl_mirror.proofs.PlaceLemmas.{IsFieldList, place_is, so_far, so_far-all}
 use Rattle.rl_mirror.proofs.FieldLemmas.{field_list}

@@ -4,7 +4,8 @@ use Rattle.rl_policy.specs.Bits.{from_bits}
 use Rattle.rl_policy.specs.Table.{is_write_only}
 use Rattle.rl_model.specs.declared.rows.Field.{Field}
 use Rattle.rl_model.specs.Rows.{FieldSeen, ChipData}
-use Rattle.rl_mirror.specs.Fields.{fields_of, field_in, part_of}
+use Rattle.rl_model.specs.Fields.{fields_of, field_in}
+use Rattle.rl_mirror.specs.Fields.{part_of}
 use Rattle.rl_mirror.specs.Mirror.{MirrorData, mirrored_of}
 
 -- a check compares the field

@@ -4,7 +4,8 @@ use Rattle.rl_policy.specs.Bits.{bit}
 use Rattle.rl_policy.specs.Table.{after_write, after_read, value_read, update_bit, neutral_bit}
 use Rattle.rl_policy.specs.declared.policy.Policy.{Policy}
 use Rattle.rl_model.specs.Rows.{ChipData}
-use Rattle.rl_mirror.specs.Fields.{fields_of, policy_in, word_by_field}
+use Rattle.rl_model.specs.Fields.{fields_of, policy_in}
+use Rattle.rl_mirror.specs.Fields.{word_by_field}
 use Rattle.rl_mirror.specs.Mirror.{marks_in}
 use Rattle.rl_mirror.specs.Prediction.{learned_bit}
 use Rattle.rl_mirror.specs.declared.effect.Effect.{Effect}

@@ -1,7 +1,8 @@
 -- What is believed of a chip.
 use Rattle.std.specs.Prelude.{◌≡◌, ℕ, ◌+◌, ◌^◌, ◌<◌, Bool, false, List, length, get_or}
 use Rattle.rl_model.specs.Rows.{ChipData}
-use Rattle.rl_mirror.specs.Fields.{first_of, size_of, fields_of, field_in, owned, part_of}
+use Rattle.rl_model.specs.Fields.{first_of, size_of, fields_of, field_in}
+use Rattle.rl_mirror.specs.Fields.{owned, part_of}
 
 -- A mirrored and a desired value for each register, and a spent mark for each field, counted through all registers.
 pub record MirrorData : Type 0 where
@@ -18,7 +19,7 @@ desired_of m reg = get_or m.desired reg 0
 abbrev pub is_spent : MirrorData → ℕ → Bool
 is_spent m field = get_or m.spent field false
 
--- the marks of a register's fields, by their places
+-- the marks of a register's fields: that of its k-th field
 abbrev pub marks_in : ChipData → List Bool → (reg : ℕ) → ℕ → Bool
 marks_in c spent reg k = get_or spent (first_of c reg + k) false
 

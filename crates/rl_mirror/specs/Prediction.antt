@@ -7,10 +7,11 @@ use Rattle.rl_policy.specs.Table.{after_write, after_read, value_read, update_bi
 use Rattle.rl_policy.specs.declared.policy.Policy.{Policy}
 use Rattle.rl_model.specs.Chip.{value_for}
 use Rattle.rl_model.specs.Rows.{FieldSeen, ChipData}
-use Rattle.rl_mirror.specs.Fields.{field_of, first_of, fields_of, field_in, policy_in, word_by_field, owned}
+use Rattle.rl_model.specs.Fields.{field_of, first_of, fields_of, field_in, policy_in}
+use Rattle.rl_mirror.specs.Fields.{word_by_field, owned}
 use Rattle.rl_mirror.specs.Mirror.{MirrorData, mirrored_of, desired_of, marks_in, is_spent}
 
--- ---- words of a register, by its fields; `marks k` is the spent mark of the field at place k
+-- ---- words of a register, by its fields; `marks k` is the spent mark of the k-th field
 
 -- the bits after a write of a word
 unfoldable pub written : List FieldSeen → (marks : ℕ → Bool) → (bits word : ℕ) → ℕ

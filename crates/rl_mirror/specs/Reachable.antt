@@ -3,7 +3,8 @@ use Rattle.std.specs.Prelude.{◌≡◌, ◌⊎◌, ℕ, ◌-◌, ◌<◌, ◌^�
 use Rattle.rl_policy.specs.Bits.{bit}
 use Rattle.rl_policy.specs.Reach.{is_reached, is_one_sided}
 use Rattle.rl_model.specs.Rows.{ChipData}
-use Rattle.rl_mirror.specs.Fields.{field_of, covers, part_of}
+use Rattle.rl_model.specs.Fields.{field_of, covers}
+use Rattle.rl_mirror.specs.Fields.{part_of}
 use Rattle.rl_mirror.specs.Mirror.{MirrorData, mirrored_of, desired_of, is_spent, IsMirrorOf}
 use Rattle.rl_mirror.specs.Prediction.{predict_write, update_word_of}
 

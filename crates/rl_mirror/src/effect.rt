@@ -10,14 +10,15 @@ use rl_policy::word::repeated;
 pub(crate) enum Effect {
     /// The bits `stored`, after a write of `word`.
     Written { stored: u64, word: u64 },
-    /// What a read answers where `stored` is held, and the bits after it.
+    /// What a read answers where `stored` is held.
     Shown { stored: u64 },
+    /// The bits after a read where `stored` is held.
     LeftByRead { stored: u64 },
     /// What is known after a read answered `read`, and `kept` of a write-only field.
     Learned { read: u64, kept: u64 },
-    /// The bits to write so that those desired result.
+    /// The update bits: those to write so that the desired ones result.
     Updating { desired: u64, mirrored: u64 },
-    /// The bits to write so that the field stays as it is.
+    /// The neutral bits: those to write so that the field stays as it is.
     Neutral { mirrored: u64 },
     /// These bits.
     Given { bits: u64 },

@@ -5,7 +5,8 @@ ghost use Rattle.rl_policy.specs.Table.{spends_mark};
 ghost use Rattle.rl_model.specs.Chip.{IsSound};
 ghost use Rattle.rl_mirror.specs.Compared.{is_compared, differing};
 ghost use Rattle.rl_mirror.specs.Effect.{effect_bit, overlaid};
-ghost use Rattle.rl_mirror.specs.Fields.{field_of, first_of, count_of, size_of, fields_of, field_in, policy_in, word_by_field, owned, part_of};
+ghost use Rattle.rl_model.specs.Fields.{field_of, first_of, count_of, size_of, fields_of, field_in, policy_in};
+ghost use Rattle.rl_mirror.specs.Fields.{word_by_field, owned, part_of};
 ghost use Rattle.rl_mirror.specs.Mirror.{IsValueOf, marks_in};
 ghost use Rattle.rl_mirror.specs.Prediction.{shown, left_by_read, spent_after};
 
@@ -14,8 +15,8 @@ use rl_model::{Chip, Field};
 use rl_policy::policy::{spends, write_only};
 use rl_policy::word::{replaced, take, window};
 
-/// Whether a set of fields has the one at place `k`.
-pub(crate) fn has_place(fields: u64, k: u32) -> bool
+/// Whether a set of a register's fields has the `k`-th one, counted from 0.
+pub(crate) fn has_field(fields: u64, k: u32) -> bool
     requires { k < 64 }
     ensures { result ≡ bit fields k }
 {
@@ -32,20 +33,20 @@ pub(crate) fn field_count(chip: &Chip, reg: u32) -> u32
     chip.field_count(reg)
 }
 
-/// The number, counted through all registers, of the field at place `k` of a register.
+/// The number, counted through all registers, of the `k`-th field of a register.
 pub(crate) fn field_number(chip: &Chip, reg: u32, k: u32) -> u32
     requires reg { reg < length chip.now.regs }
-    requires place { k < length (fields_of chip.now reg) }
+    requires field { k < length (fields_of chip.now reg) }
     ensures number { result ≡ first_of chip.now reg + k }
     ensures within { result < length chip.now.fields }
 {
     chip.first_field(reg) + k
 }
 
-/// The field at place `k` of a register.
+/// The `k`-th field of a register.
 pub(crate) fn field_at(chip: &Chip, reg: u32, k: u32) -> Field
     requires reg { reg < length chip.now.regs }
-    requires place { k < length (fields_of chip.now reg) }
+    requires field { k < length (fields_of chip.now reg) }
     ensures field { result ≡ (field_in (fields_of chip.now reg) k).shape }
     ensures some { 1 ≤ result.width }
     ensures inside { result.lsb + result.width ≤ 64 }
@@ -65,11 +66,11 @@ pub(crate) fn numbered_field(chip: &Chip, field: u32) -> Field
     chip.field(field)
 }
 
-/// The spent mark of the field at place `k` of a register, among the marks of all fields; none is set past
-/// their end.
+/// The spent mark of the `k`-th field of a register, among the marks of all fields; none is set past their
+/// end.
 fn mark_at(chip: &Chip, reg: u32, k: u32, spent: &[bool]) -> bool
     requires reg { reg < length chip.now.regs }
-    requires place { k < length (fields_of chip.now reg) }
+    requires field { k < length (fields_of chip.now reg) }
     ensures { result ≡ marks_in chip.now spent.now reg k }
 {
     let number = field_number(chip, reg, k) as usize;
@@ -97,7 +98,7 @@ pub(crate) fn overlaid(
     let mut word = kept;
     for k in 0..field_count(chip, reg) {
         let field = field_at(chip, reg, k);
-        if has_place(fields, k) {
+        if has_field(fields, k) {
             let by = effect.on(field.policy, mark_at(chip, reg, k, spent));
             word = replaced(word, by, window(field.lsb, field.width));
         }
@@ -188,14 +189,14 @@ pub fn owned(chip: &Chip, reg: u32, bits: u64) -> u64
     assembled(chip, reg, &[], Effect::Given { bits })
 }
 
-/// Whether a write of the fields of the set spends the one at place `k`.
-fn spends_place(chip: &Chip, reg: u32, fields: u64, k: u32) -> bool
+/// Whether a write of the fields of the set spends the `k`-th one.
+fn spends_field(chip: &Chip, reg: u32, fields: u64, k: u32) -> bool
     requires reg { reg < length chip.now.regs }
-    requires place { k < length (fields_of chip.now reg) }
+    requires field { k < length (fields_of chip.now reg) }
     requires few { k < 64 }
     ensures { result ≡ (bit fields k && spends_mark (policy_in (fields_of chip.now reg) k)) }
 {
-    spends(field_at(chip, reg, k).policy) && has_place(fields, k)
+    spends(field_at(chip, reg, k).policy) && has_field(fields, k)
 }
 
 /// Marks the fields of the set that take one write alone as spent.
@@ -205,7 +206,7 @@ pub(crate) fn spend(chip: &Chip, reg: u32, fields: u64, spent: &mut [bool])
     ensures { spent.new ≡ spent_after chip.now reg fields spent.old }
 {
     for k in 0..field_count(chip, reg) {
-        if !spends_place(chip, reg, fields, k) {
+        if !spends_field(chip, reg, fields, k) {
             continue;
         }
         spent[field_number(chip, reg, k) as usize] = true;
@@ -223,7 +224,8 @@ fn differs(field: &Field, read: u64, mirrored: u64) -> bool
         && take(read, field.lsb, field.width) != take(mirrored, field.lsb, field.width)
 }
 
-/// The compared fields whose bits were read otherwise than they are mirrored.
+/// The compared fields whose bits were read otherwise than they are mirrored; bit `k` stands for the
+/// register's `k`-th field.
 pub(crate) fn differing(chip: &Chip, reg: u32, read: u64, mirrored: u64) -> u64
     requires { reg < length chip.now.regs }
     ensures value { result ≡ differing (fields_of chip.now reg) read mirrored }
@@ -232,12 +234,12 @@ pub(crate) fn differing(chip: &Chip, reg: u32, read: u64, mirrored: u64) -> u64
     if read == mirrored {
         return 0;
     }
-    let mut places = 0;
+    let mut fields = 0;
     for k in 0..field_count(chip, reg) {
         if !differs(&field_at(chip, reg, k), read, mirrored) {
             continue;
         }
-        places |= window(k, 1);
+        fields |= window(k, 1);
     }
-    places
+    fields
 }

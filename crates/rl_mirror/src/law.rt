@@ -1,4 +1,5 @@
-//! What holds of updates. The function does nothing; its contract is the law.
+//! What holds of updates, by this project's own update words. The function does nothing; its contract is
+//! the law.
 ghost use Rattle.rl_model.specs.Rows.{ChipData};
 ghost use Rattle.rl_model.specs.Chip.{IsSound};
 ghost use Rattle.rl_mirror.specs.Reachable.{UpdateBrings};

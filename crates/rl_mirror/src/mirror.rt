@@ -1,7 +1,7 @@
 //! The mirror of a chip.
 ghost use Rattle.std.specs.Prelude.{◌≡◌, ◌↔◌, false, ℕ, ◌+◌, ◌^◌, ◌<◌, length, IfOk};
 ghost use Rattle.rl_mirror.specs.Compared.{differ};
-ghost use Rattle.rl_mirror.specs.Fields.{field_of, size_of, count_of, fields_of};
+ghost use Rattle.rl_model.specs.Fields.{field_of, size_of, count_of, fields_of};
 ghost use Rattle.rl_mirror.specs.Mirror.{mirrored_of, desired_of, is_spent, marks_in, IsMirrorOf, HasNoWish};
 ghost use Rattle.rl_mirror.specs.Reachable.{IsReachable};
 ghost use Rattle.rl_mirror.specs.Prediction.{written, predict_write, predict_read, predict_raw, reset, set, fresh, needs_update, update_word_of, neutral_around};
@@ -36,6 +36,10 @@ impl Model for Mirror {
 
 impl Mirror {
     /// The mirror after a hard reset; a field without a value for it begins at 0.
+    ///
+    /// # Errors
+    ///
+    /// An allocation that failed.
     pub fn build(alloc: Global, chip: &Chip) -> Result<Mirror, AllocError>
         ensures value { IfOk result (λ m. m ≡ fresh chip.now) }
         ensures built { IfOk result (IsMirrorOf chip.now) }
@@ -53,6 +57,9 @@ impl Mirror {
 
     /// Takes a write of `value` to the fields of the set as done; bit `k` of `fields` stands for the
     /// register's `k`-th field.
+    ///
+    /// The write changes mirrored and desired bits each by the policy, so a wish that it doesn't touch stays.
+    /// That is this project's own.
     pub fn predict_write(&mut self, chip: &Chip, reg: u32, value: u64, fields: u64)
         requires reg { reg < length chip.now.regs }
         requires built { IsMirrorOf chip.now self.old }
@@ -83,6 +90,8 @@ impl Mirror {
     }
 
     /// Takes a read of the fields of the set as done, which answered `value`.
+    ///
+    /// It tells nothing of a write-only field. What it leaves becomes the mirrored and the desired bits.
     pub fn predict_read(&mut self, chip: &Chip, reg: u32, value: u64, fields: u64)
         requires reg { reg < length chip.now.regs }
         requires built { IsMirrorOf chip.now self.old }
@@ -135,6 +144,7 @@ impl Mirror {
     }
 
     /// Asks for the value `v` in a field: its desired value becomes what a write of `v` over it would leave.
+    /// That is this project's own.
     pub fn set(&mut self, chip: &Chip, field: u32, v: u64)
         requires field { field < length chip.now.fields }
         requires v { v < 2 ^ (field_of chip.now field).shape.width }
@@ -190,7 +200,8 @@ impl Mirror {
         self.desired(reg) != self.mirrored(reg)
     }
 
-    /// The word to write so that the desired values result, as far as the fields' policies can reach them.
+    /// The update word, this project's own: that to write so that the desired values result, as far as the
+    /// fields' policies can reach them.
     pub fn update_word_of(&self, chip: &Chip, reg: u32) -> u64
         requires reg { reg < length chip.now.regs }
         requires built { IsMirrorOf chip.now self.now }
@@ -205,7 +216,7 @@ impl Mirror {
     }
 
     /// The word of the field's register with `v` in the field, and in each other field the word that leaves
-    /// it as it is where its policy allows that.
+    /// it as it is where its policy allows that. The neutral words are this project's own.
     pub fn neutral_around(&self, chip: &Chip, field: u32, v: u64) -> u64
         requires field { field < length chip.now.fields }
         requires v { v < 2 ^ (field_of chip.now field).shape.width }

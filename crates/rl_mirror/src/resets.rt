@@ -3,17 +3,18 @@ ghost use Rattle.std.specs.Prelude.{◌≡◌, ℕ, ◌<◌, length, map, get_or
 ghost use Rattle.std.specs.List.{range_with_len};
 ghost use Rattle.rl_policy.specs.Bits.{from_bits, bit};
 ghost use Rattle.rl_model.specs.Chip.{IsSound};
-ghost use Rattle.rl_mirror.specs.Fields.{fields_of, field_in, covers, owned};
+ghost use Rattle.rl_model.specs.Fields.{fields_of, field_in, covers};
+ghost use Rattle.rl_mirror.specs.Fields.{owned};
 ghost use Rattle.rl_mirror.specs.Prediction.{reset_bit, after_reset};
 
 use crate::fields::{field_at, field_count, field_number};
 use rl_model::Chip;
 use rl_policy::word::put;
 
-/// The word with the value that the field at place `k` takes at a reset of this kind, if it has one.
+/// The word with the value that the register's `k`-th field takes at a reset of this kind, if it has one.
 fn with_reset(chip: &Chip, reg: u32, k: u32, kind: u32, word: u64) -> u64
     requires reg { reg < length chip.now.regs }
-    requires place { k < length (fields_of chip.now reg) }
+    requires field { k < length (fields_of chip.now reg) }
     requires kind { kind < length chip.now.kinds }
     ensures { result ≡ from_bits 64 (λ b. if covers (field_in (fields_of chip.now reg) k).shape b then reset_bit (field_in (fields_of chip.now reg) k) kind b (bit word b) else bit word b) }
 {

@@ -17,7 +17,9 @@ use std::alloc::{AllocError, Global};
 
 impl Chip {
     /// The chip of the parts, or the first condition that they fail, with its array, row and field.
-    /// Blocks come first, then files, registers with their fields, and memories.
+    ///
+    /// Blocks come first, then files, registers with their fields, and memories; the conditions of a row
+    /// come in the order of its checks. Where the allocator has no memory left the answer is `Memory`.
     #[tactic(auto, unfolding(crate::specs::Build::chip_of, crate::specs::Build::chip_fault))]
     pub fn build(alloc: Global, parts: &Parts) -> Result<Chip, ModelFault>
         ensures { Passes result (chip_fault parts.now) (λ chip. chip ≡ chip_of parts.now) }

@@ -65,7 +65,7 @@ impl Chip {
         self.kinds.len() as u32
     }
 
-    /// A field, counted through all registers.
+    /// The field with this number, counted through all registers.
     pub fn field(&self, field: u32) -> Field
         requires { field < length self.now.fields }
         ensures value { option_map (λ f. f.shape) (slice_get self.now.fields field) ≡ Some result }
@@ -124,7 +124,7 @@ impl Chip {
         row.resets.as_slice()
     }
 
-    /// The number of a memory's locations.
+    /// How many locations the memory has.
     pub fn size(&self, mem: u32) -> u32
         requires { mem < length self.now.mems }
         ensures value { option_map (λ m. m.size) (slice_get self.now.mems mem) ≡ Some result }
@@ -189,7 +189,7 @@ impl Chip {
         self.paths.text(place)
     }
 
-    /// The path of a block.
+    /// The names from the outermost block inward to the block, joined by dots.
     pub fn block_path(&self, block: u32) -> &[u8]
         requires { block < self.now.blocks }
         ensures { result.now ≡ path_at self.now block }

@@ -7,20 +7,30 @@ use std::alloc::{AllocError, AllocFailed};
 /// The arrays of a description. Those past `Mem` are of the layers above a chip.
 #[derive(Clone, Copy, Debug, PartialEq, Eq)]
 pub enum Array {
+    /// Blocks.
     Block,
+    /// Register files.
     File,
+    /// Registers.
     Reg,
+    /// Memories.
     Mem,
+    /// Address maps.
     Map,
+    /// Places of items in maps.
     Place,
+    /// Flaws of a device.
     Flaw,
 }
 
-/// A row of an array, or a field of a register by its place in its row. Both count from 0.
+/// Where a description fails: a row of an array, or a field of a register's row.
 #[derive(Clone, Copy, Debug, PartialEq, Eq)]
 pub struct Spot {
+    /// The array that the row is in.
     pub array: Array,
+    /// The row, counted from 0 in description order.
     pub row: u32,
+    /// The field of the register, counted from 0 in description order; none where the row itself fails.
     pub field: Option<u32>,
 }
 
@@ -35,7 +45,8 @@ impl Spot {
 /// The conditions of a chip. They are this project's own.
 #[derive(Clone, Copy, Debug, PartialEq, Eq)]
 pub enum ModelCause {
-    /// More rows of an array, locations or reset kinds than the limit.
+    /// More than 256 blocks or files, 1,024 registers, 64 memories, 65,536 locations of all memories, or 16
+    /// reset kinds.
     TooMany,
     /// `of` is no earlier block or file that may hold the row.
     NoSuchParent,
@@ -60,7 +71,9 @@ pub enum ModelCause {
 /// Why a chip is not built: the first condition that fails, with its place, or want of memory.
 #[derive(Clone, Copy, Debug, PartialEq, Eq)]
 pub enum ModelFault {
+    /// The first condition that fails, and where.
     Bad { cause: ModelCause, spot: Spot },
+    /// The allocator had no memory left.
     Memory,
 }
 

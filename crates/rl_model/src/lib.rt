@@ -3,8 +3,10 @@
 //!
 //! `Chip::build` makes a chip of the parts of a description, or names the first condition that they
 //! fail. Registers, fields, memories and blocks are then numbers, counted from 0 in description order.
-//! Registers, fields, policies, resets by kind and test exclusions are those of IEEE 1800.2. The limits,
-//! the conditions and their order are this project's own.
+//!
+//! Registers, fields, policies, resets by kind and the names of test exclusions are those of IEEE 1800.2.
+//! This project's own are the form of names and paths, the numbering, the limits, the conditions and
+//! their order.
 #![tactic(auto)]
 
 mod build;

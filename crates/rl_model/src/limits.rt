@@ -1,10 +1,12 @@
 //! The limits of a chip. They are this project's own.
 
-/// Blocks, and files too.
+/// Blocks of a chip, and register files too.
 pub(crate) const MOST_SCOPES: u32 = 256;
 
+/// Registers of a chip.
 pub(crate) const MOST_REGS: u32 = 1024;
 
+/// Memories of a chip.
 pub(crate) const MOST_MEMS: u32 = 64;
 
 /// Locations of one memory, and of all memories together.

@@ -20,7 +20,7 @@ pub struct RegPart {
     pub name: Name,
     /// The path of the block or file that holds it, or none at the top.
     pub of: Option<Name>,
-    /// 1 to 8.
+    /// 1 to 8 bytes.
     pub bytes: u64,
     /// Whether the register can be read and written without a bus.
     pub backdoor: bool,
@@ -98,9 +98,13 @@ pub struct MemPart {
 /// All that a chip is built of, each array in description order. A parent comes before what it holds.
 #[derive(Debug, Drop)]
 pub struct Parts {
+    /// At most 256 blocks.
     pub blocks: Vec<ScopePart>,
+    /// At most 256 register files.
     pub files: Vec<ScopePart>,
+    /// At most 1,024 registers.
     pub regs: Vec<RegPart>,
+    /// At most 64 memories, with at most 65,536 locations together.
     pub mems: Vec<MemPart>,
 }
 

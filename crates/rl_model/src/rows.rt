@@ -4,29 +4,40 @@ use crate::sets::Skip;
 use rl_policy::Policy;
 use std::marker::Model;
 
-/// A field: its register's number, its lowest bit and its width in bits, and how it behaves.
+/// A field: where it lies in its register, and how it behaves.
 #[derive(Clone, Copy, Debug, PartialEq, Eq)]
 pub struct Field {
+    /// The number of its register.
     pub reg: u32,
+    /// The number of its lowest bit in the register.
     pub lsb: u32,
+    /// 1 to 64 bits.
     pub width: u32,
+    /// What a write and a read do to its bits.
     pub policy: Policy,
+    /// Whether the device may change it by itself.
     pub volatile: bool,
+    /// Whether a check compares it.
     pub compare: bool,
+    /// Whether it may be accessed without the rest of the register.
     pub alone: bool,
 }
 
 /// A register or a memory, by its number among those of its sort.
 #[derive(Clone, Copy, Debug, PartialEq, Eq)]
 pub enum Item {
+    /// The register with this number.
     Reg(u32),
+    /// The memory with this number.
     Mem(u32),
 }
 
-/// The value of a field after a reset of a kind, by the kind's number in the chip.
+/// The value of a field after a reset of a kind.
 #[derive(Clone, Copy, Debug, PartialEq, Eq)]
 pub struct Reset {
+    /// The number of the kind.
     pub kind: usize,
+    /// Below 2 to the power of the field's width.
     pub value: u64,
 }
 

@@ -3,16 +3,20 @@ ghost use Rattle.std.specs.Prelude.{⊤, [], ◌∷◌, codes};
 
 use bitflags::{Flag, Flags};
 
-/// What the bus may do with an item at a place: read it, write it, or both. The rights of a map are
-/// those of IEEE 1800.2.
+/// What the bus may do with an item at a place: read it, write it, or both.
+///
+/// In IEEE 1800.2 an item is added to an address map with such rights. What follows from a right that is
+/// missing is this project's own.
 #[derive(Clone, Copy, PartialEq, Eq, Debug)]
 pub struct Rights {
     bits: u8,
 }
 
 impl Rights {
+    /// The bus may read the item at the place.
     pub const READ: Rights = Rights { bits: 1 };
 
+    /// The bus may write the item at the place.
     pub const WRITE: Rights = Rights { bits: 2 };
 
     const FLAGS: &'static [Flag<Rights>] = &[
@@ -49,24 +53,33 @@ impl Flags for Rights {
     }
 }
 
-/// The tests that leave an item out, named as in the register sequences of IEEE 1800.2. One that does
-/// not concern the item changes nothing.
+/// The register and memory sequences that leave an item out.
+///
+/// The names are those by which the sequences of IEEE 1800.2 are told to leave an item out; that there are
+/// these six, and the exact steps of the sequences, are this project's own. One that does not concern the
+/// item changes nothing.
 #[derive(Clone, Copy, PartialEq, Eq, Debug)]
 pub struct Skip {
     bits: u8,
 }
 
 impl Skip {
+    /// Every sequence of registers leaves the register out.
     pub const NO_REG_TESTS: Skip = Skip { bits: 1 };
 
+    /// The hardware reset sequence leaves the register out.
     pub const NO_REG_HW_RESET_TEST: Skip = Skip { bits: 2 };
 
+    /// The bit bash sequence leaves the register out.
     pub const NO_REG_BIT_BASH_TEST: Skip = Skip { bits: 4 };
 
+    /// The access sequence, which compares bus and backdoor, leaves the register out.
     pub const NO_REG_ACCESS_TEST: Skip = Skip { bits: 8 };
 
+    /// The shared access sequence, over the places of one register, leaves the register out.
     pub const NO_REG_SHARED_ACCESS_TEST: Skip = Skip { bits: 16 };
 
+    /// The memory walk leaves the memory out.
     pub const NO_MEM_WALK_TEST: Skip = Skip { bits: 32 };
 
     const FLAGS: &'static [Flag<Skip>] = &[

@@ -7,7 +7,7 @@ use Rattle.rl_model.specs.declared.rows.Item.TheVariants as item
 use Rattle.rl_model.specs.Rows.{ChipData}
 use Rattle.rl_model.specs.Chip.{path_of_item}
 use Rattle.rl_map.specs.Layout.{LayoutData, map_at, port_at}
-use Rattle.rl_mirror.specs.Fields.{field_of, fields_of, field_in, count_of, size_of}
+use Rattle.rl_model.specs.Fields.{field_of, fields_of, field_in, count_of, size_of}
 use Rattle.rl_access.specs.declared.event.Event.{Event}
 use Rattle.rl_access.specs.declared.event.End.{End}
 use Rattle.rl_access.specs.declared.event.End.TheVariants as end

@@ -4,7 +4,7 @@ ghost use Rattle.rl_bus.specs.Causes.{HasCause};
 ghost use Rattle.rl_policy.specs.Bits.{bit};
 ghost use Rattle.rl_model.specs.Chip.{HasItem, IsSound, path_of_item};
 ghost use Rattle.rl_map.specs.Layout.{port_at};
-ghost use Rattle.rl_mirror.specs.Fields.{field_of, first_of, count_of, size_of};
+ghost use Rattle.rl_model.specs.Fields.{field_of, first_of, count_of, size_of};
 ghost use Rattle.rl_access.specs.Event.{EventFits, ItemFits};
 ghost use Rattle.rl_access.specs.Operation.{HasNumbers, IsMapIn, register_of, reg_of, location_size, field_digits, digits_of};
 ghost use Rattle.rl_report.specs.EventText.{number_text, map_text, kind_text, reg_text, field_text, mem_text, burst_text, op_text, why_text, end_text, name_text, names_text, is_show, is_done, is_check, has_differ, desired_text, differ_text, after_text, is_refused, rest_text, result_text, event_line, way_text, answer_text, word_of, transfer_text, item_line, event_text, is_reset, is_on_register, is_on_field, is_on_location, is_location_by_backdoor};

@@ -4,7 +4,7 @@ use borrow.Author.Tests.{ltb-true, ltb-false}
 use Rattle.rl_model.specs.Rows.{ChipData}
 use Rattle.rl_model.specs.declared.rows.Field.{Field}
 use Rattle.rl_mirror.specs.Compared.{is_compared}
-use Rattle.rl_mirror.specs.Fields.{field_of, first_of}
+use Rattle.rl_model.specs.Fields.{field_of, first_of}
 use Rattle.rl_policy.specs.Bits.{is_within}
 use Rattle.rl_seq.specs.Choice.{any_below}
 

@@ -10,7 +10,7 @@ use Rattle.rl_model.specs.Rows.{ChipData}
 use Rattle.rl_model.specs.declared.rows.Field.{Field}
 use Rattle.rl_model.specs.declared.rows.Item.{Item}
 use Rattle.rl_model.specs.declared.rows.Item.TheVariants.{Reg, Mem}
-use Rattle.rl_mirror.specs.Fields.{field_of, first_of, count_of}
+use Rattle.rl_model.specs.Fields.{field_of, first_of, count_of}
 use Rattle.rl_mirror.proofs.FieldLemmas.{field_answer, fields_within}
 use Rattle.rl_access.specs.Rules.{item_size}
 use Rattle.rl_seq.specs.Choice.{any_below, is_read_only, low_bits, turned_round}

@@ -7,7 +7,7 @@ use Rattle.rl_model.specs.Rows.{ChipData}
 use Rattle.rl_model.specs.declared.rows.Item.{Item}
 use Rattle.rl_model.specs.declared.rows.Item.TheVariants.{Reg, Mem}
 use Rattle.rl_mirror.specs.Compared.{is_compared}
-use Rattle.rl_mirror.specs.Fields.{field_of, first_of, count_of}
+use Rattle.rl_model.specs.Fields.{field_of, first_of, count_of}
 use Rattle.rl_policy.specs.Bits.{is_within}
 use Rattle.rl_policy.specs.declared.policy.Policy.{Policy}
 use Rattle.rl_policy.specs.declared.policy.Policy.TheVariants.{Ro}

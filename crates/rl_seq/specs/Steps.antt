@@ -3,7 +3,7 @@ use Rattle.std.specs.Prelude.{ℕ, ◌*◌, ◌^◌, bit_xor, true, false, lengt
 use Rattle.rl_map.specs.Layout.{LayoutData, place_at}
 use Rattle.rl_model.specs.Rows.{ChipData}
 use Rattle.rl_model.specs.declared.rows.Item.TheVariants.{Reg}
-use Rattle.rl_mirror.specs.Fields.{size_of}
+use Rattle.rl_model.specs.Fields.{size_of}
 use Rattle.rl_mirror.specs.Mirror.{mirrored_of}
 use Rattle.rl_access.specs.declared.event.Op.TheVariants as op
 use Rattle.rl_seq.specs.Choice.{is_reg_tested, is_place, is_bit_compared, no_reg_hw_reset_test, no_reg_bit_bash_test}

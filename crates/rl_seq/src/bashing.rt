@@ -3,7 +3,7 @@ ghost use Rattle.std.specs.Prelude.{◌≡◌, ◌<◌, ◌≤◌, ◌*◌, ◌^
 ghost use Rattle.rl_bus.specs.Causes.{HasCause};
 ghost use Rattle.rl_access.specs.Call.{scene};
 ghost use Rattle.rl_access.specs.Model.{IsReady, IsSameChip};
-ghost use Rattle.rl_mirror.specs.Fields.{size_of};
+ghost use Rattle.rl_model.specs.Fields.{size_of};
 ghost use Rattle.rl_seq.specs.Plan.{Walks, IsSequence, each_below, followed_by};
 ghost use Rattle.rl_seq.specs.Steps.{bit_bash_plan, bash_reg, bash_place, bash_bit, bash_once};
 

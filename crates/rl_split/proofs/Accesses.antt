@@ -17,7 +17,8 @@ use Rattle.rl_map.specs.Layout.{LayoutData, place_at as row_at, port_at, words_o
 use Rattle.rl_split.specs.Access.{all_bytes, lanes_for, sent_words, kind_of, carries_lanes}
 use Rattle.rl_split.specs.Law.{IsPlaceOf, WholeWriteIsStep, WholeReadIsStep, NarrowWriteIsStep, NarrowReadIsStep}
 use Rattle.rl_split.specs.Narrow.{field_at, first_byte, last_byte, touches, bytes_of_field, share_byte, has_neighbour, is_narrow}
-use Rattle.rl_split.specs.Step.{no_field, first_of, count_of, every, only}
+use Rattle.rl_model.specs.Fields.{no_field, first_of, count_of}
+use Rattle.rl_split.specs.Step.{every, only}
 use Rattle.rl_split.proofs.Chosen.{sent_touches, sent_split}
 use Rattle.rl_split.proofs.Policies.{has_row, field_fits, in_row, IsPlaced, placed}
 use Rattle.rl_split.proofs.Sending.{IsHere, is_here, all_reached, narrow_reached, turns}

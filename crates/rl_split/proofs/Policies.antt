@@ -14,7 +14,7 @@ use Rattle.rl_model.specs.Chip.{IsSound as IsSoundChip, IsFieldOf, FieldFits}
 use Rattle.rl_bus.specs.Setup.{Setup, Flaws, no_field as no_row, covers, policy_of, policy_at, field_at, or_else}
 use Rattle.rl_map.specs.Layout.{LayoutData}
 use Rattle.rl_map.specs.Tables.{field_row, setup_of}
-use Rattle.rl_split.specs.Step.{no_field, first_of, count_of, fields_of, place_at, policy_in}
+use Rattle.rl_model.specs.Fields.{no_field, first_of, count_of, fields_of, place_at, policy_in}
 use Rattle.rl_split.specs.Law.{no_flaws}
 
 first_below : (m : ℕ) → ltb 0 (suc m) ≡ true
@@ -158,7 +158,7 @@ policy_mapped (Some f) = refl
 
 -- in a device without flaws each bit has the policy of the field that it belongs to
 pub policy_by_place : (c : ChipData) (l : LayoutData) (reg b : ℕ) → IsSoundChip c → HasRow c reg → policy_at (setup_of c l no_flaws) reg b ≡ option_map (policy_in (fields_of c reg)) (place_at (fields_of c reg) b)
-unfolding setup_of fields_of
+unfolding setup_of fields_of place_at
 policy_by_place c l reg b sound h =
     let t = setup_of c l no_flaws in
     declared_policy t (field_at t reg b) refl
@@ -182,7 +182,7 @@ short_part n m xs k l =
     (omega (arith, e), omega (arith, e))
 
 pub placed : (c : ChipData) (reg b k : ℕ) → IsSoundChip c → HasRow c reg → place_at (fields_of c reg) b ≡ Some k → IsPlaced c reg b k
-unfolding fields_of
+unfolding fields_of place_at
 placed c reg b k sound h e =
     let n = count_of c reg in
     let m = first_of c reg in

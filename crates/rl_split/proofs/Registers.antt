@@ -9,7 +9,7 @@ use Rattle.rl_model.specs.declared.rows.RegRow.{RegRow}
 use Rattle.rl_model.specs.Rows.{FieldSeen, ChipData}
 use Rattle.rl_model.specs.Chip.{IsSound as IsSoundChip, IsFieldOf}
 use Rattle.rl_split.specs.Narrow.{field_at, share_byte, has_neighbour}
-use Rattle.rl_split.specs.Step.{no_field, first_of, count_of}
+use Rattle.rl_model.specs.Fields.{no_field, first_of, count_of}
 use Rattle.rl_split.proofs.Policies.{field_fits}
 
 -- a field of the chip

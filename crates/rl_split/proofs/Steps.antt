@@ -18,7 +18,8 @@ use Rattle.rl_map.specs.Tables.{setup_of}
 use Rattle.rl_split.specs.Access.{lanes_for, sent_words, op_of, ops_of, sent_of, joined}
 use Rattle.rl_split.specs.Law.{no_flaws, IsReady, Holds, marked_bit, marks_with, after_wstep, after_rstep, written_answer, IsWrite, IsRead}
 use Rattle.rl_split.specs.Runs.{state_after_all, counted_on}
-use Rattle.rl_split.specs.Step.{Register, fields_of, place_at, policy_in, written_bit, left_bit, shown_bit, wstep, rstep, ranswer}
+use Rattle.rl_model.specs.Fields.{fields_of, place_at, policy_in}
+use Rattle.rl_split.specs.Step.{Register, written_bit, left_bit, shown_bit, wstep, rstep, ranswer}
 use Rattle.rl_split.proofs.Carried.{spread_gathered}
 use Rattle.rl_split.proofs.Policies.{HasRow, policy_by_place}
 use Rattle.rl_split.proofs.ReadRuns.{AreSplit, reads_run, take_all, take_bits, take_small, shown_all, shown_bits, read_answer}

@@ -14,7 +14,8 @@ use Rattle.rl_map.specs.Tables.{setup_of}
 use Rattle.rl_split.specs.Access.{all_bytes, ops_of, joined}
 use Rattle.rl_split.specs.Narrow.{field_at, bytes_of_field, is_narrow}
 use Rattle.rl_split.specs.Runs.{state_after_all, answers_of, counted_on}
-use Rattle.rl_split.specs.Step.{fields_of, first_of, place_at, Register, every, only, wstep, rstep, ranswer}
+use Rattle.rl_model.specs.Fields.{fields_of, first_of, place_at}
+use Rattle.rl_split.specs.Step.{Register, every, only, wstep, rstep, ranswer}
 
 -- ---- a device that holds a register
 

@@ -6,7 +6,7 @@ use Rattle.rl_model.specs.declared.rows.Field.{Field}
 use Rattle.rl_model.specs.Rows.{ChipData}
 use Rattle.rl_map.specs.Layout.{LayoutData, port_at, place_at}
 use Rattle.rl_split.specs.Access.{kind_of, carries_lanes}
-use Rattle.rl_split.specs.Step.{no_field, first_of, count_of}
+use Rattle.rl_model.specs.Fields.{no_field, first_of, count_of}
 
 abbrev pub field_at : ChipData → ℕ → Field
 field_at c field = (get_or c.fields field no_field).shape

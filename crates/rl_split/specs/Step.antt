@@ -1,43 +1,11 @@
 -- One step of a register as a whole: its fields, and no word, lane or address.
-use Rattle.std.specs.Prelude.{ℕ, Bool, true, false, ◌&&◌, ◌||◌, ◌==◌, if◌then◌else◌, List, [], get_or, take, drop, position, slice_get, Option, Some, None}
-use Rattle.std.specs.Option.{option_map_or}
-use Rattle.rl_policy.specs.Bits.{bit, from_bits, is_within}
+use Rattle.std.specs.Prelude.{ℕ, Bool, true, false, ◌&&◌, ◌||◌, ◌==◌, if◌then◌else◌, List, Option, Some, None}
+use Rattle.rl_policy.specs.Bits.{bit, from_bits}
 use Rattle.rl_policy.specs.Table.{after_write, after_read, value_read, spends_mark}
-use Rattle.rl_policy.specs.declared.policy.Policy.{Policy}
-use Rattle.rl_policy.specs.declared.policy.Policy.TheVariants.{Ro}
-use Rattle.rl_model.specs.Rows.{FieldSeen, ChipData}
+use Rattle.rl_model.specs.Rows.{FieldSeen}
+use Rattle.rl_model.specs.Fields.{policy_in, place_at}
 
--- ---- the fields of a register
-
--- past the end of a list of fields
-abbrev pub no_field : FieldSeen
-no_field = record {
-  shape = record { reg = 0; lsb = 0; width = 0; policy = Ro; volatile = false; compare = false; alone = false };
-  name = [];
-  resets = [];
-}
-
--- the number of a register's first field, how many it has, and its bytes
-abbrev pub first_of : ChipData → ℕ → ℕ
-first_of c reg = option_map_or (λ r. r.first) (slice_get c.regs reg) 0
-
-abbrev pub count_of : ChipData → ℕ → ℕ
-count_of c reg = option_map_or (λ r. r.count) (slice_get c.regs reg) 0
-
-abbrev pub size_of : ChipData → ℕ → ℕ
-size_of c reg = option_map_or (λ r. r.bytes) (slice_get c.regs reg) 0
-
-unfoldable pub fields_of : ChipData → ℕ → List FieldSeen
-fields_of c reg = take (count_of c reg) (drop (first_of c reg) c.fields)
-
--- the place of the field that bit b belongs to
-abbrev pub place_at : List FieldSeen → ℕ → Option ℕ
-place_at fields b = position (λ f. is_within f.shape.lsb f.shape.width b) fields
-
-abbrev pub policy_in : List FieldSeen → ℕ → Policy
-policy_in fields k = (get_or fields k no_field).shape.policy
-
--- ---- a register, and sets of its fields by their places
+-- ---- a register, and sets of its fields: each by its number among them
 
 -- the bits, and a spent mark for each field
 pub record Register : Type 0 where
@@ -48,9 +16,9 @@ abbrev pub every : ℕ → Bool
 every k = true
 
 abbrev pub only : ℕ → ℕ → Bool
-only place k = k == place
+only field k = k == field
 
--- ---- one bit, by the place of the field that it belongs to
+-- ---- one bit, by the field that it belongs to
 
 abbrev pub written_bit : List FieldSeen → (chosen spent : ℕ → Bool) → Option ℕ → (stored written : Bool) → Bool
 written_bit fields chosen spent None x w = x

@@ -3,7 +3,7 @@ ghost use Rattle.std.specs.Prelude.{◌≡◌, ◌+◌, ◌^◌, ◌≤◌, ◌<
 ghost use Rattle.rl_map.specs.Maps.{IsBuiltWith};
 ghost use Rattle.rl_split.specs.Access.{carries_lanes};
 ghost use Rattle.rl_split.specs.Narrow.{field_at, share_byte, has_neighbour, is_narrow};
-ghost use Rattle.rl_split.specs.Step.{first_of, count_of};
+ghost use Rattle.rl_model.specs.Fields.{first_of, count_of};
 
 use rl_bus::AdapterKind;
 use rl_map::Layout;
@@ -13,7 +13,7 @@ use rl_model::{Chip, Field};
 ///
 /// So it is where the field is marked `alone`, no other field has a bit in its bytes, prediction is
 /// implicit, no map on the path is of a FIFO kind, and the adapter carries byte enables in the direction.
-/// Any other field access goes to the whole register.
+/// Any other field access goes to the whole register. These conditions are this project's own.
 #[tactic(auto, unfolding(crate::specs::Narrow::is_narrow))]
 pub fn narrow(chip: &Chip, layout: &Layout, field: u32, place: u32, write: bool) -> bool
     requires field { field < length chip.now.fields }

@@ -1,9 +1,13 @@
 //! The bus operations of a register or memory access: which words it sends, what each carries, and what
 //! their answers bring.
 //!
-//! An access goes to a place of a layout. It sends the words of the place that have a chosen byte, in the
-//! order of the endian kinds on the path. The narrow form of a field access chooses the bytes of the field
-//! alone, as byte enables allow it; its conditions are this project's own.
+//! An access goes to a place of a layout. It sends the words of the place that have a chosen byte, in their
+//! order in time. The narrow form of a field access chooses the bytes of the field alone, as byte enables
+//! allow it.
+//!
+//! That a wide item goes over a narrow bus in several operations, by the endian kinds, follows IEEE 1800.2.
+//! This project's own are the order of the words in time, what stands in lanes that aren't chosen, the
+//! conditions of a narrow access, and the laws.
 #![tactic(auto)]
 
 mod access;

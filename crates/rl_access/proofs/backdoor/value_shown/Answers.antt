@@ -1,4 +1,4 @@
-use Rattle.rl_mirror.specs.Fields.{size_of}
+use Rattle.rl_model.specs.Fields.{size_of}
 use Rattle.rl_model.specs.Rows.{ChipData}
 use Rattle.std.proofs.Common.{◌<◌, ◌^◌, subst}
 use Rattle.rl_access.proofs.Bytes.{below_digits}

@@ -3,7 +3,7 @@ use Rattle.std.proofs.lemmas.Bool.{cond-true}
 use Rattle.rl_policy.specs.Bits.{bit}
 use Rattle.rl_policy.proofs.BitLemmas.{bit-max}
 use Rattle.rl_mirror.specs.Effect.{effect_bit}
-use Rattle.rl_mirror.specs.Fields.{fields_of, policy_in}
+use Rattle.rl_model.specs.Fields.{fields_of, policy_in}
 use Rattle.rl_mirror.specs.Mirror.{marks_in}
 use Rattle.rl_mirror.proofs.FieldLemmas.{field_list}
 use Rattle.rl_mirror.proofs.WordLemmas.{owned_zero, word_by_field-same}

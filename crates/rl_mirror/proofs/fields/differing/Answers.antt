@@ -6,7 +6,8 @@ use Rattle.rl_policy.proofs.BitLemmas.{bit-zero, bit-or, is_from_bits}
 use Rattle.rl_model.specs.declared.rows.Field.{Field}
 use Rattle.rl_model.specs.Rows.{FieldSeen}
 use Rattle.rl_mirror.specs.Compared.{is_compared, differs, differing}
-use Rattle.rl_mirror.specs.Fields.{fields_of, count_of, field_in, part_of}
+use Rattle.rl_model.specs.Fields.{fields_of, count_of, field_in}
+use Rattle.rl_mirror.specs.Fields.{part_of}
 use Rattle.rl_mirror.proofs.FieldLemmas.{length-fields_of}
 use Rattle.rl_mirror.proofs.SetLemmas.{among, among-zero, among-added, among-passed, among-all, among-none}
 use Rattle.rl_mirror.proofs.WordLemmas.{small_from_bits}
@@ -53,8 +54,8 @@ loop-k-preserved c =
     let d : ℕ → Bool = λ k. differs (field_in (fields_of c.args.chip.now c.args.reg) k).shape c.args.read c.args.mirrored in
     let here : d c.loop-k.k ≡ true = ap (λ (f : Field). differs f c.args.read c.args.mirrored) (sym c.field_at.ensures.field) ∙ sym c.differs.ensures ∙ c.if-not-differs.false in
     record {
-      fits = or_lt 64 c.loop-k.places c.window-places.result (omega arith) (omega arith);
-      bits = λ k l. bit-or c.loop-k.places c.window-places.result k ∙ rw (c.loop-k.invariant.bits k l, c.window-places.ensures k l) (among-added c.loop-k.k k d here);
+      fits = or_lt 64 c.loop-k.fields c.window-fields.result (omega arith) (omega arith);
+      bits = λ k l. bit-or c.loop-k.fields c.window-fields.result k ∙ rw (c.loop-k.invariant.bits k l, c.window-fields.ensures k l) (among-added c.loop-k.k k d here);
     }
 
 pub returns : goal.returns
@@ -65,9 +66,9 @@ returns c =
     let count : length fs ≡ count_of c.args.chip.now c.args.reg = length-fields_of c.args.chip.now c.args.reg c.field_count-k-end.ensures.sound c.requires in
     let end : c.loop-k.k ≡ length fs = omega (arith, c.field_count-k-end.ensures.count, c.loop-k-test.false, c.loop-k.auto.k-end) in
     let few : length fs ≤ 64 = omega (arith, c.field_count-k-end.ensures.count, c.field_count-k-end.ensures.few) in
-    let bits : (k : ℕ) → k < 64 → bit c.loop-k.places k ≡ among (length fs) d k = λ k l. subst (λ (n : ℕ). bit c.loop-k.places k ≡ among n d k) end (c.loop-k.invariant.bits k l) in
-    let small : c.loop-k.places < 2 ^ length fs = small_from_bits c.loop-k.places (length fs) c.loop-k.invariant.fits few (λ k past l. bits k l ∙ among-none (length fs) k d past) in
+    let bits : (k : ℕ) → k < 64 → bit c.loop-k.fields k ≡ among (length fs) d k = λ k l. subst (λ (n : ℕ). bit c.loop-k.fields k ≡ among n d k) end (c.loop-k.invariant.bits k l) in
+    let small : c.loop-k.fields < 2 ^ length fs = small_from_bits c.loop-k.fields (length fs) c.loop-k.invariant.fits few (λ k past l. bits k l ∙ among-none (length fs) k d past) in
     record {
-      value = is_from_bits (length fs) c.loop-k.places d small (λ k l. bits k (omega arith) ∙ among-all (length fs) k d l);
-      fits = subst (λ (n : ℕ). c.loop-k.places < 2 ^ n) count small;
+      value = is_from_bits (length fs) c.loop-k.fields d small (λ k l. bits k (omega arith) ∙ among-all (length fs) k d l);
+      fits = subst (λ (n : ℕ). c.loop-k.fields < 2 ^ n) count small;
     }

@@ -1,5 +1,5 @@
 use Rattle.std.proofs.Common.{◌≡◌, ◌∙◌, sym, length, arith}
-use Rattle.rl_mirror.specs.Fields.{fields_of}
+use Rattle.rl_model.specs.Fields.{fields_of}
 use Rattle.rl_mirror.proofs.FieldLemmas.{row_answer, length-fields_of, field_list}
 use Rattle.rl_mirror.proofs.fields.field_count.Goals as goal
 

@@ -1,5 +1,5 @@
 use Rattle.std.proofs.Common.{◌≡◌, arith}
-use Rattle.rl_mirror.specs.Fields.{field_of}
+use Rattle.rl_model.specs.Fields.{field_of}
 use Rattle.rl_mirror.proofs.FieldLemmas.{field_answer, seated}
 use Rattle.rl_mirror.proofs.fields.numbered_field.Goals as goal
 

@@ -2,13 +2,14 @@ use Rattle.std.proofs.Common.{◌≡◌, ℕ, Bool, subst, ◌<◌, true, false,
 use Rattle.rl_policy.specs.Bits.{bit}
 use Rattle.rl_model.specs.declared.rows.Field.{Field}
 use Rattle.rl_mirror.specs.Effect.{effect_bit}
-use Rattle.rl_mirror.specs.Fields.{fields_of, place_at, policy_in, word_by_field}
+use Rattle.rl_model.specs.Fields.{fields_of, place_at, policy_in}
+use Rattle.rl_mirror.specs.Fields.{word_by_field}
 use Rattle.rl_mirror.specs.Mirror.{marks_in, IsValueOf}
 use Rattle.rl_mirror.proofs.PlaceLemmas.{taken, so_far-skip}
 use Rattle.rl_mirror.proofs.FieldLemmas.{field_list}
 use Rattle.rl_mirror.proofs.WordLemmas.{is_word_by_field, finished, word_is_value}
 use Rattle.rl_mirror.proofs.fields.overlaid.Goals as goal
-use Rattle.rl_mirror.proofs.fields.overlaid.Goals.{then-has_place, else-has_place}
+use Rattle.rl_mirror.proofs.fields.overlaid.Goals.{then-has_field, else-has_field}
 
 pub loop-k-preserved : goal.loop-k-preserved
 loop-k-preserved c =
@@ -16,9 +17,9 @@ loop-k-preserved c =
     let k = c.loop-k.k in
     let place : k < length fs = omega (arith, c.field_count-k-end.ensures.count, c.loop-k-test.true) in
     let part : ℕ → ℕ → Bool = λ b k. cond (bit c.args.fields k) (effect_bit c.args.effect (policy_in fs k) (marks_in c.args.chip.now c.args.spent.now c.args.reg k) b) (bit c.args.kept b) in
-    elim c.if-has_place.branch [
-      | then-has_place w ↦
-          let chosen : bit c.args.fields k ≡ true = sym c.has_place.ensures ∙ w.if-has_place.true in
+    elim c.if-has_field.branch [
+      | then-has_field w ↦
+          let chosen : bit c.args.fields k ≡ true = sym c.has_field.ensures ∙ w.if-has_field.true in
           let policy : c.field_at-field.result.policy ≡ policy_in fs k = ap (λ (f : Field). f.policy) c.field_at-field.ensures.field in
           record {
             fits = omega (arith, w.word-is);
@@ -27,8 +28,8 @@ loop-k-preserved c =
                 ∙ taken _ fs k b c.field_at-field.result (part b) (bit c.args.kept b) _ _ _ _ (field_list c.args.chip.now c.args.reg c.field_count-k-end.ensures.sound c.requires.reg) place c.field_at-field.ensures.field
                 (w.window.ensures b l) (w.replaced-word.ensures b l) (w.on-by.ensures b l ∙ rw (chosen, policy, w.mark_at.ensures) refl) (c.loop-k.invariant.bits b l);
           }
-      | else-has_place w ↦
-          let left : bit c.args.fields k ≡ false = sym c.has_place.ensures ∙ w.if-has_place.false in
+      | else-has_field w ↦
+          let left : bit c.args.fields k ≡ false = sym c.has_field.ensures ∙ w.if-has_field.false in
           record {
             fits = omega (arith, w.word-is, c.loop-k.invariant.fits);
             bits = λ b l.

@@ -1,7 +1,7 @@
 use Rattle.std.proofs.Common.{◌≡◌, ℕ, ◌<◌, ◌^◌, cond}
 use Rattle.rl_policy.specs.Bits.{bit}
 use Rattle.rl_mirror.specs.Effect.{effect_bit}
-use Rattle.rl_mirror.specs.Fields.{fields_of, policy_in, place_at}
+use Rattle.rl_model.specs.Fields.{fields_of, policy_in, place_at}
 use Rattle.rl_mirror.specs.Mirror.{marks_in}
 use Rattle.rl_mirror.proofs.PlaceLemmas.{so_far}
 use Rattle.rl_mirror.proofs.fields.overlaid.Given as goal

@@ -3,7 +3,7 @@ use Rattle.std.proofs.lemmas.List.{length-set}
 use Rattle.rl_policy.specs.Bits.{bit}
 use Rattle.rl_policy.specs.Table.{spends_mark}
 use Rattle.rl_model.specs.Rows.{FieldSeen}
-use Rattle.rl_mirror.specs.Fields.{first_of, count_of, fields_of}
+use Rattle.rl_model.specs.Fields.{first_of, count_of, fields_of}
 use Rattle.rl_mirror.proofs.FieldLemmas.{field_in-fields_of, length-fields_of}
 use Rattle.rl_mirror.proofs.SpentLemmas.{is_spent_so_far, spends_at, spent_none, spent_passed, spent_added, spent_all}
 use Rattle.rl_mirror.proofs.fields.spend.Goals as goal
@@ -14,14 +14,14 @@ loop-k-init c = record {
   marks = λ n l. spent_none c.args.chip.now c.args.reg c.args.fields n (get_or c.args.spent.now n false);
 }
 
-pub loop-k-preserved-then-not-spends_place : goal.loop-k-preserved-then-not-spends_place
-loop-k-preserved-then-not-spends_place c =
+pub loop-k-preserved-then-not-spends_field : goal.loop-k-preserved-then-not-spends_field
+loop-k-preserved-then-not-spends_field c =
     let chip = c.args.chip.now in
     let k = c.loop-k.k in
     let place : k < length (fields_of chip c.args.reg) = omega (arith, c.field_count-k-end.ensures.count, c.loop-k-test.true) in
     let here : spends_at chip c.args.reg c.args.fields k ≡ false =
     ap (λ (f : FieldSeen). bit c.args.fields k && spends_mark f.shape.policy) (sym (field_in-fields_of chip c.args.reg k c.field_count-k-end.ensures.sound c.requires.reg place))
-    ∙ sym c.spends_place.ensures ∙ c.if-not-spends_place.true in
+    ∙ sym c.spends_field.ensures ∙ c.if-not-spends_field.true in
     record {
       long = c.loop-k.invariant.long;
       marks = λ n l. c.loop-k.invariant.marks n l ∙ ap (λ t. get_or c.args.spent.now n false || t) (spent_passed chip c.args.reg c.args.fields k n here);
@@ -35,7 +35,7 @@ loop-k-preserved c =
     let place : k < length (fields_of chip c.args.reg) = omega (arith, c.field_count-k-end.ensures.count, c.loop-k-test.true) in
     let here : spends_at chip c.args.reg c.args.fields k ≡ true =
     ap (λ (f : FieldSeen). bit c.args.fields k && spends_mark f.shape.policy) (sym (field_in-fields_of chip c.args.reg k c.field_count-k-end.ensures.sound c.requires.reg place))
-    ∙ sym c.spends_place.ensures ∙ c.if-not-spends_place.false in
+    ∙ sym c.spends_field.ensures ∙ c.if-not-spends_field.false in
     let number : c.field_number.result ≡ first_of chip c.args.reg + k = c.field_number.ensures.number in
     let within : first_of chip c.args.reg + k < length spent = omega (arith, c.field_number.ensures.within, c.loop-k.invariant.long, c.requires.marks) in
     record {

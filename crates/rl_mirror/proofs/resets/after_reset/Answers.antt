@@ -1,7 +1,8 @@
 use Rattle.std.proofs.Common.{◌≡◌, ℕ, Bool, ◌<◌, cond, refl, ap, ◌∙◌, length, arith}
 use Rattle.rl_policy.specs.Bits.{bit}
 use Rattle.rl_policy.proofs.BitLemmas.{bit-from_bits}
-use Rattle.rl_mirror.specs.Fields.{fields_of, field_in, covers, place_at, word_by_field}
+use Rattle.rl_model.specs.Fields.{fields_of, field_in, covers, place_at}
+use Rattle.rl_mirror.specs.Fields.{word_by_field}
 use Rattle.rl_mirror.specs.Prediction.{reset_bit, after_reset}
 use Rattle.rl_mirror.proofs.PlaceLemmas.{so_far-next, covers_is}
 use Rattle.rl_mirror.proofs.FieldLemmas.{field_list}

@@ -1,6 +1,6 @@
 use Rattle.std.proofs.Common.{◌≡◌, ℕ, ◌<◌, ◌^◌}
 use Rattle.rl_policy.specs.Bits.{bit}
-use Rattle.rl_mirror.specs.Fields.{fields_of, field_in, place_at}
+use Rattle.rl_model.specs.Fields.{fields_of, field_in, place_at}
 use Rattle.rl_mirror.specs.Prediction.{reset_bit}
 use Rattle.rl_mirror.proofs.PlaceLemmas.{so_far}
 use Rattle.rl_mirror.proofs.resets.after_reset.Given as goal

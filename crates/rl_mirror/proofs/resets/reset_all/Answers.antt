@@ -2,7 +2,7 @@ use Rattle.std.proofs.Common.{◌≡◌, ℕ, ◌<◌, map, length, get_or, sym,
 use Rattle.std.specs.List.{range_with_len}
 use Rattle.std.proofs.lemmas.List.{same_lists, get_or_default}
 use Rattle.std.proofs.lemmas.List.FromFn.{get_or-map-range_with_len, length-map-range_with_len}
-use Rattle.rl_mirror.specs.Fields.{fields_of}
+use Rattle.rl_model.specs.Fields.{fields_of}
 use Rattle.rl_mirror.specs.Prediction.{after_reset}
 use Rattle.rl_mirror.proofs.resets.reset_all.Goals as goal
 

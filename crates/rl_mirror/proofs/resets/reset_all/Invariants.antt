@@ -1,5 +1,5 @@
 use Rattle.std.proofs.Common.{◌≡◌, ℕ, ◌<◌, ◌≤◌, length, get_or}
-use Rattle.rl_mirror.specs.Fields.{fields_of}
+use Rattle.rl_model.specs.Fields.{fields_of}
 use Rattle.rl_mirror.specs.Prediction.{after_reset}
 use Rattle.rl_mirror.proofs.resets.reset_all.Given as goal
 

@@ -2,7 +2,7 @@ use Rattle.std.proofs.Common.{◌≡◌, Some, None, sym, ap, ◌∙◌, arith}
 use Rattle.rl_model.specs.declared.rows.Field.{Field}
 use Rattle.rl_model.specs.Rows.{FieldSeen}
 use Rattle.rl_model.specs.Chip.{value_for}
-use Rattle.rl_mirror.specs.Fields.{field_of, fields_of, field_in}
+use Rattle.rl_model.specs.Fields.{field_of, fields_of, field_in}
 use Rattle.rl_mirror.proofs.FieldLemmas.{field_in-fields_of}
 use Rattle.rl_mirror.proofs.ResetLemmas.{reset_answer, reset_fits, put_is_reset, none_is_reset}
 use Rattle.rl_mirror.proofs.resets.with_reset.Goals as goal
@@ -12,7 +12,7 @@ put-requires-clause-v_fits c =
     let chip = c.args.chip.now in
     let n = c.field_number.result in
     let is : field_in (fields_of chip c.args.reg) c.args.k ≡ field_of chip n =
-    field_in-fields_of chip c.args.reg c.args.k c.in-Some.ensures.sound c.requires.reg c.requires.place ∙ ap (field_of chip) (sym c.field_number.ensures.number) in
+    field_in-fields_of chip c.args.reg c.args.k c.in-Some.ensures.sound c.requires.reg c.requires.field ∙ ap (field_of chip) (sym c.field_number.ensures.number) in
     let found : value_for c.args.kind (field_of chip n).resets ≡ Some c.in-Some.value = sym (reset_answer chip n c.args.kind (Some c.in-Some.value) c.field_number.ensures.within c.in-Some.ensures.value) in
     let width : c.field_at-field.result.width ≡ (field_of chip n).shape.width = ap (λ (f : Field). f.width) c.field_at-field.ensures.field ∙ ap (λ (f : FieldSeen). f.shape.width) is in
     rw width (reset_fits chip n c.args.kind c.in-Some.value c.in-Some.ensures.sound c.field_number.ensures.within found)
@@ -23,7 +23,7 @@ returns-in-Some c =
     let n = c.field_number.result in
     let f = field_in (fields_of chip c.args.reg) c.args.k in
     let is : f ≡ field_of chip n =
-    field_in-fields_of chip c.args.reg c.args.k c.in-Some.ensures.sound c.requires.reg c.requires.place ∙ ap (field_of chip) (sym c.field_number.ensures.number) in
+    field_in-fields_of chip c.args.reg c.args.k c.in-Some.ensures.sound c.requires.reg c.requires.field ∙ ap (field_of chip) (sym c.field_number.ensures.number) in
     let found : value_for c.args.kind f.resets ≡ Some c.in-Some.value =
     ap (λ (f : FieldSeen). value_for c.args.kind f.resets) is ∙ sym (reset_answer chip n c.args.kind (Some c.in-Some.value) c.field_number.ensures.within c.in-Some.ensures.value) in
     put_is_reset f c.args.kind c.in-Some.value c.args.word c.put.result c.field_at-field.result.lsb c.field_at-field.result.width found
@@ -35,7 +35,7 @@ returns-in-None c =
     let n = c.field_number.result in
     let f = field_in (fields_of chip c.args.reg) c.args.k in
     let is : f ≡ field_of chip n =
-    field_in-fields_of chip c.args.reg c.args.k c.in-None.ensures.sound c.requires.reg c.requires.place ∙ ap (field_of chip) (sym c.field_number.ensures.number) in
+    field_in-fields_of chip c.args.reg c.args.k c.in-None.ensures.sound c.requires.reg c.requires.field ∙ ap (field_of chip) (sym c.field_number.ensures.number) in
     let none : value_for c.args.kind f.resets ≡ None =
     ap (λ (f : FieldSeen). value_for c.args.kind f.resets) is ∙ sym (reset_answer chip n c.args.kind None c.field_number.ensures.within c.in-None.ensures.value) in
     none_is_reset f c.args.kind c.args.word none (omega arith)

@@ -1,6 +1,6 @@
 use Rattle.std.proofs.Common.{◌≡◌, ◌+◌, ◌<◌, length, arith, ap, sym, ◌∙◌}
 use Rattle.rl_model.specs.Rows.{FieldSeen}
-use Rattle.rl_mirror.specs.Fields.{field_of, field_in, fields_of, first_of}
+use Rattle.rl_model.specs.Fields.{field_of, field_in, fields_of, first_of}
 use Rattle.rl_mirror.proofs.FieldLemmas.{length-fields_of, field_in-fields_of}
 use Rattle.rl_report.proofs.GatherLemmas.{gathers_more, gathers_last, gathers_failed}
 use Rattle.rl_report.proofs.event.put_name.Goals as goal

@@ -1,5 +1,5 @@
 use Rattle.std.proofs.Common.{arith, ◌∙◌}
-use Rattle.rl_mirror.specs.Fields.{count_of}
+use Rattle.rl_model.specs.Fields.{count_of}
 use Rattle.rl_report.specs.EventText.{name_text}
 use Rattle.rl_report.proofs.ListingLemmas.{next_number, no_number}
 use Rattle.rl_report.proofs.GatherLemmas.{less_over, over_stopped, none_over}

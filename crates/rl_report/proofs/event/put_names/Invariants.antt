@@ -1,7 +1,7 @@
 -- The names from the next place on are left.
 use Rattle.std.proofs.Common.{◌≡◌, ◌-◌, ◌≤◌}
 use Rattle.std.specs.List.{flat_map, range_with_len}
-use Rattle.rl_mirror.specs.Fields.{count_of}
+use Rattle.rl_model.specs.Fields.{count_of}
 use Rattle.rl_report.specs.EventText.{name_text, names_text}
 use Rattle.rl_report.proofs.GatherLemmas.{IsLeftOver}
 use Rattle.rl_report.proofs.event.put_names.Given as goal

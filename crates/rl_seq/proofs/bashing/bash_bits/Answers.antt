@@ -1,7 +1,7 @@
 use Rattle.std.proofs.Common.{◌≡◌, ◌*◌, ◌∙◌, refl, ap, arith}
 use Rattle.rl_seq.specs.Steps.{bash_bit}
 use Rattle.rl_model.specs.Rows.{ChipData}
-use Rattle.rl_mirror.specs.Fields.{size_of}
+use Rattle.rl_model.specs.Fields.{size_of}
 use Rattle.rl_seq.specs.Plan.{each_below}
 use Rattle.rl_seq.proofs.Going.{same_parts, parts_on}
 use Rattle.rl_seq.proofs.Planned.{walked_first, walked_more, walked_broke, walked_all, same_plan}

@@ -1,5 +1,5 @@
 use Rattle.std.proofs.Common.{◌≡◌, ◌+◌, false, not}
-use Rattle.rl_mirror.specs.Fields.{field_of, first_of}
+use Rattle.rl_model.specs.Fields.{field_of, first_of}
 use Rattle.rl_seq.specs.Choice.{any_below, is_read_only}
 use Rattle.rl_seq.proofs.choice.has_writable_field.Given as goal
 

@@ -2,7 +2,7 @@ use Rattle.std.proofs.Common.{◌≡◌, ◌-◌, true, false, not, ◌&&◌, eq
 use Rattle.std.specs.List.{list_any, range_with_len}
 use Rattle.rl_model.specs.declared.rows.Field.{Field}
 use Rattle.rl_split.specs.Narrow.{field_at, share_byte}
-use Rattle.rl_split.specs.Step.{first_of, count_of}
+use Rattle.rl_model.specs.Fields.{first_of, count_of}
 use Rattle.rl_split.proofs.Registers.{first_is, count_is, is_neighbour, neighbour_found, none_further, none_neighbour}
 use Rattle.rl_split.proofs.fields.has_neighbour.Goals as goal
 use Rattle.rl_split.proofs.fields.has_neighbour.Goals.{else-other-field-via-then-other-field+else-share_byte, else-other-field-via-else-other-field}

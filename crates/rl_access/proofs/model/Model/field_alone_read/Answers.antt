@@ -1,5 +1,5 @@
 use Rattle.std.proofs.Common.{arith}
-use Rattle.rl_mirror.specs.Fields.{field_of}
+use Rattle.rl_model.specs.Fields.{field_of}
 use Rattle.rl_access.proofs.Bytes.{zero_fits}
 use Rattle.rl_access.proofs.model.Model.field_alone_read.Goals as goal
 

@@ -1,5 +1,5 @@
 use Rattle.std.proofs.Common.{◌≡◌, Some, option_map, slice_get, sym, ap, subst, ◌∙◌, arith}
-use Rattle.rl_mirror.specs.Fields.{first_of}
+use Rattle.rl_model.specs.Fields.{first_of}
 use Rattle.rl_access.specs.Model.{IsModel, ModelData}
 use Rattle.rl_access.specs.Operation.{reg_of}
 use Rattle.rl_access.proofs.Alone.{first_is}

@@ -1,6 +1,6 @@
 use Rattle.std.proofs.Common.{ap, ◌∙◌}
 use Rattle.rl_mirror.specs.Compared.{differ, differing}
-use Rattle.rl_mirror.specs.Fields.{fields_of}
+use Rattle.rl_model.specs.Fields.{fields_of}
 use Rattle.rl_mirror.proofs.mirror.Mirror.differ.Goals as goal
 
 pub returns-clause-value : goal.returns-clause-value

@@ -1,7 +1,7 @@
 use Rattle.std.proofs.Common.{ap, eqb}
 use Rattle.std.proofs.lemmas.Nat.Bits.{shr_and_one}
 use Rattle.rl_policy.specs.Bits.{bit}
-use Rattle.rl_mirror.proofs.fields.has_place.Goals as goal
+use Rattle.rl_mirror.proofs.fields.has_field.Goals as goal
 
 pub returns : goal.returns
 unfolding bit
