@@ -1,10 +1,11 @@
 -- The rules of events: which operation is refused and why, what any other one sends, and what it makes of the items.
-use Rattle.std.specs.Prelude.{◌≡◌, ℕ, ◌-◌, ◌*◌, ◌^◌, nat_lt, nat_le, ◌+◌, ◌==◌, Bool, true, false, if◌then◌else◌, List, [], slice_get, slice_set, Option, None, Some, Result, Ok, Err}
+use Rattle.std.specs.Prelude.{◌≡◌, ℕ, ◌-◌, ◌*◌, ◌^◌, nat_lt, nat_le, ◌+◌, ◌==◌, Bool, true, false, if◌then◌else◌, List, [], slice_get, slice_set, Option, None, Some, unwrap_or, Result, Ok, Err}
 use Rattle.std.specs.Option.{option_map_or}
 use Rattle.rl_policy.specs.Bits.{bit, from_bits, put_bit}
 use Rattle.rl_bus.specs.declared.op.BusOp.{BusOp}
 use Rattle.rl_bus.specs.declared.table.Cell.TheVariants as cell
 use Rattle.rl_bus.specs.State.{State, peeked, poked, hw_set, reset_by}
+use Rattle.rl_model.specs.Chip.{backdoor_of}
 use Rattle.rl_model.specs.Rows.{ChipData}
 use Rattle.rl_model.specs.declared.rows.Field.{Field}
 use Rattle.rl_model.specs.declared.rows.Item.{Item}
@@ -39,10 +40,6 @@ memory_size c mem = option_map_or (λ m. m.size) (slice_get c.mems mem) 0
 
 abbrev pub is_writable : ChipData → ℕ → Bool
 is_writable c mem = option_map_or (λ m. m.writable) (slice_get c.mems mem) false
-
-abbrev pub has_backdoor : ChipData → Item → Bool
-has_backdoor c (item.Reg reg) = option_map_or (λ r. r.backdoor) (slice_get c.regs reg) false
-has_backdoor c (item.Mem mem) = option_map_or (λ m. m.backdoor) (slice_get c.mems mem) false
 
 abbrev pub item_size : ChipData → Item → ℕ
 item_size c (item.Reg reg) = size_of c reg
@@ -82,7 +79,7 @@ abbrev pub watched_way : ModelData → ℕ → Option ℕ → Bool → Grant
 watched_way m reg map write = with_right m.layout write (with_watch m.layout (placed (place_of m.layout (item.Reg reg) map)))
 
 abbrev pub by_backdoor : ModelData → Item → Grant
-by_backdoor m item = only_where (Ok 0) (has_backdoor m.chip item) NoBackdoor
+by_backdoor m item = only_where (Ok 0) (unwrap_or (backdoor_of m.chip item) false) NoBackdoor
 
 abbrev pub fitting : ModelData → Item → ℕ → Grant → Grant
 fitting m item value grant = only_where grant (nat_lt value (256 ^ item_size m.chip item)) TooWide

@@ -1,5 +1,5 @@
 //! Accesses that bypass the bus.
-ghost use Rattle.std.specs.Prelude.{◌≡◌, ◌*◌, ◌<◌, ◌≤◌, ◌^◌, List, length, option_map, if◌then◌else◌};
+ghost use Rattle.std.specs.Prelude.{◌≡◌, ◌*◌, ◌<◌, ◌≤◌, ◌^◌, List, length, option_map, if◌then◌else◌, OnErr};
 ghost use Rattle.rl_bus.specs.Standing.{Standing};
 ghost use Rattle.rl_bus.specs.State.{poked, hw_set, reset_by};
 ghost use Rattle.rl_bus.specs.declared.table.Cell.TheVariants as cell;
@@ -10,7 +10,7 @@ ghost use Rattle.rl_access.specs.Backdoor.{IsFound, IsReadBehind};
 ghost use Rattle.rl_access.specs.Call.{scene, Performs};
 ghost use Rattle.rl_access.specs.Event.{EventFits};
 ghost use Rattle.rl_access.specs.Model.{IsDeviceOf, IsSameChip};
-ghost use Rattle.rl_access.specs.Rules.{taking_raw};
+ghost use Rattle.rl_access.specs.Rules.{grant, taking_raw};
 
 use crate::event::{End, Event, Op, Refused};
 use crate::model::Model;
@@ -97,6 +97,7 @@ pub fn back_write<D: Device>(m: &mut Model, d: &mut D, reg: u32, value: u64) -> 
     ensures fits { EventFits m.new result }
     ensures later { D.errors d.old ≤ D.errors d.new }
     ensures performs { (adapters : List Standing) → Performs (scene m.old adapters (D.errors d.old) (D.state d.old)) (scene m.new adapters (D.errors d.new) (D.state d.new)) (Op.BackWrite reg value) result }
+    ensures refused { OnErr (grant m.old (Op.BackWrite reg value)) (d.new ≡ d.old) }
 {
     let op = Op::BackWrite { reg, value };
     let item = Item::Reg(reg);
@@ -183,6 +184,7 @@ pub fn back_read<D: Device>(m: &mut Model, d: &mut D, reg: u32, check: bool) -> 
     ensures fits { EventFits m.new result }
     ensures later { D.errors d.old ≤ D.errors d.new }
     ensures performs { (adapters : List Standing) → Performs (scene m.old adapters (D.errors d.old) (D.state d.old)) (scene m.new adapters (D.errors d.new) (D.state d.new)) (if check then Op.BackCheck reg else Op.BackRead reg) result }
+    ensures refused { OnErr (grant m.old (Op.BackRead reg)) (d.new ≡ d.old) }
 {
     if check {
         check_sample(m, d, reg)
@@ -200,6 +202,7 @@ pub fn peek<D: Device>(m: &mut Model, d: &mut D, reg: u32) -> Event
     ensures fits { EventFits m.new result }
     ensures later { D.errors d.old ≤ D.errors d.new }
     ensures performs { (adapters : List Standing) → Performs (scene m.old adapters (D.errors d.old) (D.state d.old)) (scene m.new adapters (D.errors d.new) (D.state d.new)) (Op.Peek reg) result }
+    ensures unchanged { d.new ≡ d.old }
 {
     let op = Op::Peek { reg };
     match m.by_backdoor(Item::Reg(reg)) {
@@ -221,6 +224,7 @@ pub fn poke<D: Device>(m: &mut Model, d: &mut D, reg: u32, value: u64) -> Event
     ensures fits { EventFits m.new result }
     ensures later { D.errors d.old ≤ D.errors d.new }
     ensures performs { (adapters : List Standing) → Performs (scene m.old adapters (D.errors d.old) (D.state d.old)) (scene m.new adapters (D.errors d.new) (D.state d.new)) (Op.Poke reg value) result }
+    ensures refused { OnErr (grant m.old (Op.Poke reg value)) (d.new ≡ d.old) }
 {
     let op = Op::Poke { reg, value };
     let item = Item::Reg(reg);
@@ -243,6 +247,7 @@ pub fn hw<D: Device>(m: &mut Model, d: &mut D, field: u32, value: u64) -> Event
     ensures fits { EventFits m.new result }
     ensures later { D.errors d.old ≤ D.errors d.new }
     ensures performs { (adapters : List Standing) → Performs (scene m.old adapters (D.errors d.old) (D.state d.old)) (scene m.new adapters (D.errors d.new) (D.state d.new)) (Op.Hw field value) result }
+    ensures refused { OnErr (grant m.old (Op.Hw field value)) (d.new ≡ d.old) }
 {
     let shape = m.field(field);
     let op = Op::Hw { field, value };

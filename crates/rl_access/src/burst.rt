@@ -81,6 +81,7 @@ pub fn burst_write<D: Device, R: Recorder>(
     ensures hands_over { IsBurst R.takes R.breaks rec.old rec.new (scene m.old (each standing a.old.items) (D.errors d.old) (D.state d.old)) (scene m.new (each standing a.new.items) (D.errors d.new) (D.state d.new)) (write_grant m.old mem map first values.now) (Op.BurstWrite mem map first (length values.now)) (writes_of mem map first values.now) result }
     ensures cause { HasCause (R.faults rec.old) (R.faults rec.new) result }
     ensures steady { R.steady rec.new ≡ R.steady rec.old }
+    ensures refused { OnErr (write_grant m.old mem map first values.now) (d.new ≡ d.old) }
 {
     let count = values.len() as u64;
     let place = m.place_of(Item::Mem(mem), map);
@@ -161,6 +162,7 @@ pub fn burst_read<D: Device, R: Recorder>(
     ensures hands_over { IsBurst R.takes R.breaks rec.old rec.new (scene m.old (each standing a.old.items) (D.errors d.old) (D.state d.old)) (scene m.new (each standing a.new.items) (D.errors d.new) (D.state d.new)) (grant m.old (Op.BurstRead mem map first count)) (Op.BurstRead mem map first count) (reads_of mem map first count) result }
     ensures cause { HasCause (R.faults rec.old) (R.faults rec.new) result }
     ensures steady { R.steady rec.new ≡ R.steady rec.old }
+    ensures refused { OnErr (grant m.old (Op.BurstRead mem map first count)) (d.new ≡ d.old) }
 {
     let place = m.place_of(Item::Mem(mem), map);
     let op = Op::BurstRead {

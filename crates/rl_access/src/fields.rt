@@ -1,10 +1,10 @@
 //! Accesses to one field, and desired values.
-ghost use Rattle.std.specs.Prelude.{◌≡◌, ◌+◌, ◌<◌, ◌≤◌, map as each, length, true};
+ghost use Rattle.std.specs.Prelude.{◌≡◌, ◌+◌, ◌<◌, ◌≤◌, map as each, length, OnErr, true};
 ghost use Rattle.rl_access.specs.Call.{Performs, PerformsAlone, scene};
 ghost use Rattle.rl_access.specs.Event.{EventFits, IsEndWithin};
 ghost use Rattle.rl_access.specs.Model.{IsReady, IsSameChip};
 ghost use Rattle.rl_access.specs.Operation.{IsMapIn, field_digits, ends_with_value};
-ghost use Rattle.rl_access.specs.Rules.{end_in_field, forgetting_field};
+ghost use Rattle.rl_access.specs.Rules.{grant, end_in_field, forgetting_field};
 ghost use Rattle.rl_access.specs.declared.event.Op.TheVariants as op;
 
 use crate::engine::{read, write_as};
@@ -15,7 +15,8 @@ use rl_model::{Field, Item};
 use rl_policy::take;
 
 /// Writes a field over the bus: its own bytes alone where the access may be narrow, else the whole register
-/// with the neutral word in each other field.
+/// with the neutral word in each other field. When an access may be narrow, and the neutral word, are this
+/// project's own.
 pub fn field_write<D: Device>(
     m: &mut Model,
     d: &mut D,
@@ -31,6 +32,7 @@ pub fn field_write<D: Device>(
     ensures parts { IsSameChip m.old m.new }
     ensures fits { EventFits m.new result }
     ensures performs { Performs (scene m.old (each standing a.old.items) (D.errors d.old) (D.state d.old)) (scene m.new (each standing a.new.items) (D.errors d.new) (D.state d.new)) (op.FieldWrite field map value) result }
+    ensures refused { OnErr (grant m.old (op.FieldWrite field map value)) (d.new ≡ d.old) }
 {
     let reg = m.field(field).reg;
     let place = m.place_of(Item::Reg(reg), map);
@@ -65,6 +67,7 @@ pub fn field_read<D: Device>(
     ensures parts { IsSameChip m.old m.new }
     ensures fits { EventFits m.new result }
     ensures performs { Performs (scene m.old (each standing a.old.items) (D.errors d.old) (D.state d.old)) (scene m.new (each standing a.new.items) (D.errors d.new) (D.state d.new)) (op.FieldRead field map) result }
+    ensures refused { OnErr (grant m.old (op.FieldRead field map)) (d.new ≡ d.old) }
 {
     let shape = m.field(field);
     let place = m.place_of(Item::Reg(shape.reg), map);
@@ -113,7 +116,8 @@ fn part_of(field: &Field, end: End) -> End
     }
 }
 
-/// Gives a field a desired value: what a write of the value would leave of the desired one.
+/// Gives a field a desired value: what a write of the value would leave of the desired one. That rule is this
+/// project's own.
 pub fn set(m: &mut Model, field: u32, value: u64) -> Event
     requires field { field < length m.old.chip.fields }
     ensures fits { EventFits m.new result }

@@ -1,10 +1,14 @@
 //! Accesses to the registers and memories of a chip.
 //!
-//! Each operation of a register model, as IEEE 1800.2 has them in this project's profile: frontdoor
-//! accesses over a bus in whole and narrow form, mirror with check, desired values and updates, the
-//! backdoor, memories and bursts, another master's accesses, and the predictor that watches the bus.
-//! Each call answers an event: the operation, how it ended, the bus items that it sent, and what is then
+//! The operations are those of a register model of IEEE 1800.2: frontdoor accesses over a bus, mirror with
+//! check, desired values and updates, the backdoor, memories and bursts, and the predictor that watches the
+//! bus. Each call answers an event: the operation, how it ended, the bus items that it sent, and what is then
 //! believed of the register.
+//!
+//! This project's own are the order in which an access sends its words, when an access to a field is narrow,
+//! the value after `set`, the word of an update and when one is sent, the neutral word beside a field that is
+//! written, how a predictor gathers words, the exact effects of a backdoor read or write, another master's
+//! accesses, and every refusal, as that of an access whose place lacks the right.
 #![tactic(auto)]
 
 mod access;

@@ -1,5 +1,5 @@
 //! Accesses to the locations of memories.
-ghost use Rattle.std.specs.Prelude.{◌≡◌, ℕ, ◌*◌, ◌<◌, ◌≤◌, ◌^◌, [], map as each, List, length, option_map, All, true, false};
+ghost use Rattle.std.specs.Prelude.{◌≡◌, ℕ, ◌*◌, ◌<◌, ◌≤◌, ◌^◌, [], map as each, List, length, option_map, All, OnErr, true, false};
 ghost use Rattle.rl_bus.specs.Wire.{Fits};
 ghost use Rattle.rl_bus.specs.Standing.{Standing};
 ghost use Rattle.rl_bus.specs.State.{poked};
@@ -14,7 +14,7 @@ ghost use Rattle.rl_access.specs.Items.{AreSent, port_for, adapter_for, failed_a
 ghost use Rattle.rl_access.specs.Event.{EventFits, ItemFits, IsEndWithin};
 ghost use Rattle.rl_access.specs.Model.{ModelData, IsDeviceOf, IsReady};
 ghost use Rattle.rl_access.specs.Operation.{IsMapIn, ends_done, ends_with_value, location_size};
-ghost use Rattle.rl_access.specs.Rules.{memory_size, value_differs, location_value, location_bytes, or_error, quiet};
+ghost use Rattle.rl_access.specs.Rules.{grant, memory_size, value_differs, location_value, location_bytes, or_error, quiet};
 ghost use Rattle.rl_model.specs.declared.rows.Item.TheVariants as item;
 
 use crate::engine::{answers_of, operations, send};
@@ -170,6 +170,7 @@ pub fn mem_write<D: Device>(
     ensures ready { IsReady m.new (each standing a.new.items) (D.state d.new) }
     ensures fits { EventFits m.new result }
     ensures performs { Performs (scene m.old (each standing a.old.items) (D.errors d.old) (D.state d.old)) (scene m.new (each standing a.new.items) (D.errors d.new) (D.state d.new)) (Op.MemWrite mem map index value) result }
+    ensures refused { OnErr (grant m.old (Op.MemWrite mem map index value)) (d.new ≡ d.old) }
 {
     let item = Item::Mem(mem);
     let place = m.place_of(item, map);
@@ -206,6 +207,7 @@ pub fn mem_read<D: Device>(
     ensures ready { IsReady m.new (each standing a.new.items) (D.state d.new) }
     ensures fits { EventFits m.new result }
     ensures performs { Performs (scene m.old (each standing a.old.items) (D.errors d.old) (D.state d.old)) (scene m.new (each standing a.new.items) (D.errors d.new) (D.state d.new)) (Op.MemRead mem map index) result }
+    ensures refused { OnErr (grant m.old (Op.MemRead mem map index)) (d.new ≡ d.old) }
 {
     let place = m.place_of(Item::Mem(mem), map);
     let op = Op::MemRead {
@@ -240,6 +242,7 @@ pub fn mem_check<D: Device>(
     ensures ready { IsReady m.new (each standing a.new.items) (D.state d.new) }
     ensures fits { EventFits m.new result }
     ensures performs { Performs (scene m.old (each standing a.old.items) (D.errors d.old) (D.state d.old)) (scene m.new (each standing a.new.items) (D.errors d.new) (D.state d.new)) (Op.MemCheck mem map index value) result }
+    ensures refused { OnErr (grant m.old (Op.MemCheck mem map index value)) (d.new ≡ d.old) }
 {
     let item = Item::Mem(mem);
     let place = m.place_of(item, map);
@@ -322,6 +325,7 @@ pub fn mem_poke<D: Device>(m: &mut Model, d: &mut D, mem: u32, index: u64, value
     ensures fits { EventFits m.new result }
     ensures later { D.errors d.old ≤ D.errors d.new }
     ensures performs { (adapters : List Standing) → Performs (scene m.old adapters (D.errors d.old) (D.state d.old)) (scene m.new adapters (D.errors d.new) (D.state d.new)) (Op.MemPoke mem index value) result }
+    ensures refused { OnErr (grant m.old (Op.MemPoke mem index value)) (d.new ≡ d.old) }
 {
     let op = Op::MemPoke { mem, index, value };
     let item = Item::Mem(mem);

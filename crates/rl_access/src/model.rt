@@ -62,6 +62,7 @@ impl Model {
     {
         let mirror = Mirror::build(alloc, &chip)?;
         let predictor = Predictor::build(alloc, &layout)?;
+        // Each of these calls tells that its part is sound.
         let _ = chip.regs();
         let _ = layout.places();
         Ok(Model {
@@ -290,6 +291,7 @@ impl Model {
         ensures access { result ≡ field_alone self.now field place value }
         ensures valid { IsAccessOn self.now result }
     {
+        // A model that is opened is known to be sound.
         let _ = &self.layout;
         let shape = self.field(field);
         let number = self.place_in_register(field);

@@ -1,9 +1,10 @@
 //! Accesses of another master, which a predictor watches.
-ghost use Rattle.std.specs.Prelude.{◌<◌, map as each, length};
+ghost use Rattle.std.specs.Prelude.{◌≡◌, ◌<◌, map as each, length, OnErr};
 ghost use Rattle.rl_access.specs.Call.{Performs, scene};
 ghost use Rattle.rl_access.specs.Event.{EventFits};
 ghost use Rattle.rl_access.specs.Model.{IsReady, IsSameChip};
 ghost use Rattle.rl_access.specs.Operation.{IsMapIn};
+ghost use Rattle.rl_access.specs.Rules.{grant};
 ghost use Rattle.rl_access.specs.declared.event.Op.TheVariants as op;
 
 use crate::engine::{read_as, write_as};
@@ -28,6 +29,7 @@ pub fn other_write<D: Device>(
     ensures parts { IsSameChip m.old m.new }
     ensures fits { EventFits m.new result }
     ensures performs { Performs (scene m.old (each standing a.old.items) (D.errors d.old) (D.state d.old)) (scene m.new (each standing a.new.items) (D.errors d.new) (D.state d.new)) (op.OtherWrite reg map value) result }
+    ensures refused { OnErr (grant m.old (op.OtherWrite reg map value)) (d.new ≡ d.old) }
 {
     let place = m.place_of(Item::Reg(reg), map);
     let op = Op::OtherWrite {
@@ -61,6 +63,7 @@ pub fn other_read<D: Device>(
     ensures parts { IsSameChip m.old m.new }
     ensures fits { EventFits m.new result }
     ensures performs { Performs (scene m.old (each standing a.old.items) (D.errors d.old) (D.state d.old)) (scene m.new (each standing a.new.items) (D.errors d.new) (D.state d.new)) (op.OtherRead reg map) result }
+    ensures refused { OnErr (grant m.old (op.OtherRead reg map)) (d.new ≡ d.old) }
 {
     let place = m.place_of(Item::Reg(reg), map);
     let op = Op::OtherRead {

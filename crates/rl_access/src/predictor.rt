@@ -23,8 +23,9 @@ pub(crate) struct Gathered {
     pub(crate) words: Answers,
 }
 
-/// What a predictor has gathered of each place, as an explicit predictor of IEEE 1800.2 in this project's
-/// profile: it takes the words of a register in order, and predicts once, at the last one.
+/// What a predictor has gathered of each place. That it predicts from the items that it sees on a bus is the
+/// explicit prediction of IEEE 1800.2. This project's own is how it gathers: it takes the words of a register
+/// in order, and predicts once, at the last one.
 #[derive(Drop)]
 pub struct Predictor {
     lists: Vec<Gathered>,
@@ -119,6 +120,7 @@ impl Gathered {
         requires whole { length self.now.words ≡ length (words_of layout.now place 0) }
         ensures { result ≡ value_gathered layout.now place self.now }
     {
+        // The call tells that the layout is sound.
         let _ = layout.places();
         let chosen = bytes_of_place(chip, layout, place);
         let words = split(layout, place, 0, chosen, 0, false);
@@ -144,6 +146,7 @@ fn register_at(chip: &Chip, layout: &Layout, place: u32) -> u32
     ensures reg { result ≡ reg_in (place_at layout.now place).item }
     ensures in_range { result < length chip.now.regs }
 {
+    // The call tells that the chip is sound.
     let _ = chip.regs();
     match layout.item(place) {
         Item::Reg(reg) => reg,
@@ -233,13 +236,14 @@ impl Predictor {
         }
     }
 
-    // The same where the layout is at hand.
+    // The same, with what the layout tells of the place.
     fn forget_at(&mut self, layout: &Layout, place: u32)
         requires predictor { IsPredictorOf layout.now self.old }
         requires place { IsRegisterPlace layout.now place }
         ensures forgotten { self.new ≡ slice_set self.old place no_words }
         ensures predictor { IsPredictorOf layout.now self.new }
     {
+        // The call tells that the place has a word, so that an empty list is shorter.
         let _ = layout.words(place);
         self.forget(place);
     }
@@ -278,6 +282,7 @@ impl Predictor {
         ensures whole { result ≡ is_whole layout.now place (gathered_with layout.now place op.now word (gathered_at self.old place)) }
         ensures most { length (gathered_with layout.now place op.now word (gathered_at self.old place)).words ≤ length (words_of layout.now place 0) }
     {
+        // The call tells that the layout is sound.
         let _ = layout.places();
         let all = layout.words(place);
         let list = &mut self.lists[place as usize];

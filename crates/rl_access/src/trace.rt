@@ -166,6 +166,7 @@ impl Trace {
     pub(crate) fn failed_at(&self) -> Option<u32>
         ensures { result ≡ failed_at self.now }
     {
+        // A trace that is opened is known to have at most 8 items.
         let _ = &self.len;
         match self.failed_place() {
             Some(word) => Some(word as u32),

@@ -1,10 +1,11 @@
 //! Bringing a register to its desired value.
-ghost use Rattle.std.specs.Prelude.{◌<◌, map as each, length};
+ghost use Rattle.std.specs.Prelude.{◌≡◌, ◌<◌, map as each, length, OnErr};
 ghost use Rattle.rl_mirror.specs.Reachable.{UpdateBrings};
 ghost use Rattle.rl_access.specs.Call.{Performs, scene};
 ghost use Rattle.rl_access.specs.Event.{EventFits};
 ghost use Rattle.rl_access.specs.Model.{IsModel, IsReady, IsSameChip};
 ghost use Rattle.rl_access.specs.Operation.{IsMapIn};
+ghost use Rattle.rl_access.specs.Rules.{grant};
 ghost use Rattle.rl_access.specs.Wishes.{BringsWishes};
 ghost use Rattle.rl_access.specs.declared.event.Op.TheVariants as op;
 
@@ -16,7 +17,8 @@ use rl_mirror::law::update_brings;
 use rl_model::Item;
 
 /// Brings a register to its desired value by one write of the whole register, where some field has another
-/// desired value than its mirrored one.
+/// desired value than its mirrored one. The word that it writes, and that it looks at these values alone, are
+/// this project's own.
 pub fn update<D: Device>(
     m: &mut Model,
     d: &mut D,
@@ -32,6 +34,7 @@ pub fn update<D: Device>(
     ensures fits { EventFits m.new result }
     ensures performs { Performs (scene m.old (each standing a.old.items) (D.errors d.old) (D.state d.old)) (scene m.new (each standing a.new.items) (D.errors d.new) (D.state d.new)) (op.Update reg map) result }
     ensures wishes { BringsWishes m.old m.new reg result.end }
+    ensures refused { OnErr (grant m.old (op.Update reg map)) (d.new ≡ d.old) }
 {
     let place = m.place_of(Item::Reg(reg), map);
     let op = Op::Update {
@@ -59,6 +62,7 @@ fn law_of_update(m: &Model)
     ensures known { IsModel m.now }
     ensures law { UpdateBrings m.now.chip }
 {
+    // The call tells that the model is sound.
     let _ = m.chip();
     update_brings();
 }

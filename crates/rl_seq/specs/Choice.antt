@@ -1,5 +1,5 @@
 -- Which registers, memories, places and bits a sequence goes over.
-use Rattle.std.specs.Prelude.{ℕ, zero, suc, ◌+◌, ◌-◌, ◌*◌, ◌^◌, ◌%◌, ◌==◌, nat_le, bit_and, Bool, true, false, not, if◌then◌else◌, ◌&&◌, ◌||◌, length, slice_get, unwrap_or, Option, None, Some}
+use Rattle.std.specs.Prelude.{ℕ, zero, suc, ◌+◌, ◌-◌, ◌*◌, ◌^◌, ◌%◌, ◌==◌, nat_le, bit_and, Bool, true, false, not, if◌then◌else◌, ◌&&◌, ◌||◌, length, unwrap_or, Option, None, Some}
 use Rattle.std.specs.Option.{option_map_or}
 use Rattle.rl_map.specs.Layout.{LayoutData, place_at, has_right}
 use Rattle.rl_model.specs.Chip.{backdoor_of, skip_of, is_inside, path_at, path_of_item}
@@ -11,7 +11,7 @@ use Rattle.rl_model.specs.Fields.{field_of, first_of, count_of}
 use Rattle.rl_policy.specs.Bits.{is_within}
 use Rattle.rl_policy.specs.declared.policy.Policy.{Policy}
 use Rattle.rl_policy.specs.declared.policy.Policy.TheVariants.{Ro}
-use Rattle.rl_access.specs.Rules.{item_size}
+use Rattle.rl_access.specs.Rules.{is_writable, item_size}
 
 -- the exclusions, as bits
 abbrev pub no_reg_tests : ℕ
@@ -101,9 +101,6 @@ places_of l item = count_below (length l.places) (λ k. is_same (place_at l k).i
 
 abbrev pub is_shared : ChipData → LayoutData → ℕ → Option ℕ → Bool
 is_shared c l reg block = is_reg_tested c reg block no_reg_shared_access_test && nat_le 2 (places_of l (Reg reg))
-
-abbrev pub is_writable : ChipData → ℕ → Bool
-is_writable c mem = option_map_or (λ m. m.writable) (slice_get c.mems mem) false
 
 abbrev pub is_walked : ChipData → ℕ → Option ℕ → Bool
 is_walked c mem block = is_tested c (Mem mem) block no_mem_walk_test && is_writable c mem

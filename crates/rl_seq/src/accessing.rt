@@ -14,7 +14,8 @@ use rl_access::{Model, Recorder, Tally};
 use rl_bus::{Adapter, Adapters, Device, Failed};
 use rl_model::{Chip, Item, Skip};
 
-/// Writes every register over the bus and checks it by the backdoor, and the other way round.
+/// Writes every register over the bus and checks it by the backdoor, and the other way round:
+/// `uvm_reg_access_seq`, with this project's own steps.
 pub fn access_test<D: Device, R: Recorder>(
     m: &mut Model,
     d: &mut D,

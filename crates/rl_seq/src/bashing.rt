@@ -13,7 +13,9 @@ use rl_access::{Model, Recorder, Tally};
 use rl_bus::{Adapter, Adapters, Device, Failed};
 use rl_model::{Chip, Item, Skip};
 
-/// Turns each compared bit of every register round, twice, and checks the register each time.
+/// Turns each compared bit of every register round, twice, and checks the register each time:
+/// `uvm_reg_bit_bash_seq`, which runs `uvm_reg_single_bit_bash_seq` on each register, with this project's own
+/// steps.
 pub fn bit_bash<D: Device, R: Recorder>(
     m: &mut Model,
     d: &mut D,

@@ -1,5 +1,7 @@
-//! The predefined register sequences of IEEE 1800.2, with this project's own exact steps: hardware reset, bit
-//! bash, access, shared access and memory walk.
+//! The register sequences of a register model: hardware reset, bit bash, access, shared access and memory walk.
+//!
+//! Each stands for a predefined sequence of the UVM library, which its function names. Its exact steps are this
+//! project's own.
 //!
 //! Each goes over the registers or memories within a block, or of the whole chip, in description order, and
 //! hands each event to a recorder. A sequence goes on after a bus error.

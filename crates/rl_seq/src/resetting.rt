@@ -12,7 +12,8 @@ use rl_access::{Model, Recorder, Tally};
 use rl_bus::{Adapter, Adapters, Device, Failed};
 use rl_model::{Item, Skip};
 
-/// Resets the chip by HARD, and checks every register in each of its maps.
+/// Resets the chip by HARD, and checks every register in each of its maps: `uvm_reg_hw_reset_seq`, with this
+/// project's own steps.
 pub fn hw_reset<D: Device, R: Recorder>(
     m: &mut Model,
     d: &mut D,

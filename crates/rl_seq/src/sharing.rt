@@ -14,7 +14,8 @@ use rl_access::{Model, Recorder, Tally};
 use rl_bus::{Adapter, Adapters, Device, Failed};
 use rl_model::{Item, Skip};
 
-/// Writes every register with several places in each of its maps, and checks it in each other one.
+/// Writes every register with several places in each of its maps, and checks it in each other one:
+/// `uvm_reg_shared_access_seq`, with this project's own steps.
 pub fn shared_access<D: Device, R: Recorder>(
     m: &mut Model,
     d: &mut D,

@@ -14,7 +14,8 @@ use rl_access::{Model, Recorder, Tally};
 use rl_bus::{Adapter, Adapters, Device, Failed};
 use rl_model::{Chip, Item, Skip};
 
-/// Walks over every memory: each location takes the inverse of its number, and then its number.
+/// Walks over every memory: each location takes the inverse of its number, and then its number:
+/// `uvm_mem_walk_seq`, with this project's own steps.
 pub fn mem_walk<D: Device, R: Recorder>(
     m: &mut Model,
     d: &mut D,
