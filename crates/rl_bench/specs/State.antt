@@ -1,4 +1,6 @@
 -- What a bench tells.
+use Rattle.std.specs.Prelude.{ℕ, ◌+◌, ◌-◌, ◌^◌, min, if◌then◌else◌}
+use Rattle.rl_bus.specs.declared.op.Answer.{Answer}
 use Rattle.rl_bus.specs.State.{State}
 use Rattle.rl_bench.specs.declared.bench.Bench.{Bench}
 use Rattle.rl_bench.specs.Beats.{beats_of}
@@ -7,3 +9,11 @@ use Rattle.rl_bench.specs.Tables.{setup_held}
 
 abbrev pub bench_state : Bench → State
 bench_state b = state_of (setup_held b.board.tables) b.cells (beats_of (setup_held b.board.tables).words b.beats.items) b.items
+
+-- how many items failed
+abbrev pub failures_of : Bench → ℕ
+failures_of b = b.failures
+
+-- the count after an item with this answer: it stays at the end of 64 bits
+abbrev pub failures_after : ℕ → Answer → ℕ
+failures_after failures answer = if answer.failed then min (failures + 1) (2 ^ 64 - 1) else failures

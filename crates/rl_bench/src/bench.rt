@@ -1,6 +1,6 @@
 //! The device.
 ghost use Rattle.std.specs.Prelude.{◌≡◌, ℕ, ◌+◌, ◌<◌, ◌≤◌, ◌^◌, length, if◌then◌else◌, nat_lt, not, IfOk, replicate, ◌||◌, ◌==◌, slice_index};
-ghost use Rattle.std.specs.Prelude.{filter, slice_get, option_copied};
+ghost use Rattle.std.specs.Prelude.{filter, slice_get, option_copied, min, ◌-◌, true};
 ghost use Rattle.rl_bus.specs.Setup.{is_named, stands_at, stands_for};
 ghost use Rattle.rl_bench.specs.Beats.{IsQuiet, HasBeats, beats_of};
 ghost use Rattle.std.specs.Prelude.{All};
@@ -38,6 +38,7 @@ pub struct Bench {
     /// The words of the addresses that were found last.
     hints: Hints,
     items: u64,
+    /// How many items failed.
     failures: u64,
     ghost quiet: { IsQuiet (setup_held board.tables).words beats.items },
     ghost fit: { FitCells (setup_held board.tables) cells },
@@ -111,6 +112,18 @@ fn next_beat(beat: u32, count: usize) -> u32
     }
 }
 
+// The answer of a failed item, which counts.
+fn failed_answer(failures: &mut u64) -> Answer
+    ensures answer { result ≡ record { word = 0; failed = true } }
+    ensures failures { failures.new ≡ min (failures.old + 1) (2 ^ 64 - 1) }
+{
+    *failures = failures.saturating_add(1);
+    Answer {
+        word: 0,
+        failed: true,
+    }
+}
+
 fn zeros(alloc: Global, count: usize) -> Result<Vec<u64>, AllocError>
     ensures { IfOk result (λ v. v.items ≡ replicate count 0) }
 {
@@ -123,7 +136,7 @@ impl Bench {
     ghost use Rattle.rl_bus.specs.State.{state_after, answer_of, first_state};
     ghost use Rattle.rl_map.specs.Maps.{IsBuiltWith};
     ghost use Rattle.rl_bench.specs.Flaws.{AreFlawsOf, first_of};
-    ghost use Rattle.rl_bench.specs.State.{bench_state};
+    ghost use Rattle.rl_bench.specs.State.{bench_state, failures_of, failures_after};
 
     /// The device of a chip and a layout with these flaws, after a hard reset and with no item so far.
     ///
@@ -138,7 +151,8 @@ impl Bench {
     ) -> Result<Bench, AllocError>
         requires built_with { IsBuiltWith layout.now chip.now }
         requires flaws { AreFlawsOf chip.now layout.now flaws.now }
-        ensures { IfOk result (λ b. bench_state b ≡ first_of chip.now layout.now flaws.now) }
+        ensures state { IfOk result (λ b. bench_state b ≡ first_of chip.now layout.now flaws.now) }
+        ensures failures { IfOk result (λ b. failures_of b ≡ 0) }
     {
         let tables = Tables::build(alloc, chip, layout, flaws)?;
         let locations = count_locations(chip);
@@ -149,7 +163,8 @@ impl Bench {
     fn new(alloc: Global, tables: Tables, locations: usize) -> Result<Bench, AllocError>
         requires setup { IsSetup (setup_held tables) }
         requires room { HasRoom (setup_held tables) locations }
-        ensures { IfOk result (λ b. bench_state b ≡ first_state (setup_held tables) locations) }
+        ensures state { IfOk result (λ b. bench_state b ≡ first_state (setup_held tables) locations) }
+        ensures failures { IfOk result (λ b. failures_of b ≡ 0) }
     {
         let regs = tables.regs.len();
         let shapes = shapes_of(alloc, &tables)?;
@@ -185,7 +200,8 @@ impl Bench {
         requires lanes { op.now.lanes < 2 ^ op.now.bytes }
         ensures state { bench_state self.new ≡ state_after (bench_state self.old) port op.now }
         ensures answer { result ≡ answer_of (bench_state self.old) port op.now }
-        ensures cause { AnswerHasCause self.old.failures self.new.failures result }
+        ensures cause { AnswerHasCause (failures_of self.old) (failures_of self.new) result }
+        ensures failures { failures_of self.new ≡ failures_after (failures_of self.old) result }
         ensures small { result.word < 256 ^ op.now.bytes }
     {
         self.items = self.items.saturating_add(1);
@@ -194,19 +210,11 @@ impl Bench {
         self.near = found.at;
         self.hints.keep(port, op.address, found.at);
         let Some(word) = found.word else {
-            self.failures = self.failures.saturating_add(1);
-            return Answer {
-                word: 0,
-                failed: true,
-            };
+            return failed_answer(&mut self.failures);
         };
         if is_faulty(&board.tables, port, op, self.items) {
             send_back(&board.queues, &mut self.beats, word.place);
-            self.failures = self.failures.saturating_add(1);
-            return Answer {
-                word: 0,
-                failed: true,
-            };
+            return failed_answer(&mut self.failures);
         }
         let answer = touch(board, &mut self.cells, op, word);
         let next = next_beat(found.beat, found.count);
@@ -219,14 +227,27 @@ impl Bench {
 }
 
 impl Device for Bench {
-    ghost use Rattle.std.specs.Prelude.{Some};
-    ghost use Rattle.rl_bench.specs.State.{bench_state};
+    ghost use Rattle.std.specs.Prelude.{Option, Some, option_map};
+    ghost use Rattle.rl_bus.specs.Causes.{AnswerHasCause};
+    ghost use Rattle.rl_bus.specs.Device.{IsStep, IsPortOf, IsCellOf, IsFieldOf};
+    ghost use Rattle.rl_bus.specs.State.{State, poked, reset_by, hw_set};
+    ghost use Rattle.rl_bus.specs.Wire.{carried_by, IsWellFormed, IsReplyTo, IsAtOnce, answered_by};
+    ghost use Rattle.rl_bench.specs.State.{bench_state, failures_of, failures_after};
 
     ghost state = { λ b. Some (bench_state b) };
 
-    ghost errors = { λ b. b.failures };
+    ghost errors = { failures_of };
 
-    fn transfer(&mut self, port: u32, transfer: &Transfer) -> Response {
+    fn transfer(&mut self, port: u32, transfer: &Transfer) -> Response
+        requires well_formed { IsWellFormed transfer.now }
+        requires port { IsPortOf (Some (bench_state self.old)) port }
+        ensures reply { IsReplyTo transfer.now result }
+        ensures small { (answered_by result).word < 256 ^ (carried_by transfer.now).bytes }
+        ensures cause { AnswerHasCause (failures_of self.old) (failures_of self.new) (answered_by result) }
+        ensures step { IsStep (Some (bench_state self.old)) (Some (bench_state self.new)) port (carried_by transfer.now) (answered_by result) }
+        ensures failures { failures_of self.new ≡ failures_after (failures_of self.old) (answered_by result) }
+        ensures at_once { IsAtOnce result }
+    {
         let op = carried(transfer);
         let answer = self.item(port, &op);
         response_to(transfer, answer)
@@ -236,16 +257,30 @@ impl Device for Bench {
         peek_cell(&self.board, &self.cells, cell)
     }
 
-    fn poke(&mut self, cell: Cell, value: u64) {
+    fn poke(&mut self, cell: Cell, value: u64)
+        requires cell { IsCellOf (Some (bench_state self.old)) cell }
+        ensures step { Some (bench_state self.new) ≡ option_map (λ s. poked s cell value) (Some (bench_state self.old)) }
+        ensures later { failures_of self.old ≤ failures_of self.new }
+        ensures failures { failures_of self.new ≡ failures_of self.old }
+    {
         poke_cell(&self.board, &mut self.cells, cell, value);
     }
 
-    fn reset(&mut self, kind: u32) {
+    fn reset(&mut self, kind: u32)
+        ensures step { Some (bench_state self.new) ≡ option_map (λ s. reset_by s kind) (Some (bench_state self.old)) }
+        ensures later { failures_of self.old ≤ failures_of self.new }
+        ensures failures { failures_of self.new ≡ failures_of self.old }
+    {
         reset_cells(&self.board, &mut self.cells, kind);
         clear_beats(&mut self.beats);
     }
 
-    fn hw(&mut self, field: u32, value: u64) {
+    fn hw(&mut self, field: u32, value: u64)
+        requires field { IsFieldOf (Some (bench_state self.old)) field }
+        ensures step { Some (bench_state self.new) ≡ option_map (λ s. hw_set s field value) (Some (bench_state self.old)) }
+        ensures later { failures_of self.old ≤ failures_of self.new }
+        ensures failures { failures_of self.new ≡ failures_of self.old }
+    {
         set_field(&self.board, &mut self.cells, field, value);
     }
 }

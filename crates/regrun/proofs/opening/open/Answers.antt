@@ -25,7 +25,7 @@ returns-clause-opened c =
     record {
       chip = m.chip ∙ ap (λ (d : DescData). d.chip) c.desc.view_is;
       layout = m.layout ∙ ap (λ (d : DescData). d.layout) c.desc.view_is;
-      device = device_built c.in_ok-model.model i.chip i.layout c.deref.result.now (bench_state c.in_ok-bench.bench) m.chip m.layout c.in_ok-bench.ensures;
+      device = device_built c.in_ok-model.model i.chip i.layout c.deref.result.now (bench_state c.in_ok-bench.bench) m.chip m.layout c.in_ok-bench.ensures.state;
     }
 
 pub returns-clause-first : goal.returns-clause-first
@@ -35,4 +35,4 @@ returns-clause-first c =
     let here : DescData = record { chip = i.chip; layout = i.layout; flaws = c.deref.result.now } in
     let is = ap (λ f. record { chip = i.chip; layout = i.layout; flaws = f }) c.deref.ensures.value ∙ c.desc.view_is in
     λ adapters. subst (λ (d : DescData). IsAt c.in_ok-model.model adapters (Some (bench_state c.in_ok-bench.bench)) (first_world d adapters)) is
-    (first_is adapters c.in_ok-model.model here (bench_state c.in_ok-bench.bench) m.chip m.layout m.mirror m.nothing_gathered m.sound c.in_ok-bench.ensures)
+    (first_is adapters c.in_ok-model.model here (bench_state c.in_ok-bench.bench) m.chip m.layout m.mirror m.nothing_gathered m.sound c.in_ok-bench.ensures.state)

@@ -22,7 +22,8 @@ returns-in_default-clause-state c =
 
 pub returns-in_default-clause-answer : goal.returns-in_default-clause-answer
 returns-in_default-clause-answer c =
-    missing_answer (bench_state c.args.self.now) c.args.port c.args.op.now (sym (rw c.deref.ensures.value at c.find-found.ensures.word) ∙ ap option_copied c.in_default.is)
+    c.failed_answer.ensures.answer
+    ∙ missing_answer (bench_state c.args.self.now) c.args.port c.args.op.now (sym (rw c.deref.ensures.value at c.find-found.ensures.word) ∙ ap option_copied c.in_default.is)
 
 pub returns-then-is_faulty-clause-state : goal.returns-then-is_faulty-clause-state
 returns-then-is_faulty-clause-state c =
@@ -43,7 +44,7 @@ returns-then-is_faulty-clause-answer c =
     let s = bench_state c.args.self.now in
     let h : word_at s c.args.port c.args.op.now ≡ Some c.in-Some.word.now = sym (rw c.deref.ensures.value at c.find-found.ensures.word) ∙ ap option_copied c.in-Some.is in
     let f : is_faulty (counted s) c.args.port c.args.op.now ≡ true = rw (← c.saturating_add-self.ensures) (sym c.is_faulty.ensures ∙ c.if-is_faulty.true) in
-    faulty_answer s c.args.port c.args.op.now c.in-Some.word.now h f
+    c.failed_answer-then-is_faulty.ensures.answer ∙ faulty_answer s c.args.port c.args.op.now c.in-Some.word.now h f
 
 pub touch-answer-requires-clause-word : goal.touch-answer-requires-clause-word
 touch-answer-requires-clause-word c =

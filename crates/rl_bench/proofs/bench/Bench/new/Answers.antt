@@ -11,9 +11,9 @@ use Rattle.rl_bench.proofs.bench.Bench.new.Goals as goal
 abbrev start : Setup → List ℕ → List ℕ → List ℕ → State
 start t bits marks locations = record { setup = t; bits = bits; marks = marks; locations = locations; beats = λ p a. 0; items = 0 }
 
-pub returns : goal.returns
+pub returns-clause-state : goal.returns-clause-state
 unfolding first_state
-returns c =
+returns-clause-state c =
     let t = setup_held c.args.tables in
     let regs : c.len-regs.result ≡ length t.regs = c.len-regs.ensures ∙ c.args.tables.regs.ok.0 in
     let bits : c.in_ok-zeros.field-0.items ≡ replicate (length t.regs) 0 = c.in_ok-zeros.ensures ∙ ap (λ n. replicate n 0) regs in
