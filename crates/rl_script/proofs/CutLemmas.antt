@@ -9,15 +9,24 @@ use Rattle.rl_script.specs.declared.line.Line.{Line}
 use Rattle.rl_script.specs.declared.command.Item.{Item}
 use Rattle.rl_script.specs.declared.command.Item.TheVariants as items
 use Rattle.rl_script.specs.Words.{begins_with, ends_with_map}
-use Rattle.rl_script.specs.Commands.{line_of, may_count}
+use Rattle.rl_script.specs.Commands.{row_of, line_of, may_count}
 use Rattle.rl_script.specs.Reading.{◌>>=◌, word_at, path_of, path_at, number_at, number_if, fitting, map_if, item_at, item_of, has_map, one_if}
-use Rattle.rl_script.specs.Cut.{word_or, map_word, value_if, map_of, operands_of, item_cut}
+use Rattle.rl_script.specs.Cut.{word_or, map_word, value_if, map_of, operands_of}
 
 abbrev Words : Type 0
 Words = List (List ℕ)
 
 abbrev ending : Item → List ℕ → ℕ → ℕ → Option (List ℕ) → Result Line LineFault
 ending item p a b m = if may_count item b then Ok (line_of item p a b m) else Err CountOutOfRange
+
+-- the words are cut from the left, and none is read before all are counted
+unfoldable pub item_cut : Item → List (List ℕ) → Result Line LineFault
+item_cut item ws = do
+  path ← word_at ws
+  first ← word_or (nat_le 1 (row_of item).numbers) path.0 path.1
+  second ← word_or (nat_le 2 (row_of item).numbers) first.0 first.1
+  m ← map_word (row_of item).map second.0 second.1
+  operands_of item path.0 first.0 second.0 m.0 m.1
 
 -- ---- both ways, by the row
 

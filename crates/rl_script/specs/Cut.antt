@@ -1,4 +1,4 @@
--- A command on an item, its words cut from the left: no word is read before all are counted.
+-- The operands of a command on an item, each read from its word once the words are cut.
 use Rattle.std.specs.Prelude.{ℕ, Bool, true, false, ◌&&◌, nat_le, if◌then◌else◌, List, [], ◌∷◌, drop, Option, Some, None, Result, Ok, Err}
 use Rattle.rl_policy.specs.Numbers.{number_of}
 use Rattle.rl_script.specs.declared.fault.LineFault.{LineFault}
@@ -33,11 +33,3 @@ operands_of item p a b named w = do
   second ← value_if (nat_le 2 (row_of item).numbers) b
   m ← map_of named w
   if may_count item second then Ok (line_of item path first second m) else Err CountOutOfRange
-
-unfoldable pub item_cut : Item → List (List ℕ) → Result Line LineFault
-item_cut item ws = do
-  path ← word_at ws
-  first ← word_or (nat_le 1 (row_of item).numbers) path.0 path.1
-  second ← word_or (nat_le 2 (row_of item).numbers) first.0 first.1
-  m ← map_word (row_of item).map second.0 second.1
-  operands_of item path.0 first.0 second.0 m.0 m.1

@@ -1,8 +1,7 @@
 -- The words are cut from the left, in place of being counted first.
 use Rattle.std.proofs.Common.{rules}
 use Rattle.rl_script.specs.Words.{words_of}
-use Rattle.rl_script.specs.Cut.{item_cut}
-use Rattle.rl_script.proofs.CutLemmas.{cut_is}
+use Rattle.rl_script.proofs.CutLemmas.{item_cut, cut_is}
 use Rattle.rl_script.proofs.read.read_item.Goals as goal
 
 pub returns-in_err-path : goal.returns-in_err-path
