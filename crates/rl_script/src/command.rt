@@ -19,29 +19,52 @@ pub(crate) enum Command {
 
 /// A command on one register, field or memory: a path, up to two numbers, and maybe a map.
 #[derive(Clone, Copy, Debug, PartialEq, Eq)]
-pub(crate) enum Item {
+pub enum Item {
+    /// `write REG V`: writes through the frontdoor.
     Write,
+    /// `read REG`: reads through the frontdoor.
     Read,
+    /// `mirror REG`: reads, and takes what was read as the mirrored value.
     Mirror,
+    /// `check REG`: reads, and compares with the mirrored value.
     Check,
+    /// `update REG`: writes the desired value where it differs from the mirrored one.
     Update,
+    /// `other-write REG V`: a write of another master.
     OtherWrite,
+    /// `other-read REG`: a read of another master.
     OtherRead,
+    /// `field-write FIELD V`: writes one field through the frontdoor.
     FieldWrite,
+    /// `field-read FIELD`: reads one field through the frontdoor.
     FieldRead,
+    /// `set FIELD V`: sets the desired value.
     Set,
+    /// `hw FIELD V`: the device itself changes a field.
     Hw,
+    /// `show REG`: the desired and the mirrored value, with no access.
     Show,
+    /// `back-read REG`: reads through the backdoor.
     BackRead,
+    /// `back-check REG`: reads through the backdoor, and compares.
     BackCheck,
+    /// `peek REG`: samples the bits with no read effect.
     Peek,
+    /// `back-write REG V`: writes through the backdoor.
     BackWrite,
+    /// `poke REG V`: deposits the bits with no write effect.
     Poke,
+    /// `mem-write MEM K V`: writes location K of a memory.
     MemWrite,
+    /// `mem-check MEM K V`: reads a location, and compares with V.
     MemCheck,
+    /// `mem-read MEM K`: reads a location.
     MemRead,
+    /// `burst-read MEM K N`: reads N locations from K on.
     BurstRead,
+    /// `mem-peek MEM K`: samples a location through the backdoor.
     MemPeek,
+    /// `mem-poke MEM K V`: deposits a location through the backdoor.
     MemPoke,
 }
 

@@ -9,6 +9,7 @@ mod command;
 mod fault;
 mod law;
 mod line;
+mod line_ref;
 mod names;
 mod operands;
 mod read;
@@ -16,11 +17,13 @@ mod values;
 mod words;
 mod write;
 
+pub use command::Item;
 pub use fault::LineFault;
 pub use law::spelling_reads;
 pub use line::{Line, Sequence};
-pub use names::{Ident, Path};
-pub use read::read_line;
+pub use line_ref::{ItemLine, LineRef};
+pub use names::{Ident, IdentRef, Path, PathRef};
+pub use read::{read_line, read_line_ref};
 pub use values::Values;
 pub use write::write_line;
 

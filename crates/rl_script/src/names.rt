@@ -3,6 +3,7 @@ ghost use Rattle.std.specs.Prelude.{◌≡◌, ◌&&◌, ◌||◌, nat_le, nat_l
 ghost use Rattle.std.specs.List.{list_all};
 ghost use Rattle.rl_script.specs.Names as spec;
 
+use std::alloc::{AllocError, Global};
 use std::marker::Model;
 
 /// A path of 1 to 9 names, joined by `.`, as of a block, register, field or memory.
@@ -37,14 +38,6 @@ impl Path {
         } else {
             None
         }
-    }
-
-    /// The path that a text is, of which it is known that it is one.
-    pub(crate) fn of_path(text: Vec<u8>) -> Path
-        requires { IsTrue (is_path text.items) }
-        ensures { result ≡ text.items }
-    {
-        Path { text }
     }
 
     /// The bytes of the path.
@@ -88,20 +81,112 @@ impl Ident {
         }
     }
 
-    /// The name that a text is, of which it is known that it is one.
-    pub(crate) fn of_name(text: Vec<u8>) -> Ident
-        requires { IsTrue (is_name text.items) }
-        ensures { result ≡ text.items }
-    {
-        Ident { text }
-    }
-
     /// The bytes of the name.
     pub fn text(&self) -> &[u8]
         ensures text { result.now ≡ self.now }
         ensures name { IsTrue (is_name result.now) }
     {
         self.text.as_slice()
+    }
+}
+
+/// A path that stands in the text of a line.
+#[derive(Debug, Drop)]
+pub struct PathRef<'a> {
+    text: &'a [u8],
+}
+
+impl<'a> Model for PathRef<'a> {
+    ghost use Rattle.std.specs.Prelude.{List, ℕ, IsTrue};
+    ghost use Rattle.rl_script.specs.Names.{is_path};
+
+    ghost Value = { List ℕ };
+
+    ghost view = { λ p. p.text.now };
+
+    ghost invariant = { λ p. IsTrue (is_path p.text.now) };
+}
+
+impl<'a> PathRef<'a> {
+    ghost use Rattle.std.specs.Prelude.{◌≡◌, if◌then◌else◌, Some, None, IsTrue, IfOk};
+    ghost use Rattle.rl_script.specs.Names.{is_path};
+
+    /// The path that a text is, where it is one.
+    pub fn of(text: &'a [u8]) -> Option<PathRef<'a>>
+        ensures { result ≡ (if is_path text.now then Some text.now else None) }
+    {
+        if is_path(text) {
+            Some(PathRef { text })
+        } else {
+            None
+        }
+    }
+
+    /// The bytes of the path.
+    pub fn text(&self) -> &'a [u8]
+        ensures text { result.now ≡ self.now }
+        ensures path { IsTrue (is_path result.now) }
+    {
+        self.text
+    }
+
+    /// The path with a text of its own.
+    pub fn to_path(&self, alloc: Global) -> Result<Path, AllocError>
+        ensures { IfOk result (λ path. path ≡ self.now) }
+    {
+        Ok(Path {
+            text: Vec::from_slice(alloc, self.text)?,
+        })
+    }
+}
+
+/// A name that stands in the text of a line.
+#[derive(Debug, Drop)]
+pub struct IdentRef<'a> {
+    text: &'a [u8],
+}
+
+impl<'a> Model for IdentRef<'a> {
+    ghost use Rattle.std.specs.Prelude.{List, ℕ, IsTrue};
+    ghost use Rattle.rl_script.specs.Names.{is_name};
+
+    ghost Value = { List ℕ };
+
+    ghost view = { λ n. n.text.now };
+
+    ghost invariant = { λ n. IsTrue (is_name n.text.now) };
+}
+
+impl<'a> IdentRef<'a> {
+    ghost use Rattle.std.specs.Prelude.{◌≡◌, if◌then◌else◌, Some, None, IsTrue, IfOk};
+    ghost use Rattle.rl_script.specs.Names.{is_name};
+
+    /// The name that a text is, where it is one.
+    pub fn of(text: &'a [u8]) -> Option<IdentRef<'a>>
+        ensures { result ≡ (if is_name text.now then Some text.now else None) }
+    {
+        if is_name(text) {
+            Some(IdentRef { text })
+        } else {
+            None
+        }
+    }
+
+    /// The bytes of the name.
+    pub fn text(&self) -> &'a [u8]
+        ensures text { result.now ≡ self.now }
+        ensures name { IsTrue (is_name result.now) }
+    {
+        self.text
+    }
+
+    /// The name with a text of its own.
+    pub fn to_ident(&self, alloc: Global) -> Result<Ident, AllocError>
+        ensures { IfOk result (λ name. name ≡ self.now) }
+    {
+        Ok(Ident {
+            text: Vec::from_slice(alloc, self.text)?,
+        })
     }
 }
 

@@ -7,11 +7,13 @@ ghost use Rattle.rl_script.specs.Reading.{AreAscii, Gives, read_of, item_of, bur
 ghost use Rattle.rl_script.specs.Spelling.{IsLine, HasGoodCount};
 ghost use Rattle.rl_script.specs.Kept.{kept_burst_at};
 ghost use Rattle.rl_script.specs.Cut.{operands_of};
+ghost use Rattle.rl_script.specs.Said.{line_said};
 ghost use Rattle.rl_script.specs.Reading as spec;
 
 use crate::command::{Command, Item};
 use crate::fault::LineFault;
 use crate::line::{Line, Sequence};
+use crate::line_ref::{ItemLine, LineRef};
 use crate::operands::{
     block_of, map_if, map_of, map_word, name_of, number_at, numbers_at, path_at, path_of, value_if,
     word_at, word_or,
@@ -32,12 +34,18 @@ pub fn read_line(alloc: Global, bytes: &[u8]) -> Result<Line, LineFault>
     // Paths are paths, names are names, and counts are in range.
     ensures line { IfOk result (λ line. IsLine line × HasGoodCount line) }
 {
-    read_bytes(alloc, bytes)
+    let line = read_line_ref(alloc, bytes)?;
+    Ok(line.into_line(alloc)?)
 }
 
+/// Reads a line as `read_line` does, and leaves its paths and names where they stand.
+///
+/// Memory is taken for the values of a burst alone.
 #[tactic(auto, unfolding(crate::specs::Reading::read_of, crate::specs::Reading::by_words))]
-fn read_bytes(alloc: Global, bytes: &[u8]) -> Result<Line, LineFault>
-    ensures { Gives (λ line. line) result (read_of bytes.now) }
+pub fn read_line_ref(alloc: Global, bytes: &[u8]) -> Result<LineRef<'_>, LineFault>
+    // Which line or which fault it is, unless memory runs out.
+    ensures { MatchResult result (λ line. read_of bytes.now ≡ Ok (line_said line))
+        (λ fault. fault ≢ Memory → read_of bytes.now ≡ Err fault) }
 {
     if bytes.len() > MOST_BYTES {
         return Err(LineFault::TooLong);
@@ -46,14 +54,14 @@ fn read_bytes(alloc: Global, bytes: &[u8]) -> Result<Line, LineFault>
         return Err(LineFault::NotAscii);
     }
     let Some((word, rest)) = next_word(bytes) else {
-        return Ok(Line::Blank);
+        return Ok(LineRef::Blank);
     };
     // By `return`, since the value of a `match` is copied once more.
     match Command::named(word) {
-        Some(Command::OnItem(item)) => return read_item(alloc, item, rest),
+        Some(Command::OnItem(item)) => return read_item(item, rest),
         Some(Command::BurstWrite) => return read_burst_write(alloc, rest),
-        Some(Command::Reset) => return read_reset(alloc, rest),
-        Some(Command::Seq) => return read_seq(alloc, rest),
+        Some(Command::Reset) => return read_reset(rest),
+        Some(Command::Seq) => return read_seq(rest),
         None => return Err(LineFault::NoSuchCommand),
     }
 }
@@ -96,45 +104,50 @@ fn chunks_are_ascii(bytes: &[u8]) -> bool
     true
 }
 
-fn read_item(alloc: Global, item: Item, text: &[u8]) -> Result<Line, LineFault>
+fn read_item(item: Item, text: &[u8]) -> Result<LineRef<'_>, LineFault>
     requires { AreAscii text.now }
-    ensures { Gives (λ line. line) result (item_of item (words_of text.now)) }
+    ensures { Gives line_said result (item_of item (words_of text.now)) }
 {
     let row = item.row();
     let (path, rest) = word_at(text)?;
     let (first, rest) = word_or(row.numbers >= 1, path, rest)?;
     let (second, rest) = word_or(row.numbers >= 2, first, rest)?;
     let (named, map) = map_word(row.map, second, rest)?;
-    read_operands(alloc, item, path, first, second, named, map)
+    read_operands(item, path, first, second, named, map)
 }
 
 /// The operands, once it is known that there are as many words as there should be.
 #[tactic(auto, unfolding(crate::specs::Cut::operands_of))]
-fn read_operands(
-    alloc: Global,
+fn read_operands<'a>(
     item: Item,
-    path: &[u8],
+    path: &'a [u8],
     first: &[u8],
     second: &[u8],
     named: bool,
-    map: &[u8],
-) -> Result<Line, LineFault>
-    ensures { Gives (λ line. line) result (operands_of item path.now first.now second.now named map.now) }
+    map: &'a [u8],
+) -> Result<LineRef<'a>, LineFault>
+    ensures { Gives line_said result (operands_of item path.now first.now second.now named map.now) }
 {
     let numbers = item.row().numbers;
-    let path = path_of(alloc, path)?;
+    let path = path_of(path)?;
     let first = value_if(numbers >= 1, first)?;
     let second = value_if(numbers >= 2, second)?;
-    let map = map_of(alloc, named, map)?;
+    let map = map_of(named, map)?;
     if !item.may_count(second) {
         return Err(LineFault::CountOutOfRange);
     }
-    Ok(item.line(path, first, second, map))
+    Ok(LineRef::OnItem(ItemLine {
+        item,
+        path,
+        first,
+        second,
+        map,
+    }))
 }
 
-fn read_burst_write(alloc: Global, text: &[u8]) -> Result<Line, LineFault>
+fn read_burst_write(alloc: Global, text: &[u8]) -> Result<LineRef<'_>, LineFault>
     requires { AreAscii text.now }
-    ensures { Gives (λ line. line) result (burst_of (words_of text.now)) }
+    ensures { Gives line_said result (burst_of (words_of text.now)) }
 {
     let words = count_words(false, text);
     let fixed = 2 + usize::from(words.has_map);
@@ -145,16 +158,21 @@ fn read_burst_write(alloc: Global, text: &[u8]) -> Result<Line, LineFault>
 }
 
 #[tactic(auto, unfolding(crate::specs::Kept::kept_burst_at))]
-fn read_burst(alloc: Global, count: usize, named: bool, text: &[u8]) -> Result<Line, LineFault>
+fn read_burst(
+    alloc: Global,
+    count: usize,
+    named: bool,
+    text: &[u8],
+) -> Result<LineRef<'_>, LineFault>
     requires { AreAscii text.now }
-    ensures { Gives (λ line. line) result (kept_burst_at count named (words_of text.now)) }
+    ensures { Gives line_said result (kept_burst_at count named (words_of text.now)) }
 {
-    let (mem, rest) = path_at(alloc, text)?;
+    let (mem, rest) = path_at(text)?;
     let (first, rest) = number_at(rest)?;
     let (values, rest) = numbers_at(alloc, count, rest)?;
-    let map = map_if(alloc, named, rest)?;
+    let map = map_if(named, rest)?;
     let values = Values::of(values).ok_or(LineFault::CountOutOfRange)?;
-    Ok(Line::BurstWrite {
+    Ok(LineRef::BurstWrite {
         mem,
         first,
         values,
@@ -163,22 +181,22 @@ fn read_burst(alloc: Global, count: usize, named: bool, text: &[u8]) -> Result<L
 }
 
 #[tactic(auto, unfolding(crate::specs::Reading::reset_of))]
-fn read_reset(alloc: Global, text: &[u8]) -> Result<Line, LineFault>
+fn read_reset(text: &[u8]) -> Result<LineRef<'_>, LineFault>
     requires { AreAscii text.now }
-    ensures { Gives (λ line. line) result (reset_of (words_of text.now)) }
+    ensures { Gives line_said result (reset_of (words_of text.now)) }
 {
     if count_words(false, text).count != 1 {
         return Err(LineFault::WrongCount);
     }
     let (word, _) = word_at(text)?;
-    let kind = name_of(alloc, word)?;
-    Ok(Line::Reset { kind })
+    let kind = name_of(word)?;
+    Ok(LineRef::Reset { kind })
 }
 
 #[tactic(auto, unfolding(crate::specs::Reading::seq_of))]
-fn read_seq(alloc: Global, text: &[u8]) -> Result<Line, LineFault>
+fn read_seq(text: &[u8]) -> Result<LineRef<'_>, LineFault>
     requires { AreAscii text.now }
-    ensures { Gives (λ line. line) result (seq_of (words_of text.now)) }
+    ensures { Gives line_said result (seq_of (words_of text.now)) }
 {
     let Some((word, rest)) = next_word(text) else {
         return Err(LineFault::NoSuchCommand);
@@ -190,6 +208,6 @@ fn read_seq(alloc: Global, text: &[u8]) -> Result<Line, LineFault>
         return Err(LineFault::WrongCount);
     }
     let (word, _) = word_at(rest)?;
-    let block = block_of(alloc, word)?;
-    Ok(Line::Seq { which, block })
+    let block = block_of(word)?;
+    Ok(LineRef::Seq { which, block })
 }
