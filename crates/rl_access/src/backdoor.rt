@@ -143,6 +143,7 @@ fn sample_register<D: Device>(m: &mut Model, d: &mut D, reg: u32) -> Event
     ensures fits { EventFits m.new result }
     ensures later { D.errors d.old ≤ D.errors d.new }
     ensures performs { PerformsOffBus D.errors D.state m.old m.new d.old d.new (Op.BackRead reg) result }
+    ensures refused { OnErr (grant m.old (Op.BackRead reg)) (d.new ≡ d.old) }
 {
     let op = Op::BackRead { reg };
     match m.by_backdoor(Item::Reg(reg)) {
@@ -163,6 +164,7 @@ fn check_sample<D: Device>(m: &mut Model, d: &mut D, reg: u32) -> Event
     ensures fits { EventFits m.new result }
     ensures later { D.errors d.old ≤ D.errors d.new }
     ensures performs { PerformsOffBus D.errors D.state m.old m.new d.old d.new (Op.BackCheck reg) result }
+    ensures refused { OnErr (grant m.old (Op.BackCheck reg)) (d.new ≡ d.old) }
 {
     let op = Op::BackCheck { reg };
     match m.by_backdoor(Item::Reg(reg)) {
