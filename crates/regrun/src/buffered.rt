@@ -10,7 +10,7 @@ use rl_access::{Event, Model};
 use rl_report::{Failed, Sink, write_event};
 use std::marker::{Brand, PhantomData};
 
-const ROOM: usize = 4096;
+const ROOM: usize = 32768;
 
 // Names the bytes that a sink had when a call began. It is no data: only proofs read it.
 pub(crate) trait Earlier {
@@ -37,7 +37,7 @@ pub(crate) struct Buffered<'a, K: Sink, E: Earlier> {
     earlier: PhantomData<E>,
     ghost keeps_earlier: { KeepsEarlier E.bytes (K.written sink.now) } by { Prim.hlevel props },
     ghost ordered: { start ≤ end },
-    ghost within: { end ≤ 4096 },
+    ghost within: { end ≤ 32768 },
 }
 
 // Writes some of the bytes between two places.
@@ -134,7 +134,7 @@ impl<'a, K: Sink, E: Earlier> Buffered<'a, K, E> {
     // Writes what was kept back, where there is no room behind it.
     fn make_room(&mut self) -> Result<(), Failed>
         ensures told { Keeps (append_known (K.written self.old.sink.now) (kept_back self.old)) (append_known (K.written self.new.sink.now) (kept_back self.new)) }
-        ensures room { OnOk result (self.new.end < 4096) }
+        ensures room { OnOk result (self.new.end < 32768) }
         ensures cause { HasCause (K.faults self.old.sink.now) (K.faults self.new.sink.now) result }
         ensures ends_kept { K.ends self.new.sink.now ≡ K.ends self.old.sink.now }
         ensures same_sink { self.new.sink.ghost_name ≡ self.old.sink.ghost_name }
@@ -148,7 +148,7 @@ impl<'a, K: Sink, E: Earlier> Buffered<'a, K, E> {
 
     // Keeps the piece back, where there is room for it.
     fn keep(&mut self, piece: &[u8])
-        requires room { self.old.end + length piece.now ≤ 4096 }
+        requires room { self.old.end + length piece.now ≤ 32768 }
         ensures kept { kept_back self.new ≡ kept_back self.old ++ piece.now }
         ensures sink { self.new.sink.now ≡ self.old.sink.now }
         ensures same_sink { self.new.sink.ghost_name ≡ self.old.sink.ghost_name }

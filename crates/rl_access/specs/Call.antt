@@ -1,5 +1,5 @@
 -- One call: from what stands before it to what stands after it.
-use Rattle.std.specs.Prelude.{◌≡◌, ℕ, List, Option, Some, option_map, MatchResult}
+use Rattle.std.specs.Prelude.{◌≡◌, ℕ, List, map, Option, Some, option_map, MatchResult}
 use Rattle.rl_bus.specs.Standing.{Standing, standing_at}
 use Rattle.rl_bus.specs.State.{State}
 use Rattle.rl_access.specs.declared.event.Event.{Event}
@@ -18,6 +18,10 @@ pub record Scene : Type 0 where
 
 abbrev pub scene : ModelData → List Standing → ℕ → Option State → Scene
 scene model adapters errors device = record { model = model; adapters = adapters; errors = errors; device = device }
+
+-- a model, adapters as their callers see them, and a device with its count of errors and the state that it tells
+abbrev pub scene_of : {A D : Type 0} → (A → Standing) → (D → ℕ) → (D → Option State) → ModelData → List A → D → Scene
+scene_of standing errors state model adapters device = scene model (map standing adapters) (errors device) (state device)
 
 -- a refused operation changes nothing
 pub record IsRefused (s new : Scene) (op : Op) (why : Refused) (event : Event) : Type 0 where
@@ -47,3 +51,7 @@ Performs s new op event = MatchResult (grant s.model op) (λ place. IsDone s new
 -- an operation that meets no adapter and no device, beside any of them
 abbrev pub PerformsAlone : ModelData → ModelData → Op → Event → Type 0
 PerformsAlone m new op event = (adapters : List Standing) (errors : ℕ) (device : Option State) → Performs (scene m adapters errors device) (scene new adapters errors device) op event
+
+-- an operation that goes round the bus, beside any adapters
+abbrev pub PerformsOffBus : {D : Type 0} → (D → ℕ) → (D → Option State) → (m new : ModelData) → (before after : D) → Op → Event → Type 0
+PerformsOffBus errors state m new before after op event = (adapters : List Standing) → Performs (scene m adapters (errors before) (state before)) (scene new adapters (errors after) (state after)) op event

@@ -7,7 +7,7 @@ ghost use Rattle.rl_model.specs.Fields.{size_of, count_of, fields_of};
 ghost use Rattle.rl_mirror.specs.Mirror.{marks_in};
 ghost use Rattle.rl_mirror.specs.Prediction.{shown, left_by_read, written};
 ghost use Rattle.rl_access.specs.Backdoor.{IsFound, IsReadBehind};
-ghost use Rattle.rl_access.specs.Call.{scene, Performs};
+ghost use Rattle.rl_access.specs.Call.{PerformsOffBus};
 ghost use Rattle.rl_access.specs.Event.{EventFits};
 ghost use Rattle.rl_access.specs.Model.{IsDeviceOf, IsSameChip};
 ghost use Rattle.rl_access.specs.Rules.{grant, taking_raw};
@@ -96,7 +96,7 @@ pub fn back_write<D: Device>(m: &mut Model, d: &mut D, reg: u32, value: u64) -> 
     ensures parts { IsSameChip m.old m.new }
     ensures fits { EventFits m.new result }
     ensures later { D.errors d.old ≤ D.errors d.new }
-    ensures performs { (adapters : List Standing) → Performs (scene m.old adapters (D.errors d.old) (D.state d.old)) (scene m.new adapters (D.errors d.new) (D.state d.new)) (Op.BackWrite reg value) result }
+    ensures performs { PerformsOffBus D.errors D.state m.old m.new d.old d.new (Op.BackWrite reg value) result }
     ensures refused { OnErr (grant m.old (Op.BackWrite reg value)) (d.new ≡ d.old) }
 {
     let op = Op::BackWrite { reg, value };
@@ -142,7 +142,8 @@ fn sample_register<D: Device>(m: &mut Model, d: &mut D, reg: u32) -> Event
     ensures parts { IsSameChip m.old m.new }
     ensures fits { EventFits m.new result }
     ensures later { D.errors d.old ≤ D.errors d.new }
-    ensures performs { (adapters : List Standing) → Performs (scene m.old adapters (D.errors d.old) (D.state d.old)) (scene m.new adapters (D.errors d.new) (D.state d.new)) (Op.BackRead reg) result }
+    ensures performs { PerformsOffBus D.errors D.state m.old m.new d.old d.new (Op.BackRead reg) result }
+    ensures refused { OnErr (grant m.old (Op.BackRead reg)) (d.new ≡ d.old) }
 {
     let op = Op::BackRead { reg };
     match m.by_backdoor(Item::Reg(reg)) {
@@ -162,7 +163,8 @@ fn check_sample<D: Device>(m: &mut Model, d: &mut D, reg: u32) -> Event
     ensures parts { IsSameChip m.old m.new }
     ensures fits { EventFits m.new result }
     ensures later { D.errors d.old ≤ D.errors d.new }
-    ensures performs { (adapters : List Standing) → Performs (scene m.old adapters (D.errors d.old) (D.state d.old)) (scene m.new adapters (D.errors d.new) (D.state d.new)) (Op.BackCheck reg) result }
+    ensures performs { PerformsOffBus D.errors D.state m.old m.new d.old d.new (Op.BackCheck reg) result }
+    ensures refused { OnErr (grant m.old (Op.BackCheck reg)) (d.new ≡ d.old) }
 {
     let op = Op::BackCheck { reg };
     match m.by_backdoor(Item::Reg(reg)) {
@@ -183,7 +185,8 @@ pub fn back_read<D: Device>(m: &mut Model, d: &mut D, reg: u32, check: bool) -> 
     ensures parts { IsSameChip m.old m.new }
     ensures fits { EventFits m.new result }
     ensures later { D.errors d.old ≤ D.errors d.new }
-    ensures performs { (adapters : List Standing) → Performs (scene m.old adapters (D.errors d.old) (D.state d.old)) (scene m.new adapters (D.errors d.new) (D.state d.new)) (if check then Op.BackCheck reg else Op.BackRead reg) result }
+    ensures performs { PerformsOffBus D.errors D.state m.old m.new d.old d.new
+        (if check then Op.BackCheck reg else Op.BackRead reg) result }
     ensures refused { OnErr (grant m.old (Op.BackRead reg)) (d.new ≡ d.old) }
 {
     if check {
@@ -201,7 +204,7 @@ pub fn peek<D: Device>(m: &mut Model, d: &mut D, reg: u32) -> Event
     ensures parts { IsSameChip m.old m.new }
     ensures fits { EventFits m.new result }
     ensures later { D.errors d.old ≤ D.errors d.new }
-    ensures performs { (adapters : List Standing) → Performs (scene m.old adapters (D.errors d.old) (D.state d.old)) (scene m.new adapters (D.errors d.new) (D.state d.new)) (Op.Peek reg) result }
+    ensures performs { PerformsOffBus D.errors D.state m.old m.new d.old d.new (Op.Peek reg) result }
     ensures unchanged { d.new ≡ d.old }
 {
     let op = Op::Peek { reg };
@@ -223,7 +226,7 @@ pub fn poke<D: Device>(m: &mut Model, d: &mut D, reg: u32, value: u64) -> Event
     ensures parts { IsSameChip m.old m.new }
     ensures fits { EventFits m.new result }
     ensures later { D.errors d.old ≤ D.errors d.new }
-    ensures performs { (adapters : List Standing) → Performs (scene m.old adapters (D.errors d.old) (D.state d.old)) (scene m.new adapters (D.errors d.new) (D.state d.new)) (Op.Poke reg value) result }
+    ensures performs { PerformsOffBus D.errors D.state m.old m.new d.old d.new (Op.Poke reg value) result }
     ensures refused { OnErr (grant m.old (Op.Poke reg value)) (d.new ≡ d.old) }
 {
     let op = Op::Poke { reg, value };
@@ -246,7 +249,7 @@ pub fn hw<D: Device>(m: &mut Model, d: &mut D, field: u32, value: u64) -> Event
     ensures parts { IsSameChip m.old m.new }
     ensures fits { EventFits m.new result }
     ensures later { D.errors d.old ≤ D.errors d.new }
-    ensures performs { (adapters : List Standing) → Performs (scene m.old adapters (D.errors d.old) (D.state d.old)) (scene m.new adapters (D.errors d.new) (D.state d.new)) (Op.Hw field value) result }
+    ensures performs { PerformsOffBus D.errors D.state m.old m.new d.old d.new (Op.Hw field value) result }
     ensures refused { OnErr (grant m.old (Op.Hw field value)) (d.new ≡ d.old) }
 {
     let shape = m.field(field);
@@ -269,7 +272,7 @@ pub fn reset<D: Device>(m: &mut Model, d: &mut D, kind: u32) -> Event
     ensures parts { IsSameChip m.old m.new }
     ensures fits { EventFits m.new result }
     ensures later { D.errors d.old ≤ D.errors d.new }
-    ensures performs { (adapters : List Standing) → Performs (scene m.old adapters (D.errors d.old) (D.state d.old)) (scene m.new adapters (D.errors d.new) (D.state d.new)) (Op.Reset kind) result }
+    ensures performs { PerformsOffBus D.errors D.state m.old m.new d.old d.new (Op.Reset kind) result }
 {
     reset_device(m, d, kind);
     m.reset(kind);

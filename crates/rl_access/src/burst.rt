@@ -2,7 +2,7 @@
 ghost use Rattle.std.specs.Prelude.{◌≡◌, ◌+◌, ◌^◌, ◌<◌, [], ◌∷◌, map as each, length, nat_lt, IfOk, OnOk, OnErr, Ok, None, true};
 ghost use Rattle.std.specs.List.{list_all};
 ghost use Rattle.rl_bus.specs.Causes.{HasCause};
-ghost use Rattle.rl_access.specs.Call.{scene};
+ghost use Rattle.rl_access.specs.Call.{scene_of};
 ghost use Rattle.rl_access.specs.Event.{EventFits};
 ghost use Rattle.rl_access.specs.HandsOver.{HandsOver};
 ghost use Rattle.rl_access.specs.Model.{IsReady};
@@ -50,8 +50,10 @@ fn refuse_burst<R: Recorder>(m: &Model, op: Op, why: Refused, rec: &mut R) -> Re
     requires numbers { HasNumbers m.now.chip (length m.now.layout.maps) op }
     requires register { register_of m.now.chip op ≡ None }
     requires ends { has_end op (end.Refused why) ≡ true }
-    ensures handed { HandsOver R.takes R.breaks rec.old (record { model = m.now; event = memory_event op [] (quiet (end.Refused why) m.now) } ∷ []) rec.new result }
-    ensures tally { IfOk result (λ tally. tally ≡ counted no_tally (memory_event op [] (quiet (end.Refused why) m.now))) }
+    ensures handed { HandsOver R.takes R.breaks rec.old
+        (record { model = m.now; event = memory_event op [] (quiet (end.Refused why) m.now) } ∷ []) rec.new result }
+    ensures tally { IfOk result (λ tally.
+        tally ≡ counted no_tally (memory_event op [] (quiet (end.Refused why) m.now))) }
     ensures cause { HasCause (R.faults rec.old) (R.faults rec.new) result }
     ensures steady { R.steady rec.new ≡ R.steady rec.old }
 {
@@ -78,7 +80,11 @@ pub fn burst_write<D: Device, R: Recorder>(
     requires map { IsMapIn (length m.old.layout.maps) map }
     ensures model { m.new ≡ m.old }
     ensures ready { IsReady m.new (each standing a.new.items) (D.state d.new) }
-    ensures hands_over { IsBurst R.takes R.breaks rec.old rec.new (scene m.old (each standing a.old.items) (D.errors d.old) (D.state d.old)) (scene m.new (each standing a.new.items) (D.errors d.new) (D.state d.new)) (write_grant m.old mem map first values.now) (Op.BurstWrite mem map first (length values.now)) (writes_of mem map first values.now) result }
+    ensures hands_over { IsBurst R.takes R.breaks rec.old rec.new
+        (scene_of standing D.errors D.state m.old a.old.items d.old)
+        (scene_of standing D.errors D.state m.new a.new.items d.new)
+        (write_grant m.old mem map first values.now) (Op.BurstWrite mem map first (length values.now))
+        (writes_of mem map first values.now) result }
     ensures cause { HasCause (R.faults rec.old) (R.faults rec.new) result }
     ensures steady { R.steady rec.new ≡ R.steady rec.old }
     ensures refused { OnErr (write_grant m.old mem map first values.now) (d.new ≡ d.old) }
@@ -102,7 +108,8 @@ pub fn burst_write<D: Device, R: Recorder>(
 // Granted where the location's bytes hold each value.
 fn all_fitting(m: &Model, mem: u32, values: &[u64], grant: Grant) -> Grant
     requires { mem < length m.now.chip.mems }
-    ensures grant { result ≡ only_where grant (list_all (λ v. nat_lt v (256 ^ location_size m.now.chip mem)) values.now) Refused.TooWide }
+    ensures grant { result ≡
+        only_where grant (list_all (λ v. nat_lt v (256 ^ location_size m.now.chip mem)) values.now) Refused.TooWide }
     ensures before { IfOk result (λ p. grant ≡ Ok p) }
 {
     let all = values
@@ -127,7 +134,10 @@ fn write_locations<D: Device, R: Recorder>(
     requires small { first + length values.now < 2 ^ 64 }
     ensures model { m.new ≡ m.old }
     ensures ready { IsReady m.new (each standing a.new.items) (D.state d.new) }
-    ensures run { IsRun R.takes R.breaks rec.old rec.new (scene m.old (each standing a.old.items) (D.errors d.old) (D.state d.old)) (scene m.new (each standing a.new.items) (D.errors d.new) (D.state d.new)) (writes_of mem map first values.now) result }
+    ensures run { IsRun R.takes R.breaks rec.old rec.new
+        (scene_of standing D.errors D.state m.old a.old.items d.old)
+        (scene_of standing D.errors D.state m.new a.new.items d.new)
+        (writes_of mem map first values.now) result }
     ensures cause { HasCause (R.faults rec.old) (R.faults rec.new) result }
     ensures steady { R.steady rec.new ≡ R.steady rec.old }
 {
@@ -159,7 +169,11 @@ pub fn burst_read<D: Device, R: Recorder>(
     requires map { IsMapIn (length m.old.layout.maps) map }
     ensures model { m.new ≡ m.old }
     ensures ready { IsReady m.new (each standing a.new.items) (D.state d.new) }
-    ensures hands_over { IsBurst R.takes R.breaks rec.old rec.new (scene m.old (each standing a.old.items) (D.errors d.old) (D.state d.old)) (scene m.new (each standing a.new.items) (D.errors d.new) (D.state d.new)) (grant m.old (Op.BurstRead mem map first count)) (Op.BurstRead mem map first count) (reads_of mem map first count) result }
+    ensures hands_over { IsBurst R.takes R.breaks rec.old rec.new
+        (scene_of standing D.errors D.state m.old a.old.items d.old)
+        (scene_of standing D.errors D.state m.new a.new.items d.new)
+        (grant m.old (Op.BurstRead mem map first count)) (Op.BurstRead mem map first count)
+        (reads_of mem map first count) result }
     ensures cause { HasCause (R.faults rec.old) (R.faults rec.new) result }
     ensures steady { R.steady rec.new ≡ R.steady rec.old }
     ensures refused { OnErr (grant m.old (Op.BurstRead mem map first count)) (d.new ≡ d.old) }
@@ -193,7 +207,10 @@ fn read_locations<D: Device, R: Recorder>(
     requires small { first + count < 2 ^ 64 }
     ensures model { m.new ≡ m.old }
     ensures ready { IsReady m.new (each standing a.new.items) (D.state d.new) }
-    ensures run { IsRun R.takes R.breaks rec.old rec.new (scene m.old (each standing a.old.items) (D.errors d.old) (D.state d.old)) (scene m.new (each standing a.new.items) (D.errors d.new) (D.state d.new)) (reads_of mem map first count) result }
+    ensures run { IsRun R.takes R.breaks rec.old rec.new
+        (scene_of standing D.errors D.state m.old a.old.items d.old)
+        (scene_of standing D.errors D.state m.new a.new.items d.new)
+        (reads_of mem map first count) result }
     ensures cause { HasCause (R.faults rec.old) (R.faults rec.new) result }
     ensures steady { R.steady rec.new ≡ R.steady rec.old }
 {

@@ -59,7 +59,9 @@ pub(crate) fn send<D: Device>(
     requires few { length words.now ≤ 8 }
     requires fits { All (Fits (kind_of m.now.layout place)) (ops_in words.now) }
     requires bytes { HasBytes (bus_bytes_of m.now.layout place) (ops_in words.now) }
-    ensures sent { AreSent (adapter_for m.now.layout place) (port_for m.now.layout place) (ops_in words.now) trace.new (map standing a.old.items) (map standing a.new.items) (D.errors d.old) (D.errors d.new) (D.state d.old) (D.state d.new) }
+    ensures sent { AreSent (adapter_for m.now.layout place) (port_for m.now.layout place) (ops_in words.now) trace.new
+        (map standing a.old.items) (map standing a.new.items)
+        (D.errors d.old) (D.errors d.new) (D.state d.old) (D.state d.new) }
     ensures ready { IsReady m.now (map standing a.new.items) (D.state d.new) }
     ensures fit { All (ItemFits m.now.layout) trace.new }
     ensures whole { IsWholeTrace (length words.now) trace.new }
@@ -112,8 +114,13 @@ pub(crate) fn write_as<D: Device>(
     requires ends { has_end event.old.op good ≡ true }
     requires within { IsEndWithin (digits_of m.old.chip event.old.op) good }
     ensures ready { IsReady m.new (map standing a.new.items) (D.state d.new) }
-    ensures sent { AreSent (adapter_for m.old.layout access.now.place) (port_for m.old.layout access.now.place) (access_ops m.old access.now true) event.new.trace (map standing a.old.items) (map standing a.new.items) (D.errors d.old) (D.errors d.new) (D.state d.old) (D.state d.new) }
-    ensures event { event.new ≡ register_event event.old.op access.now.reg event.new.trace (write_outcome m.old good access.now event.new.trace) }
+    ensures sent { AreSent (adapter_for m.old.layout access.now.place) (port_for m.old.layout access.now.place)
+        (access_ops m.old access.now true) event.new.trace
+        (map standing a.old.items) (map standing a.new.items)
+        (D.errors d.old) (D.errors d.new) (D.state d.old) (D.state d.new) }
+    ensures event { event.new ≡
+        register_event event.old.op access.now.reg event.new.trace
+        (write_outcome m.old good access.now event.new.trace) }
     ensures model { m.new ≡ (write_outcome m.old good access.now event.new.trace).model }
     ensures parts { IsSameChip m.old m.new }
     ensures fits { EventFits m.new event.new }
@@ -188,7 +195,10 @@ pub(crate) fn read<D: Device>(
     requires ready { IsReady m.old (map standing a.old.items) (D.state d.old) }
     requires access { IsAccessOn m.old access.now }
     ensures ready { IsReady m.new (map standing a.new.items) (D.state d.new) }
-    ensures sent { AreSent (adapter_for m.old.layout access.now.place) (port_for m.old.layout access.now.place) (access_ops m.old access.now false) trace.new (map standing a.old.items) (map standing a.new.items) (D.errors d.old) (D.errors d.new) (D.state d.old) (D.state d.new) }
+    ensures sent { AreSent (adapter_for m.old.layout access.now.place) (port_for m.old.layout access.now.place)
+        (access_ops m.old access.now false) trace.new
+        (map standing a.old.items) (map standing a.new.items)
+        (D.errors d.old) (D.errors d.new) (D.state d.old) (D.state d.new) }
     ensures end { result.0 ≡ (read_outcome m.old check access.now trace.new).end }
     ensures differ { result.1 ≡ (read_outcome m.old check access.now trace.new).differ }
     ensures model { m.new ≡ (read_outcome m.old check access.now trace.new).model }
@@ -220,8 +230,13 @@ pub(crate) fn read_as<D: Device>(
     requires ends { (value : ℕ) → has_end event.old.op (end.Value value) ≡ true }
     requires digits { 16 ^ digits_of m.old.chip event.old.op ≡ 256 ^ (place_at m.old.layout access.now.place).bytes }
     ensures ready { IsReady m.new (map standing a.new.items) (D.state d.new) }
-    ensures sent { AreSent (adapter_for m.old.layout access.now.place) (port_for m.old.layout access.now.place) (access_ops m.old access.now false) event.new.trace (map standing a.old.items) (map standing a.new.items) (D.errors d.old) (D.errors d.new) (D.state d.old) (D.state d.new) }
-    ensures event { event.new ≡ register_event event.old.op access.now.reg event.new.trace (read_outcome m.old check access.now event.new.trace) }
+    ensures sent { AreSent (adapter_for m.old.layout access.now.place) (port_for m.old.layout access.now.place)
+        (access_ops m.old access.now false) event.new.trace
+        (map standing a.old.items) (map standing a.new.items)
+        (D.errors d.old) (D.errors d.new) (D.state d.old) (D.state d.new) }
+    ensures event { event.new ≡
+        register_event event.old.op access.now.reg event.new.trace
+        (read_outcome m.old check access.now event.new.trace) }
     ensures model { m.new ≡ (read_outcome m.old check access.now event.new.trace).model }
     ensures parts { IsSameChip m.old m.new }
     ensures fits { EventFits m.new event.new }

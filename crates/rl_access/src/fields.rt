@@ -1,6 +1,6 @@
 //! Accesses to one field, and desired values.
 ghost use Rattle.std.specs.Prelude.{◌≡◌, ◌+◌, ◌<◌, ◌≤◌, map as each, length, OnErr, true};
-ghost use Rattle.rl_access.specs.Call.{Performs, PerformsAlone, scene};
+ghost use Rattle.rl_access.specs.Call.{Performs, PerformsAlone, scene_of};
 ghost use Rattle.rl_access.specs.Event.{EventFits, IsEndWithin};
 ghost use Rattle.rl_access.specs.Model.{IsReady, IsSameChip};
 ghost use Rattle.rl_access.specs.Operation.{IsMapIn, field_digits, ends_with_value};
@@ -31,7 +31,8 @@ pub fn field_write<D: Device>(
     ensures ready { IsReady m.new (each standing a.new.items) (D.state d.new) }
     ensures parts { IsSameChip m.old m.new }
     ensures fits { EventFits m.new result }
-    ensures performs { Performs (scene m.old (each standing a.old.items) (D.errors d.old) (D.state d.old)) (scene m.new (each standing a.new.items) (D.errors d.new) (D.state d.new)) (op.FieldWrite field map value) result }
+    ensures performs { Performs (scene_of standing D.errors D.state m.old a.old.items d.old)
+        (scene_of standing D.errors D.state m.new a.new.items d.new) (op.FieldWrite field map value) result }
     ensures refused { OnErr (grant m.old (op.FieldWrite field map value)) (d.new ≡ d.old) }
 {
     let reg = m.field(field).reg;
@@ -66,7 +67,8 @@ pub fn field_read<D: Device>(
     ensures ready { IsReady m.new (each standing a.new.items) (D.state d.new) }
     ensures parts { IsSameChip m.old m.new }
     ensures fits { EventFits m.new result }
-    ensures performs { Performs (scene m.old (each standing a.old.items) (D.errors d.old) (D.state d.old)) (scene m.new (each standing a.new.items) (D.errors d.new) (D.state d.new)) (op.FieldRead field map) result }
+    ensures performs { Performs (scene_of standing D.errors D.state m.old a.old.items d.old)
+        (scene_of standing D.errors D.state m.new a.new.items d.new) (op.FieldRead field map) result }
     ensures refused { OnErr (grant m.old (op.FieldRead field map)) (d.new ≡ d.old) }
 {
     let shape = m.field(field);

@@ -9,7 +9,7 @@ ghost use Rattle.rl_split.specs.Lists.{ops_in};
 ghost use Rattle.rl_access.specs.declared.event.End.TheVariants as end;
 ghost use Rattle.rl_access.specs.Access.{IsPlaceFor, HasBytes, IsWholeTrace};
 ghost use Rattle.rl_access.specs.Backdoor.{IsFoundAt};
-ghost use Rattle.rl_access.specs.Call.{scene, Performs};
+ghost use Rattle.rl_access.specs.Call.{scene_of, Performs, PerformsOffBus};
 ghost use Rattle.rl_access.specs.Items.{AreSent, port_for, adapter_for, failed_at};
 ghost use Rattle.rl_access.specs.Event.{EventFits, ItemFits, IsEndWithin};
 ghost use Rattle.rl_access.specs.Model.{ModelData, IsDeviceOf, IsReady};
@@ -41,7 +41,8 @@ fn location_words(
     requires place { IsPlaceFor m.now (item.Mem mem) place }
     requires index { index < memory_size m.now.chip mem }
     requires value { value < 256 ^ location_size m.now.chip mem }
-    ensures ops { ops_in words.new ≡ ops_of m.now.layout place index (all_bytes (location_size m.now.chip mem)) value write }
+    ensures ops { ops_in words.new ≡
+        ops_of m.now.layout place index (all_bytes (location_size m.now.chip mem)) value write }
     ensures few { length words.new ≤ 8 }
     ensures fits { All (Fits (kind_of m.now.layout place)) (ops_in words.new) }
     ensures bytes { HasBytes (bus_bytes_of m.now.layout place) (ops_in words.new) }
@@ -55,7 +56,8 @@ fn location_value(m: &Model, mem: u32, place: u32, index: u32, words: &Words, tr
     requires mem { mem < length m.now.chip.mems }
     requires place { IsPlaceFor m.now (item.Mem mem) place }
     requires index { index < memory_size m.now.chip mem }
-    requires words { ops_in words.now ≡ ops_of m.now.layout place index (all_bytes (location_size m.now.chip mem)) 0 false }
+    requires words { ops_in words.now ≡
+        ops_of m.now.layout place index (all_bytes (location_size m.now.chip mem)) 0 false }
     requires whole { length trace.now ≡ length words.now }
     ensures value { result ≡ location_value m.now mem place index trace.now }
     ensures digits { result < 16 ^ (2 * location_size m.now.chip mem) }
@@ -80,9 +82,12 @@ fn end_of_read(m: &Model, mem: u32, place: u32, index: u32, words: &Words, trace
     requires mem { mem < length m.now.chip.mems }
     requires place { IsPlaceFor m.now (item.Mem mem) place }
     requires index { index < memory_size m.now.chip mem }
-    requires words { ops_in words.now ≡ ops_of m.now.layout place index (all_bytes (location_size m.now.chip mem)) 0 false }
+    requires words { ops_in words.now ≡
+        ops_of m.now.layout place index (all_bytes (location_size m.now.chip mem)) 0 false }
     requires whole { IsWholeTrace (length words.now) trace.now }
-    ensures end { result ≡ (or_error (failed_at trace.now) m.now (quiet (end.Value (location_value m.now mem place index trace.now)) m.now)).end }
+    ensures end { result ≡
+        (or_error (failed_at trace.now) m.now
+        (quiet (end.Value (location_value m.now mem place index trace.now)) m.now)).end }
     ensures ends { ends_with_value result ≡ true }
     ensures within { IsEndWithin (2 * location_size m.now.chip mem) result }
 {
@@ -112,7 +117,10 @@ fn write_location<D: Device>(
     requires small { index < 65536 }
     requires value { value < 256 ^ location_size m.now.chip mem }
     ensures ready { IsReady m.now (each standing a.new.items) (D.state d.new) }
-    ensures sent { AreSent (adapter_for m.now.layout place) (port_for m.now.layout place) (ops_of m.now.layout place index (location_bytes m.now mem) value true) trace.new (each standing a.old.items) (each standing a.new.items) (D.errors d.old) (D.errors d.new) (D.state d.old) (D.state d.new) }
+    ensures sent { AreSent (adapter_for m.now.layout place) (port_for m.now.layout place)
+        (ops_of m.now.layout place index (location_bytes m.now mem) value true) trace.new
+        (each standing a.old.items) (each standing a.new.items)
+        (D.errors d.old) (D.errors d.new) (D.state d.old) (D.state d.new) }
     ensures end { result ≡ (or_error (failed_at trace.new) m.now (quiet end.Done m.now)).end }
     ensures items { All (ItemFits m.now.layout) trace.new }
     ensures ends { ends_done result ≡ true }
@@ -140,8 +148,13 @@ fn read_location<D: Device>(
     requires index { index < memory_size m.now.chip mem }
     requires small { index < 65536 }
     ensures ready { IsReady m.now (each standing a.new.items) (D.state d.new) }
-    ensures sent { AreSent (adapter_for m.now.layout place) (port_for m.now.layout place) (ops_of m.now.layout place index (location_bytes m.now mem) 0 false) trace.new (each standing a.old.items) (each standing a.new.items) (D.errors d.old) (D.errors d.new) (D.state d.old) (D.state d.new) }
-    ensures end { result ≡ (or_error (failed_at trace.new) m.now (quiet (end.Value (location_value m.now mem place index trace.new)) m.now)).end }
+    ensures sent { AreSent (adapter_for m.now.layout place) (port_for m.now.layout place)
+        (ops_of m.now.layout place index (location_bytes m.now mem) 0 false) trace.new
+        (each standing a.old.items) (each standing a.new.items)
+        (D.errors d.old) (D.errors d.new) (D.state d.old) (D.state d.new) }
+    ensures end { result ≡
+        (or_error (failed_at trace.new) m.now
+        (quiet (end.Value (location_value m.now mem place index trace.new)) m.now)).end }
     ensures items { All (ItemFits m.now.layout) trace.new }
     ensures ends { ends_with_value result ≡ true }
     ensures within { IsEndWithin (2 * location_size m.now.chip mem) result }
@@ -169,7 +182,8 @@ pub fn mem_write<D: Device>(
     ensures model { m.new ≡ m.old }
     ensures ready { IsReady m.new (each standing a.new.items) (D.state d.new) }
     ensures fits { EventFits m.new result }
-    ensures performs { Performs (scene m.old (each standing a.old.items) (D.errors d.old) (D.state d.old)) (scene m.new (each standing a.new.items) (D.errors d.new) (D.state d.new)) (Op.MemWrite mem map index value) result }
+    ensures performs { Performs (scene_of standing D.errors D.state m.old a.old.items d.old)
+        (scene_of standing D.errors D.state m.new a.new.items d.new) (Op.MemWrite mem map index value) result }
     ensures refused { OnErr (grant m.old (Op.MemWrite mem map index value)) (d.new ≡ d.old) }
 {
     let item = Item::Mem(mem);
@@ -206,7 +220,8 @@ pub fn mem_read<D: Device>(
     ensures model { m.new ≡ m.old }
     ensures ready { IsReady m.new (each standing a.new.items) (D.state d.new) }
     ensures fits { EventFits m.new result }
-    ensures performs { Performs (scene m.old (each standing a.old.items) (D.errors d.old) (D.state d.old)) (scene m.new (each standing a.new.items) (D.errors d.new) (D.state d.new)) (Op.MemRead mem map index) result }
+    ensures performs { Performs (scene_of standing D.errors D.state m.old a.old.items d.old)
+        (scene_of standing D.errors D.state m.new a.new.items d.new) (Op.MemRead mem map index) result }
     ensures refused { OnErr (grant m.old (Op.MemRead mem map index)) (d.new ≡ d.old) }
 {
     let place = m.place_of(Item::Mem(mem), map);
@@ -241,7 +256,8 @@ pub fn mem_check<D: Device>(
     ensures model { m.new ≡ m.old }
     ensures ready { IsReady m.new (each standing a.new.items) (D.state d.new) }
     ensures fits { EventFits m.new result }
-    ensures performs { Performs (scene m.old (each standing a.old.items) (D.errors d.old) (D.state d.old)) (scene m.new (each standing a.new.items) (D.errors d.new) (D.state d.new)) (Op.MemCheck mem map index value) result }
+    ensures performs { Performs (scene_of standing D.errors D.state m.old a.old.items d.old)
+        (scene_of standing D.errors D.state m.new a.new.items d.new) (Op.MemCheck mem map index value) result }
     ensures refused { OnErr (grant m.old (Op.MemCheck mem map index value)) (d.new ≡ d.old) }
 {
     let item = Item::Mem(mem);
@@ -304,7 +320,7 @@ pub fn mem_peek<D: Device>(m: &mut Model, d: &mut D, mem: u32, index: u64) -> Ev
     ensures model { m.new ≡ m.old }
     ensures device { d.new ≡ d.old }
     ensures fits { EventFits m.new result }
-    ensures performs { (adapters : List Standing) → Performs (scene m.old adapters (D.errors d.old) (D.state d.old)) (scene m.new adapters (D.errors d.new) (D.state d.new)) (Op.MemPeek mem index) result }
+    ensures performs { PerformsOffBus D.errors D.state m.old m.new d.old d.new (Op.MemPeek mem index) result }
 {
     let op = Op::MemPeek { mem, index };
     match m.at_location(mem, index, m.by_backdoor(Item::Mem(mem))) {
@@ -324,7 +340,7 @@ pub fn mem_poke<D: Device>(m: &mut Model, d: &mut D, mem: u32, index: u64, value
     ensures device { IsDeviceOf m.new (D.state d.new) }
     ensures fits { EventFits m.new result }
     ensures later { D.errors d.old ≤ D.errors d.new }
-    ensures performs { (adapters : List Standing) → Performs (scene m.old adapters (D.errors d.old) (D.state d.old)) (scene m.new adapters (D.errors d.new) (D.state d.new)) (Op.MemPoke mem index value) result }
+    ensures performs { PerformsOffBus D.errors D.state m.old m.new d.old d.new (Op.MemPoke mem index value) result }
     ensures refused { OnErr (grant m.old (Op.MemPoke mem index value)) (d.new ≡ d.old) }
 {
     let op = Op::MemPoke { mem, index, value };

@@ -138,7 +138,11 @@ impl Model {
     /// Takes a write as done.
     pub(crate) fn predict_write(&mut self, access: &Access)
         requires { access.now.reg < length self.old.chip.regs }
-        ensures { self.new ≡ record self.old { mirror = predict_write self.old.chip access.now.reg access.now.value access.now.fields self.old.mirror } }
+        ensures { self.new ≡
+            record self.old {
+              mirror = predict_write self.old.chip access.now.reg access.now.value
+                  access.now.fields self.old.mirror;
+            } }
     {
         self.mirror
             .predict_write(&self.chip, access.reg, access.value, access.fields);
@@ -147,7 +151,8 @@ impl Model {
     /// Takes a read of these fields, which answered the value, as done.
     pub(crate) fn predict_read(&mut self, reg: u32, value: u64, fields: u64)
         requires { reg < length self.old.chip.regs }
-        ensures { self.new ≡ record self.old { mirror = predict_read self.old.chip reg value fields self.old.mirror } }
+        ensures { self.new ≡
+            record self.old { mirror = predict_read self.old.chip reg value fields self.old.mirror } }
     {
         self.mirror.predict_read(&self.chip, reg, value, fields);
     }
@@ -215,7 +220,9 @@ impl Model {
         requires within { IsEndWithin (digits_of self.now.chip event.old.op) end }
         requires items { All (ItemFits self.now.layout) event.old.trace }
         requires differ { differ < 2 ^ count_of self.now.chip reg }
-        ensures event { event.new ≡ register_event event.old.op reg event.old.trace (record { end = end; model = self.now; differ = differ }) }
+        ensures event { event.new ≡
+            register_event event.old.op reg event.old.trace
+            (record { end = end; model = self.now; differ = differ }) }
         ensures fits { EventFits self.now event.new }
     {
         event.end = end;
@@ -390,7 +397,8 @@ impl Model {
         requires within { IsEndWithin (digits_of self.now.chip event.old.op) end }
         requires items { All (ItemFits self.now.layout) event.old.trace }
         requires differ { differ ≤ 1 }
-        ensures event { event.new ≡ memory_event event.old.op event.old.trace (record { end = end; model = self.now; differ = differ }) }
+        ensures event { event.new ≡
+            memory_event event.old.op event.old.trace (record { end = end; model = self.now; differ = differ }) }
         ensures fits { EventFits self.now event.new }
     {
         event.end = end;

@@ -1,6 +1,6 @@
 //! Accesses of another master, which a predictor watches.
 ghost use Rattle.std.specs.Prelude.{◌≡◌, ◌<◌, map as each, length, OnErr};
-ghost use Rattle.rl_access.specs.Call.{Performs, scene};
+ghost use Rattle.rl_access.specs.Call.{Performs, scene_of};
 ghost use Rattle.rl_access.specs.Event.{EventFits};
 ghost use Rattle.rl_access.specs.Model.{IsReady, IsSameChip};
 ghost use Rattle.rl_access.specs.Operation.{IsMapIn};
@@ -28,7 +28,8 @@ pub fn other_write<D: Device>(
     ensures ready { IsReady m.new (each standing a.new.items) (D.state d.new) }
     ensures parts { IsSameChip m.old m.new }
     ensures fits { EventFits m.new result }
-    ensures performs { Performs (scene m.old (each standing a.old.items) (D.errors d.old) (D.state d.old)) (scene m.new (each standing a.new.items) (D.errors d.new) (D.state d.new)) (op.OtherWrite reg map value) result }
+    ensures performs { Performs (scene_of standing D.errors D.state m.old a.old.items d.old)
+        (scene_of standing D.errors D.state m.new a.new.items d.new) (op.OtherWrite reg map value) result }
     ensures refused { OnErr (grant m.old (op.OtherWrite reg map value)) (d.new ≡ d.old) }
 {
     let place = m.place_of(Item::Reg(reg), map);
@@ -62,7 +63,8 @@ pub fn other_read<D: Device>(
     ensures ready { IsReady m.new (each standing a.new.items) (D.state d.new) }
     ensures parts { IsSameChip m.old m.new }
     ensures fits { EventFits m.new result }
-    ensures performs { Performs (scene m.old (each standing a.old.items) (D.errors d.old) (D.state d.old)) (scene m.new (each standing a.new.items) (D.errors d.new) (D.state d.new)) (op.OtherRead reg map) result }
+    ensures performs { Performs (scene_of standing D.errors D.state m.old a.old.items d.old)
+        (scene_of standing D.errors D.state m.new a.new.items d.new) (op.OtherRead reg map) result }
     ensures refused { OnErr (grant m.old (op.OtherRead reg map)) (d.new ≡ d.old) }
 {
     let place = m.place_of(Item::Reg(reg), map);

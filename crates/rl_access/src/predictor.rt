@@ -220,8 +220,10 @@ impl Predictor {
         requires built_with { IsBuiltWith layout.now chip.now }
         requires predictor { IsPredictorOf layout.now self.old }
         requires mirror { IsMirrorOf chip.now mirror.old }
-        ensures gathered { self.new ≡ (observed chip.now layout.now port op.now answer.now self.old mirror.old).gathered }
-        ensures predicted { mirror.new ≡ (observed chip.now layout.now port op.now answer.now self.old mirror.old).mirror }
+        ensures gathered { self.new ≡
+            (observed chip.now layout.now port op.now answer.now self.old mirror.old).gathered }
+        ensures predicted { mirror.new ≡
+            (observed chip.now layout.now port op.now answer.now self.old mirror.old).mirror }
         ensures predictor { IsPredictorOf layout.now self.new }
         ensures mirror { IsMirrorOf chip.now mirror.new }
         ensures reach { IsReachable chip.now mirror.old → IsReachable chip.now mirror.new }
@@ -262,8 +264,12 @@ impl Predictor {
         requires predictor { IsPredictorOf layout.now self.old }
         requires mirror { IsMirrorOf chip.now mirror.old }
         requires place { IsRegisterPlace layout.now place }
-        ensures gathered { self.new ≡ (taken_in chip.now layout.now place (gathered_with layout.now place op.now word (gathered_at self.old place)) self.old mirror.old).gathered }
-        ensures predicted { mirror.new ≡ (taken_in chip.now layout.now place (gathered_with layout.now place op.now word (gathered_at self.old place)) self.old mirror.old).mirror }
+        ensures gathered { self.new ≡
+            (taken_in chip.now layout.now place
+            (gathered_with layout.now place op.now word (gathered_at self.old place)) self.old mirror.old).gathered }
+        ensures predicted { mirror.new ≡
+            (taken_in chip.now layout.now place
+            (gathered_with layout.now place op.now word (gathered_at self.old place)) self.old mirror.old).mirror }
         ensures predictor { IsPredictorOf layout.now self.new }
         ensures mirror { IsMirrorOf chip.now mirror.new }
         ensures reach { IsReachable chip.now mirror.old → IsReachable chip.now mirror.new }
@@ -278,9 +284,12 @@ impl Predictor {
     fn gather(&mut self, layout: &Layout, place: u32, op: &BusOp, word: u64) -> bool
         requires predictor { IsPredictorOf layout.now self.old }
         requires place { IsRegisterPlace layout.now place }
-        ensures gathered { self.new ≡ slice_set self.old place (gathered_with layout.now place op.now word (gathered_at self.old place)) }
-        ensures whole { result ≡ is_whole layout.now place (gathered_with layout.now place op.now word (gathered_at self.old place)) }
-        ensures most { length (gathered_with layout.now place op.now word (gathered_at self.old place)).words ≤ length (words_of layout.now place 0) }
+        ensures gathered { self.new ≡
+            slice_set self.old place (gathered_with layout.now place op.now word (gathered_at self.old place)) }
+        ensures whole { result ≡
+            is_whole layout.now place (gathered_with layout.now place op.now word (gathered_at self.old place)) }
+        ensures most { length (gathered_with layout.now place op.now word (gathered_at self.old place)).words ≤
+            length (words_of layout.now place 0) }
     {
         // The call tells that the layout is sound.
         let _ = layout.places();

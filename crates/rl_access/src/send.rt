@@ -24,7 +24,8 @@ pub(crate) fn send_one<D: Device>(
     requires fits { Fits (kind_at (kinds_of (map standing adapters.old.items)) which) op.now }
     ensures item { result ≡ item_of (standing_at (map standing adapters.old.items) which) port op.now result.answer }
     ensures small { IsAnswerSmall result }
-    ensures adapters { map standing adapters.new.items ≡ moved_on (map standing adapters.old.items) which result.op result.answer }
+    ensures adapters { map standing adapters.new.items ≡
+        moved_on (map standing adapters.old.items) which result.op result.answer }
     ensures kinds { kinds_of (map standing adapters.new.items) ≡ kinds_of (map standing adapters.old.items) }
     ensures cause { AnswerHasCause (D.errors device.old) (D.errors device.new) result.answer }
     ensures step { IsStep (D.state device.old) (D.state device.new) port op.now result.answer }
@@ -53,7 +54,9 @@ pub(crate) fn send_all<D: Device>(
     requires port { IsPortOf (D.state device.old) port }
     requires in_range { which < length (map standing adapters.old.items) }
     requires fits { All (Fits (kind_at (kinds_of (map standing adapters.old.items)) which)) (ops_in words.now) }
-    ensures sent { AreSent which port (ops_in words.now) trace.new (map standing adapters.old.items) (map standing adapters.new.items) (D.errors device.old) (D.errors device.new) (D.state device.old) (D.state device.new) }
+    ensures sent { AreSent which port (ops_in words.now) trace.new
+        (map standing adapters.old.items) (map standing adapters.new.items)
+        (D.errors device.old) (D.errors device.new) (D.state device.old) (D.state device.new) }
     ensures kinds { kinds_of (map standing adapters.new.items) ≡ kinds_of (map standing adapters.old.items) }
     ensures small { All IsAnswerSmall trace.new }
 {

@@ -1,7 +1,7 @@
 //! Bringing a register to its desired value.
 ghost use Rattle.std.specs.Prelude.{◌≡◌, ◌<◌, map as each, length, OnErr};
 ghost use Rattle.rl_mirror.specs.Reachable.{UpdateBrings};
-ghost use Rattle.rl_access.specs.Call.{Performs, scene};
+ghost use Rattle.rl_access.specs.Call.{Performs, scene_of};
 ghost use Rattle.rl_access.specs.Event.{EventFits};
 ghost use Rattle.rl_access.specs.Model.{IsModel, IsReady, IsSameChip};
 ghost use Rattle.rl_access.specs.Operation.{IsMapIn};
@@ -32,7 +32,8 @@ pub fn update<D: Device>(
     ensures ready { IsReady m.new (each standing a.new.items) (D.state d.new) }
     ensures parts { IsSameChip m.old m.new }
     ensures fits { EventFits m.new result }
-    ensures performs { Performs (scene m.old (each standing a.old.items) (D.errors d.old) (D.state d.old)) (scene m.new (each standing a.new.items) (D.errors d.new) (D.state d.new)) (op.Update reg map) result }
+    ensures performs { Performs (scene_of standing D.errors D.state m.old a.old.items d.old)
+        (scene_of standing D.errors D.state m.new a.new.items d.new) (op.Update reg map) result }
     ensures wishes { BringsWishes m.old m.new reg result.end }
     ensures refused { OnErr (grant m.old (op.Update reg map)) (d.new ≡ d.old) }
 {

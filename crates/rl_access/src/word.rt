@@ -36,7 +36,9 @@ pub fn send_word<D: Device>(
     ensures parts { IsSameChip m.old m.new }
     ensures fits { ItemFits m.new.layout result }
     ensures word { slice_get (word_ops m.old.layout place value) k ≡ Some result.op }
-    ensures sent { AreSent (adapter_for m.old.layout place) (port_for m.old.layout place) (result.op ∷ []) (result ∷ []) (map standing a.old.items) (map standing a.new.items) (D.errors d.old) (D.errors d.new) (D.state d.old) (D.state d.new) }
+    ensures sent { AreSent (adapter_for m.old.layout place) (port_for m.old.layout place) (result.op ∷ []) (result ∷ [])
+        (map standing a.old.items) (map standing a.new.items)
+        (D.errors d.old) (D.errors d.new) (D.state d.old) (D.state d.new) }
     ensures seen { m.new ≡ observing m.old result }
 {
     let op = word_of(m, place, k, value);
@@ -69,7 +71,9 @@ fn send_op<D: Device>(m: &Model, d: &mut D, a: &mut Adapters, place: u32, op: &B
     requires bytes { op.now.bytes ≡ bus_bytes_of m.now.layout place }
     ensures op { result.op ≡ op.now }
     ensures port { result.port < length m.now.layout.ports }
-    ensures sent { AreSent (adapter_for m.now.layout place) (port_for m.now.layout place) (op.now ∷ []) (result ∷ []) (map standing a.old.items) (map standing a.new.items) (D.errors d.old) (D.errors d.new) (D.state d.old) (D.state d.new) }
+    ensures sent { AreSent (adapter_for m.now.layout place) (port_for m.now.layout place) (op.now ∷ []) (result ∷ [])
+        (map standing a.old.items) (map standing a.new.items)
+        (D.errors d.old) (D.errors d.new) (D.state d.old) (D.state d.new) }
     ensures ready { IsReady m.now (map standing a.new.items) (D.state d.new) }
     ensures fit { ItemFits m.now.layout result }
 {

@@ -7,6 +7,7 @@ pub mod HintLemmas
 pub mod LaneLemmas
 pub mod ListLemmas
 pub mod MaskLemmas
+pub mod NamedLemmas
 pub mod ResetLemmas
 pub mod StepLemmas
 pub mod RowLemmas

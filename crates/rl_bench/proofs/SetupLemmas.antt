@@ -239,6 +239,7 @@ is_setup c l flaws chip layout built named = record {
   words_rise = λ i j d le inside. layout.ascending i j d le inside;
   fields_rise = fields_rise c chip;
   resets_rise = (resets_rise 0 c.fields).1;
+  even = λ p a one other here there. layout.even p a one other here there;
 }
 
 pub has_room : (c : ChipData) (l : LayoutData) (flaws : Flaws) → HasRoom (setup_of c l flaws) (locations_of c)

@@ -48,3 +48,7 @@ IsQuiet words beats = (p a : ℕ) → ((write : Bool) → count_for words p a wr
 -- where words queue, each word has a number
 abbrev pub HasBeats : List WordRow → List ℕ → Type 0
 HasBeats words beats = (p a : ℕ) (write : Bool) → 1 < count_for words p a write → length beats ≡ length words
+
+-- each beat names a word, where words of the direction stand
+abbrev pub BeatsAreWords : List WordRow → List ℕ → Type 0
+BeatsAreWords words beats = (p a : ℕ) (write : Bool) → 0 < count_for words p a write → beats_of words beats p a < count_for words p a write

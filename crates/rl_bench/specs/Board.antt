@@ -8,6 +8,7 @@ use Rattle.rl_bus.specs.declared.table.MemRow.{MemRow}
 use Rattle.rl_bus.specs.Device.{IsCellIn}
 use Rattle.rl_bus.specs.declared.table.StuckRow.{StuckRow}
 use Rattle.rl_bus.specs.Setup.{Setup, field_of}
+use Rattle.rl_bus.specs.Reached.{HasEvenWords}
 use Rattle.rl_bus.specs.Spread.{AreInCell}
 use Rattle.rl_bus.specs.State.{State}
 use Rattle.rl_bench.specs.declared.shape.Shape.{Shape}
@@ -48,6 +49,8 @@ pub record IsSetup (t : Setup) : Type 0 where
   pub words_rise : IsNonDecreasingBy key_of t.words
   pub fields_rise : IsNonDecreasingBy (λ f. f.reg) t.fields
   pub resets_rise : IsNonDecreasingBy (λ r. r.field) t.resets
+  -- where words of both directions stand at an address, there are as many of each
+  pub even : HasEvenWords t
 
 -- each register has its masks
 pub record AreShapesOf (t : Setup) (shapes : List Shape) : Type 0 where

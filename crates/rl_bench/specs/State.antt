@@ -1,7 +1,9 @@
 -- What a bench tells.
-use Rattle.std.specs.Prelude.{ℕ, ◌+◌, ◌-◌, ◌^◌, min, if◌then◌else◌}
+use Rattle.std.specs.Prelude.{ℕ, ◌+◌, ◌-◌, ◌^◌, ◌==◌, ◌||◌, Bool, length, min, if◌then◌else◌}
 use Rattle.rl_bus.specs.declared.op.Answer.{Answer}
-use Rattle.rl_bus.specs.State.{State}
+use Rattle.rl_bus.specs.declared.op.BusOp.{BusOp}
+use Rattle.rl_bus.specs.Setup.{words_at}
+use Rattle.rl_bus.specs.State.{State, counted, is_faulty}
 use Rattle.rl_bench.specs.declared.bench.Bench.{Bench}
 use Rattle.rl_bench.specs.Beats.{beats_of}
 use Rattle.rl_bench.specs.Board.{state_of}
@@ -17,3 +19,7 @@ failures_of b = b.failures
 -- the count after an item with this answer: it stays at the end of 64 bits
 abbrev pub failures_after : ℕ → Answer → ℕ
 failures_after failures answer = if answer.failed then min (failures + 1) (2 ^ 64 - 1) else failures
+
+-- an item fails where no word of its direction stands at the address, the width isn't the port's, or an error flaw names it
+abbrev pub item_fails : State → ℕ → BusOp → Bool
+item_fails s port op = length (words_at s.setup port op.address op.write) == 0 || is_faulty (counted s) port op

@@ -1,8 +1,9 @@
 //! The device.
 ghost use Rattle.std.specs.Prelude.{◌≡◌, ℕ, ◌+◌, ◌<◌, ◌≤◌, ◌^◌, length, if◌then◌else◌, nat_lt, not, IfOk, replicate, ◌||◌, ◌==◌, slice_index};
 ghost use Rattle.std.specs.Prelude.{filter, slice_get, option_copied, min, ◌-◌, true};
+ghost use Rattle.rl_bus.specs.Causes.{AnswerHasCause};
 ghost use Rattle.rl_bus.specs.Setup.{is_named, stands_at, stands_for};
-ghost use Rattle.rl_bench.specs.Beats.{IsQuiet, HasBeats, beats_of};
+ghost use Rattle.rl_bench.specs.Beats.{IsQuiet, HasBeats, BeatsAreWords, beats_of};
 ghost use Rattle.std.specs.Prelude.{All};
 ghost use Rattle.std.specs.List.Sorted.{IsNonDecreasingBy};
 ghost use Rattle.rl_map.specs.Layout.{key_of};
@@ -43,6 +44,7 @@ pub struct Bench {
     ghost quiet: { IsQuiet (setup_held board.tables).words beats.items },
     ghost fit: { FitCells (setup_held board.tables) cells },
     ghost beaten: { HasBeats (setup_held board.tables).words beats.items },
+    ghost named: { BeatsAreWords (setup_held board.tables).words beats.items },
     ghost hinted: { All (IsHint (setup_held board.tables).words) hints.slots.items },
 }
 
@@ -116,6 +118,7 @@ fn next_beat(beat: u32, count: usize) -> u32
 fn failed_answer(failures: &mut u64) -> Answer
     ensures answer { result ≡ record { word = 0; failed = true } }
     ensures failures { failures.new ≡ min (failures.old + 1) (2 ^ 64 - 1) }
+    ensures cause { AnswerHasCause failures.old failures.new result }
 {
     *failures = failures.saturating_add(1);
     Answer {
@@ -131,7 +134,6 @@ fn zeros(alloc: Global, count: usize) -> Result<Vec<u64>, AllocError>
 }
 
 impl Bench {
-    ghost use Rattle.rl_bus.specs.Causes.{AnswerHasCause};
     ghost use Rattle.rl_bus.specs.Lanes.{IsWidth};
     ghost use Rattle.rl_bus.specs.State.{state_after, answer_of, first_state};
     ghost use Rattle.rl_map.specs.Maps.{IsBuiltWith};
@@ -227,12 +229,11 @@ impl Bench {
 }
 
 impl Device for Bench {
-    ghost use Rattle.std.specs.Prelude.{Option, Some, option_map};
-    ghost use Rattle.rl_bus.specs.Causes.{AnswerHasCause};
+    ghost use Rattle.std.specs.Prelude.{Some, option_map};
     ghost use Rattle.rl_bus.specs.Device.{IsStep, IsPortOf, IsCellOf, IsFieldOf};
-    ghost use Rattle.rl_bus.specs.State.{State, poked, reset_by, hw_set};
+    ghost use Rattle.rl_bus.specs.State.{poked, reset_by, hw_set};
     ghost use Rattle.rl_bus.specs.Wire.{carried_by, IsWellFormed, IsReplyTo, IsAtOnce, answered_by};
-    ghost use Rattle.rl_bench.specs.State.{bench_state, failures_of, failures_after};
+    ghost use Rattle.rl_bench.specs.State.{bench_state, failures_of, failures_after, item_fails};
 
     ghost state = { λ b. Some (bench_state b) };
 
@@ -247,6 +248,7 @@ impl Device for Bench {
         ensures step { IsStep (Some (bench_state self.old)) (Some (bench_state self.new)) port (carried_by transfer.now) (answered_by result) }
         ensures failures { failures_of self.new ≡ failures_after (failures_of self.old) (answered_by result) }
         ensures at_once { IsAtOnce result }
+        ensures fails { (answered_by result).failed ≡ item_fails (bench_state self.old) port (carried_by transfer.now) }
     {
         let op = carried(transfer);
         let answer = self.item(port, &op);

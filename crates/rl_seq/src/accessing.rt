@@ -1,7 +1,7 @@
 //! The sequence that goes from the bus to the backdoor and back.
 ghost use Rattle.std.specs.Prelude.{◌≡◌, ◌<◌, map, length, Some, IfSome};
 ghost use Rattle.rl_bus.specs.Causes.{HasCause};
-ghost use Rattle.rl_access.specs.Call.{scene};
+ghost use Rattle.rl_access.specs.Call.{scene_of};
 ghost use Rattle.rl_access.specs.Model.{IsReady, IsSameChip};
 ghost use Rattle.rl_access.specs.declared.event.Op.TheVariants as op;
 ghost use Rattle.rl_seq.specs.Choice.{is_accessed};
@@ -27,7 +27,10 @@ pub fn access_test<D: Device, R: Recorder>(
     requires block { IfSome block (λ b. b < m.old.chip.blocks) }
     ensures ready { IsReady m.new (map standing a.new.items) (D.state d.new) }
     ensures parts { IsSameChip m.old m.new }
-    ensures hands_over { IsSequence R.takes R.breaks rec.old rec.new (scene m.old (map standing a.old.items) (D.errors d.old) (D.state d.old)) (scene m.new (map standing a.new.items) (D.errors d.new) (D.state d.new)) (access_test_plan m.old.chip m.old.layout block) result }
+    ensures hands_over { IsSequence R.takes R.breaks rec.old rec.new
+        (scene_of standing D.errors D.state m.old a.old.items d.old)
+        (scene_of standing D.errors D.state m.new a.new.items d.new)
+        (access_test_plan m.old.chip m.old.layout block) result }
     ensures cause { HasCause (R.faults rec.old) (R.faults rec.new) result }
     ensures steady { R.steady rec.new ≡ R.steady rec.old }
 {
@@ -48,7 +51,10 @@ fn access_regs<D: Device, R: Recorder>(
     requires block { IfSome block (λ b. b < m.old.chip.blocks) }
     ensures ready { IsReady m.new (map standing a.new.items) (D.state d.new) }
     ensures parts { IsSameChip m.old m.new }
-    ensures walks { Walks R.takes R.breaks rec.old rec.new (scene m.old (map standing a.old.items) (D.errors d.old) (D.state d.old)) (scene m.new (map standing a.new.items) (D.errors d.new) (D.state d.new)) tally.old tally.new (each_below (length m.old.chip.regs) (access_reg m.old.chip m.old.layout block)) result }
+    ensures walks { Walks R.takes R.breaks rec.old rec.new
+        (scene_of standing D.errors D.state m.old a.old.items d.old)
+        (scene_of standing D.errors D.state m.new a.new.items d.new)
+        tally.old tally.new (each_below (length m.old.chip.regs) (access_reg m.old.chip m.old.layout block)) result }
     ensures cause { HasCause (R.faults rec.old) (R.faults rec.new) result }
     ensures steady { R.steady rec.new ≡ R.steady rec.old }
 {
@@ -72,7 +78,10 @@ fn access_reg<D: Device, R: Recorder>(
     requires reg { reg < length m.old.chip.regs }
     ensures ready { IsReady m.new (map standing a.new.items) (D.state d.new) }
     ensures parts { IsSameChip m.old m.new }
-    ensures walks { Walks R.takes R.breaks rec.old rec.new (scene m.old (map standing a.old.items) (D.errors d.old) (D.state d.old)) (scene m.new (map standing a.new.items) (D.errors d.new) (D.state d.new)) tally.old tally.new (access_reg m.old.chip m.old.layout block reg) result }
+    ensures walks { Walks R.takes R.breaks rec.old rec.new
+        (scene_of standing D.errors D.state m.old a.old.items d.old)
+        (scene_of standing D.errors D.state m.new a.new.items d.new)
+        tally.old tally.new (access_reg m.old.chip m.old.layout block reg) result }
     ensures cause { HasCause (R.faults rec.old) (R.faults rec.new) result }
     ensures steady { R.steady rec.new ≡ R.steady rec.old }
 {
@@ -104,7 +113,11 @@ fn access_places<D: Device, R: Recorder>(
     requires reg { reg < length m.old.chip.regs }
     ensures ready { IsReady m.new (map standing a.new.items) (D.state d.new) }
     ensures parts { IsSameChip m.old m.new }
-    ensures walks { Walks R.takes R.breaks rec.old rec.new (scene m.old (map standing a.old.items) (D.errors d.old) (D.state d.old)) (scene m.new (map standing a.new.items) (D.errors d.new) (D.state d.new)) tally.old tally.new (each_below (length m.old.layout.places) (access_place m.old.chip m.old.layout reg)) result }
+    ensures walks { Walks R.takes R.breaks rec.old rec.new
+        (scene_of standing D.errors D.state m.old a.old.items d.old)
+        (scene_of standing D.errors D.state m.new a.new.items d.new)
+        tally.old tally.new
+        (each_below (length m.old.layout.places) (access_place m.old.chip m.old.layout reg)) result }
     ensures cause { HasCause (R.faults rec.old) (R.faults rec.new) result }
     ensures steady { R.steady rec.new ≡ R.steady rec.old }
 {
@@ -128,7 +141,10 @@ fn access_place<D: Device, R: Recorder>(
     requires place { place < length m.old.layout.places }
     ensures ready { IsReady m.new (map standing a.new.items) (D.state d.new) }
     ensures parts { IsSameChip m.old m.new }
-    ensures walks { Walks R.takes R.breaks rec.old rec.new (scene m.old (map standing a.old.items) (D.errors d.old) (D.state d.old)) (scene m.new (map standing a.new.items) (D.errors d.new) (D.state d.new)) tally.old tally.new (access_place m.old.chip m.old.layout reg place) result }
+    ensures walks { Walks R.takes R.breaks rec.old rec.new
+        (scene_of standing D.errors D.state m.old a.old.items d.old)
+        (scene_of standing D.errors D.state m.new a.new.items d.new)
+        tally.old tally.new (access_place m.old.chip m.old.layout reg place) result }
     ensures cause { HasCause (R.faults rec.old) (R.faults rec.new) result }
     ensures steady { R.steady rec.new ≡ R.steady rec.old }
 {
@@ -153,7 +169,10 @@ fn access_at<D: Device, R: Recorder>(
     requires map { at < length m.old.layout.maps }
     ensures ready { IsReady m.new (map standing a.new.items) (D.state d.new) }
     ensures parts { IsSameChip m.old m.new }
-    ensures walks { Walks R.takes R.breaks rec.old rec.new (scene m.old (map standing a.old.items) (D.errors d.old) (D.state d.old)) (scene m.new (map standing a.new.items) (D.errors d.new) (D.state d.new)) tally.old tally.new (access_at m.old.chip reg at) result }
+    ensures walks { Walks R.takes R.breaks rec.old rec.new
+        (scene_of standing D.errors D.state m.old a.old.items d.old)
+        (scene_of standing D.errors D.state m.new a.new.items d.new)
+        tally.old tally.new (access_at m.old.chip reg at) result }
     ensures cause { HasCause (R.faults rec.old) (R.faults rec.new) result }
     ensures steady { R.steady rec.new ≡ R.steady rec.old }
 {
@@ -179,7 +198,12 @@ fn access_behind<D: Device, R: Recorder>(
     requires map { at < length m.old.layout.maps }
     ensures ready { IsReady m.new (map standing a.new.items) (D.state d.new) }
     ensures parts { IsSameChip m.old m.new }
-    ensures walks { Walks R.takes R.breaks rec.old rec.new (scene m.old (map standing a.old.items) (D.errors d.old) (D.state d.old)) (scene m.new (map standing a.new.items) (D.errors d.new) (D.state d.new)) tally.old tally.new (step (op.BackCheck reg) (step (op.BackWrite reg value) (step (op.Check reg (Some at)) stop))) result }
+    ensures walks { Walks R.takes R.breaks rec.old rec.new
+        (scene_of standing D.errors D.state m.old a.old.items d.old)
+        (scene_of standing D.errors D.state m.new a.new.items d.new)
+        tally.old tally.new
+        (step (op.BackCheck reg) (step (op.BackWrite reg value) (step (op.Check reg (Some at)) stop)))
+        result }
     ensures cause { HasCause (R.faults rec.old) (R.faults rec.new) result }
     ensures steady { R.steady rec.new ≡ R.steady rec.old }
 {
@@ -202,7 +226,10 @@ fn access_back<D: Device, R: Recorder>(
     requires map { at < length m.old.layout.maps }
     ensures ready { IsReady m.new (map standing a.new.items) (D.state d.new) }
     ensures parts { IsSameChip m.old m.new }
-    ensures walks { Walks R.takes R.breaks rec.old rec.new (scene m.old (map standing a.old.items) (D.errors d.old) (D.state d.old)) (scene m.new (map standing a.new.items) (D.errors d.new) (D.state d.new)) tally.old tally.new (step (op.BackWrite reg value) (step (op.Check reg (Some at)) stop)) result }
+    ensures walks { Walks R.takes R.breaks rec.old rec.new
+        (scene_of standing D.errors D.state m.old a.old.items d.old)
+        (scene_of standing D.errors D.state m.new a.new.items d.new)
+        tally.old tally.new (step (op.BackWrite reg value) (step (op.Check reg (Some at)) stop)) result }
     ensures cause { HasCause (R.faults rec.old) (R.faults rec.new) result }
     ensures steady { R.steady rec.new ≡ R.steady rec.old }
 {

@@ -1,7 +1,7 @@
 //! The sequence that resets the hardware and checks the reset values.
 ghost use Rattle.std.specs.Prelude.{◌≡◌, ◌<◌, map, length, IfSome};
 ghost use Rattle.rl_bus.specs.Causes.{HasCause};
-ghost use Rattle.rl_access.specs.Call.{scene};
+ghost use Rattle.rl_access.specs.Call.{scene_of};
 ghost use Rattle.rl_access.specs.Model.{IsReady, IsSameChip};
 ghost use Rattle.rl_seq.specs.Plan.{Walks, IsSequence, each_below};
 ghost use Rattle.rl_seq.specs.Steps.{hw_reset_plan, check_reg, check_at_place};
@@ -25,7 +25,10 @@ pub fn hw_reset<D: Device, R: Recorder>(
     requires block { IfSome block (λ b. b < m.old.chip.blocks) }
     ensures ready { IsReady m.new (map standing a.new.items) (D.state d.new) }
     ensures parts { IsSameChip m.old m.new }
-    ensures hands_over { IsSequence R.takes R.breaks rec.old rec.new (scene m.old (map standing a.old.items) (D.errors d.old) (D.state d.old)) (scene m.new (map standing a.new.items) (D.errors d.new) (D.state d.new)) (hw_reset_plan m.old.chip m.old.layout block) result }
+    ensures hands_over { IsSequence R.takes R.breaks rec.old rec.new
+        (scene_of standing D.errors D.state m.old a.old.items d.old)
+        (scene_of standing D.errors D.state m.new a.new.items d.new)
+        (hw_reset_plan m.old.chip m.old.layout block) result }
     ensures cause { HasCause (R.faults rec.old) (R.faults rec.new) result }
     ensures steady { R.steady rec.new ≡ R.steady rec.old }
 {
@@ -46,7 +49,10 @@ fn reset_and_check<D: Device, R: Recorder>(
     requires block { IfSome block (λ b. b < m.old.chip.blocks) }
     ensures ready { IsReady m.new (map standing a.new.items) (D.state d.new) }
     ensures parts { IsSameChip m.old m.new }
-    ensures walks { Walks R.takes R.breaks rec.old rec.new (scene m.old (map standing a.old.items) (D.errors d.old) (D.state d.old)) (scene m.new (map standing a.new.items) (D.errors d.new) (D.state d.new)) tally.old tally.new (hw_reset_plan m.old.chip m.old.layout block) result }
+    ensures walks { Walks R.takes R.breaks rec.old rec.new
+        (scene_of standing D.errors D.state m.old a.old.items d.old)
+        (scene_of standing D.errors D.state m.new a.new.items d.new)
+        tally.old tally.new (hw_reset_plan m.old.chip m.old.layout block) result }
     ensures cause { HasCause (R.faults rec.old) (R.faults rec.new) result }
     ensures steady { R.steady rec.new ≡ R.steady rec.old }
 {
@@ -66,7 +72,10 @@ fn check_regs<D: Device, R: Recorder>(
     requires block { IfSome block (λ b. b < m.old.chip.blocks) }
     ensures ready { IsReady m.new (map standing a.new.items) (D.state d.new) }
     ensures parts { IsSameChip m.old m.new }
-    ensures walks { Walks R.takes R.breaks rec.old rec.new (scene m.old (map standing a.old.items) (D.errors d.old) (D.state d.old)) (scene m.new (map standing a.new.items) (D.errors d.new) (D.state d.new)) tally.old tally.new (each_below (length m.old.chip.regs) (check_reg m.old.chip m.old.layout block)) result }
+    ensures walks { Walks R.takes R.breaks rec.old rec.new
+        (scene_of standing D.errors D.state m.old a.old.items d.old)
+        (scene_of standing D.errors D.state m.new a.new.items d.new)
+        tally.old tally.new (each_below (length m.old.chip.regs) (check_reg m.old.chip m.old.layout block)) result }
     ensures cause { HasCause (R.faults rec.old) (R.faults rec.new) result }
     ensures steady { R.steady rec.new ≡ R.steady rec.old }
 {
@@ -90,7 +99,10 @@ fn check_reg<D: Device, R: Recorder>(
     requires reg { reg < length m.old.chip.regs }
     ensures ready { IsReady m.new (map standing a.new.items) (D.state d.new) }
     ensures parts { IsSameChip m.old m.new }
-    ensures walks { Walks R.takes R.breaks rec.old rec.new (scene m.old (map standing a.old.items) (D.errors d.old) (D.state d.old)) (scene m.new (map standing a.new.items) (D.errors d.new) (D.state d.new)) tally.old tally.new (check_reg m.old.chip m.old.layout block reg) result }
+    ensures walks { Walks R.takes R.breaks rec.old rec.new
+        (scene_of standing D.errors D.state m.old a.old.items d.old)
+        (scene_of standing D.errors D.state m.new a.new.items d.new)
+        tally.old tally.new (check_reg m.old.chip m.old.layout block reg) result }
     ensures cause { HasCause (R.faults rec.old) (R.faults rec.new) result }
     ensures steady { R.steady rec.new ≡ R.steady rec.old }
 {
@@ -112,7 +124,10 @@ fn check_places<D: Device, R: Recorder>(
     requires reg { reg < length m.old.chip.regs }
     ensures ready { IsReady m.new (map standing a.new.items) (D.state d.new) }
     ensures parts { IsSameChip m.old m.new }
-    ensures walks { Walks R.takes R.breaks rec.old rec.new (scene m.old (map standing a.old.items) (D.errors d.old) (D.state d.old)) (scene m.new (map standing a.new.items) (D.errors d.new) (D.state d.new)) tally.old tally.new (each_below (length m.old.layout.places) (check_at_place m.old.layout reg)) result }
+    ensures walks { Walks R.takes R.breaks rec.old rec.new
+        (scene_of standing D.errors D.state m.old a.old.items d.old)
+        (scene_of standing D.errors D.state m.new a.new.items d.new)
+        tally.old tally.new (each_below (length m.old.layout.places) (check_at_place m.old.layout reg)) result }
     ensures cause { HasCause (R.faults rec.old) (R.faults rec.new) result }
     ensures steady { R.steady rec.new ≡ R.steady rec.old }
 {
@@ -136,7 +151,10 @@ fn check_place<D: Device, R: Recorder>(
     requires place { place < length m.old.layout.places }
     ensures ready { IsReady m.new (map standing a.new.items) (D.state d.new) }
     ensures parts { IsSameChip m.old m.new }
-    ensures walks { Walks R.takes R.breaks rec.old rec.new (scene m.old (map standing a.old.items) (D.errors d.old) (D.state d.old)) (scene m.new (map standing a.new.items) (D.errors d.new) (D.state d.new)) tally.old tally.new (check_at_place m.old.layout reg place) result }
+    ensures walks { Walks R.takes R.breaks rec.old rec.new
+        (scene_of standing D.errors D.state m.old a.old.items d.old)
+        (scene_of standing D.errors D.state m.new a.new.items d.new)
+        tally.old tally.new (check_at_place m.old.layout reg place) result }
     ensures cause { HasCause (R.faults rec.old) (R.faults rec.new) result }
     ensures steady { R.steady rec.new ≡ R.steady rec.old }
 {

@@ -2,7 +2,7 @@
 ghost use Rattle.std.specs.Prelude.{◌≡◌, ◌<◌, List, map, length, Some, OnOk, OnErr};
 ghost use Rattle.rl_bus.specs.Causes.{HasCause};
 ghost use Rattle.rl_bus.specs.Standing.{Standing};
-ghost use Rattle.rl_access.specs.Call.{scene};
+ghost use Rattle.rl_access.specs.Call.{scene, scene_of};
 ghost use Rattle.rl_access.specs.declared.event.Op.TheVariants as op;
 ghost use Rattle.rl_access.specs.Model.{IsDeviceOf, IsReady, IsSameChip};
 ghost use Rattle.rl_access.specs.Event.{EventFits};
@@ -44,7 +44,10 @@ pub(crate) fn reset_all<D: Device, R: Recorder>(
     requires device { IsDeviceOf m.old (D.state d.old) }
     ensures device { IsDeviceOf m.new (D.state d.new) }
     ensures parts { IsSameChip m.old m.new }
-    ensures walks { (adapters : List Standing) → Walks R.takes R.breaks rec.old rec.new (scene m.old adapters (D.errors d.old) (D.state d.old)) (scene m.new adapters (D.errors d.new) (D.state d.new)) tally.old tally.new (step (op.Reset 0) stop) result }
+    ensures walks { (adapters : List Standing) → Walks R.takes R.breaks rec.old rec.new
+        (scene m.old adapters (D.errors d.old) (D.state d.old))
+        (scene m.new adapters (D.errors d.new) (D.state d.new))
+        tally.old tally.new (step (op.Reset 0) stop) result }
     ensures cause { HasCause (R.faults rec.old) (R.faults rec.new) result }
     ensures steady { R.steady rec.new ≡ R.steady rec.old }
 {
@@ -69,7 +72,10 @@ pub(crate) fn write_at<D: Device, R: Recorder>(
     requires map { at < length m.old.layout.maps }
     ensures ready { IsReady m.new (map standing a.new.items) (D.state d.new) }
     ensures parts { IsSameChip m.old m.new }
-    ensures walks { Walks R.takes R.breaks rec.old rec.new (scene m.old (map standing a.old.items) (D.errors d.old) (D.state d.old)) (scene m.new (map standing a.new.items) (D.errors d.new) (D.state d.new)) tally.old tally.new (step (op.Write reg (Some at) value) stop) result }
+    ensures walks { Walks R.takes R.breaks rec.old rec.new
+        (scene_of standing D.errors D.state m.old a.old.items d.old)
+        (scene_of standing D.errors D.state m.new a.new.items d.new)
+        tally.old tally.new (step (op.Write reg (Some at) value) stop) result }
     ensures cause { HasCause (R.faults rec.old) (R.faults rec.new) result }
     ensures steady { R.steady rec.new ≡ R.steady rec.old }
 {
@@ -92,7 +98,10 @@ pub(crate) fn check_at<D: Device, R: Recorder>(
     requires map { at < length m.old.layout.maps }
     ensures ready { IsReady m.new (map standing a.new.items) (D.state d.new) }
     ensures parts { IsSameChip m.old m.new }
-    ensures walks { Walks R.takes R.breaks rec.old rec.new (scene m.old (map standing a.old.items) (D.errors d.old) (D.state d.old)) (scene m.new (map standing a.new.items) (D.errors d.new) (D.state d.new)) tally.old tally.new (step (op.Check reg (Some at)) stop) result }
+    ensures walks { Walks R.takes R.breaks rec.old rec.new
+        (scene_of standing D.errors D.state m.old a.old.items d.old)
+        (scene_of standing D.errors D.state m.new a.new.items d.new)
+        tally.old tally.new (step (op.Check reg (Some at)) stop) result }
     ensures cause { HasCause (R.faults rec.old) (R.faults rec.new) result }
     ensures steady { R.steady rec.new ≡ R.steady rec.old }
 {
@@ -112,7 +121,10 @@ pub(crate) fn back_check<D: Device, R: Recorder>(
     requires reg { reg < length m.old.chip.regs }
     ensures device { IsDeviceOf m.new (D.state d.new) }
     ensures parts { IsSameChip m.old m.new }
-    ensures walks { (adapters : List Standing) → Walks R.takes R.breaks rec.old rec.new (scene m.old adapters (D.errors d.old) (D.state d.old)) (scene m.new adapters (D.errors d.new) (D.state d.new)) tally.old tally.new (step (op.BackCheck reg) stop) result }
+    ensures walks { (adapters : List Standing) → Walks R.takes R.breaks rec.old rec.new
+        (scene m.old adapters (D.errors d.old) (D.state d.old))
+        (scene m.new adapters (D.errors d.new) (D.state d.new))
+        tally.old tally.new (step (op.BackCheck reg) stop) result }
     ensures cause { HasCause (R.faults rec.old) (R.faults rec.new) result }
     ensures steady { R.steady rec.new ≡ R.steady rec.old }
 {
@@ -133,7 +145,10 @@ pub(crate) fn back_write_value<D: Device, R: Recorder>(
     requires reg { reg < length m.old.chip.regs }
     ensures device { IsDeviceOf m.new (D.state d.new) }
     ensures parts { IsSameChip m.old m.new }
-    ensures walks { (adapters : List Standing) → Walks R.takes R.breaks rec.old rec.new (scene m.old adapters (D.errors d.old) (D.state d.old)) (scene m.new adapters (D.errors d.new) (D.state d.new)) tally.old tally.new (step (op.BackWrite reg value) stop) result }
+    ensures walks { (adapters : List Standing) → Walks R.takes R.breaks rec.old rec.new
+        (scene m.old adapters (D.errors d.old) (D.state d.old))
+        (scene m.new adapters (D.errors d.new) (D.state d.new))
+        tally.old tally.new (step (op.BackWrite reg value) stop) result }
     ensures cause { HasCause (R.faults rec.old) (R.faults rec.new) result }
     ensures steady { R.steady rec.new ≡ R.steady rec.old }
 {
@@ -158,7 +173,10 @@ pub(crate) fn mem_write_at<D: Device, R: Recorder>(
     requires map { at < length m.old.layout.maps }
     ensures ready { IsReady m.new (map standing a.new.items) (D.state d.new) }
     ensures parts { IsSameChip m.old m.new }
-    ensures walks { Walks R.takes R.breaks rec.old rec.new (scene m.old (map standing a.old.items) (D.errors d.old) (D.state d.old)) (scene m.new (map standing a.new.items) (D.errors d.new) (D.state d.new)) tally.old tally.new (step (op.MemWrite mem (Some at) index value) stop) result }
+    ensures walks { Walks R.takes R.breaks rec.old rec.new
+        (scene_of standing D.errors D.state m.old a.old.items d.old)
+        (scene_of standing D.errors D.state m.new a.new.items d.new)
+        tally.old tally.new (step (op.MemWrite mem (Some at) index value) stop) result }
     ensures cause { HasCause (R.faults rec.old) (R.faults rec.new) result }
     ensures steady { R.steady rec.new ≡ R.steady rec.old }
 {
@@ -183,7 +201,10 @@ pub(crate) fn mem_check_at<D: Device, R: Recorder>(
     requires map { at < length m.old.layout.maps }
     ensures ready { IsReady m.new (map standing a.new.items) (D.state d.new) }
     ensures parts { IsSameChip m.old m.new }
-    ensures walks { Walks R.takes R.breaks rec.old rec.new (scene m.old (map standing a.old.items) (D.errors d.old) (D.state d.old)) (scene m.new (map standing a.new.items) (D.errors d.new) (D.state d.new)) tally.old tally.new (step (op.MemCheck mem (Some at) index value) stop) result }
+    ensures walks { Walks R.takes R.breaks rec.old rec.new
+        (scene_of standing D.errors D.state m.old a.old.items d.old)
+        (scene_of standing D.errors D.state m.new a.new.items d.new)
+        tally.old tally.new (step (op.MemCheck mem (Some at) index value) stop) result }
     ensures cause { HasCause (R.faults rec.old) (R.faults rec.new) result }
     ensures steady { R.steady rec.new ≡ R.steady rec.old }
 {

@@ -1,7 +1,7 @@
 //! The sequence over memories.
 ghost use Rattle.std.specs.Prelude.{◌≡◌, ◌<◌, map, length, IfSome};
 ghost use Rattle.rl_bus.specs.Causes.{HasCause};
-ghost use Rattle.rl_access.specs.Call.{scene};
+ghost use Rattle.rl_access.specs.Call.{scene_of};
 ghost use Rattle.rl_access.specs.Model.{IsReady, IsSameChip};
 ghost use Rattle.rl_access.specs.Rules.{memory_size};
 ghost use Rattle.rl_seq.specs.Choice.{is_walked};
@@ -27,7 +27,10 @@ pub fn mem_walk<D: Device, R: Recorder>(
     requires block { IfSome block (λ b. b < m.old.chip.blocks) }
     ensures ready { IsReady m.new (map standing a.new.items) (D.state d.new) }
     ensures parts { IsSameChip m.old m.new }
-    ensures hands_over { IsSequence R.takes R.breaks rec.old rec.new (scene m.old (map standing a.old.items) (D.errors d.old) (D.state d.old)) (scene m.new (map standing a.new.items) (D.errors d.new) (D.state d.new)) (mem_walk_plan m.old.chip m.old.layout block) result }
+    ensures hands_over { IsSequence R.takes R.breaks rec.old rec.new
+        (scene_of standing D.errors D.state m.old a.old.items d.old)
+        (scene_of standing D.errors D.state m.new a.new.items d.new)
+        (mem_walk_plan m.old.chip m.old.layout block) result }
     ensures cause { HasCause (R.faults rec.old) (R.faults rec.new) result }
     ensures steady { R.steady rec.new ≡ R.steady rec.old }
 {
@@ -48,7 +51,10 @@ fn walk_mems<D: Device, R: Recorder>(
     requires block { IfSome block (λ b. b < m.old.chip.blocks) }
     ensures ready { IsReady m.new (map standing a.new.items) (D.state d.new) }
     ensures parts { IsSameChip m.old m.new }
-    ensures walks { Walks R.takes R.breaks rec.old rec.new (scene m.old (map standing a.old.items) (D.errors d.old) (D.state d.old)) (scene m.new (map standing a.new.items) (D.errors d.new) (D.state d.new)) tally.old tally.new (each_below (length m.old.chip.mems) (walk_mem m.old.chip m.old.layout block)) result }
+    ensures walks { Walks R.takes R.breaks rec.old rec.new
+        (scene_of standing D.errors D.state m.old a.old.items d.old)
+        (scene_of standing D.errors D.state m.new a.new.items d.new)
+        tally.old tally.new (each_below (length m.old.chip.mems) (walk_mem m.old.chip m.old.layout block)) result }
     ensures cause { HasCause (R.faults rec.old) (R.faults rec.new) result }
     ensures steady { R.steady rec.new ≡ R.steady rec.old }
 {
@@ -72,7 +78,10 @@ fn walk_mem<D: Device, R: Recorder>(
     requires mem { mem < length m.old.chip.mems }
     ensures ready { IsReady m.new (map standing a.new.items) (D.state d.new) }
     ensures parts { IsSameChip m.old m.new }
-    ensures walks { Walks R.takes R.breaks rec.old rec.new (scene m.old (map standing a.old.items) (D.errors d.old) (D.state d.old)) (scene m.new (map standing a.new.items) (D.errors d.new) (D.state d.new)) tally.old tally.new (walk_mem m.old.chip m.old.layout block mem) result }
+    ensures walks { Walks R.takes R.breaks rec.old rec.new
+        (scene_of standing D.errors D.state m.old a.old.items d.old)
+        (scene_of standing D.errors D.state m.new a.new.items d.new)
+        tally.old tally.new (walk_mem m.old.chip m.old.layout block mem) result }
     ensures cause { HasCause (R.faults rec.old) (R.faults rec.new) result }
     ensures steady { R.steady rec.new ≡ R.steady rec.old }
 {
@@ -102,7 +111,11 @@ fn walk_places<D: Device, R: Recorder>(
     requires mem { mem < length m.old.chip.mems }
     ensures ready { IsReady m.new (map standing a.new.items) (D.state d.new) }
     ensures parts { IsSameChip m.old m.new }
-    ensures walks { Walks R.takes R.breaks rec.old rec.new (scene m.old (map standing a.old.items) (D.errors d.old) (D.state d.old)) (scene m.new (map standing a.new.items) (D.errors d.new) (D.state d.new)) tally.old tally.new (each_below (length m.old.layout.places) (walk_place m.old.chip m.old.layout mem)) result }
+    ensures walks { Walks R.takes R.breaks rec.old rec.new
+        (scene_of standing D.errors D.state m.old a.old.items d.old)
+        (scene_of standing D.errors D.state m.new a.new.items d.new)
+        tally.old tally.new
+        (each_below (length m.old.layout.places) (walk_place m.old.chip m.old.layout mem)) result }
     ensures cause { HasCause (R.faults rec.old) (R.faults rec.new) result }
     ensures steady { R.steady rec.new ≡ R.steady rec.old }
 {
@@ -126,7 +139,10 @@ fn walk_place<D: Device, R: Recorder>(
     requires place { place < length m.old.layout.places }
     ensures ready { IsReady m.new (map standing a.new.items) (D.state d.new) }
     ensures parts { IsSameChip m.old m.new }
-    ensures walks { Walks R.takes R.breaks rec.old rec.new (scene m.old (map standing a.old.items) (D.errors d.old) (D.state d.old)) (scene m.new (map standing a.new.items) (D.errors d.new) (D.state d.new)) tally.old tally.new (walk_place m.old.chip m.old.layout mem place) result }
+    ensures walks { Walks R.takes R.breaks rec.old rec.new
+        (scene_of standing D.errors D.state m.old a.old.items d.old)
+        (scene_of standing D.errors D.state m.new a.new.items d.new)
+        tally.old tally.new (walk_place m.old.chip m.old.layout mem place) result }
     ensures cause { HasCause (R.faults rec.old) (R.faults rec.new) result }
     ensures steady { R.steady rec.new ≡ R.steady rec.old }
 {
@@ -151,7 +167,10 @@ fn walk_locations<D: Device, R: Recorder>(
     requires map { at < length m.old.layout.maps }
     ensures ready { IsReady m.new (map standing a.new.items) (D.state d.new) }
     ensures parts { IsSameChip m.old m.new }
-    ensures walks { Walks R.takes R.breaks rec.old rec.new (scene m.old (map standing a.old.items) (D.errors d.old) (D.state d.old)) (scene m.new (map standing a.new.items) (D.errors d.new) (D.state d.new)) tally.old tally.new (each_below (memory_size m.old.chip mem) (walk_location m.old.chip mem at)) result }
+    ensures walks { Walks R.takes R.breaks rec.old rec.new
+        (scene_of standing D.errors D.state m.old a.old.items d.old)
+        (scene_of standing D.errors D.state m.new a.new.items d.new)
+        tally.old tally.new (each_below (memory_size m.old.chip mem) (walk_location m.old.chip mem at)) result }
     ensures cause { HasCause (R.faults rec.old) (R.faults rec.new) result }
     ensures steady { R.steady rec.new ≡ R.steady rec.old }
 {
@@ -178,7 +197,10 @@ fn walk_location<D: Device, R: Recorder>(
     requires index { index < 65536 }
     ensures ready { IsReady m.new (map standing a.new.items) (D.state d.new) }
     ensures parts { IsSameChip m.old m.new }
-    ensures walks { Walks R.takes R.breaks rec.old rec.new (scene m.old (map standing a.old.items) (D.errors d.old) (D.state d.old)) (scene m.new (map standing a.new.items) (D.errors d.new) (D.state d.new)) tally.old tally.new (walk_location m.old.chip mem at index) result }
+    ensures walks { Walks R.takes R.breaks rec.old rec.new
+        (scene_of standing D.errors D.state m.old a.old.items d.old)
+        (scene_of standing D.errors D.state m.new a.new.items d.new)
+        tally.old tally.new (walk_location m.old.chip mem at index) result }
     ensures cause { HasCause (R.faults rec.old) (R.faults rec.new) result }
     ensures steady { R.steady rec.new ≡ R.steady rec.old }
 {
@@ -204,7 +226,11 @@ fn go_on<D: Device, R: Recorder>(
     requires index { index < 65536 }
     ensures ready { IsReady m.new (map standing a.new.items) (D.state d.new) }
     ensures parts { IsSameChip m.old m.new }
-    ensures walks { Walks R.takes R.breaks rec.old rec.new (scene m.old (map standing a.old.items) (D.errors d.old) (D.state d.old)) (scene m.new (map standing a.new.items) (D.errors d.new) (D.state d.new)) tally.old tally.new (followed_by (turn_before m.old.chip mem at index) (check_last m.old.chip mem at index)) result }
+    ensures walks { Walks R.takes R.breaks rec.old rec.new
+        (scene_of standing D.errors D.state m.old a.old.items d.old)
+        (scene_of standing D.errors D.state m.new a.new.items d.new)
+        tally.old tally.new
+        (followed_by (turn_before m.old.chip mem at index) (check_last m.old.chip mem at index)) result }
     ensures cause { HasCause (R.faults rec.old) (R.faults rec.new) result }
     ensures steady { R.steady rec.new ≡ R.steady rec.old }
 {
@@ -229,7 +255,10 @@ fn turn_before<D: Device, R: Recorder>(
     requires index { index < 65536 }
     ensures ready { IsReady m.new (map standing a.new.items) (D.state d.new) }
     ensures parts { IsSameChip m.old m.new }
-    ensures walks { Walks R.takes R.breaks rec.old rec.new (scene m.old (map standing a.old.items) (D.errors d.old) (D.state d.old)) (scene m.new (map standing a.new.items) (D.errors d.new) (D.state d.new)) tally.old tally.new (turn_before m.old.chip mem at index) result }
+    ensures walks { Walks R.takes R.breaks rec.old rec.new
+        (scene_of standing D.errors D.state m.old a.old.items d.old)
+        (scene_of standing D.errors D.state m.new a.new.items d.new)
+        tally.old tally.new (turn_before m.old.chip mem at index) result }
     ensures cause { HasCause (R.faults rec.old) (R.faults rec.new) result }
     ensures steady { R.steady rec.new ≡ R.steady rec.old }
 {
@@ -255,7 +284,10 @@ fn turn_back<D: Device, R: Recorder>(
     requires map { at < length m.old.layout.maps }
     ensures ready { IsReady m.new (map standing a.new.items) (D.state d.new) }
     ensures parts { IsSameChip m.old m.new }
-    ensures walks { Walks R.takes R.breaks rec.old rec.new (scene m.old (map standing a.old.items) (D.errors d.old) (D.state d.old)) (scene m.new (map standing a.new.items) (D.errors d.new) (D.state d.new)) tally.old tally.new (turn_back m.old.chip mem at index) result }
+    ensures walks { Walks R.takes R.breaks rec.old rec.new
+        (scene_of standing D.errors D.state m.old a.old.items d.old)
+        (scene_of standing D.errors D.state m.new a.new.items d.new)
+        tally.old tally.new (turn_back m.old.chip mem at index) result }
     ensures cause { HasCause (R.faults rec.old) (R.faults rec.new) result }
     ensures steady { R.steady rec.new ≡ R.steady rec.old }
 {
@@ -282,7 +314,10 @@ fn check_last<D: Device, R: Recorder>(
     requires index { index < 65536 }
     ensures ready { IsReady m.new (map standing a.new.items) (D.state d.new) }
     ensures parts { IsSameChip m.old m.new }
-    ensures walks { Walks R.takes R.breaks rec.old rec.new (scene m.old (map standing a.old.items) (D.errors d.old) (D.state d.old)) (scene m.new (map standing a.new.items) (D.errors d.new) (D.state d.new)) tally.old tally.new (check_last m.old.chip mem at index) result }
+    ensures walks { Walks R.takes R.breaks rec.old rec.new
+        (scene_of standing D.errors D.state m.old a.old.items d.old)
+        (scene_of standing D.errors D.state m.new a.new.items d.new)
+        tally.old tally.new (check_last m.old.chip mem at index) result }
     ensures cause { HasCause (R.faults rec.old) (R.faults rec.new) result }
     ensures steady { R.steady rec.new ≡ R.steady rec.old }
 {

@@ -2,6 +2,7 @@ use Rattle.std.proofs.Common.{◌≡◌, ◌+◌, ◌∙◌, Bool, length, subst
 use Rattle.std.specs.Prelude.{position, filter, slice_index, slice_set, option_copied}
 use Rattle.std.specs.List.{list_any}
 use Rattle.rl_bench.specs.Beats.{is_queue, IsQuiet}
+use Rattle.rl_bench.proofs.NamedLemmas.{named_back, named_on, quiet_back}
 use Rattle.rl_bench.proofs.QueueLemmas.{back_is, quiet_set, set_is}
 use Rattle.std.proofs.lemmas.List.{with_items_is}
 use Rattle.std.specs.Vec.{with_items}
@@ -112,6 +113,56 @@ invariant_of-self-2-clause-quiet c =
     (λ p a. ap (λ xs. beats_of words xs p a) set_there
     ∙ set_is words b.beats.items port op.address at.first at.end next c.find-found.result.beat p a op.write b.beaten b.quiet next_is c.find-found.ensures.at
     ∙ ap (λ n. cond (eqb p port && eqb a op.address && stands) n (beats_of words b.beats.items p a)) next_is))
+
+pub returns-in_default-clause-cause : goal.returns-in_default-clause-cause
+returns-in_default-clause-cause c = c.failed_answer.ensures.cause
+
+pub returns-then-is_faulty-clause-cause : goal.returns-then-is_faulty-clause-cause
+returns-then-is_faulty-clause-cause c = c.failed_answer-then-is_faulty.ensures.cause
+
+pub invariant_of-self-then-is_faulty-clause-quiet : goal.invariant_of-self-then-is_faulty-clause-quiet
+invariant_of-self-then-is_faulty-clause-quiet c =
+    let b = c.args.self.now in
+    let words = b.board.tables.words.value.items in
+    let w = c.in-Some.word.now in
+    let ws = c.send_back.new.beats in
+    let e : (with_items b.beats ws).items ≡ ws = with_items_is b.beats ws (c.send_back.auto.beats ∙ c.deref_mut.ensures.len) in
+    let done : (k : ℕ) → slice_index ws k ≡ cond (list_any (is_queue k w.place) b.board.queues.items) 0 (slice_index b.beats.items k) = λ k. rw (c.deref-then-is_faulty.ensures.value, c.deref_mut.ensures.value) at (c.send_back.ensures k) in
+    subst (IsQuiet words) (sym e) (quiet_back words b.beats.items ws w.place b.quiet (λ p a. back_is words b.board.queues.items b.beats.items ws w.place b.board.queued b.quiet done p a))
+
+pub invariant_of-self-then-is_faulty-clause-named : goal.invariant_of-self-then-is_faulty-clause-named
+invariant_of-self-then-is_faulty-clause-named c =
+    let b = c.args.self.now in
+    let w = c.in-Some.word.now in
+    let ws = c.send_back.new.beats in
+    let e : (with_items b.beats ws).items ≡ ws = with_items_is b.beats ws (c.send_back.auto.beats ∙ c.deref_mut.ensures.len) in
+    let beats : ℕ → ℕ → ℕ = beats_of b.board.tables.words.value.items (with_items b.beats ws).items in
+    let done : (k : ℕ) → slice_index ws k ≡ cond (list_any (is_queue k w.place) b.board.queues.items) 0 (slice_index b.beats.items k) = λ k. rw (c.deref-then-is_faulty.ensures.value, c.deref_mut.ensures.value) at (c.send_back.ensures k) in
+    named_back (bench_state b) w.place beats b.named (λ p a. rw e (back_is b.board.tables.words.value.items b.board.queues.items b.beats.items ws w.place b.board.queued b.quiet done p a))
+
+pub invariant_of-self-2-clause-named : goal.invariant_of-self-2-clause-named
+invariant_of-self-2-clause-named c =
+    let b = c.args.self.now in
+    let s = bench_state b in
+    let w = c.in-Some.word.now in
+    let op = c.args.op.now in
+    let port = c.args.port in
+    let h : word_at s port op ≡ Some w = sym (rw c.deref.ensures.value at c.find-found.ensures.word) ∙ ap option_copied c.in-Some.is in
+    let f : is_faulty (counted s) port op ≡ false = rw (← c.saturating_add-self.ensures) (sym c.is_faulty.ensures ∙ c.if-is_faulty.false) in
+    let ws = c.set_beat.new.beats in
+    let e : (with_items b.beats ws).items ≡ ws = with_items_is b.beats ws (c.set_beat.auto.beats ∙ c.deref_mut-2.ensures.len) in
+    let beats : ℕ → ℕ → ℕ = beats_of b.board.tables.words.value.items (with_items b.beats ws).items in
+    let there : is_some (position (stands_at port op.address) s.setup.words) ≡ true = stands_there s.setup port op.address op.write _ w h in
+    let at = c.find-found.result.at in
+    let next = c.next_beat-next.result in
+    let set_there : ws ≡ cond (ltb at.first at.end) (slice_set b.beats.items at.first next) b.beats.items = rw c.deref_mut-2.ensures.value at c.set_beat.ensures in
+    let next_is : next ≡ cond (ltb (c.find-found.result.beat + 1) (length (filter (stands_for port op.address op.write) b.board.tables.words.value.items))) (c.find-found.result.beat + 1) 0 = rw c.find-found.ensures.count at c.next_beat-next.ensures in
+    named_on s port op w (state_of s.setup c.touch-answer.new.cells s.beats (counted s).items) beats b.board.sound.even b.named h f
+    (c.touch-answer.ensures.state s.beats (counted s).items)
+    (λ p a. rw e (ap (λ xs. beats_of b.board.tables.words.value.items xs p a) set_there
+    ∙ set_is b.board.tables.words.value.items b.beats.items port op.address at.first at.end next c.find-found.result.beat p a op.write b.beaten b.quiet next_is c.find-found.ensures.at
+    ∙ moved (eqb p port && eqb a op.address) _ next _ (s.beats p a) there
+    (rw ((rw c.deref.ensures.value at c.find-found.ensures.beat), c.find-found.ensures.count) at c.next_beat-next.ensures)))
 
 pub invariant_of-self-2-clause-beaten : goal.invariant_of-self-2-clause-beaten
 invariant_of-self-2-clause-beaten c =

@@ -5,6 +5,7 @@ use Rattle.rl_bench.specs.Board.{state_of}
 use Rattle.rl_bench.specs.Beats.{beats_of, HasBeats}
 use Rattle.rl_bench.specs.Tables.{setup_held}
 use Rattle.rl_bench.proofs.BeatLemmas.{no_beats}
+use Rattle.rl_bench.proofs.NamedLemmas.{named_first}
 use Rattle.rl_bench.proofs.QueueLemmas.{first_beaten}
 use Rattle.rl_bench.proofs.bench.Bench.new.Goals as goal
 
@@ -36,5 +37,6 @@ invariant_of-result c =
       quiet = λ p a few. ap (λ (b : ℕ → ℕ → ℕ). b p a) none;
       fit = c.reset_cells.ensures.fit;
       beaten = subst (λ ws. HasBeats ws beats) c.words-words.ensures (first_beaten words queues beats (length words) c.in_ok-queues.ensures refl first);
+      named = named_first (state_of (setup_held c.args.tables) c.reset_cells.new.cells (beats_of (setup_held c.args.tables).words beats) 0) (λ p a. ap (λ (b : ℕ → ℕ → ℕ). b p a) none);
       hinted = c.in_ok-new.ensures (setup_held c.args.tables).words;
     }
