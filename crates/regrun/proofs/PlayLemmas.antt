@@ -17,7 +17,9 @@ use Rattle.rl_script.specs.declared.fault.LineFault.{LineFault}
 use Rattle.rl_script.specs.declared.fault.LineFault.TheVariants.{Memory}
 use Rattle.rl_script.specs.declared.line.Line.{Line}
 use Rattle.rl_script.specs.declared.line.Line.TheVariants as say
+use Rattle.rl_script.specs.declared.line_ref.LineRef.{LineRef}
 use Rattle.rl_script.specs.Reading.{read_of, by_words}
+use Rattle.rl_script.specs.Said.{line_said}
 use Rattle.rl_script.specs.Words.{words_of}
 use Rattle.regrun.specs.declared.counts.Counts.{Counts}
 use Rattle.regrun.specs.declared.playing.Turn.{Turn}
@@ -83,8 +85,9 @@ heard_read number got.Line line few short = ap (λ b. if b then Err TooManyLines
 heard_read number got.End line few short = ap (λ b. if b then Err TooManyLines else said_by (read_of line)) (sym (le-ltb 1000000 number few))
 heard_read number got.TooLong line few short = absurd (short refl)
 
-pub read_ok : (bytes : List ℕ) (r : Result Line LineFault) (line : Line) → r ≡ Ok line → MatchResult r (λ line. read_of bytes ≡ Ok line) (λ fault. fault ≢ Memory → read_of bytes ≡ Err fault) → said_by (read_of bytes) ≡ Ok line
-read_ok bytes (Ok l) line is h = ap said_by h ∙ ap said_by is
+pub read_ok : (bytes : List ℕ) (r : Result LineRef LineFault) (line : LineRef) → r ≡ Ok line → MatchResult r (λ line. read_of bytes ≡ Ok (line_said line)) (λ fault. fault ≢ Memory → read_of bytes ≡ Err fault)
+    → said_by (read_of bytes) ≡ Ok (line_said line)
+read_ok bytes (Ok l) line is h = let same : l ≡ line = cc in ap said_by h ∙ ap (λ l. said_by (Ok (line_said l))) same
 read_ok bytes (Err fault) line is h = absurd cc
 
 -- ---- a turn

@@ -6,6 +6,8 @@ use Rattle.rl_map.specs.Layout.{LayoutData, map_named}
 use Rattle.rl_access.specs.declared.event.Op.{Op}
 use Rattle.rl_access.specs.declared.event.Op.TheVariants as op
 use Rattle.rl_access.specs.Model.{ModelData}
+use Rattle.rl_script.specs.declared.command.Item.{Item}
+use Rattle.rl_script.specs.declared.command.Item.TheVariants as item
 use Rattle.rl_script.specs.declared.line.Line.{Line}
 use Rattle.rl_script.specs.declared.line.Line.TheVariants as line
 
@@ -79,44 +81,44 @@ op_named m (line.MemPoke mem index value) = with_number (mem_named m.chip mem) (
 op_named m (line.Reset kind) = with_number (kind_named m.chip kind) (λ k. op.Reset k)
 op_named m _ = None
 
--- ---- lines by what they are on
+-- ---- commands by what they are on
 
 -- on a register over the bus
-abbrev pub is_on_bus : Line → Bool
-is_on_bus (line.Write reg value map) = true
-is_on_bus (line.Read reg map) = true
-is_on_bus (line.Mirror reg map) = true
-is_on_bus (line.Check reg map) = true
-is_on_bus (line.Update reg map) = true
+abbrev pub is_on_bus : Item → Bool
+is_on_bus item.Write = true
+is_on_bus item.Read = true
+is_on_bus item.Mirror = true
+is_on_bus item.Check = true
+is_on_bus item.Update = true
 is_on_bus _ = false
 
 -- on a memory over the bus
-abbrev pub is_on_memory : Line → Bool
-is_on_memory (line.MemWrite mem index value map) = true
-is_on_memory (line.MemCheck mem index value map) = true
-is_on_memory (line.MemRead mem index map) = true
+abbrev pub is_on_memory : Item → Bool
+is_on_memory item.MemWrite = true
+is_on_memory item.MemCheck = true
+is_on_memory item.MemRead = true
 is_on_memory _ = false
 
 -- on a memory by the backdoor
-abbrev pub is_memory_by_backdoor : Line → Bool
-is_memory_by_backdoor (line.MemPeek mem index) = true
-is_memory_by_backdoor (line.MemPoke mem index value) = true
+abbrev pub is_memory_by_backdoor : Item → Bool
+is_memory_by_backdoor item.MemPeek = true
+is_memory_by_backdoor item.MemPoke = true
 is_memory_by_backdoor _ = false
 
-abbrev pub is_on_field : Line → Bool
-is_on_field (line.FieldWrite field value map) = true
-is_on_field (line.FieldRead field map) = true
-is_on_field (line.Set field value) = true
-is_on_field (line.Hw field value) = true
+-- on a field
+abbrev pub is_on_field : Item → Bool
+is_on_field item.FieldWrite = true
+is_on_field item.FieldRead = true
+is_on_field item.Set = true
+is_on_field item.Hw = true
 is_on_field _ = false
 
--- on a register by the backdoor or on the model alone, or a reset
-abbrev pub is_off_bus : Line → Bool
-is_off_bus (line.Show reg) = true
-is_off_bus (line.BackRead reg) = true
-is_off_bus (line.BackCheck reg) = true
-is_off_bus (line.Peek reg) = true
-is_off_bus (line.BackWrite reg value) = true
-is_off_bus (line.Poke reg value) = true
-is_off_bus (line.Reset kind) = true
+-- on a register by the backdoor or on the model alone
+abbrev pub is_off_bus : Item → Bool
+is_off_bus item.Show = true
+is_off_bus item.BackRead = true
+is_off_bus item.BackCheck = true
+is_off_bus item.Peek = true
+is_off_bus item.BackWrite = true
+is_off_bus item.Poke = true
 is_off_bus _ = false

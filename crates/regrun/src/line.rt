@@ -6,6 +6,7 @@ ghost use Rattle.rl_access.specs.Operation.{IsMapIn};
 ghost use Rattle.rl_access.specs.Rules.{grant};
 ghost use Rattle.rl_access.specs.Runs.{write_grant, writes_of, reads_of, no_tally, counted_all};
 ghost use Rattle.rl_access.specs.declared.event.Op.TheVariants as op;
+ghost use Rattle.rl_script.specs.Said.{line_said};
 ghost use Rattle.regrun.specs.Course.{alone, along, burst};
 ghost use Rattle.regrun.specs.Entry.{plan_of, entry_of, with_both, plain, framed};
 ghost use Rattle.regrun.specs.Named.{mem_named, map_asked, block_asked, op_named};
@@ -22,7 +23,7 @@ use crate::texts::{LineRefusal, put_sequence_begin, put_sequence_end};
 use rl_access::{Model, Tally, burst_read, burst_write};
 use rl_bus::{Adapter, Adapters, Device};
 use rl_report::Failed;
-use rl_script::{Ident, Line, Path, Sequence, Values};
+use rl_script::{IdentRef, Item, LineRef, PathRef, Sequence, Values};
 
 fn run_sequence<D: Device, K: Log>(
     m: &mut Model,
@@ -223,10 +224,10 @@ fn write_burst<D: Device, K: Log>(
     m: &mut Model,
     d: &mut D,
     a: &mut Adapters,
-    mem: &Path,
+    mem: &PathRef<'_>,
     first: u64,
     values: &Values,
-    name: &Option<Ident>,
+    name: &Option<IdentRef<'_>>,
     out: &mut K,
     counts: &mut Counts,
 ) -> Result<Option<LineRefusal>, Failed>
@@ -254,10 +255,10 @@ fn read_burst<D: Device, K: Log>(
     m: &mut Model,
     d: &mut D,
     a: &mut Adapters,
-    mem: &Path,
+    mem: &PathRef<'_>,
     first: u64,
     count: u64,
-    name: &Option<Ident>,
+    name: &Option<IdentRef<'_>>,
     out: &mut K,
     counts: &mut Counts,
 ) -> Result<Option<LineRefusal>, Failed>
@@ -286,7 +287,7 @@ fn sequence<D: Device, K: Log>(
     d: &mut D,
     a: &mut Adapters,
     which: Sequence,
-    path: &Option<Path>,
+    path: &Option<PathRef<'_>>,
     out: &mut K,
     counts: &mut Counts,
 ) -> Result<Option<LineRefusal>, Failed>
@@ -313,14 +314,14 @@ fn operation<D: Device, K: Log>(
     m: &mut Model,
     d: &mut D,
     a: &mut Adapters,
-    line: &Line,
+    line: &LineRef<'_>,
     out: &mut K,
     counts: &mut Counts,
 ) -> Result<Option<LineRefusal>, Failed>
     requires ready { IsReady m.old (each standing a.old.items) (D.state d.old) }
     ensures ready { IsReady m.new (each standing a.new.items) (D.state d.new) }
     ensures parts { IsSameChip m.old m.new }
-    ensures run { IfSome (D.state d.old) (λ device. IsLineRun (option_map (λ op. plain (alone (step_of (world m.old (each standing a.old.items) device) op))) (op_named m.old line.now)) (world m.old (each standing a.old.items) device) (K.written out.old) (K.written out.new) counts.old counts.new m.new (each standing a.new.items) (D.state d.new) result) }
+    ensures run { IfSome (D.state d.old) (λ device. IsLineRun (option_map (λ op. plain (alone (step_of (world m.old (each standing a.old.items) device) op))) (op_named m.old (line_said line.now))) (world m.old (each standing a.old.items) device) (K.written out.old) (K.written out.new) counts.old counts.new m.new (each standing a.new.items) (D.state d.new) result) }
     ensures cause { HasCause (K.faults out.old) (K.faults out.new) result }
     ensures ends_kept { K.ends out.new ≡ K.ends out.old }
     ensures same_target { K.target out.new ≡ K.target out.old }
@@ -337,33 +338,43 @@ pub(crate) fn run_line<D: Device, K: Log>(
     m: &mut Model,
     d: &mut D,
     a: &mut Adapters,
-    line: &Line,
+    line: &LineRef<'_>,
     out: &mut K,
     counts: &mut Counts,
 ) -> Result<Option<LineRefusal>, Failed>
     requires ready { IsReady m.old (each standing a.old.items) (D.state d.old) }
     ensures ready { IsReady m.new (each standing a.new.items) (D.state d.new) }
     ensures parts { IsSameChip m.old m.new }
-    ensures run { IfSome (D.state d.old) (λ device. IsLineRun (entry_of (world m.old (each standing a.old.items) device) line.now) (world m.old (each standing a.old.items) device) (K.written out.old) (K.written out.new) counts.old counts.new m.new (each standing a.new.items) (D.state d.new) result) }
+    ensures run { IfSome (D.state d.old) (λ device. IsLineRun (entry_of (world m.old (each standing a.old.items) device) (line_said line.now)) (world m.old (each standing a.old.items) device) (K.written out.old) (K.written out.new) counts.old counts.new m.new (each standing a.new.items) (D.state d.new) result) }
     ensures cause { HasCause (K.faults out.old) (K.faults out.new) result }
     ensures ends_kept { K.ends out.new ≡ K.ends out.old }
     ensures same_target { K.target out.new ≡ K.target out.old }
 {
     match line {
-        Line::Blank => Ok(None),
-        Line::BurstWrite {
+        LineRef::Blank => Ok(None),
+        LineRef::BurstWrite {
             mem,
             first,
             values,
             map,
         } => { write_burst(m, d, a, mem, *first, values, map, out, counts) }
-        Line::BurstRead {
-            mem,
-            first,
-            count,
-            map,
-        } => { read_burst(m, d, a, mem, *first, *count, map, out, counts) }
-        Line::Seq { which, block } => sequence(m, d, a, *which, block, out, counts),
-        _ => operation(m, d, a, line, out, counts),
+        LineRef::OnItem(item) => match item.item {
+            Item::BurstRead => {
+                read_burst(
+                    m,
+                    d,
+                    a,
+                    &item.path,
+                    item.first,
+                    item.second,
+                    &item.map,
+                    out,
+                    counts,
+                )
+            }
+            _ => operation(m, d, a, line, out, counts),
+        },
+        LineRef::Reset { .. } => operation(m, d, a, line, out, counts),
+        LineRef::Seq { which, block } => sequence(m, d, a, *which, block, out, counts),
     }
 }

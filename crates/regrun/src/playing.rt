@@ -21,6 +21,7 @@ ghost use Rattle.regrun.specs.Told.{told};
 ghost use Rattle.regrun.specs.World.{world};
 ghost use Rattle.rl_report.specs.Got.{Hands};
 ghost use Rattle.rl_script.specs.Reading.{read_of};
+ghost use Rattle.rl_script.specs.Said.{line_said};
 ghost use Rattle.rl_report.specs.Lines.{first_line};
 ghost use Rattle.rl_report.specs.Reading.{input_of, HoldsLine};
 
@@ -32,7 +33,7 @@ use crate::{Counts, Status};
 use rl_access::Model;
 use rl_bus::{Adapter, Adapters, Device};
 use rl_report::{Failed, Got, LineReader, Sink, Source};
-use rl_script::{Line, LineFault, read_line};
+use rl_script::{LineFault, LineRef, read_line_ref};
 use std::alloc::Global;
 use std::marker::Brand;
 
@@ -128,7 +129,7 @@ fn refuse<L: Log>(number: u64, refusal: LineRefusal, out: &mut L) -> Status
 fn run_read<D: Device, L: Log>(
     number: u64,
     line: &[u8],
-    read: &Result<Line, LineFault>,
+    read: &Result<LineRef<'_>, LineFault>,
     model: &mut Model,
     device: &mut D,
     adapters: &mut Adapters,
@@ -136,7 +137,7 @@ fn run_read<D: Device, L: Log>(
     counts: &mut Counts,
 ) -> Turn
     requires ready { IsReady model.old (map standing adapters.old.items) (D.state device.old) }
-    requires read { MatchResult read.now (λ l. read_of line.now ≡ Ok l) (λ fault. fault ≢ LineFault.Memory → read_of line.now ≡ Err fault) }
+    requires read { MatchResult read.now (λ l. read_of line.now ≡ Ok (line_said l)) (λ fault. fault ≢ LineFault.Memory → read_of line.now ≡ Err fault) }
     ensures ready { IsReady model.new (map standing adapters.new.items) (D.state device.new) }
     ensures parts { IsSameChip model.old model.new }
     ensures turn { IfSome (D.state device.old) (λ d. IsTurn number (comes_of (world model.old (map standing adapters.old.items) d) (said_by (read_of line.now))) (L.written out.old) (L.written out.new) counts.old counts.new (world model.old (map standing adapters.old.items) d) model.new (map standing adapters.new.items) (D.state device.new) result) }
@@ -193,7 +194,7 @@ fn run_taken<D: Device, L: Log>(
     if line.is_empty() {
         return Turn::Next;
     }
-    let read = read_line(alloc, line);
+    let read = read_line_ref(alloc, line);
     run_read(number, line, &read, model, device, adapters, out, counts)
 }
 

@@ -1,14 +1,15 @@
 // The names in a line, as numbers of the model.
 ghost use Rattle.std.specs.Prelude.{◌≡◌, ◌<◌, true, false, length, IfSome};
 ghost use Rattle.rl_access.specs.Operation.{IsMapIn, HasNumbers};
+ghost use Rattle.rl_script.specs.Said.{item_said, line_said};
 ghost use Rattle.regrun.specs.Operations.{is_single};
 ghost use Rattle.regrun.specs.Named.{map_asked, reg_named, field_named, mem_named, block_named, block_asked, kind_named, op_named, is_on_bus, is_on_field, is_on_memory, is_memory_by_backdoor, is_off_bus};
 
 use rl_access::{Model, Op};
-use rl_script::{Ident, Line, Path};
+use rl_script::{IdentRef, Item, ItemLine, LineRef, PathRef};
 
 // The map that is asked for, if one is. None where it isn't there.
-pub(crate) fn map_asked(model: &Model, name: &Option<Ident>) -> Option<Option<u32>>
+pub(crate) fn map_asked(model: &Model, name: &Option<IdentRef<'_>>) -> Option<Option<u32>>
     ensures named { result ≡ map_asked model.now.layout name.now }
     ensures in_range { IfSome result (IsMapIn (length model.now.layout.maps)) }
 {
@@ -21,35 +22,35 @@ pub(crate) fn map_asked(model: &Model, name: &Option<Ident>) -> Option<Option<u3
     }
 }
 
-fn reg_at(model: &Model, path: &Path) -> Option<u32>
+fn reg_at(model: &Model, path: &PathRef<'_>) -> Option<u32>
     ensures named { result ≡ reg_named model.now.chip path.now }
     ensures in_range { IfSome result (λ n. n < length model.now.chip.regs) }
 {
     model.chip().reg_by_path(path.text())
 }
 
-fn field_at(model: &Model, path: &Path) -> Option<u32>
+fn field_at(model: &Model, path: &PathRef<'_>) -> Option<u32>
     ensures named { result ≡ field_named model.now.chip path.now }
     ensures in_range { IfSome result (λ n. n < length model.now.chip.fields) }
 {
     model.chip().field_by_path(path.text())
 }
 
-pub(crate) fn mem_at(model: &Model, path: &Path) -> Option<u32>
+pub(crate) fn mem_at(model: &Model, path: &PathRef<'_>) -> Option<u32>
     ensures named { result ≡ mem_named model.now.chip path.now }
     ensures in_range { IfSome result (λ n. n < length model.now.chip.mems) }
 {
     model.chip().mem_by_path(path.text())
 }
 
-fn block_at(model: &Model, path: &Path) -> Option<u32>
+fn block_at(model: &Model, path: &PathRef<'_>) -> Option<u32>
     ensures named { result ≡ block_named model.now.chip path.now }
     ensures in_range { IfSome result (λ n. n < model.now.chip.blocks) }
 {
     model.chip().block_by_path(path.text())
 }
 
-fn kind_named(model: &Model, name: &Ident) -> Option<u32>
+fn kind_named(model: &Model, name: &IdentRef<'_>) -> Option<u32>
     ensures named { result ≡ kind_named model.now.chip name.now }
     ensures in_range { IfSome result (λ n. n < length model.now.chip.kinds) }
 {
@@ -57,81 +58,91 @@ fn kind_named(model: &Model, name: &Ident) -> Option<u32>
 }
 
 // The operation of a line on a register by another driver.
-fn other_op(model: &Model, line: &Line) -> Option<Op>
-    ensures named { is_on_bus line.now ≡ false → is_on_field line.now ≡ false → is_on_memory line.now ≡ false → is_memory_by_backdoor line.now ≡ false → is_off_bus line.now ≡ false → result ≡ op_named model.now line.now }
+fn other_op(model: &Model, line: &ItemLine<'_>) -> Option<Op>
+    ensures named { is_on_bus line.now.item ≡ false → is_on_field line.now.item ≡ false → is_on_memory line.now.item ≡ false → is_memory_by_backdoor line.now.item ≡ false → is_off_bus line.now.item ≡ false → result ≡ op_named model.now (item_said line.now) }
     ensures numbers { IfSome result (HasNumbers model.now.chip (length model.now.layout.maps)) }
     ensures single { IfSome result (λ op. is_single op ≡ true) }
 {
-    match line {
-        Line::OtherWrite { reg, value, map } => {
-            let reg = reg_at(model, reg)?;
-            let map = map_asked(model, map)?;
+    match line.item {
+        Item::OtherWrite => {
+            let reg = reg_at(model, &line.path)?;
+            let map = map_asked(model, &line.map)?;
             Some(Op::OtherWrite {
                 reg,
                 map,
-                value: *value,
+                value: line.first,
             })
         }
-        Line::OtherRead { reg, map } => {
-            let reg = reg_at(model, reg)?;
-            let map = map_asked(model, map)?;
+        Item::OtherRead => {
+            let reg = reg_at(model, &line.path)?;
+            let map = map_asked(model, &line.map)?;
             Some(Op::OtherRead { reg, map })
         }
         _ => None,
     }
 }
 
-// The operation of a line on a register by the backdoor or on the model alone, or a reset.
-fn back_op(model: &Model, line: &Line) -> Option<Op>
-    ensures named { is_on_bus line.now ≡ false → is_on_field line.now ≡ false → is_on_memory line.now ≡ false → is_memory_by_backdoor line.now ≡ false → result ≡ op_named model.now line.now }
+// The operation of a line on a register by the backdoor or on the model alone.
+fn back_op(model: &Model, line: &ItemLine<'_>) -> Option<Op>
+    ensures named { is_on_bus line.now.item ≡ false → is_on_field line.now.item ≡ false → is_on_memory line.now.item ≡ false → is_memory_by_backdoor line.now.item ≡ false → result ≡ op_named model.now (item_said line.now) }
     ensures numbers { IfSome result (HasNumbers model.now.chip (length model.now.layout.maps)) }
     ensures single { IfSome result (λ op. is_single op ≡ true) }
 {
-    match line {
-        Line::Show { reg } => Some(Op::Show {
-            reg: reg_at(model, reg)?,
-        }),
-        Line::BackRead { reg } => Some(Op::BackRead {
-            reg: reg_at(model, reg)?,
-        }),
-        Line::BackCheck { reg } => Some(Op::BackCheck {
-            reg: reg_at(model, reg)?,
-        }),
-        Line::Peek { reg } => Some(Op::Peek {
-            reg: reg_at(model, reg)?,
-        }),
-        Line::BackWrite { reg, value } => {
-            let reg = reg_at(model, reg)?;
-            Some(Op::BackWrite { reg, value: *value })
+    match line.item {
+        Item::Show => {
+            let reg = reg_at(model, &line.path)?;
+            Some(Op::Show { reg })
         }
-        Line::Poke { reg, value } => {
-            let reg = reg_at(model, reg)?;
-            Some(Op::Poke { reg, value: *value })
+        Item::BackRead => {
+            let reg = reg_at(model, &line.path)?;
+            Some(Op::BackRead { reg })
         }
-        Line::Reset { kind } => Some(Op::Reset {
-            kind: kind_named(model, kind)?,
-        }),
+        Item::BackCheck => {
+            let reg = reg_at(model, &line.path)?;
+            Some(Op::BackCheck { reg })
+        }
+        Item::Peek => {
+            let reg = reg_at(model, &line.path)?;
+            Some(Op::Peek { reg })
+        }
+        Item::BackWrite => {
+            let reg = reg_at(model, &line.path)?;
+            Some(Op::BackWrite {
+                reg,
+                value: line.first,
+            })
+        }
+        Item::Poke => {
+            let reg = reg_at(model, &line.path)?;
+            Some(Op::Poke {
+                reg,
+                value: line.first,
+            })
+        }
         _ => other_op(model, line),
     }
 }
 
 // The operation of a line on a memory by the backdoor.
-fn mem_back_op(model: &Model, line: &Line) -> Option<Op>
-    ensures named { is_on_bus line.now ≡ false → is_on_field line.now ≡ false → is_on_memory line.now ≡ false → result ≡ op_named model.now line.now }
+fn mem_back_op(model: &Model, line: &ItemLine<'_>) -> Option<Op>
+    ensures named { is_on_bus line.now.item ≡ false → is_on_field line.now.item ≡ false → is_on_memory line.now.item ≡ false → result ≡ op_named model.now (item_said line.now) }
     ensures numbers { IfSome result (HasNumbers model.now.chip (length model.now.layout.maps)) }
     ensures single { IfSome result (λ op. is_single op ≡ true) }
 {
-    match line {
-        Line::MemPeek { mem, index } => {
-            let mem = mem_at(model, mem)?;
-            Some(Op::MemPeek { mem, index: *index })
+    match line.item {
+        Item::MemPeek => {
+            let mem = mem_at(model, &line.path)?;
+            Some(Op::MemPeek {
+                mem,
+                index: line.first,
+            })
         }
-        Line::MemPoke { mem, index, value } => {
-            let mem = mem_at(model, mem)?;
+        Item::MemPoke => {
+            let mem = mem_at(model, &line.path)?;
             Some(Op::MemPoke {
                 mem,
-                index: *index,
-                value: *value,
+                index: line.first,
+                value: line.second,
             })
         }
         _ => back_op(model, line),
@@ -139,49 +150,39 @@ fn mem_back_op(model: &Model, line: &Line) -> Option<Op>
 }
 
 // The operation of a line on a memory over the bus.
-fn mem_op(model: &Model, line: &Line) -> Option<Op>
-    ensures named { is_on_bus line.now ≡ false → is_on_field line.now ≡ false → result ≡ op_named model.now line.now }
+fn mem_op(model: &Model, line: &ItemLine<'_>) -> Option<Op>
+    ensures named { is_on_bus line.now.item ≡ false → is_on_field line.now.item ≡ false → result ≡ op_named model.now (item_said line.now) }
     ensures numbers { IfSome result (HasNumbers model.now.chip (length model.now.layout.maps)) }
     ensures single { IfSome result (λ op. is_single op ≡ true) }
 {
-    match line {
-        Line::MemWrite {
-            mem,
-            index,
-            value,
-            map,
-        } => {
-            let mem = mem_at(model, mem)?;
-            let map = map_asked(model, map)?;
+    match line.item {
+        Item::MemWrite => {
+            let mem = mem_at(model, &line.path)?;
+            let map = map_asked(model, &line.map)?;
             Some(Op::MemWrite {
                 mem,
                 map,
-                index: *index,
-                value: *value,
+                index: line.first,
+                value: line.second,
             })
         }
-        Line::MemCheck {
-            mem,
-            index,
-            value,
-            map,
-        } => {
-            let mem = mem_at(model, mem)?;
-            let map = map_asked(model, map)?;
+        Item::MemCheck => {
+            let mem = mem_at(model, &line.path)?;
+            let map = map_asked(model, &line.map)?;
             Some(Op::MemCheck {
                 mem,
                 map,
-                index: *index,
-                value: *value,
+                index: line.first,
+                value: line.second,
             })
         }
-        Line::MemRead { mem, index, map } => {
-            let mem = mem_at(model, mem)?;
-            let map = map_asked(model, map)?;
+        Item::MemRead => {
+            let mem = mem_at(model, &line.path)?;
+            let map = map_asked(model, &line.map)?;
             Some(Op::MemRead {
                 mem,
                 map,
-                index: *index,
+                index: line.first,
             })
         }
         _ => mem_back_op(model, line),
@@ -189,86 +190,101 @@ fn mem_op(model: &Model, line: &Line) -> Option<Op>
 }
 
 // The operation of a line on a field.
-fn field_op(model: &Model, line: &Line) -> Option<Op>
-    ensures named { is_on_bus line.now ≡ false → result ≡ op_named model.now line.now }
+fn field_op(model: &Model, line: &ItemLine<'_>) -> Option<Op>
+    ensures named { is_on_bus line.now.item ≡ false → result ≡ op_named model.now (item_said line.now) }
     ensures numbers { IfSome result (HasNumbers model.now.chip (length model.now.layout.maps)) }
     ensures single { IfSome result (λ op. is_single op ≡ true) }
 {
-    match line {
-        Line::FieldWrite { field, value, map } => {
-            let field = field_at(model, field)?;
-            let map = map_asked(model, map)?;
+    match line.item {
+        Item::FieldWrite => {
+            let field = field_at(model, &line.path)?;
+            let map = map_asked(model, &line.map)?;
             Some(Op::FieldWrite {
                 field,
                 map,
-                value: *value,
+                value: line.first,
             })
         }
-        Line::FieldRead { field, map } => {
-            let field = field_at(model, field)?;
-            let map = map_asked(model, map)?;
+        Item::FieldRead => {
+            let field = field_at(model, &line.path)?;
+            let map = map_asked(model, &line.map)?;
             Some(Op::FieldRead { field, map })
         }
-        Line::Set { field, value } => {
-            let field = field_at(model, field)?;
+        Item::Set => {
+            let field = field_at(model, &line.path)?;
             Some(Op::Set {
                 field,
-                value: *value,
+                value: line.first,
             })
         }
-        Line::Hw { field, value } => {
-            let field = field_at(model, field)?;
+        Item::Hw => {
+            let field = field_at(model, &line.path)?;
             Some(Op::Hw {
                 field,
-                value: *value,
+                value: line.first,
             })
         }
         _ => mem_op(model, line),
     }
 }
 
-// The operation of a line, if its names are there. Those on a register over the bus come first, as the most frequent.
-pub(crate) fn op_of(model: &Model, line: &Line) -> Option<Op>
-    ensures named { result ≡ op_named model.now line.now }
+// The operation of a line on an item, if its names are there. Those on a register over the bus come first, as the most frequent.
+fn item_op(model: &Model, line: &ItemLine<'_>) -> Option<Op>
+    ensures named { result ≡ op_named model.now (item_said line.now) }
     ensures numbers { IfSome result (HasNumbers model.now.chip (length model.now.layout.maps)) }
     ensures single { IfSome result (λ op. is_single op ≡ true) }
 {
-    match line {
-        Line::Write { reg, value, map } => {
-            let reg = reg_at(model, reg)?;
-            let map = map_asked(model, map)?;
+    match line.item {
+        Item::Write => {
+            let reg = reg_at(model, &line.path)?;
+            let map = map_asked(model, &line.map)?;
             Some(Op::Write {
                 reg,
                 map,
-                value: *value,
+                value: line.first,
             })
         }
-        Line::Read { reg, map } => {
-            let reg = reg_at(model, reg)?;
-            let map = map_asked(model, map)?;
+        Item::Read => {
+            let reg = reg_at(model, &line.path)?;
+            let map = map_asked(model, &line.map)?;
             Some(Op::Read { reg, map })
         }
-        Line::Mirror { reg, map } => {
-            let reg = reg_at(model, reg)?;
-            let map = map_asked(model, map)?;
+        Item::Mirror => {
+            let reg = reg_at(model, &line.path)?;
+            let map = map_asked(model, &line.map)?;
             Some(Op::Mirror { reg, map })
         }
-        Line::Check { reg, map } => {
-            let reg = reg_at(model, reg)?;
-            let map = map_asked(model, map)?;
+        Item::Check => {
+            let reg = reg_at(model, &line.path)?;
+            let map = map_asked(model, &line.map)?;
             Some(Op::Check { reg, map })
         }
-        Line::Update { reg, map } => {
-            let reg = reg_at(model, reg)?;
-            let map = map_asked(model, map)?;
+        Item::Update => {
+            let reg = reg_at(model, &line.path)?;
+            let map = map_asked(model, &line.map)?;
             Some(Op::Update { reg, map })
         }
         _ => field_op(model, line),
     }
 }
 
+// The operation of a line, if its names are there.
+pub(crate) fn op_of(model: &Model, line: &LineRef<'_>) -> Option<Op>
+    ensures named { result ≡ op_named model.now (line_said line.now) }
+    ensures numbers { IfSome result (HasNumbers model.now.chip (length model.now.layout.maps)) }
+    ensures single { IfSome result (λ op. is_single op ≡ true) }
+{
+    match line {
+        LineRef::OnItem(line) => item_op(model, line),
+        LineRef::Reset { kind } => Some(Op::Reset {
+            kind: kind_named(model, kind)?,
+        }),
+        _ => None,
+    }
+}
+
 // The block that a sequence goes over: none stands for the whole chip. None where it isn't there.
-pub(crate) fn block_asked(model: &Model, path: &Option<Path>) -> Option<Option<u32>>
+pub(crate) fn block_asked(model: &Model, path: &Option<PathRef<'_>>) -> Option<Option<u32>>
     ensures named { result ≡ block_asked model.now.chip path.now }
     ensures in_range { IfSome result (λ block. IfSome block (λ b. b < model.now.chip.blocks)) }
 {

@@ -10,7 +10,7 @@ ghost use Rattle.rl_script.specs.Commands.{sequence_name};
 use crate::Counts;
 use itoa::Buffer;
 use rl_report::{Failed, Sink, put_all, put_pieces};
-use rl_script::{LineFault, Path, Sequence};
+use rl_script::{LineFault, PathRef, Sequence};
 
 // Why a line is refused.
 #[derive(Clone, Copy, Debug, PartialEq, Eq)]
@@ -119,7 +119,7 @@ fn sequence_name(which: Sequence) -> &'static [u8]
 }
 
 // The block that a sequence goes over, or `*` for the whole chip.
-fn over(block: &Option<Path>) -> &[u8]
+fn over<'a>(block: &Option<PathRef<'a>>) -> &'a [u8]
     ensures { result.now ≡ over_text block.now }
 {
     match block {
@@ -129,7 +129,11 @@ fn over(block: &Option<Path>) -> &[u8]
 }
 
 // Writes the name of a sequence, and the block that it goes over.
-fn put_sequence<K: Sink>(sink: &mut K, which: Sequence, block: &Option<Path>) -> Result<(), Failed>
+fn put_sequence<K: Sink>(
+    sink: &mut K,
+    which: Sequence,
+    block: &Option<PathRef<'_>>,
+) -> Result<(), Failed>
     ensures bytes { Puts (K.written sink.old) (K.written sink.new) (sequence_text which block.now) result }
     ensures cause { HasCause (K.faults sink.old) (K.faults sink.new) result }
     ensures ends_kept { K.ends sink.new ≡ K.ends sink.old }
@@ -145,7 +149,7 @@ fn put_sequence<K: Sink>(sink: &mut K, which: Sequence, block: &Option<Path>) ->
 pub(crate) fn put_sequence_begin<K: Sink>(
     sink: &mut K,
     which: Sequence,
-    block: &Option<Path>,
+    block: &Option<PathRef<'_>>,
 ) -> Result<(), Failed>
     ensures bytes { Puts (K.written sink.old) (K.written sink.new) (begin_text which block.now) result }
     ensures cause { HasCause (K.faults sink.old) (K.faults sink.new) result }
@@ -182,7 +186,7 @@ fn put_tally<K: Sink>(sink: &mut K, counts: &Counts) -> Result<(), Failed>
 pub(crate) fn put_sequence_end<K: Sink>(
     sink: &mut K,
     which: Sequence,
-    block: &Option<Path>,
+    block: &Option<PathRef<'_>>,
     counts: &Counts,
 ) -> Result<(), Failed>
     ensures bytes { Puts (K.written sink.old) (K.written sink.new) (closing_text which block.now counts.now.events counts.now.differences counts.now.errors) result }
