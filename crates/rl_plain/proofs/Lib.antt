@@ -1,0 +1,12 @@
+pub mod Granted
+pub mod Answered
+pub mod Registers
+pub mod Followed
+pub mod Outcomes
+pub mod Accesses
+pub mod Ways
+pub mod FieldAccesses
+pub mod EachAccess
+pub mod Agreement
+pub mod Wishes
+pub mod Backdoor

@@ -1,0 +1,78 @@
+-- A device and a model that agree, and the calls that leave them in agreement.
+use Rattle.std.specs.Prelude.{◌≡◌, ℕ, ◌<◌, Bool, false, List, length, slice_index, Option, None, Some}
+use Rattle.rl_policy.specs.Bits.{bit}
+use Rattle.rl_policy.specs.Table.{spends_mark}
+use Rattle.rl_bus.specs.State.{State}
+use Rattle.rl_model.specs.Rows.{FieldSeen, ChipData}
+use Rattle.rl_model.specs.Fields.{field_of, fields_of, policy_in, place_at}
+use Rattle.rl_map.specs.Layout.{LayoutData}
+use Rattle.rl_split.specs.Step.{Register}
+use Rattle.rl_split.specs.Law.{IsReady, Holds}
+use Rattle.rl_mirror.specs.Mirror.{MirrorData, mirrored_of, marks_in}
+use Rattle.rl_access.specs.declared.event.Event.{Event}
+use Rattle.rl_access.specs.declared.event.Op.{Op}
+use Rattle.rl_access.specs.declared.event.Op.TheVariants as op
+use Rattle.rl_access.specs.Call.{Scene, Performs}
+use Rattle.rl_access.specs.Gathering.{IsNothingGathered}
+use Rattle.rl_access.specs.Model.{IsModel}
+use Rattle.rl_access.specs.Operation.{HasNumbers}
+use Rattle.rl_plain.specs.OneStep.{IsAccess}
+
+-- what is believed of a register: its mirrored value, and the marks of its fields
+abbrev pub believed : ChipData → MirrorData → (reg : ℕ) → Register
+believed c m reg = record { bits = mirrored_of m reg; spent = marks_in c m.spent reg }
+
+-- a write of the field that the bit belongs to spends it
+abbrev pub is_spendable : List FieldSeen → Option ℕ → Bool
+is_spendable fields None = false
+is_spendable fields (Some k) = spends_mark (policy_in fields k)
+
+-- no other bit of the device is marked
+abbrev pub IsMarkedAlone : ChipData → State → (reg : ℕ) → Type 0
+IsMarkedAlone c d reg = (b : ℕ) → b < 64 → is_spendable (fields_of c reg) (place_at (fields_of c reg) b) ≡ false → bit (slice_index d.marks reg) b ≡ false
+
+-- The device has this chip and this layout, no flaw, and beats of 0. No field is volatile. Each register has its mirrored value
+-- and the marks of its fields, and no other bit is marked.
+pub record IsAsBelieved (c : ChipData) (l : LayoutData) (m : MirrorData) (d : State) : Type 0 where
+  pub ready : IsReady c l d
+  pub steady : (n : ℕ) → n < length c.fields → (field_of c n).shape.volatile ≡ false
+  pub holds : (reg : ℕ) → reg < length c.regs → Holds c d reg (believed c m reg)
+  pub alone : (reg : ℕ) → reg < length c.regs → IsMarkedAlone c d reg
+
+-- a device that tells its state agrees with the model, whose predictor has gathered no word
+pub record Agree (s : Scene) : Type 0 where
+  pub device : State
+  pub told : s.device ≡ Some device
+  pub believed_is : IsAsBelieved s.model.chip s.model.layout s.model.mirror device
+  pub gathered : IsNothingGathered s.model.gathered
+
+-- the operations of a kind leave a device and a model that agree in agreement, also where they are refused
+abbrev pub KeepsAgreement : (Op → Type 0) → Type 0
+KeepsAgreement IsOne =
+    (s new : Scene) (op : Op) (event : Event)
+    → IsOne op → HasNumbers s.model.chip (length s.model.layout.maps) op → IsModel s.model → Agree s → Performs s new op event
+    → Agree new
+
+-- the operations that concern desired values alone, or nothing
+abbrev pub IsWish : Op → Type 0
+IsWish (op.Set field value) = Unit {0}
+IsWish (op.Show reg) = Unit {0}
+IsWish _ = ⊥
+
+-- those of the backdoor on registers
+abbrev pub IsBackdoor : Op → Type 0
+IsBackdoor (op.BackWrite reg value) = Unit {0}
+IsBackdoor (op.BackRead reg) = Unit {0}
+IsBackdoor (op.BackCheck reg) = Unit {0}
+IsBackdoor (op.Peek reg) = Unit {0}
+IsBackdoor (op.Poke reg value) = Unit {0}
+IsBackdoor _ = ⊥
+
+abbrev pub AccessKeepsAgreement : Type 0
+AccessKeepsAgreement = KeepsAgreement IsAccess
+
+abbrev pub WishKeepsAgreement : Type 0
+WishKeepsAgreement = KeepsAgreement IsWish
+
+abbrev pub BackdoorKeepsAgreement : Type 0
+BackdoorKeepsAgreement = KeepsAgreement IsBackdoor

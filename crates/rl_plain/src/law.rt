@@ -1,0 +1,24 @@
+//! What holds of the calls on a device without flaws. Each function does nothing; its contract is the law.
+ghost use Rattle.rl_plain.specs.Agree.{AccessKeepsAgreement, BackdoorKeepsAgreement, WishKeepsAgreement};
+ghost use Rattle.rl_plain.specs.OneStep.{AccessIsStep};
+
+/// An access over the bus is one step of its register: of all its fields, or in a narrow access of its one
+/// field.
+pub fn access_is_step()
+    ensures { AccessIsStep }
+{}
+
+/// An access over the bus leaves a device and a model that agree in agreement.
+pub fn access_keeps_agreement()
+    ensures { AccessKeepsAgreement }
+{}
+
+/// So do `set` and `show`.
+pub fn wish_keeps_agreement()
+    ensures { WishKeepsAgreement }
+{}
+
+/// So do the operations of the backdoor on registers.
+pub fn backdoor_keeps_agreement()
+    ensures { BackdoorKeepsAgreement }
+{}
