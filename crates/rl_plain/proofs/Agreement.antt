@@ -1,6 +1,6 @@
 -- A device and a model that agree still do after an access.
 use Rattle.std.proofs.Common.{◌≡◌, ℕ, ◌<◌, Bool, true, false, ◌&&◌, ◌||◌, List, length, Option, None, Some, Ok, Err, MatchResult, refl, sym, ap, ◌∙◌, subst, inl, inr}
-use Rattle.std.specs.Prelude.{slice_index, slice_set}
+use Rattle.std.specs.Prelude.{slice_index}
 use Rattle.std.proofs.lemmas.Bool.{cases_eq}
 use Rattle.std.proofs.lemmas.List.{get_or-set_same, get_or-set_other}
 use Rattle.rl_policy.specs.Bits.{bit}
@@ -20,15 +20,14 @@ use Rattle.rl_mirror.proofs.PlaceLemmas.{place_is}
 use Rattle.rl_access.specs.declared.event.Event.{Event}
 use Rattle.rl_access.specs.declared.event.Op.{Op}
 use Rattle.rl_access.specs.declared.event.Op.TheVariants as op
-use Rattle.rl_access.specs.Call.{Scene, IsDone, IsRefused, Performs}
-use Rattle.rl_access.specs.Model.{ModelData, IsModel}
+use Rattle.rl_access.specs.Call.{Scene, IsDone, IsRefused}
+use Rattle.rl_access.specs.Model.{IsModel}
 use Rattle.rl_access.specs.Operation.{reg_of, register_of, HasNumbers}
 use Rattle.rl_access.specs.Rules.{Grant, grant}
-use Rattle.rl_plain.specs.OneStep.{Step, write_step, read_step, no_step, register_after, device_after, step_of, IsAccess, Meets}
+use Rattle.rl_plain.specs.OneStep.{Step, write_step, read_step, no_step, register_after, device_after, step_of, IsAccess}
 use Rattle.rl_plain.specs.Agree.{believed, is_spendable, IsMarkedAlone, IsAsBelieved, Agree, AccessKeepsAgreement}
 use Rattle.rl_plain.proofs.Registers.{written_bits, left_bits, marks_after, other_marks}
-use Rattle.rl_plain.proofs.Followed.{IsPredictedWrite, IsPredictedRead, FollowsStep}
-use Rattle.rl_plain.proofs.Answered.{done_of}
+use Rattle.rl_plain.proofs.Followed.{FollowsStep}
 use Rattle.rl_plain.proofs.Accesses.{IsStepped}
 use Rattle.rl_plain.proofs.EachAccess.{one_step}
 
@@ -46,11 +45,11 @@ holds_as c d reg r x same h = record {
 
 -- ---- the mirror after a prediction
 
-spent-wstep : (fs : List FieldSeen) (chosen : ℕ → Bool) (word : ℕ) (r : Register) (k : ℕ) → (wstep fs chosen word r).spent k ≡ (r.spent k || (chosen k && spends_mark (policy_in fs k)))
+pub spent-wstep : (fs : List FieldSeen) (chosen : ℕ → Bool) (word : ℕ) (r : Register) (k : ℕ) → (wstep fs chosen word r).spent k ≡ (r.spent k || (chosen k && spends_mark (policy_in fs k)))
 unfolding wstep
 spent-wstep fs chosen word r k = refl
 
-spent-rstep : (fs : List FieldSeen) (chosen : ℕ → Bool) (r : Register) (k : ℕ) → (rstep fs chosen r).spent k ≡ r.spent k
+pub spent-rstep : (fs : List FieldSeen) (chosen : ℕ → Bool) (r : Register) (k : ℕ) → (rstep fs chosen r).spent k ≡ r.spent k
 unfolding rstep
 spent-rstep fs chosen r k = refl
 
@@ -184,8 +183,8 @@ here_alone c l d reg (write_step chosen word) r count ready inside h alone b low
     ap (λ n. bit n b) (get_or-set_same d.marks reg marks 0 within)
     ∙ bit-marks_with fs (wstep fs chosen word r).spent (slice_index d.marks reg) b low
     ∙ still_alone c d reg chosen word r b (place_at fs b) low h refl e (alone b low e)
-here_alone c l d reg (read_step chosen) r count ready inside h alone = alone
-here_alone c l d reg no_step r count ready inside h alone = alone
+here_alone c l d reg (read_step chosen) r count ready inside h alone b low e = alone b low e
+here_alone c l d reg no_step r count ready inside h alone b low e = alone b low e
 
 -- ---- the device after an access
 
@@ -231,12 +230,12 @@ agree_after s new op event place reg ok a inside st = record {
 
 -- ---- each access
 
-record HasRegister (c : ChipData) (op : Op) : Type 0 where
-  reg : ℕ
-  register : register_of c op ≡ Some reg
-  inside : reg < length c.regs
+pub record HasRegister (c : ChipData) (op : Op) : Type 0 where
+  pub reg : ℕ
+  pub register : register_of c op ≡ Some reg
+  pub inside : reg < length c.regs
 
-register_in : (c : ChipData) (maps : ℕ) (op : Op) → IsSound c → IsAccess op → HasNumbers c maps op → HasRegister c op
+pub register_in : (c : ChipData) (maps : ℕ) (op : Op) → IsSound c → IsAccess op → HasNumbers c maps op → HasRegister c op
 register_in c maps (op.Write reg map value) sound is numbers = record { reg = reg; register = refl; inside = numbers.0 }
 register_in c maps (op.Read reg map) sound is numbers = record { reg = reg; register = refl; inside = numbers.0 }
 register_in c maps (op.Mirror reg map) sound is numbers = record { reg = reg; register = refl; inside = numbers.0 }

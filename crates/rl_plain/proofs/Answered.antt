@@ -1,5 +1,5 @@
 -- Operations of which a device fails none, as the items of a call.
-use Rattle.std.proofs.Common.{◌≡◌, ℕ, suc, ◌+◌, Bool, true, false, cond, List, [], ◌∷◌, length, map, All, Option, None, Some, option_map, Ok, Err, MatchResult, refl, sym, ap, ◌∙◌, subst}
+use Rattle.std.proofs.Common.{◌≡◌, ℕ, suc, ◌+◌, Bool, false, cond, List, [], ◌∷◌, length, map, All, None, Some, option_map, Ok, MatchResult, refl, ap, ◌∙◌, subst}
 use Rattle.std.specs.List.{position_from}
 use Rattle.std.proofs.lemmas.Iterator.Adapters.{position_from-zero}
 use Rattle.std.proofs.lemmas.List.Elements.{All-head, All-tail}
@@ -15,7 +15,7 @@ use Rattle.rl_access.specs.Call.{Scene, IsDone, IsRefused, Performs}
 use Rattle.rl_access.specs.Items.{took_item, item_of, items_of, failed_at, words_answered, state_after_all as items_after, port_for, adapter_for}
 use Rattle.rl_access.specs.Model.{ModelData}
 use Rattle.rl_access.specs.Operation.{register_of}
-use Rattle.rl_access.specs.Rules.{Grant, Outcome, grant, named, sends, outcome, event_at, event_of, register_event, device_after}
+use Rattle.rl_access.specs.Rules.{Grant, Outcome, grant, named, sends, outcome, event_at, register_event, device_after}
 
 abbrev fails : TraceItem → Bool
 fails item = item.answer.failed

@@ -1,14 +1,13 @@
 -- The backdoor deposits in the device what is then believed.
-use Rattle.std.proofs.Common.{◌≡◌, ℕ, ◌<◌, Bool, true, false, ◌&&◌, cond, List, [], length, Option, None, Some, Ok, option_map, refl, sym, ap, ◌∙◌, subst, inl, inr, arith, length-set}
+use Rattle.std.proofs.Common.{◌≡◌, ℕ, ◌<◌, Bool, false, cond, List, [], length, Option, None, Some, option_map, refl, sym, ap, ◌∙◌, subst, inl, inr, arith, length-set}
 use Rattle.std.specs.Prelude.{slice_index, slice_set, is_some}
 use Rattle.std.specs.Option.{option_map_or}
 use Rattle.std.proofs.lemmas.Bool.{cases_eq}
 use Rattle.std.proofs.lemmas.List.{get_or-set_same, get_or-set_other, set-get_or}
 use Rattle.rl_policy.specs.Bits.{bit}
 use Rattle.rl_policy.specs.Table.{after_read, value_read}
-use Rattle.rl_policy.specs.declared.policy.Policy.{Policy}
 use Rattle.rl_policy.proofs.BitLemmas.{from_bits-same, bit-from_bits, bit-max}
-use Rattle.rl_bus.specs.Setup.{Setup, field_at, policy_of, policy_at, stuck_at, or_else, held}
+use Rattle.rl_bus.specs.Setup.{Setup, field_at, policy_of, stuck_at, or_else, held}
 use Rattle.rl_bus.specs.State.{State, poked, peeked}
 use Rattle.rl_bus.specs.declared.table.Cell.TheVariants as cell
 use Rattle.rl_model.specs.Rows.{FieldSeen, ChipData}
@@ -16,26 +15,25 @@ use Rattle.rl_model.specs.Chip.{IsSound}
 use Rattle.rl_model.specs.Fields.{fields_of, policy_in, place_at}
 use Rattle.rl_map.specs.Layout.{LayoutData}
 use Rattle.rl_map.specs.Tables.{setup_of}
-use Rattle.rl_split.specs.Law.{no_flaws, IsReady, Holds}
+use Rattle.rl_split.specs.Law.{no_flaws, IsReady}
 use Rattle.rl_split.proofs.Policies.{has_row, policy_by_place}
 use Rattle.rl_mirror.specs.Fields.{owned, word_by_field}
-use Rattle.rl_mirror.specs.Mirror.{MirrorData, mirrored_of, desired_of, marks_in}
-use Rattle.rl_mirror.specs.Prediction.{predict_raw, predict_read, learned_by_read, learned_bit, written, shown, left_by_read}
+use Rattle.rl_mirror.specs.Mirror.{MirrorData, mirrored_of, marks_in}
+use Rattle.rl_mirror.specs.Prediction.{predict_raw, predict_read, learned_by_read, learned_bit, shown, left_by_read}
 use Rattle.rl_mirror.proofs.FieldLemmas.{row_of, field_list}
 use Rattle.rl_mirror.proofs.PlaceLemmas.{place_is}
 use Rattle.rl_mirror.proofs.WordLemmas.{owned_bit, owned-word_by_field}
-use Rattle.rl_access.specs.declared.event.End.TheVariants as end
 use Rattle.rl_access.specs.declared.event.Event.{Event}
 use Rattle.rl_access.specs.declared.event.Op.{Op}
 use Rattle.rl_access.specs.declared.event.Op.TheVariants as op
 use Rattle.rl_access.specs.declared.trace.TraceItem.{TraceItem}
 use Rattle.rl_access.specs.Call.{Scene, IsDone}
 use Rattle.rl_access.specs.Gathering.{IsNothingGathered}
-use Rattle.rl_access.specs.Items.{items_of, state_after_all as items_after, port_for, adapter_for}
+use Rattle.rl_access.specs.Items.{items_of, port_for}
 use Rattle.rl_access.specs.Model.{ModelData, IsModel}
 use Rattle.rl_access.specs.Operation.{HasNumbers}
-use Rattle.rl_access.specs.Rules.{Outcome, grant, sends, outcome, every_field, device_after, back_written, back_left, back_value, owned_of}
-use Rattle.rl_plain.specs.Agree.{believed, IsAsBelieved, Agree, IsBackdoor, BackdoorKeepsAgreement}
+use Rattle.rl_access.specs.Rules.{grant, sends, outcome, every_field, device_after, back_written, back_left, back_value}
+use Rattle.rl_plain.specs.Agree.{IsAsBelieved, Agree, IsBackdoor, BackdoorKeepsAgreement}
 use Rattle.rl_plain.proofs.Registers.{learned_is}
 use Rattle.rl_plain.proofs.Agreement.{refused_agree}
 
@@ -95,13 +93,13 @@ agree_deposit s new a reg v mirror told is inside here others spent =
       ready = record { setup = by.ready.setup; beats = by.ready.beats; bits = length-set d.bits reg v ∙ by.ready.bits; marks = by.ready.marks };
       steady = by.steady;
       holds = λ q l. record {
-          bits =
-              elim (cases_eq q reg) [
-                | inl same ↦ ap (slice_index (slice_set d.bits reg v)) same ∙ get_or-set_same d.bits reg v 0 within ∙ sym here ∙ ap (mirrored_of mirror) (sym same)
-                | inr other ↦ get_or-set_other d.bits reg q v 0 other ∙ (by.holds q l).bits ∙ sym (others q other)
-              ];
-          marks = λ b k low at. (by.holds q l).marks b k low at ∙ ap (λ x. marks_in c x q k) (sym spent);
-        };
+        bits =
+            elim (cases_eq q reg) [
+              | inl same ↦ ap (slice_index (slice_set d.bits reg v)) same ∙ get_or-set_same d.bits reg v 0 within ∙ sym here ∙ ap (mirrored_of mirror) (sym same)
+              | inr other ↦ get_or-set_other d.bits reg q v 0 other ∙ (by.holds q l).bits ∙ sym (others q other)
+            ];
+        marks = λ b k low at. (by.holds q l).marks b k low at ∙ ap (λ x. marks_in c x q k) (sym spent);
+      };
       alone = by.alone;
     } in
     record {

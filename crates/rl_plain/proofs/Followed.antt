@@ -10,8 +10,8 @@ use Rattle.rl_policy.proofs.BitLemmas.{bit-max}
 use Rattle.rl_model.specs.Rows.{FieldSeen, ChipData}
 use Rattle.rl_model.specs.Chip.{IsSound}
 use Rattle.rl_model.specs.Fields.{first_of, fields_of}
-use Rattle.rl_map.specs.Layout.{LayoutData, place_at, port_at}
-use Rattle.rl_split.specs.Step.{Register, every, only, ranswer}
+use Rattle.rl_map.specs.Layout.{place_at, port_at}
+use Rattle.rl_split.specs.Step.{Register, every, ranswer}
 use Rattle.rl_mirror.specs.Mirror.{MirrorData}
 use Rattle.rl_mirror.specs.Prediction.{predict_write, predict_read}
 use Rattle.rl_mirror.proofs.FieldLemmas.{field_list}

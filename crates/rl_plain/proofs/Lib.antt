@@ -10,3 +10,5 @@ pub mod EachAccess
 pub mod Agreement
 pub mod Wishes
 pub mod Backdoor
+pub mod PlainSteps
+pub mod PlainEvents

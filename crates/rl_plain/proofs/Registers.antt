@@ -49,7 +49,7 @@ left_is : (t : Bool) (p : Policy) (x y : Bool) → y ≡ (t && value_read p x) �
 left_is true p x y e = learned_is p x ∙ ap (λ v. learned_bit p v x) (sym e)
 left_is false p x y e = refl
 
-bit-ranswer : (fs : List FieldSeen) (chosen : ℕ → Bool) (r : Register) (b : ℕ) → b < 64 → bit (ranswer fs chosen r) b ≡ shown_bit fs chosen (place_at fs b) (bit r.bits b)
+pub bit-ranswer : (fs : List FieldSeen) (chosen : ℕ → Bool) (r : Register) (b : ℕ) → b < 64 → bit (ranswer fs chosen r) b ≡ shown_bit fs chosen (place_at fs b) (bit r.bits b)
 unfolding ranswer
 bit-ranswer fs chosen r b l = bit-from_bits 64 (λ b. shown_bit fs chosen (place_at fs b) (bit r.bits b)) b l
 

@@ -1,12 +1,12 @@
 -- The way of a granted write.
-use Rattle.std.proofs.Common.{◌≡◌, ℕ, ◌-◌, true, map, Option, Ok}
+use Rattle.std.proofs.Common.{◌≡◌, ℕ, true, map, Option, Ok}
 use Rattle.std.specs.Prelude.{nat_lt, ◌^◌}
 use Rattle.rl_model.specs.declared.rows.Item.TheVariants as item
 use Rattle.rl_access.specs.declared.event.Op.TheVariants as op
 use Rattle.rl_access.specs.declared.event.Refused.TheVariants.{TooWide}
 use Rattle.rl_access.specs.Model.{ModelData}
 use Rattle.rl_access.specs.Operation.{reg_of}
-use Rattle.rl_access.specs.Rules.{Grant, grant, only_where, way, watched_way, item_size, field_width, whole}
+use Rattle.rl_access.specs.Rules.{Grant, grant, only_where, way, watched_way, item_size, field_width}
 use Rattle.rl_plain.proofs.Granted.{only_ok, IsWay, way_found, watched_way_found}
 
 fits_way : (m : ModelData) (reg : ℕ) (value place : ℕ) (g : Grant) → only_where g (nat_lt value (256 ^ item_size m.chip (item.Reg reg))) TooWide ≡ Ok place → g ≡ Ok place

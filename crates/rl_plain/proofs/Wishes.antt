@@ -1,8 +1,6 @@
 -- Desired values may change without the device.
-use Rattle.std.proofs.Common.{◌≡◌, ℕ, ◌<◌, List, [], length, Option, Some, Ok, refl, sym, ap, subst, arith}
-use Rattle.rl_bus.specs.State.{State}
+use Rattle.std.proofs.Common.{◌≡◌, ℕ, [], Some, refl, sym, subst, arith}
 use Rattle.rl_model.specs.Rows.{ChipData}
-use Rattle.rl_map.specs.Layout.{LayoutData}
 use Rattle.rl_split.specs.Law.{Holds}
 use Rattle.rl_mirror.specs.Mirror.{MirrorData}
 use Rattle.rl_mirror.specs.Prediction.{set}
@@ -16,7 +14,7 @@ use Rattle.rl_access.specs.Model.{ModelData}
 use Rattle.rl_access.specs.Operation.{reg_of}
 use Rattle.rl_access.specs.Rules.{grant, quiet}
 use Rattle.rl_plain.specs.Agree.{believed, IsAsBelieved, Agree, IsWish, WishKeepsAgreement}
-use Rattle.rl_plain.proofs.Answered.{IsOverBus, has_run}
+use Rattle.rl_plain.proofs.Answered.{has_run}
 use Rattle.rl_plain.proofs.Agreement.{refused_agree}
 
 believed_set : (c : ChipData) (field value : ℕ) (m : MirrorData) (reg : ℕ) → believed c (set c field value m) reg ≡ believed c m reg

@@ -1,6 +1,7 @@
 //! What holds of the calls on a device without flaws. Each function does nothing; its contract is the law.
 ghost use Rattle.rl_plain.specs.Agree.{AccessKeepsAgreement, BackdoorKeepsAgreement, WishKeepsAgreement};
 ghost use Rattle.rl_plain.specs.OneStep.{AccessIsStep};
+ghost use Rattle.rl_plain.specs.Plain.{AccessIsPlain};
 
 /// An access over the bus is one step of its register: of all its fields, or in a narrow access of its one
 /// field.
@@ -21,4 +22,10 @@ pub fn wish_keeps_agreement()
 /// So do the operations of the backdoor on registers.
 pub fn backdoor_keeps_agreement()
     ensures { BackdoorKeepsAgreement }
+{}
+
+/// From a device and a model that agree, an access over the bus is that of a plain machine that steps whole
+/// registers: what is believed afterwards is the machine's state, and the event without its items the machine's.
+pub fn access_is_plain()
+    ensures { AccessIsPlain }
 {}
