@@ -162,11 +162,11 @@ left_learned fs m few =
 -- ---- each call
 
 -- the device and the model after an operation that sends nothing
-record IsAlone (s new : Scene) (op : Op) (place : ℕ) (d : State) (sampled : ℕ) : Type 0 where
-  told : new.device ≡ Some (device_after s.model op sampled [] d)
-  model : new.model ≡ (outcome s.model op place sampled []).model
+pub record IsAlone (s new : Scene) (op : Op) (place : ℕ) (d : State) (sampled : ℕ) : Type 0 where
+  pub told : new.device ≡ Some (device_after s.model op sampled [] d)
+  pub model : new.model ≡ (outcome s.model op place sampled []).model
 
-alone_by : (s new : Scene) (op : Op) (event : Event) (place : ℕ) (d : State) → (done : IsDone s new op place event) → s.device ≡ Some d → sends s.model op place ≡ [] → IsAlone s new op place d done.sampled
+pub alone_by : (s new : Scene) (op : Op) (event : Event) (place : ℕ) (d : State) → (done : IsDone s new op place event) → s.device ≡ Some d → sends s.model op place ≡ [] → IsAlone s new op place d done.sampled
 alone_by s new op event place d done told none =
     let trace : event.trace ≡ [] = done.answers d told ∙ ap (items_of _ d (port_for s.model.layout place)) none in
     record {
@@ -174,17 +174,17 @@ alone_by s new op event place d done told none =
       model = done.model ∙ ap (λ (items : List TraceItem). (outcome s.model op place done.sampled items).model) trace;
     }
 
-peeked_is : (d : State) (reg : ℕ) → peeked d (cell.Reg reg) ≡ slice_index d.bits reg
+pub peeked_is : (d : State) (reg : ℕ) → peeked d (cell.Reg reg) ≡ slice_index d.bits reg
 unfolding peeked
 peeked_is d reg = refl
 
 -- what the register has
-record IsHeld (s : Scene) (d : State) (reg : ℕ) : Type 0 where
-  within : reg < length s.model.mirror.mirrored
-  bits : slice_index d.bits reg ≡ mirrored_of s.model.mirror reg
-  own : slice_index d.bits reg ≡ owned (fields_of s.model.chip reg) (slice_index d.bits reg)
+pub record IsHeld (s : Scene) (d : State) (reg : ℕ) : Type 0 where
+  pub within : reg < length s.model.mirror.mirrored
+  pub bits : slice_index d.bits reg ≡ mirrored_of s.model.mirror reg
+  pub own : slice_index d.bits reg ≡ owned (fields_of s.model.chip reg) (slice_index d.bits reg)
 
-held_by : (s : Scene) (reg : ℕ) → IsModel s.model → (a : Agree s) → reg < length s.model.chip.regs → IsHeld s a.device reg
+pub held_by : (s : Scene) (reg : ℕ) → IsModel s.model → (a : Agree s) → reg < length s.model.chip.regs → IsHeld s a.device reg
 held_by s reg ok a inside =
     let bits : slice_index a.device.bits reg ≡ mirrored_of s.model.mirror reg = (a.believed_is.holds reg inside).bits in
     record {

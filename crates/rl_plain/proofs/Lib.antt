@@ -12,3 +12,5 @@ pub mod Wishes
 pub mod Backdoor
 pub mod PlainSteps
 pub mod PlainEvents
+pub mod Memories
+pub mod PlainQuiet

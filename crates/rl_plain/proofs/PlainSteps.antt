@@ -170,7 +170,7 @@ write_stepped c reg word fields chosen m sound l built are =
       others = λ n inside other. others_stay c reg fields n m.spent (omega (arith, inside, built.marks)) other;
     }))
 
-read_stepped : (c : ChipData) (reg fields : ℕ) (chosen : ℕ → Bool) (m : MirrorData) → IsSound c → reg < length c.regs → IsMirrorOf c m → AreChosen (fields_of c reg) chosen fields →
+pub read_stepped : (c : ChipData) (reg fields : ℕ) (chosen : ℕ → Bool) (m : MirrorData) → IsSound c → reg < length c.regs → IsMirrorOf c m → AreChosen (fields_of c reg) chosen fields →
     predict_read c reg (ranswer (fields_of c reg) chosen (believed c m reg)) fields m ≡ stepped c reg (read_step chosen) m
 unfolding predict_read
 read_stepped c reg fields chosen m sound l built are =

@@ -68,6 +68,12 @@ IsBackdoor (op.Peek reg) = Unit {0}
 IsBackdoor (op.Poke reg value) = Unit {0}
 IsBackdoor _ = ⊥
 
+-- and on memories
+abbrev pub IsMemoryBackdoor : Op → Type 0
+IsMemoryBackdoor (op.MemPeek mem index) = Unit {0}
+IsMemoryBackdoor (op.MemPoke mem index value) = Unit {0}
+IsMemoryBackdoor _ = ⊥
+
 abbrev pub AccessKeepsAgreement : Type 0
 AccessKeepsAgreement = KeepsAgreement IsAccess
 
@@ -76,3 +82,6 @@ WishKeepsAgreement = KeepsAgreement IsWish
 
 abbrev pub BackdoorKeepsAgreement : Type 0
 BackdoorKeepsAgreement = KeepsAgreement IsBackdoor
+
+abbrev pub MemoryBackdoorKeepsAgreement : Type 0
+MemoryBackdoorKeepsAgreement = KeepsAgreement IsMemoryBackdoor

@@ -8,8 +8,11 @@ use Rattle.rl_model.specs.Rows.{FieldSeen, ChipData}
 use Rattle.rl_model.specs.Fields.{field_of, first_of, fields_of, policy_in}
 use Rattle.rl_split.specs.Step.{Register, every, ranswer}
 use Rattle.rl_mirror.specs.Compared.{differing}
-use Rattle.rl_mirror.specs.Fields.{word_by_field}
-use Rattle.rl_mirror.specs.Mirror.{MirrorData, mirrored_of, desired_of}
+use Rattle.rl_mirror.specs.Fields.{word_by_field, owned}
+use Rattle.rl_mirror.specs.Mirror.{MirrorData, mirrored_of, desired_of, marks_in}
+use Rattle.rl_mirror.specs.Prediction.{written, set}
+use Rattle.rl_access.specs.declared.event.End.{End}
+use Rattle.rl_access.specs.declared.event.End.TheVariants as end
 use Rattle.rl_access.specs.declared.event.Event.{Event}
 use Rattle.rl_access.specs.declared.event.Op.{Op}
 use Rattle.rl_access.specs.declared.event.Op.TheVariants as op
@@ -18,7 +21,7 @@ use Rattle.rl_access.specs.Model.{ModelData, IsModel}
 use Rattle.rl_access.specs.Operation.{register_of, HasNumbers}
 use Rattle.rl_access.specs.Rules.{grant, named}
 use Rattle.rl_plain.specs.OneStep.{Step, write_step, read_step, no_step, register_after, step_of, end_of, IsAccess}
-use Rattle.rl_plain.specs.Agree.{believed, Agree}
+use Rattle.rl_plain.specs.Agree.{believed, Agree, IsBackdoor, IsWish}
 
 -- Its state is the bits and the desired value of each register, and a mark for each field: the parts of a mirror, whose
 -- mirrored values are here the bits themselves.
@@ -79,3 +82,52 @@ AccessIsPlain =
     → IsAccess op → HasNumbers s.model.chip (length s.model.layout.maps) op → register_of s.model.chip op ≡ Some reg → IsModel s.model → Agree s
     → grant s.model op ≡ Ok place → Performs s new op event
     → IsPlain s new op event place reg
+
+-- ---- the backdoor, and desired values
+
+-- the register has these bits, also as desired value
+abbrev pub with_both : (reg bits : ℕ) → MirrorData → MirrorData
+with_both reg bits p = record p { mirrored = slice_set p.mirrored reg bits; desired = slice_set p.desired reg bits }
+
+-- a write by the backdoor keeps the marks
+abbrev pub back_state : ChipData → Op → MirrorData → MirrorData
+back_state c (op.BackWrite reg value) p = with_both reg (written (fields_of c reg) (marks_in c p.spent reg) (mirrored_of p reg) value) p
+back_state c (op.BackRead reg) p = stepped c reg (read_step every) p
+back_state c (op.BackCheck reg) p = stepped c reg (read_step every) p
+back_state c (op.Peek reg) p = with_both reg (mirrored_of p reg) p
+back_state c (op.Poke reg value) p = with_both reg (owned (fields_of c reg) value) p
+back_state c (op.Set field value) p = set c field value p
+back_state c _ p = p
+
+abbrev pub back_end : ChipData → Op → MirrorData → End
+back_end c (op.BackRead reg) p = end.Value (ranswer (fields_of c reg) every (believed c p reg))
+back_end c (op.BackCheck reg) p = end.Value (ranswer (fields_of c reg) every (believed c p reg))
+back_end c (op.Peek reg) p = end.Value (mirrored_of p reg)
+back_end c _ p = end.Done
+
+abbrev pub back_found : ChipData → Op → MirrorData → ℕ
+back_found c (op.BackCheck reg) p = differing (fields_of c reg) (ranswer (fields_of c reg) every (believed c p reg)) (mirrored_of p reg)
+back_found c _ p = 0
+
+abbrev pub back_event : ChipData → Op → (reg : ℕ) → MirrorData → Event
+back_event c op reg p =
+    let after = back_state c op p in
+    record { op = op; end = back_end c op p; trace = []; mirrored = mirrored_of after reg; desired = desired_of after reg; differ = back_found c op p }
+
+pub record IsPlainBack (s new : Scene) (op : Op) (event : Event) (reg : ℕ) : Type 0 where
+  pub state : new.model.mirror ≡ back_state s.model.chip op s.model.mirror
+  pub event_is : event ≡ back_event s.model.chip op reg s.model.mirror
+
+-- from a device and a model that agree, an operation of the backdoor, `set` or `show` that isn't refused is the plain machine's
+abbrev pub QuietIsPlain : (Op → Type 0) → Type 0
+QuietIsPlain IsOne =
+    (s new : Scene) (op : Op) (event : Event) (place reg : ℕ)
+    → IsOne op → HasNumbers s.model.chip (length s.model.layout.maps) op → register_of s.model.chip op ≡ Some reg → IsModel s.model → Agree s
+    → grant s.model op ≡ Ok place → Performs s new op event
+    → IsPlainBack s new op event reg
+
+abbrev pub BackdoorIsPlain : Type 0
+BackdoorIsPlain = QuietIsPlain IsBackdoor
+
+abbrev pub WishIsPlain : Type 0
+WishIsPlain = QuietIsPlain IsWish

@@ -1,7 +1,7 @@
 //! What holds of the calls on a device without flaws. Each function does nothing; its contract is the law.
-ghost use Rattle.rl_plain.specs.Agree.{AccessKeepsAgreement, BackdoorKeepsAgreement, WishKeepsAgreement};
+ghost use Rattle.rl_plain.specs.Agree.{AccessKeepsAgreement, BackdoorKeepsAgreement, MemoryBackdoorKeepsAgreement, WishKeepsAgreement};
 ghost use Rattle.rl_plain.specs.OneStep.{AccessIsStep};
-ghost use Rattle.rl_plain.specs.Plain.{AccessIsPlain};
+ghost use Rattle.rl_plain.specs.Plain.{AccessIsPlain, BackdoorIsPlain, WishIsPlain};
 
 /// An access over the bus is one step of its register: of all its fields, or in a narrow access of its one
 /// field.
@@ -28,4 +28,19 @@ pub fn backdoor_keeps_agreement()
 /// registers: what is believed afterwards is the machine's state, and the event without its items the machine's.
 pub fn access_is_plain()
     ensures { AccessIsPlain }
+{}
+
+/// The backdoor of a memory leaves a device and a model that agree in agreement.
+pub fn memory_backdoor_keeps_agreement()
+    ensures { MemoryBackdoorKeepsAgreement }
+{}
+
+/// An operation of the backdoor on a register is the plain machine's, from a device and a model that agree.
+pub fn backdoor_is_plain()
+    ensures { BackdoorIsPlain }
+{}
+
+/// So are `set` and `show`.
+pub fn wish_is_plain()
+    ensures { WishIsPlain }
 {}
