@@ -47,14 +47,14 @@ deposit_by : (fs : List FieldSeen) (value m b : ℕ) (o : Option ℕ) → place_
 deposit_by fs value m b None at own low = owned_bit fs m b own low ∙ ap (λ (o : Option ℕ). option_map_or (λ k. bit m b) o false) at
 deposit_by fs value m b (Some k) at own low = refl
 
-is_field : (c : ChipData) (l : LayoutData) (reg b : ℕ) → IsSound c → reg < length c.regs → is_some (field_at (setup_of c l no_flaws) reg b) ≡ is_some (place_at (fields_of c reg) b)
+pub is_field : (c : ChipData) (l : LayoutData) (reg b : ℕ) → IsSound c → reg < length c.regs → is_some (field_at (setup_of c l no_flaws) reg b) ≡ is_some (place_at (fields_of c reg) b)
 is_field c l reg b sound inside =
     let (r, row) = row_of c reg inside in
     sym (some_mapped (policy_of (setup_of c l no_flaws)) (field_at (setup_of c l no_flaws) reg b))
     ∙ ap is_some (policy_by_place c l reg b sound (has_row c reg r row.at))
     ∙ some_mapped (policy_in (fields_of c reg)) (place_at (fields_of c reg) b)
 
-none_stuck : (c : ChipData) (l : LayoutData) (reg b : ℕ) (x : Bool) → or_else (stuck_at (setup_of c l no_flaws) reg b) x ≡ x
+pub none_stuck : (c : ChipData) (l : LayoutData) (reg b : ℕ) (x : Bool) → or_else (stuck_at (setup_of c l no_flaws) reg b) x ≡ x
 unfolding setup_of
 none_stuck c l reg b x = refl
 

@@ -14,3 +14,5 @@ pub mod PlainSteps
 pub mod PlainEvents
 pub mod Memories
 pub mod PlainQuiet
+pub mod Resets
+pub mod Hardware

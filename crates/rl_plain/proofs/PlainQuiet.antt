@@ -27,7 +27,7 @@ use Rattle.rl_access.specs.Operation.{reg_of, register_of, HasNumbers}
 use Rattle.rl_access.specs.Rules.{sends, named, outcome, event_of, every_field, back_written, back_value}
 use Rattle.rl_plain.specs.OneStep.{read_step}
 use Rattle.rl_plain.specs.Agree.{believed, Agree, IsBackdoor, IsWish}
-use Rattle.rl_plain.specs.Plain.{stepped, with_both, back_state, back_end, back_found, IsPlainBack, BackdoorIsPlain, WishIsPlain}
+use Rattle.rl_plain.specs.Plain.{stepped, with_both, back_state, back_end, back_found, IsPlainBack, BackdoorIsPlain, WishIsPlain, ResetIsPlain}
 use Rattle.rl_plain.proofs.Answered.{done_of}
 use Rattle.rl_plain.proofs.Backdoor.{IsHeld, held_by, peeked_is}
 use Rattle.rl_plain.proofs.Followed.{all_chosen}
@@ -171,3 +171,8 @@ wish_plain s new _ event place reg is register a done = absurd is
 
 pub wish_is_plain : WishIsPlain
 wish_is_plain s new op event place reg is numbers register ok a granted performs = wish_plain s new op event place reg is register a (done_of s new op place event granted performs)
+
+pub reset_is_plain : ResetIsPlain
+reset_is_plain s new kind event a performs =
+    let by = told_alone s new (op.Reset kind) event 0 a.device performs a.told refl in
+    record { state = ap (λ (x : ModelData). x.mirror) by.model; event_is = by.event_is }

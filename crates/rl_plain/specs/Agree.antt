@@ -74,6 +74,15 @@ IsMemoryBackdoor (op.MemPeek mem index) = Unit {0}
 IsMemoryBackdoor (op.MemPoke mem index value) = Unit {0}
 IsMemoryBackdoor _ = ⊥
 
+abbrev pub IsReset : Op → Type 0
+IsReset (op.Reset kind) = Unit {0}
+IsReset _ = ⊥
+
+-- a change by the hardware, which is refused where no field is volatile
+abbrev pub IsHardware : Op → Type 0
+IsHardware (op.Hw field value) = Unit {0}
+IsHardware _ = ⊥
+
 abbrev pub AccessKeepsAgreement : Type 0
 AccessKeepsAgreement = KeepsAgreement IsAccess
 
@@ -85,3 +94,9 @@ BackdoorKeepsAgreement = KeepsAgreement IsBackdoor
 
 abbrev pub MemoryBackdoorKeepsAgreement : Type 0
 MemoryBackdoorKeepsAgreement = KeepsAgreement IsMemoryBackdoor
+
+abbrev pub ResetKeepsAgreement : Type 0
+ResetKeepsAgreement = KeepsAgreement IsReset
+
+abbrev pub HardwareKeepsAgreement : Type 0
+HardwareKeepsAgreement = KeepsAgreement IsHardware

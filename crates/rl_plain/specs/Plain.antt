@@ -10,7 +10,7 @@ use Rattle.rl_split.specs.Step.{Register, every, ranswer}
 use Rattle.rl_mirror.specs.Compared.{differing}
 use Rattle.rl_mirror.specs.Fields.{word_by_field, owned}
 use Rattle.rl_mirror.specs.Mirror.{MirrorData, mirrored_of, desired_of, marks_in}
-use Rattle.rl_mirror.specs.Prediction.{written, set}
+use Rattle.rl_mirror.specs.Prediction.{written, set, reset}
 use Rattle.rl_access.specs.declared.event.End.{End}
 use Rattle.rl_access.specs.declared.event.End.TheVariants as end
 use Rattle.rl_access.specs.declared.event.Event.{Event}
@@ -131,3 +131,13 @@ BackdoorIsPlain = QuietIsPlain IsBackdoor
 
 abbrev pub WishIsPlain : Type 0
 WishIsPlain = QuietIsPlain IsWish
+
+-- ---- a reset
+
+-- each field with a value for the kind takes it as bits and as desired value, and a hard reset clears all marks
+pub record IsPlainReset (s new : Scene) (kind : ℕ) (event : Event) : Type 0 where
+  pub state : new.model.mirror ≡ reset s.model.chip kind s.model.mirror
+  pub event_is : event ≡ record { op = op.Reset kind; end = end.Done; trace = []; mirrored = 0; desired = 0; differ = 0 }
+
+abbrev pub ResetIsPlain : Type 0
+ResetIsPlain = (s new : Scene) (kind : ℕ) (event : Event) → Agree s → Performs s new (op.Reset kind) event → IsPlainReset s new kind event
