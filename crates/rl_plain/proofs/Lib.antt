@@ -16,3 +16,4 @@ pub mod Memories
 pub mod PlainQuiet
 pub mod Resets
 pub mod Hardware
+pub mod Beginning

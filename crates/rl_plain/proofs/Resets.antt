@@ -202,7 +202,7 @@ many_marks : (t : Bool) (marks : List ℕ) → length (cond t (replicate (length
 many_marks true marks = length-replicate (length marks) 0
 many_marks false marks = refl
 
-after : (c : ChipData) (l : LayoutData) (d : State) (m : MirrorData) (kind : ℕ) → IsSound c → IsMirrorOf c m → IsAsBelieved c l m d → IsAsBelieved c l (reset c kind m) (reset_by d kind)
+pub after : (c : ChipData) (l : LayoutData) (d : State) (m : MirrorData) (kind : ℕ) → IsSound c → IsMirrorOf c m → IsAsBelieved c l m d → IsAsBelieved c l (reset c kind m) (reset_by d kind)
 unfolding reset_by reset
 after c l d m kind sound built a =
     let hard = eqb kind 0 in

@@ -2,13 +2,16 @@
 use Rattle.std.specs.Prelude.{◌≡◌, ℕ, ◌<◌, Bool, false, List, length, slice_index, Option, None, Some}
 use Rattle.rl_policy.specs.Bits.{bit}
 use Rattle.rl_policy.specs.Table.{spends_mark}
-use Rattle.rl_bus.specs.State.{State}
+use Rattle.rl_bus.specs.State.{State, first_state}
+use Rattle.rl_model.specs.Chip.{IsSound as IsSoundChip}
 use Rattle.rl_model.specs.Rows.{FieldSeen, ChipData}
 use Rattle.rl_model.specs.Fields.{field_of, fields_of, policy_in, place_at}
 use Rattle.rl_map.specs.Layout.{LayoutData}
+use Rattle.rl_map.specs.Tables.{setup_of}
 use Rattle.rl_split.specs.Step.{Register}
-use Rattle.rl_split.specs.Law.{IsReady, Holds}
+use Rattle.rl_split.specs.Law.{IsReady, Holds, no_flaws}
 use Rattle.rl_mirror.specs.Mirror.{MirrorData, mirrored_of, marks_in}
+use Rattle.rl_mirror.specs.Prediction.{fresh}
 use Rattle.rl_access.specs.declared.event.Event.{Event}
 use Rattle.rl_access.specs.declared.event.Op.{Op}
 use Rattle.rl_access.specs.declared.event.Op.TheVariants as op
@@ -31,11 +34,14 @@ is_spendable fields (Some k) = spends_mark (policy_in fields k)
 abbrev pub IsMarkedAlone : ChipData → State → (reg : ℕ) → Type 0
 IsMarkedAlone c d reg = (b : ℕ) → b < 64 → is_spendable (fields_of c reg) (place_at (fields_of c reg) b) ≡ false → bit (slice_index d.marks reg) b ≡ false
 
+abbrev pub HasNoVolatile : ChipData → Type 0
+HasNoVolatile c = (n : ℕ) → n < length c.fields → (field_of c n).shape.volatile ≡ false
+
 -- The device has this chip and this layout, no flaw, and beats of 0. No field is volatile. Each register has its mirrored value
 -- and the marks of its fields, and no other bit is marked.
 pub record IsAsBelieved (c : ChipData) (l : LayoutData) (m : MirrorData) (d : State) : Type 0 where
   pub ready : IsReady c l d
-  pub steady : (n : ℕ) → n < length c.fields → (field_of c n).shape.volatile ≡ false
+  pub steady : HasNoVolatile c
   pub holds : (reg : ℕ) → reg < length c.regs → Holds c d reg (believed c m reg)
   pub alone : (reg : ℕ) → reg < length c.regs → IsMarkedAlone c d reg
 
@@ -100,3 +106,12 @@ ResetKeepsAgreement = KeepsAgreement IsReset
 
 abbrev pub HardwareKeepsAgreement : Type 0
 HardwareKeepsAgreement = KeepsAgreement IsHardware
+
+-- ---- where they begin
+
+-- a new device without flaws, with so many locations, and a new model of the same chip and layout
+abbrev pub NewOnesAgree : Type 0
+NewOnesAgree =
+    (s : Scene) (count : ℕ) → IsSoundChip s.model.chip → HasNoVolatile s.model.chip
+    → s.model.mirror ≡ fresh s.model.chip → IsNothingGathered s.model.gathered → s.device ≡ Some (first_state (setup_of s.model.chip s.model.layout no_flaws) count)
+    → Agree s

@@ -1,5 +1,5 @@
 //! What holds of the calls on a device without flaws. Each function does nothing; its contract is the law.
-ghost use Rattle.rl_plain.specs.Agree.{AccessKeepsAgreement, BackdoorKeepsAgreement, HardwareKeepsAgreement, MemoryBackdoorKeepsAgreement, ResetKeepsAgreement, WishKeepsAgreement};
+ghost use Rattle.rl_plain.specs.Agree.{AccessKeepsAgreement, BackdoorKeepsAgreement, HardwareKeepsAgreement, MemoryBackdoorKeepsAgreement, NewOnesAgree, ResetKeepsAgreement, WishKeepsAgreement};
 ghost use Rattle.rl_plain.specs.OneStep.{AccessIsStep};
 ghost use Rattle.rl_plain.specs.Plain.{AccessIsPlain, BackdoorIsPlain, ResetIsPlain, WishIsPlain};
 
@@ -7,6 +7,11 @@ ghost use Rattle.rl_plain.specs.Plain.{AccessIsPlain, BackdoorIsPlain, ResetIsPl
 /// field.
 pub fn access_is_step()
     ensures { AccessIsStep }
+{}
+
+/// A new device without flaws and a new model of the same chip and layout agree, where no field is volatile.
+pub fn new_ones_agree()
+    ensures { NewOnesAgree }
 {}
 
 /// An access over the bus leaves a device and a model that agree in agreement.
