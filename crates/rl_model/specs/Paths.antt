@@ -1,18 +1,11 @@
 -- Texts that differ, as lists of bytes.
-use Rattle.std.specs.Prelude.{◌≡◌, ℕ, Bool, List, [], ◌∷◌, ◌++◌, if◌then◌else◌, map, slice_get, Some, Vec}
+use Rattle.std.specs.Prelude.{◌≡◌, ℕ, Bool, List, [], ◌∷◌, ◌++◌, if◌then◌else◌, slice_get, Some}
 use Rattle.std.specs.Str.{bytes_eq}
 use Rattle.std.specs.List.{IsDistinct, list_any, position_or_len}
-use Rattle.std.specs.declared.alloc.Global.{Global}
-
-abbrev pub texts : List (Vec ℕ Global) → List (List ℕ)
-texts paths = map (λ p. p.items) paths
-
-abbrev pub same_text : Vec ℕ Global → Vec ℕ Global → Bool
-same_text p q = bytes_eq p.items q.items
 
 -- no two are the same text
-abbrev pub AreDistinct : List (Vec ℕ Global) → Type 0
-AreDistinct paths = IsDistinct same_text paths
+abbrev pub AreDistinct : List (List ℕ) → Type 0
+AreDistinct texts = IsDistinct bytes_eq texts
 
 abbrev pub is_among : List ℕ → List (List ℕ) → Bool
 is_among text texts = list_any (bytes_eq text) texts

@@ -21,6 +21,7 @@ mod rows;
 mod sets;
 #[cfg(test)]
 mod tests;
+mod text;
 
 pub use chip::Chip;
 pub use fault::{Array, ModelCause, ModelFault, Spot};

@@ -1,4 +1,5 @@
 //! Texts, each with the number of its place.
+use crate::text::{Text, TextRef};
 use indexmap::IndexSet;
 use std::alloc::{AllocError, Global};
 use std::marker::Model;
@@ -6,16 +7,16 @@ use std::marker::Model;
 /// Texts that differ, in the order in which they came.
 #[derive(Drop)]
 pub struct Paths {
-    index: IndexSet<Vec<u8>>,
+    index: IndexSet<Text>,
 }
 
 impl Model for Paths {
     ghost use Rattle.std.specs.Prelude.{List, ℕ};
-    ghost use Rattle.rl_model.specs.Paths.{texts, AreDistinct};
+    ghost use Rattle.rl_model.specs.Paths.{AreDistinct};
 
     ghost Value = { List (List ℕ) };
 
-    ghost view = { λ p. texts p.index.keys };
+    ghost view = { λ p. p.index.keys };
 
     ghost invariant = { λ p. AreDistinct p.index.keys };
 }
@@ -44,7 +45,7 @@ impl Paths {
         ensures number { IfOk result (λ i. i ≡ number_in self.old text.items) }
         ensures added { IfOk result (λ _. self.new ≡ with_text self.old text.items) }
     {
-        let (number, _) = self.index.insert_full(text)?;
+        let (number, _) = self.index.insert_full(Text::new(text))?;
         Ok(number)
     }
 
@@ -64,7 +65,7 @@ impl Paths {
         ensures exact { (i : ℕ) → (result ≡ Some i) ↔ (slice_get self.now i ≡ Some text.now) }
         ensures first { result ≡ position (bytes_eq text.now) self.now }
     {
-        self.index.get_index_of(text)
+        self.index.get_index_of(TextRef { bytes: text })
     }
 
     /// Whether a text is one of the first `count`.
