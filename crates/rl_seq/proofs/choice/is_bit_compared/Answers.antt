@@ -1,4 +1,4 @@
-use Rattle.std.proofs.Common.{◌≡◌, ◌+◌, ◌<◌, true, false, length, sym, ◌∙◌, arith}
+use Rattle.std.proofs.Common.{◌≡◌, ◌+◌, ◌<◌, length, sym, ◌∙◌, arith}
 use Rattle.rl_model.specs.Fields.{field_of, first_of, count_of}
 use Rattle.rl_mirror.proofs.FieldLemmas.{row_answer, fields_within, field_answer}
 use Rattle.rl_seq.proofs.Bashed.{is_compared_at, any_more, any_found, compared_in}
