@@ -1,7 +1,8 @@
 //! The flaws of a description.
 ghost use Rattle.std.specs.Prelude.{◌≡◌, ◌^◌, ◌<◌, IfSome, nat_lt, length};
 ghost use Rattle.rl_desc.specs.Refusals.{Reads};
-ghost use Rattle.rl_desc.specs.Flaws.{field_at, kind_at, text_at, reg_paths, mem_paths, item_at, port_of_map, root_at, reset_flaw, stuck_flaw, flaw_of, flaws_fault, flaws_of};
+ghost use Rattle.rl_desc.specs.Flaws.{field_at, kind_at, text_at, reg_paths, mem_paths, item_at, port_of_map};
+ghost use Rattle.rl_desc.specs.Flaws.{root_at, reset_flaw, stuck_flaw, flaw_of, flaws_fault, flaws_of};
 
 use crate::fault::DescFault;
 use rl_bench::Flaw;
@@ -30,7 +31,9 @@ pub(crate) fn number_flaws(
     layout: &Layout,
     parts: &[FlawPart],
 ) -> Result<Vec<Flaw>, DescFault>
-    ensures { Reads (λ flaws. flaws.items) result (flaws_fault chip.now layout.now 0 parts.now) (flaws_of chip.now layout.now parts.now) }
+    ensures { Reads (λ flaws. flaws.items) result
+        (flaws_fault chip.now layout.now 0 parts.now)
+        (flaws_of chip.now layout.now parts.now) }
 {
     let mut flaws = Vec::new(alloc);
     let mut row = 0u32;

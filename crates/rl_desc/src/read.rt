@@ -346,7 +346,9 @@ impl Described for FlawPart {
 }
 
 fn flaw(row: &Row<'_>, kind: FlawKind) -> Result<FlawPart, DescFault>
-    ensures { Reads (λ f. f) result (column_fault (flaw_columns kind) row.now.spot (table_view row.now.table.now)) (flaw_as kind (table_view row.now.table.now)) }
+    ensures { Reads (λ f. f) result
+        (column_fault (flaw_columns kind) row.now.spot (table_view row.now.table.now))
+        (flaw_as kind (table_view row.now.table.now)) }
 {
     match kind {
         FlawKind::OtherPolicy => Ok(FlawPart::OtherPolicy {

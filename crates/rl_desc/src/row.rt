@@ -36,7 +36,8 @@ impl<'a> Row<'a> {
 
     /// What a key holds, if the row has it.
     pub(crate) fn optional<V: Held<'a>>(&self, key: Key) -> Result<Option<V>, DescFault>
-        ensures { Reads (option_map V.seen) result (at_spot self.now.spot (optional V.shape key (table_view self.now.table.now)))
+        ensures { Reads (option_map V.seen) result
+            (at_spot self.now.spot (optional V.shape key (table_view self.now.table.now)))
             (held V.shape key (table_view self.now.table.now)) }
     {
         match self.get(key) {
@@ -50,7 +51,8 @@ impl<'a> Row<'a> {
 
     /// What a key holds, which the row must have.
     pub(crate) fn required<V: Held<'a>>(&self, key: Key) -> Result<V, DescFault>
-        ensures { Reads (λ v. Some (V.seen v)) result (at_spot self.now.spot (required V.shape key (table_view self.now.table.now)))
+        ensures { Reads (λ v. Some (V.seen v)) result
+            (at_spot self.now.spot (required V.shape key (table_view self.now.table.now)))
             (held V.shape key (table_view self.now.table.now)) }
     {
         match self.get(key) {
@@ -64,7 +66,8 @@ impl<'a> Row<'a> {
 
     /// The word under a key, if the row has it.
     pub(crate) fn optional_word<W: Word>(&self, key: Key) -> Result<Option<W>, DescFault>
-        ensures { Reads (λ w. w) result (at_spot self.now.spot (optional (word W.named) key (table_view self.now.table.now)))
+        ensures { Reads (λ w. w) result
+            (at_spot self.now.spot (optional (word W.named) key (table_view self.now.table.now)))
             (held (word W.named) key (table_view self.now.table.now)) }
     {
         match self.optional::<Listed<W>>(key)? {
@@ -75,7 +78,8 @@ impl<'a> Row<'a> {
 
     /// The word under a key, which the row must have.
     pub(crate) fn required_word<W: Word>(&self, key: Key) -> Result<W, DescFault>
-        ensures { Reads (λ w. Some w) result (at_spot self.now.spot (required (word W.named) key (table_view self.now.table.now)))
+        ensures { Reads (λ w. Some w) result
+            (at_spot self.now.spot (required (word W.named) key (table_view self.now.table.now)))
             (held (word W.named) key (table_view self.now.table.now)) }
     {
         let Listed(word) = self.required::<Listed<W>>(key)?;
@@ -84,7 +88,8 @@ impl<'a> Row<'a> {
 
     /// The rows of an array, which the row may leave out.
     pub(crate) fn rows(&self, key: Key) -> Result<&'a [Value], DescFault>
-        ensures { Reads (λ rows. tables_of (items_view rows.now)) result (at_spot self.now.spot (optional tables key (table_view self.now.table.now)))
+        ensures { Reads (λ rows. tables_of (items_view rows.now)) result
+            (at_spot self.now.spot (optional tables key (table_view self.now.table.now)))
             (rows_at key (table_view self.now.table.now)) }
     {
         match self.optional::<&[Value]>(key)? {

@@ -4,7 +4,8 @@ ghost use Rattle.toml.specs.Data.{Data, Members};
 ghost use Rattle.toml.specs.View.{view, items_view, table_view};
 ghost use Rattle.rl_desc.specs.declared.key.Key.{Key};
 ghost use Rattle.rl_desc.specs.declared.fault.DescCause.TheVariants.{WrongType, BadValue};
-ghost use Rattle.rl_desc.specs.Shapes.{Shape, text, truth, number, word, tables, exclusions, resets, are_tables, are_texts, excluded, may_be_numbers, may_be_number, kinds, hard_reset, tables_of};
+ghost use Rattle.rl_desc.specs.Shapes.{Shape, text, truth, number, word, tables, exclusions, resets, are_tables, are_texts};
+ghost use Rattle.rl_desc.specs.Shapes.{excluded, may_be_numbers, may_be_number, kinds, hard_reset, tables_of};
 ghost use Rattle.rl_desc.specs.Words.{skip};
 ghost use Rattle.rl_desc.specs.Refusals.{ReadsAs};
 

@@ -1,6 +1,7 @@
 //! The words of a description.
 ghost use Rattle.std.specs.Prelude.{◌≡◌, List, ℕ, Option};
-ghost use Rattle.rl_desc.specs.Words.{policy_named, kind_named, access_named, addressing_named, rights_named, predict_named, flaw_kind_named, exclusion_named};
+ghost use Rattle.rl_desc.specs.Words.{policy_named, kind_named, access_named, addressing_named};
+ghost use Rattle.rl_desc.specs.Words.{rights_named, predict_named, flaw_kind_named, exclusion_named};
 
 use bitflags::Flags;
 use rl_map::Kind;
