@@ -22,7 +22,7 @@ use Rattle.rl_desc.specs.Refusals.{Fails, Reads}
 use Rattle.rl_desc.specs.Faults.{of_model, of_map}
 use Rattle.rl_desc.specs.Reading.{document_fault, document_data}
 use Rattle.rl_desc.specs.Flaws.{flaws_fault, flaws_of}
-use Rattle.rl_desc.specs.Described.{described, rows_fault, document_of, text_fault, first_fault, description_of}
+use Rattle.rl_desc.specs.Described.{described, rows_fault, document_of, first_fault, description_of}
 
 pub model_err : (e : ModelFault) (rows : DocumentData) (kinds : List AdapterKind) → rules.Fails e (chip_fault rows.parts)
     → Fails (of_model e) (rows_fault rows kinds)

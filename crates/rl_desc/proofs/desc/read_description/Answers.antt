@@ -1,4 +1,4 @@
-use Rattle.std.proofs.Common.{◌≡◌, sym, ◌∙◌}
+use Rattle.std.proofs.Common.{sym, ◌∙◌}
 use Rattle.std.proofs.lemmas.Bool.{false≢true}
 use Rattle.rl_desc.specs.Described.{first_fault}
 use Rattle.rl_desc.proofs.DocumentLemmas.{document_of-text, document_of-none}
