@@ -1,5 +1,5 @@
 -- A list with a number for each word, or none where no words queue: the beat of an address stands with the first word there.
-use Rattle.std.specs.Prelude.{◌≡◌, ℕ, ◌<◌, ◌≤◌, ◌&&◌, ◌==◌, true, Bool, List, [], length, Option, Some, None, unwrap_or, slice_index, slice_index_or, position, filter}
+use Rattle.std.specs.Prelude.{◌≡◌, ℕ, ◌<◌, ◌≤◌, ◌&&◌, ◌==◌, true, Bool, if◌then◌else◌, List, [], length, Option, Some, None, unwrap_or, slice_index, slice_index_or, position, filter}
 use Rattle.std.specs.List.{list_any}
 use Rattle.rl_bus.specs.declared.table.WordRow.{WordRow}
 use Rattle.rl_bus.specs.declared.table.Cell.TheVariants.{Reg}
@@ -30,6 +30,11 @@ count_for words port address write = length (filter (stands_for port address wri
 -- the queue is that of a word and a place
 abbrev pub is_queue : ℕ → ℕ → Queue → Bool
 is_queue k place q = q.first == k && q.place == place
+
+-- the beats of a place go to 0 where words queue, and each other one stays
+abbrev pub SendsBack : List Queue → (place : ℕ) → (old new : List ℕ) → Type 0
+SendsBack queues place old new =
+    (k : ℕ) → slice_index new k ≡ (if list_any (is_queue k place) queues then 0 else slice_index old k)
 
 -- the place of a queue has a word at the address of the queue's first one
 pub record IsQueueIn (words : List WordRow) (q : Queue) : Type 0 where

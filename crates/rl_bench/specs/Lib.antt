@@ -1,6 +1,8 @@
 pub mod Beats
 pub mod Board
+pub mod Cells
 pub mod Flaws
+pub mod Found
 pub mod Masks
 pub mod Rows
 pub mod Shape

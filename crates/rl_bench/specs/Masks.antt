@@ -1,9 +1,14 @@
 -- The masks of a register by effect.
 use Rattle.std.specs.Prelude.{◌≡◌, ℕ, ◌<◌, Bool, true, false, Option, Some, None, if◌then◌else◌}
-use Rattle.rl_policy.specs.Bits.{bit}
+use Rattle.rl_policy.specs.Bits.{bit, from_bits}
 use Rattle.rl_policy.specs.Table.{after_write, after_read, value_read, spends_mark}
 use Rattle.rl_policy.specs.declared.policy.Policy.{Policy}
+use Rattle.rl_bus.specs.Bits.{bit_written, mark_written, bit_answered, bit_left}
 use Rattle.rl_bench.specs.declared.effects.Effects.{Effects}
+
+-- the bits of a word are these
+abbrev pub HasBits : ℕ → (ℕ → Bool) → Type 0
+HasBits word bits = (b : ℕ) → b < 64 → bit word b ≡ bits b
 
 -- a test of the policy that a bit has
 abbrev pub owned_test : (Policy → Bool) → Option Policy → Bool
@@ -32,3 +37,24 @@ more_owned_bit (Some q) seat p = Some q
 
 abbrev pub more_owned : (ℕ → Option Policy) → (ℕ → Bool) → Policy → ℕ → Option Policy
 more_owned own seat p b = more_owned_bit (own b) (seat b) p
+
+-- ---- what accesses do
+
+-- for any policies of the bits that have these masks
+abbrev pub ForPoliciesOf : Effects → ((ℕ → Option Policy) → Type 0) → Type 0
+ForPoliciesOf e P = (own : ℕ → Option Policy) → AreEffectsOf own e → P own
+
+-- a write of a word with these lanes: the bits after it, and the spent marks
+abbrev pub bits_written : (ℕ → Option Policy) → (bits marks word lanes : ℕ) → ℕ
+bits_written own bits marks word lanes =
+    from_bits 64 (λ b. bit_written (own b) (bit bits b) (bit marks b) (bit word b) (bit lanes b))
+
+abbrev pub marks_written : (ℕ → Option Policy) → (marks lanes : ℕ) → ℕ
+marks_written own marks lanes = from_bits 64 (λ b. mark_written (own b) (bit marks b) (bit lanes b))
+
+-- a read with these lanes: what it answers, and the bits after it
+abbrev pub bits_answered : (ℕ → Option Policy) → (bits : ℕ) → ℕ
+bits_answered own bits = from_bits 64 (λ b. bit_answered (own b) (bit bits b))
+
+abbrev pub bits_left : (ℕ → Option Policy) → (bits lanes : ℕ) → ℕ
+bits_left own bits lanes = from_bits 64 (λ b. bit_left (own b) (bit bits b) (bit lanes b))

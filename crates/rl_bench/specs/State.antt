@@ -1,5 +1,5 @@
 -- What a bench tells.
-use Rattle.std.specs.Prelude.{ℕ, ◌+◌, ◌-◌, ◌^◌, ◌==◌, ◌||◌, Bool, length, min, if◌then◌else◌}
+use Rattle.std.specs.Prelude.{ℕ, ◌+◌, ◌-◌, ◌^◌, ◌==◌, ◌||◌, Bool, length, min, if◌then◌else◌, Option, Some}
 use Rattle.rl_bus.specs.declared.op.Answer.{Answer}
 use Rattle.rl_bus.specs.declared.op.BusOp.{BusOp}
 use Rattle.rl_bus.specs.Setup.{words_at}
@@ -11,6 +11,10 @@ use Rattle.rl_bench.specs.Tables.{setup_held}
 
 abbrev pub bench_state : Bench → State
 bench_state b = state_of (setup_held b.board.tables) b.cells (beats_of (setup_held b.board.tables).words b.beats.items) b.items
+
+-- the state that a bench tells, as each device may
+abbrev pub state_told : Bench → Option State
+state_told b = Some (bench_state b)
 
 -- how many items failed
 abbrev pub failures_of : Bench → ℕ

@@ -1,11 +1,12 @@
 //! What an item does to the cell of its word.
-ghost use Rattle.std.specs.Prelude.{◌≡◌, ℕ, ◌+◌, ◌<◌, if◌then◌else◌, length};
+ghost use Rattle.std.specs.Prelude.{◌≡◌, ◌<◌, if◌then◌else◌, length};
 ghost use Rattle.rl_policy.specs.Bits.{bit, from_bits};
 ghost use Rattle.rl_bus.specs.Device.{IsCellIn};
 ghost use Rattle.rl_bus.specs.Setup.{location, mem_of};
 ghost use Rattle.rl_bus.specs.Spread.{AreInCell, spread_bit, lane_bit, gathered_bit};
 ghost use Rattle.rl_bus.specs.State.{shown_bit, word_shown, after_reading, after_writing, after_word};
-ghost use Rattle.rl_bench.specs.Board.{FitCells, IsWordIn, state_of};
+ghost use Rattle.rl_bench.specs.Board.{FitCells, IsWordIn};
+ghost use Rattle.rl_bench.specs.Cells.{CellsGo, CellsAnswer};
 ghost use Rattle.rl_bench.specs.Tables.{setup_held};
 
 use crate::board::Board;
@@ -31,8 +32,9 @@ pub fn read_cell(board: &Board, cells: &mut Cells, lanes: &Lanes, cell: Cell) ->
     requires cell { IsCellIn (setup_held board.now.tables) cell }
     requires lanes { AreInCell lanes.now }
     ensures fit { FitCells (setup_held board.now.tables) cells.new }
-    ensures state { (beats : ℕ → ℕ → ℕ) (items : ℕ) → state_of (setup_held board.now.tables) cells.new beats items ≡ after_reading (state_of (setup_held board.now.tables) cells.old beats items) (lane_bit lanes.now) cell }
-    ensures answer { (beats : ℕ → ℕ → ℕ) (items : ℕ) → result ≡ from_bits 64 (gathered_bit lanes.now (shown_bit (state_of (setup_held board.now.tables) cells.old beats items) cell)) }
+    ensures state { CellsGo board.now cells.old cells.new (λ s. after_reading s (lane_bit lanes.now) cell) }
+    ensures answer { CellsAnswer board.now cells.old
+        (λ s. from_bits 64 (gathered_bit lanes.now (shown_bit s cell))) result }
 {
     match cell {
         Cell::Reg { reg } => {
@@ -54,7 +56,8 @@ pub fn write_cell(board: &Board, cells: &mut Cells, lanes: &Lanes, word: u64, ce
     requires cell { IsCellIn (setup_held board.now.tables) cell }
     requires lanes { AreInCell lanes.now }
     ensures fit { FitCells (setup_held board.now.tables) cells.new }
-    ensures state { (beats : ℕ → ℕ → ℕ) (items : ℕ) → state_of (setup_held board.now.tables) cells.new beats items ≡ after_writing (state_of (setup_held board.now.tables) cells.old beats items) (spread_bit lanes.now (bit word)) (lane_bit lanes.now) cell }
+    ensures state { CellsGo board.now cells.old cells.new
+        (λ s. after_writing s (spread_bit lanes.now (bit word)) (lane_bit lanes.now) cell) }
 {
     match cell {
         Cell::Reg { reg } => {
@@ -83,8 +86,9 @@ pub fn touch(board: &Board, cells: &mut Cells, op: &BusOp, word: &WordRow) -> u6
     requires fit { FitCells (setup_held board.now.tables) cells.old }
     requires word { IsWordIn (setup_held board.now.tables) word.now }
     ensures fit { FitCells (setup_held board.now.tables) cells.new }
-    ensures state { (beats : ℕ → ℕ → ℕ) (items : ℕ) → state_of (setup_held board.now.tables) cells.new beats items ≡ after_word (state_of (setup_held board.now.tables) cells.old beats items) op.now word.now }
-    ensures answer { (beats : ℕ → ℕ → ℕ) (items : ℕ) → result ≡ (if op.now.write then 0 else word_shown (state_of (setup_held board.now.tables) cells.old beats items) op.now word.now) }
+    ensures state { CellsGo board.now cells.old cells.new (λ s. after_word s op.now word.now) }
+    ensures answer { CellsAnswer board.now cells.old
+        (λ s. if op.now.write then 0 else word_shown s op.now word.now) result }
 {
     let lanes = Lanes {
         enabled: op.lanes & word.lanes.enabled,

@@ -1,10 +1,9 @@
 //! Deposits that go past the bus.
-ghost use Rattle.std.specs.Prelude.{◌≡◌, ℕ, ◌+◌, ◌<◌, length, take, position};
-ghost use Rattle.rl_policy.specs.Bits.{bit, from_bits};
+ghost use Rattle.std.specs.Prelude.{◌<◌, length};
 ghost use Rattle.rl_bus.specs.Device.{IsCellIn};
-ghost use Rattle.rl_bus.specs.Setup.{field_at, covers};
-ghost use Rattle.rl_bus.specs.State.{peeked, poked, hw_set, reset_bit, reg_reset};
-ghost use Rattle.rl_bench.specs.Board.{FitCells, IsFieldIn, state_of};
+ghost use Rattle.rl_bus.specs.State.{peeked, poked, hw_set};
+ghost use Rattle.rl_bench.specs.Board.{FitCells};
+ghost use Rattle.rl_bench.specs.Cells.{CellsGo, CellsAnswer};
 ghost use Rattle.rl_bench.specs.Tables.{setup_held};
 
 use crate::access::location;
@@ -18,7 +17,7 @@ use rl_policy::word::{mask, put, replaced, window};
 pub fn peek_cell(board: &Board, cells: &Cells, cell: Cell) -> u64
     requires fit { FitCells (setup_held board.now.tables) cells.now }
     requires cell { IsCellIn (setup_held board.now.tables) cell }
-    ensures { (beats : ℕ → ℕ → ℕ) (items : ℕ) → result ≡ peeked (state_of (setup_held board.now.tables) cells.now beats items) cell }
+    ensures { CellsAnswer board.now cells.now (λ s. peeked s cell) result }
 {
     match cell {
         Cell::Reg { reg } => cells.bits[reg as usize],
@@ -31,7 +30,7 @@ pub fn poke_cell(board: &Board, cells: &mut Cells, cell: Cell, value: u64)
     requires fit { FitCells (setup_held board.now.tables) cells.old }
     requires cell { IsCellIn (setup_held board.now.tables) cell }
     ensures fit { FitCells (setup_held board.now.tables) cells.new }
-    ensures state { (beats : ℕ → ℕ → ℕ) (items : ℕ) → state_of (setup_held board.now.tables) cells.new beats items ≡ poked (state_of (setup_held board.now.tables) cells.old beats items) cell value }
+    ensures state { CellsGo board.now cells.old cells.new (λ s. poked s cell value) }
 {
     match cell {
         Cell::Reg { reg } => {
@@ -53,7 +52,7 @@ pub fn set_field(board: &Board, cells: &mut Cells, field: u32, value: u64)
     requires fit { FitCells (setup_held board.now.tables) cells.old }
     requires field { field < length (setup_held board.now.tables).fields }
     ensures fit { FitCells (setup_held board.now.tables) cells.new }
-    ensures state { (beats : ℕ → ℕ → ℕ) (items : ℕ) → state_of (setup_held board.now.tables) cells.new beats items ≡ hw_set (state_of (setup_held board.now.tables) cells.old beats items) field value }
+    ensures state { CellsGo board.now cells.old cells.new (λ s. hw_set s field value) }
 {
     let row = board.tables.fields[field as usize];
     let at = row.reg as usize;

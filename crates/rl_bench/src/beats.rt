@@ -1,12 +1,12 @@
 //! The beats of a device, with the first word of each address.
-ghost use Rattle.std.specs.Prelude.{◌≡◌, ℕ, ◌<◌, ◌≤◌, ◌^◌, ◌&&◌, ◌==◌, nat_lt, length, false, slice_index, slice_set, if◌then◌else◌, IfOk, replicate};
-ghost use Rattle.std.specs.List.{list_any};
+ghost use Rattle.std.specs.Prelude.{◌≡◌, ℕ, ◌<◌, ◌≤◌, ◌^◌, ◌==◌, nat_lt, length, false};
+ghost use Rattle.std.specs.Prelude.{slice_index, slice_set, if◌then◌else◌, IfOk, replicate};
 ghost use Rattle.std.specs.List.Sorted.{IsNonDecreasingBy};
 ghost use Rattle.rl_map.specs.Layout.{key_of};
 ghost use Rattle.std.specs.Prelude.{List};
 ghost use Rattle.rl_bus.specs.declared.table.WordRow.{WordRow as Words};
 ghost use Rattle.rl_bus.specs.Setup.{stands_at};
-ghost use Rattle.rl_bench.specs.Beats.{AreQueuesOf, beats_of, count_for};
+ghost use Rattle.rl_bench.specs.Beats.{AreQueuesOf, SendsBack, beats_of, count_for};
 ghost use Rattle.rl_bench.specs.Stretch.{IsStretch};
 ghost use Rattle.std.specs.Prelude.{Bool};
 
@@ -54,7 +54,7 @@ pub fn set_beat(beats: &mut [u32], at: Stretch, value: u32)
 
 /// Sets the beats of a place to 0. Only where words queue there is another beat.
 pub fn send_back(queues: &[Queue], beats: &mut [u32], place: u32)
-    ensures { (k : ℕ) → slice_index beats.new k ≡ (if list_any (λ q. q.first == k && q.place == place) queues.now then 0 else slice_index beats.old k) }
+    ensures { SendsBack queues.now place beats.old beats.new }
 {
     for queue in queues {
         if queue.place == place {

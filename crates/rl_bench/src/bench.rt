@@ -1,14 +1,15 @@
 //! The device.
-ghost use Rattle.std.specs.Prelude.{◌≡◌, ℕ, ◌+◌, ◌<◌, ◌≤◌, ◌^◌, length, if◌then◌else◌, nat_lt, not, IfOk, replicate, ◌||◌, ◌==◌, slice_index};
-ghost use Rattle.std.specs.Prelude.{filter, slice_get, option_copied, min, ◌-◌, true};
+ghost use Rattle.std.specs.Prelude.{◌≡◌, ◌+◌, ◌-◌, ◌<◌, ◌≤◌, ◌^◌, length, if◌then◌else◌, nat_lt, IfOk, replicate};
+ghost use Rattle.std.specs.Prelude.{slice_get, option_copied, min, true};
 ghost use Rattle.rl_bus.specs.Causes.{AnswerHasCause};
-ghost use Rattle.rl_bus.specs.Setup.{is_named, stands_at, stands_for};
-ghost use Rattle.rl_bench.specs.Beats.{IsQuiet, HasBeats, BeatsAreWords, beats_of};
+ghost use Rattle.rl_bus.specs.Setup.{stands_at};
+ghost use Rattle.rl_bench.specs.Beats.{IsQuiet, HasBeats, BeatsAreWords};
 ghost use Rattle.std.specs.Prelude.{All};
 ghost use Rattle.std.specs.List.Sorted.{IsNonDecreasingBy};
 ghost use Rattle.rl_map.specs.Layout.{key_of};
 ghost use Rattle.rl_bench.specs.Stretch.{IsStretch, IsHint};
 ghost use Rattle.rl_bench.specs.Board.{FitCells, IsSetup, HasRoom};
+ghost use Rattle.rl_bench.specs.Found.{words_on, words_for, beat_for, item_is_faulty};
 ghost use Rattle.rl_bench.specs.Tables.{setup_held};
 
 use crate::access::touch;
@@ -78,11 +79,12 @@ fn find<'a>(
     port: u32,
     op: &BusOp,
 ) -> Found<'a>
-    requires { All (IsHint (setup_held board.now.tables).words) hints.now.slots.items }
-    ensures at { IsStretch (stands_at port op.now.address) (setup_held board.now.tables).words result.at.first result.at.end }
-    ensures beat { result.beat ≡ beats_of (setup_held board.now.tables).words beats.now port op.now.address }
-    ensures word { option_copied result.word ≡ slice_get (filter (stands_for port op.now.address op.now.write) (setup_held board.now.tables).words) (beats_of (setup_held board.now.tables).words beats.now port op.now.address) }
-    ensures count { result.count ≡ length (filter (stands_for port op.now.address op.now.write) (setup_held board.now.tables).words) }
+    requires { All (IsHint (words_on board.now)) hints.now.slots.items }
+    ensures at { IsStretch (stands_at port op.now.address) (words_on board.now) result.at.first result.at.end }
+    ensures beat { result.beat ≡ beat_for board.now beats.now port op.now }
+    ensures word { option_copied result.word
+        ≡ slice_get (words_for board.now port op.now) (beat_for board.now beats.now port op.now) }
+    ensures count { result.count ≡ length (words_for board.now port op.now) }
 {
     let words = board.tables.words();
     let at = stretch_at(words, hints, near, port, op.address);
@@ -98,7 +100,7 @@ fn find<'a>(
 
 fn is_faulty(tables: &Tables, port: u32, op: &BusOp, count: u64) -> bool
     requires { port < length (setup_held tables.now).ports }
-    ensures { result ≡ (not (op.now.bytes == slice_index (setup_held tables.now).ports port) || is_named (setup_held tables.now) port op.now.address count) }
+    ensures { result ≡ item_is_faulty (setup_held tables.now) port op.now count }
 {
     u32::from(op.bytes) != tables.ports[port as usize] || tables.is_named(port, op.address, count)
 }
@@ -233,7 +235,7 @@ impl Device for Bench {
     ghost use Rattle.rl_bus.specs.Device.{IsStep, IsPortOf, IsCellOf, IsFieldOf};
     ghost use Rattle.rl_bus.specs.State.{poked, reset_by, hw_set};
     ghost use Rattle.rl_bus.specs.Wire.{carried_by, IsWellFormed, IsReplyTo, IsAtOnce, answered_by};
-    ghost use Rattle.rl_bench.specs.State.{bench_state, failures_of, failures_after, item_fails};
+    ghost use Rattle.rl_bench.specs.State.{bench_state, state_told, failures_of, failures_after, item_fails};
 
     ghost state = { λ b. Some (bench_state b) };
 
@@ -245,7 +247,8 @@ impl Device for Bench {
         ensures reply { IsReplyTo transfer.now result }
         ensures small { (answered_by result).word < 256 ^ (carried_by transfer.now).bytes }
         ensures cause { AnswerHasCause (failures_of self.old) (failures_of self.new) (answered_by result) }
-        ensures step { IsStep (Some (bench_state self.old)) (Some (bench_state self.new)) port (carried_by transfer.now) (answered_by result) }
+        ensures step { IsStep (state_told self.old) (state_told self.new)
+            port (carried_by transfer.now) (answered_by result) }
         ensures failures { failures_of self.new ≡ failures_after (failures_of self.old) (answered_by result) }
         ensures at_once { IsAtOnce result }
         ensures fails { (answered_by result).failed ≡ item_fails (bench_state self.old) port (carried_by transfer.now) }

@@ -1,8 +1,7 @@
 //! The masks of the registers, made of the tables.
-ghost use Rattle.std.specs.Prelude.{◌≡◌, ℕ, ◌+◌, ◌<◌, length, get_or, IfOk};
-ghost use Rattle.rl_policy.specs.Bits.{bit};
+ghost use Rattle.std.specs.Prelude.{◌<◌, length, get_or, IfOk};
 ghost use Rattle.rl_bus.specs.Setup.{policy_at, names_bit, no_stuck};
-ghost use Rattle.rl_bench.specs.Masks.{AreEffectsOf};
+ghost use Rattle.rl_bench.specs.Masks.{HasBits, AreEffectsOf};
 ghost use Rattle.rl_bench.specs.Shape.{IsShapeOf};
 ghost use Rattle.rl_bench.specs.Board.{IsSetup, AreShapesOf};
 ghost use Rattle.rl_bench.specs.Tables.{setup_held};
@@ -33,7 +32,8 @@ pub fn effects_of(tables: &Tables, reg: u32) -> Effects
 fn stuck_seat(tables: &Tables, reg: u32, k: usize) -> u64
     requires setup { IsSetup (setup_held tables.now) }
     requires k { k < length (setup_held tables.now).flaws.stuck }
-    ensures { (b : ℕ) → b < 64 → bit result b ≡ names_bit (setup_held tables.now) (get_or (setup_held tables.now).flaws.stuck k no_stuck) reg b }
+    ensures { HasBits result
+        (names_bit (setup_held tables.now) (get_or (setup_held tables.now).flaws.stuck k no_stuck) reg) }
 {
     let row = tables.stuck[k];
     let field = tables.fields[row.field as usize];

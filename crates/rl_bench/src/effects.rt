@@ -1,7 +1,6 @@
 //! The bits of a register by what accesses do to them.
-ghost use Rattle.std.specs.Prelude.{◌≡◌, ℕ, ◌+◌, ◌<◌, ◌≤◌, Option, None};
-ghost use Rattle.rl_policy.specs.Bits.{bit, from_bits};
-ghost use Rattle.rl_policy.specs.declared.policy.Policy.{Policy as Held};
+ghost use Rattle.std.specs.Prelude.{◌≡◌, None};
+ghost use Rattle.rl_policy.specs.Bits.{bit};
 
 use rl_policy::word::{repeated, replaced};
 use rl_policy::{Policy, spends};
@@ -27,8 +26,8 @@ pub struct Effects {
 }
 
 impl Effects {
-    ghost use Rattle.rl_bus.specs.Bits.{bit_written, mark_written, bit_answered, bit_left};
-    ghost use Rattle.rl_bench.specs.Masks.{AreEffectsOf, more_owned};
+    ghost use Rattle.rl_bench.specs.Masks.{AreEffectsOf, ForPoliciesOf, more_owned};
+    ghost use Rattle.rl_bench.specs.Masks.{bits_written, marks_written, bits_answered, bits_left};
 
     /// The effects of a register with no field.
     pub fn none() -> Effects
@@ -49,7 +48,7 @@ impl Effects {
 
     /// The effects with a field more: its bits that belong to no field so far get this policy.
     pub fn with_field(&self, seat: u64, policy: Policy) -> Effects
-        ensures { (own : ℕ → Option Held) → AreEffectsOf own self.now → AreEffectsOf (more_owned own (bit seat) policy) result }
+        ensures { ForPoliciesOf self.now (λ own. AreEffectsOf (more_owned own (bit seat) policy) result) }
     {
         let new = seat & !self.owned;
         Effects {
@@ -67,8 +66,8 @@ impl Effects {
 
     /// The bits and the spent marks of the register after a bus write of `word` with these lanes.
     pub fn write(&self, bits: u64, marks: u64, word: u64, lanes: u64) -> (u64, u64)
-        ensures bits { (own : ℕ → Option Held) → AreEffectsOf own self.now → result.0 ≡ from_bits 64 (λ b. bit_written (own b) (bit bits b) (bit marks b) (bit word b) (bit lanes b)) }
-        ensures marks { (own : ℕ → Option Held) → AreEffectsOf own self.now → result.1 ≡ from_bits 64 (λ b. mark_written (own b) (bit marks b) (bit lanes b)) }
+        ensures bits { ForPoliciesOf self.now (λ own. result.0 ≡ bits_written own bits marks word lanes) }
+        ensures marks { ForPoliciesOf self.now (λ own. result.1 ≡ marks_written own marks lanes) }
     {
         let by_zero = replaced(self.zero_by_zero, self.one_by_zero, bits);
         let by_one = replaced(self.zero_by_one, self.one_by_one, bits);
@@ -83,8 +82,8 @@ impl Effects {
 
     /// What a bus read answers, and the bits of the register after one with these lanes.
     pub fn read(&self, bits: u64, lanes: u64) -> (u64, u64)
-        ensures answer { (own : ℕ → Option Held) → AreEffectsOf own self.now → result.0 ≡ from_bits 64 (λ b. bit_answered (own b) (bit bits b)) }
-        ensures bits { (own : ℕ → Option Held) → AreEffectsOf own self.now → result.1 ≡ from_bits 64 (λ b. bit_left (own b) (bit bits b) (bit lanes b)) }
+        ensures answer { ForPoliciesOf self.now (λ own. result.0 ≡ bits_answered own bits) }
+        ensures bits { ForPoliciesOf self.now (λ own. result.1 ≡ bits_left own bits lanes) }
     {
         let left = replaced(self.zero_by_read, self.one_by_read, bits);
         (self.shown & bits, replaced(bits, left, self.owned & lanes))

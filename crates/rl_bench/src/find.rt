@@ -1,10 +1,11 @@
 //! The rows at an address, of a register and of a field, found by halves.
-ghost use Rattle.std.specs.Prelude.{◌≡◌, ◌≢◌, ℕ, ◌+◌, ◌*◌, ◌^◌, ◌<◌, ◌≤◌, ◌==◌, length, true, false, nat_lt, slice_get, slice_index_or, filter, IfSome, option_copied};
+ghost use Rattle.std.specs.Prelude.{◌≡◌, ◌≢◌, ◌+◌, ◌*◌, ◌^◌, ◌<◌, ◌≤◌, ◌==◌, length, true, false, nat_lt};
+ghost use Rattle.std.specs.Prelude.{slice_get, slice_index_or, filter, IfSome, option_copied};
 ghost use Rattle.std.specs.List.Sorted.{IsNonDecreasingBy};
 ghost use Rattle.rl_bus.specs.Setup.{stands_at, stands_for};
 ghost use Rattle.rl_bus.specs.declared.table.WordRow.{WordRow as Words};
 ghost use Rattle.rl_map.specs.Layout.{key_of};
-ghost use Rattle.rl_bench.specs.Stretch.{IsStretch};
+ghost use Rattle.rl_bench.specs.Stretch.{IsStretch, AllBefore, NoneBefore, stands_beside, LetsThrough};
 
 use rl_bus::{FieldRow, ResetRow, WordRow};
 
@@ -48,8 +49,8 @@ pub fn stands_at(word: &WordRow, port: u32, address: u64) -> bool
 fn is_first(words: &[WordRow], first: usize, port: u32, address: u64) -> bool
     requires { IsNonDecreasingBy key_of words.now }
     ensures within { result ≡ true → first ≤ length words.now }
-    ensures before { result ≡ true → (k : ℕ) (d : Words) → k < first → key_of (slice_index_or words.now k d) < port * 2 ^ 64 + address }
-    ensures behind { result ≡ true → (k : ℕ) (d : Words) → first ≤ k → k < length words.now → port * 2 ^ 64 + address ≤ key_of (slice_index_or words.now k d) }
+    ensures before { result ≡ true → AllBefore words.now first port address }
+    ensures behind { result ≡ true → NoneBefore words.now first port address }
 {
     if first >= words.len() || is_before(&words[first], port, address) {
         return false;
@@ -61,8 +62,8 @@ fn is_first(words: &[WordRow], first: usize, port: u32, address: u64) -> bool
 fn search(words: &[WordRow], port: u32, address: u64) -> usize
     requires { IsNonDecreasingBy key_of words.now }
     ensures within { result ≤ length words.now }
-    ensures before { (k : ℕ) (d : Words) → k < result → key_of (slice_index_or words.now k d) < port * 2 ^ 64 + address }
-    ensures behind { (k : ℕ) (d : Words) → result ≤ k → k < length words.now → port * 2 ^ 64 + address ≤ key_of (slice_index_or words.now k d) }
+    ensures before { AllBefore words.now result port address }
+    ensures behind { NoneBefore words.now result port address }
 {
     words.partition_point(|word| is_before(word, port, address))
 }
@@ -71,8 +72,8 @@ fn search(words: &[WordRow], port: u32, address: u64) -> usize
 fn first_beside(words: &[WordRow], near: Stretch, port: u32, address: u64) -> Option<usize>
     requires { IsNonDecreasingBy key_of words.now }
     ensures within { IfSome result (λ first. first ≤ length words.now) }
-    ensures before { IfSome result (λ first. (k : ℕ) (d : Words) → k < first → key_of (slice_index_or words.now k d) < port * 2 ^ 64 + address) }
-    ensures behind { IfSome result (λ first. (k : ℕ) (d : Words) → first ≤ k → k < length words.now → port * 2 ^ 64 + address ≤ key_of (slice_index_or words.now k d)) }
+    ensures before { IfSome result (λ first. AllBefore words.now first port address) }
+    ensures behind { IfSome result (λ first. NoneBefore words.now first port address) }
 {
     let low = near.first.saturating_sub(2);
     let end = words.len().min(near.end.saturating_add(2));
@@ -94,8 +95,8 @@ fn first_beside(words: &[WordRow], near: Stretch, port: u32, address: u64) -> Op
 fn first_from(words: &[WordRow], near: Stretch, port: u32, address: u64) -> usize
     requires { IsNonDecreasingBy key_of words.now }
     ensures within { result ≤ length words.now }
-    ensures before { (k : ℕ) (d : Words) → k < result → key_of (slice_index_or words.now k d) < port * 2 ^ 64 + address }
-    ensures behind { (k : ℕ) (d : Words) → result ≤ k → k < length words.now → port * 2 ^ 64 + address ≤ key_of (slice_index_or words.now k d) }
+    ensures before { AllBefore words.now result port address }
+    ensures behind { NoneBefore words.now result port address }
 {
     if is_first(words, near.end, port, address) {
         return near.end;
@@ -138,7 +139,7 @@ fn same_address(words: &[WordRow], j: usize, k: usize) -> bool
 pub fn words_beside(words: &[WordRow], k: usize) -> Stretch
     requires rise { IsNonDecreasingBy key_of words.now }
     requires k { k < length words.now }
-    ensures { (d : Words) → IsStretch (stands_at (slice_index_or words.now k d).port (slice_index_or words.now k d).address) words.now result.first result.end }
+    ensures { (d : Words) → IsStretch (stands_beside (slice_index_or words.now k d)) words.now result.first result.end }
 {
     let word = &words[k];
     let alone = Stretch {
@@ -176,7 +177,7 @@ pub fn resets_of(resets: &[ResetRow], field: u32) -> Stretch
 
 // Whether a word lets items of a direction through.
 fn lets_through(word: &WordRow, write: bool) -> bool
-    ensures { (port address : ℕ) → stands_at port address word.now ≡ true → result ≡ stands_for port address write word.now }
+    ensures { LetsThrough word.now write result }
 {
     if write { word.writes } else { word.reads }
 }

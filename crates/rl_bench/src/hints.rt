@@ -2,7 +2,7 @@
 ghost use Rattle.std.specs.Prelude.{◌≡◌, ◌<◌, List, length, slice_index_or, IfSome, IfOk, All};
 ghost use Rattle.rl_bus.specs.declared.table.WordRow.{WordRow as Words};
 ghost use Rattle.rl_bus.specs.Setup.{stands_at};
-ghost use Rattle.rl_bench.specs.Stretch.{IsStretch, IsHint};
+ghost use Rattle.rl_bench.specs.Stretch.{IsStretch, IsHint, StayHints};
 
 use crate::find::{Stretch, stands_at};
 use rl_bus::WordRow;
@@ -61,7 +61,7 @@ impl Hints {
 
     /// Keeps the words at an address of a port in its slot.
     pub fn keep(&mut self, port: u32, address: u64, at: Stretch)
-        ensures { (words : List Words) → IsStretch (stands_at port address) words at.first at.end → All (IsHint words) self.old.slots.items → All (IsHint words) self.new.slots.items }
+        ensures { StayHints self.old.slots.items self.new.slots.items port address at }
     {
         self.slots[slot_of(port, address)] = at;
     }

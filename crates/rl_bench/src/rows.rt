@@ -6,7 +6,8 @@ ghost use Rattle.rl_map.specs.Tables.{field_row, reset_rows, mem_rows};
 ghost use Rattle.rl_bench.specs.Rows.{reset_of};
 ghost use Rattle.rl_model.specs.declared.rows.Reset.{Reset as Resets};
 ghost use Rattle.std.specs.Prelude.{ℕ};
-ghost use Rattle.rl_bench.specs.Flaws.{locations_of, policy_row, reset_row, stuck_row, range_row, nth_of, item_row, deaf_row};
+ghost use Rattle.rl_bench.specs.Flaws.{locations_of, policy_row, reset_row, stuck_row, range_row};
+ghost use Rattle.rl_bench.specs.Flaws.{nth_of, item_row, deaf_row};
 
 use crate::flaw::Flaw;
 use rl_bus::{FieldRow, ItemRow, MemRow, PolicyRow, RangeRow, ResetRow, StuckRow};

@@ -1,9 +1,8 @@
 //! The masks of a register, and what items do to its words.
-ghost use Rattle.std.specs.Prelude.{◌≡◌, ℕ, ◌<◌};
-ghost use Rattle.rl_policy.specs.Bits.{bit, from_bits};
-ghost use Rattle.rl_bus.specs.Bits.{bit_written, mark_written, bit_answered, bit_left};
-ghost use Rattle.rl_bus.specs.Setup.{Setup, policy_at, held};
-ghost use Rattle.rl_bus.specs.Spread.{AreInCell, spread_bit, lane_bit, gathered_bit};
+ghost use Rattle.std.specs.Prelude.{◌≡◌};
+ghost use Rattle.rl_policy.specs.Bits.{bit};
+ghost use Rattle.rl_bus.specs.Setup.{held};
+ghost use Rattle.rl_bus.specs.Spread.{AreInCell};
 
 use crate::effects::Effects;
 use crate::lanes::{gather, spread};
@@ -19,11 +18,11 @@ pub struct Shape {
 }
 
 impl Shape {
-    ghost use Rattle.rl_bench.specs.Shape.{RegOf, IsShapeOf};
+    ghost use Rattle.rl_bench.specs.Shape.{ForRegOf, reg_written, reg_marked, reg_answered, reg_left};
 
     /// The register with these bits: a stuck one has its value.
     pub fn hold(&self, bits: u64) -> u64
-        ensures { (at : RegOf) → IsShapeOf at self.now → result ≡ held at.setup at.reg (bit bits) }
+        ensures { ForRegOf self.now (λ r. result ≡ held r.setup r.reg (bit bits)) }
     {
         replaced(bits, self.values, self.stuck)
     }
@@ -31,8 +30,8 @@ impl Shape {
     /// The bits and the marks after a write of a word in these lanes.
     pub fn write(&self, lanes: &Lanes, bits: u64, marks: u64, word: u64) -> (u64, u64)
         requires { AreInCell lanes.now }
-        ensures bits { (at : RegOf) → IsShapeOf at self.now → result.0 ≡ held at.setup at.reg (λ b. bit_written (policy_at at.setup at.reg b) (bit bits b) (bit marks b) (spread_bit lanes.now (bit word) b) (lane_bit lanes.now b)) }
-        ensures marks { (at : RegOf) → IsShapeOf at self.now → result.1 ≡ from_bits 64 (λ b. mark_written (policy_at at.setup at.reg b) (bit marks b) (lane_bit lanes.now b)) }
+        ensures bits { ForRegOf self.now (λ r. result.0 ≡ reg_written r lanes.now bits marks word) }
+        ensures marks { ForRegOf self.now (λ r. result.1 ≡ reg_marked r lanes.now marks) }
     {
         let (carried, mask) = spread(lanes, word);
         let (written, marked) = self.effects.write(bits, marks, carried, mask);
@@ -42,8 +41,8 @@ impl Shape {
     /// The word that a read in these lanes answers, and the bits after it.
     pub fn read(&self, lanes: &Lanes, bits: u64) -> (u64, u64)
         requires { AreInCell lanes.now }
-        ensures word { (at : RegOf) → IsShapeOf at self.now → result.0 ≡ from_bits 64 (gathered_bit lanes.now (λ b. bit_answered (policy_at at.setup at.reg b) (bit bits b))) }
-        ensures bits { (at : RegOf) → IsShapeOf at self.now → result.1 ≡ held at.setup at.reg (λ b. bit_left (policy_at at.setup at.reg b) (bit bits b) (lane_bit lanes.now b)) }
+        ensures word { ForRegOf self.now (λ r. result.0 ≡ reg_answered r lanes.now bits) }
+        ensures bits { ForRegOf self.now (λ r. result.1 ≡ reg_left r lanes.now bits) }
     {
         let (_, mask) = spread(lanes, 0);
         let (shown, left) = self.effects.read(bits, mask);

@@ -1,7 +1,7 @@
 //! The tables of a device, and what they say of a field, a cell and an address.
-ghost use Rattle.std.specs.Prelude.{◌≡◌, ℕ, ◌+◌, ◌<◌, ◌≤◌, length, slice_get, slice_index, not, ◌||◌, ◌&&◌, ◌==◌, nat_le, find};
+ghost use Rattle.std.specs.Prelude.{◌≡◌, ◌<◌, length, ◌&&◌, ◌==◌, nat_le, find};
 ghost use Rattle.std.specs.List.{list_any};
-ghost use Rattle.rl_bus.specs.Setup.{policy_of, is_deaf, is_named, reset_of, value_in, is_of};
+ghost use Rattle.rl_bus.specs.Setup.{policy_of, is_deaf, is_named, reset_of, is_of};
 
 use crate::find::resets_of;
 use crate::flaw::Flaw;
