@@ -1,3 +1,4 @@
+pub mod CopyLemmas
 pub mod DigitLemmas
 pub mod EventLemmas
 pub mod GatherLemmas

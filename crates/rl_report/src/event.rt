@@ -33,6 +33,7 @@ fn push_number(text: &mut Text, n: Option<u64>)
 }
 
 // Gathers a map that may be missing.
+#[inline(always)]
 fn put_map<K: Sink>(
     sink: &mut K,
     text: &mut Text,
@@ -506,6 +507,7 @@ fn digits_of(model: &Model, op: Op) -> u32
 }
 
 // Appends a piece, and a value in so many hexadecimal digits.
+#[inline(always)]
 fn push_value(text: &mut Text, before: &[u8], value: u64, count: u32)
     requires short { length before.now ≤ 16 }
     requires some { 1 ≤ count }
@@ -790,18 +792,31 @@ pub fn write_event_line<K: Sink>(sink: &mut K, model: &Model, event: &Event) -> 
     put_all(sink, text.as_bytes())
 }
 
-fn way_text(write: bool) -> &'static [u8]
-    ensures value { result.now ≡ way_text write }
-    ensures short { length result.now ≤ 8 }
+// Appends the way of an item.
+#[inline]
+fn push_way(text: &mut Text, write: bool)
+    requires room { length text.old + 8 ≤ 512 }
+    ensures text { text.new ≡ text.old ++ way_text write }
+    ensures len { length text.new ≤ length text.old + 8 }
 {
-    if write { b" w 0x" } else { b" r 0x" }
+    if write {
+        text.push(b" w 0x");
+    } else {
+        text.push(b" r 0x");
+    }
 }
 
-fn answer_text(failed: bool) -> &'static [u8]
-    ensures value { result.now ≡ answer_text failed }
-    ensures short { length result.now ≤ 8 }
+// Appends the answer of an item.
+#[inline]
+fn push_answer(text: &mut Text, failed: bool)
+    requires room { length text.old + 8 ≤ 512 }
+    ensures { text.new ≡ text.old ++ answer_text failed }
 {
-    if failed { b" error\n" } else { b" ok\n" }
+    if failed {
+        text.push(b" error\n");
+    } else {
+        text.push(b" ok\n");
+    }
 }
 
 // The word that an item carried: of a read the answer's.
@@ -824,7 +839,7 @@ fn push_transfer(text: &mut Text, model: &Model, item: &TraceItem)
 {
     let bytes = model.layout().port_bytes(item.port);
     let mut tag = Buffer::new();
-    text.push(way_text(item.op.write));
+    push_way(text, item.op.write);
     text.push_hex(item.op.address);
     text.push(b" 0x");
     text.push_padded(word_of(item), 2 * bytes);
@@ -832,7 +847,7 @@ fn push_transfer(text: &mut Text, model: &Model, item: &TraceItem)
     text.push_lanes(item.op.lanes, item.op.bytes);
     text.push(b" #");
     text.push(tag.format(item.tag).as_bytes());
-    text.push(answer_text(item.answer.failed));
+    push_answer(text, item.answer.failed);
 }
 
 // Gathers the line of a bus item.

@@ -80,7 +80,7 @@ fn write_through<K: Sink>(sink: &mut K, text: &mut Text, piece: &[u8]) -> Result
 }
 
 // Appends a piece to a text that is written later.
-#[inline]
+#[inline(always)]
 pub(crate) fn gather<K: Sink>(sink: &mut K, text: &mut Text, piece: &[u8]) -> Result<(), Failed>
     ensures bytes { Gathers (K.written sink.old) (K.written sink.new) text.old text.new piece.now result }
     ensures room { OnOk result (length text.new ≤ 384) }

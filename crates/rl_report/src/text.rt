@@ -5,6 +5,7 @@ ghost use Rattle.rl_report.specs.Numbers.{padded, lanes_text};
 
 use crate::numbers::{digit_count, four_digits, write_digits};
 use std::marker::Model;
+use std::simd::Simd;
 
 const ROOM: usize = 512;
 
@@ -25,8 +26,7 @@ impl Model for Text {
 }
 
 // Copies a piece behind a place, where there is room for it. Answers where it ends.
-#[inline]
-fn copy_behind(bytes: &mut [u8], end: usize, piece: &[u8]) -> usize
+fn copy_long(bytes: &mut [u8], end: usize, piece: &[u8]) -> usize
     requires room { end + length piece.now ≤ length bytes.old }
     ensures end { result ≡ end + length piece.now }
     ensures front { take result bytes.new ≡ take end bytes.old ++ piece.now }
@@ -34,6 +34,67 @@ fn copy_behind(bytes: &mut [u8], end: usize, piece: &[u8]) -> usize
     let new_end = end + piece.len();
     bytes[end..new_end].copy_from_slice(piece);
     new_end
+}
+
+// The same of the first N bytes of a piece, in one move.
+#[inline(always)]
+fn copy_front<const N: usize>(bytes: &mut [u8], end: usize, piece: &[u8]) -> usize
+    requires enough { N ≤ length piece.now }
+    requires room { end + N ≤ length bytes.old }
+    ensures end { result ≡ end + N }
+    ensures front { take result bytes.new ≡ take end bytes.old ++ take N piece.now }
+    ensures len { length bytes.new ≡ length bytes.old }
+{
+    Simd::<u8, N>::from_slice(piece).copy_to_slice(&mut bytes[end..]);
+    end + N
+}
+
+// The same of a piece of N to 2 N bytes: its first N and its last N, which may overlap.
+#[inline(always)]
+fn copy_ends<const N: usize>(bytes: &mut [u8], end: usize, piece: &[u8]) -> usize
+    requires enough { N ≤ length piece.now }
+    requires whole { length piece.now ≤ N + N }
+    requires room { end + length piece.now ≤ length bytes.old }
+    ensures end { result ≡ end + length piece.now }
+    ensures front { take result bytes.new ≡ take end bytes.old ++ piece.now }
+{
+    let rest = piece.len() - N;
+    copy_front::<N>(bytes, end, piece);
+    copy_front::<N>(bytes, end + rest, &piece[rest..])
+}
+
+// The same of a piece of no more than eight bytes.
+#[inline(always)]
+fn copy_few(bytes: &mut [u8], end: usize, piece: &[u8]) -> usize
+    requires few { length piece.now ≤ 8 }
+    requires room { end + length piece.now ≤ length bytes.old }
+    ensures end { result ≡ end + length piece.now }
+    ensures front { take result bytes.new ≡ take end bytes.old ++ piece.now }
+{
+    if piece.len() >= 4 {
+        copy_ends::<4>(bytes, end, piece)
+    } else if piece.len() >= 2 {
+        copy_ends::<2>(bytes, end, piece)
+    } else if piece.len() == 1 {
+        copy_front::<1>(bytes, end, piece)
+    } else {
+        end
+    }
+}
+
+// The same of any piece: a short one takes two moves, and no call.
+#[inline(always)]
+fn copy_behind(bytes: &mut [u8], end: usize, piece: &[u8]) -> usize
+    requires room { end + length piece.now ≤ length bytes.old }
+    ensures end { result ≡ end + length piece.now }
+    ensures front { take result bytes.new ≡ take end bytes.old ++ piece.now }
+{
+    match piece.len() {
+        0..=8 => copy_few(bytes, end, piece),
+        9..=16 => copy_ends::<8>(bytes, end, piece),
+        17..=32 => copy_ends::<16>(bytes, end, piece),
+        _ => copy_long(bytes, end, piece),
+    }
 }
 
 // Writes the last digits of a number behind a place, so many of them.
@@ -73,7 +134,7 @@ impl Text {
         self.len = 0;
     }
 
-    #[inline]
+    #[inline(always)]
     pub(crate) fn push(&mut self, piece: &[u8])
         requires room { length self.old + length piece.now ≤ 512 }
         ensures text { self.new ≡ self.old ++ piece.now }
@@ -128,7 +189,7 @@ impl Text {
     }
 
     // Hexadecimal digits, with no zero in front.
-    #[inline]
+    #[inline(always)]
     pub(crate) fn push_hex(&mut self, n: u64)
         requires room { length self.old + 16 ≤ 512 }
         ensures text { self.new ≡ self.old ++ hex_digits n }

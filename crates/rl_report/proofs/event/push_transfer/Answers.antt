@@ -11,14 +11,14 @@ push_padded-requires-clause-fits c =
 pub returns : goal.returns
 returns c =
     let item = c.args.item.now in
-    let lanes = c.push_lanes.ensures.text ∙ ap (λ n. c.push-3.new.self ++ lanes_text n item.op.lanes) c.requires.fits.bytes in
+    let lanes = c.push_lanes.ensures.text ∙ ap (λ n. c.push-2.new.self ++ lanes_text n item.op.lanes) c.requires.fits.bytes in
     appended_nine _ _ _ _ _ _ _ _ _ _ _ _ _ _ _ _ _ _ _
-    (c.push.ensures.text ∙ ap (λ l. c.args.text.now ++ l) c.way_text.ensures.value)
+    c.push_way.ensures.text
     c.push_hex.ensures.text
-    c.push-2.ensures.text
+    c.push.ensures.text
     (rw (c.word_of.ensures, c.port_bytes-bytes.ensures, c.layout.ensures.layout) at c.push_padded.ensures.text)
-    c.push-3.ensures.text
+    c.push-2.ensures.text
     lanes
-    c.push-4.ensures.text
-    (c.push-5.ensures.text ∙ ap (λ l. c.push-4.new.self ++ l) (c.as_bytes.ensures.value ∙ c.format.ensures.text))
-    (c.push-6.ensures.text ∙ ap (λ l. c.push-5.new.self ++ l) c.answer_text.ensures.value)
+    c.push-3.ensures.text
+    (c.push-4.ensures.text ∙ ap (λ l. c.push-3.new.self ++ l) (c.as_bytes.ensures.value ∙ c.format.ensures.text))
+    c.push_answer.ensures
