@@ -7,3 +7,4 @@ pub mod Numbers
 pub mod Pieces
 pub mod Reading
 pub mod Taken
+pub mod WithoutItems

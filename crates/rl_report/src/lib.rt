@@ -2,6 +2,7 @@
 #![tactic(auto)]
 
 mod event;
+pub mod law;
 mod lines;
 mod memory;
 mod numbers;

@@ -1,0 +1,5 @@
+use Rattle.rl_report.proofs.EventLines.{items_are_left_out}
+use Rattle.rl_report.proofs.law.items_are_indented.Goals as goal
+
+pub returns : goal.returns
+returns c = items_are_left_out
