@@ -1,3 +1,6 @@
 pub mod OneStep
 pub mod Agree
 pub mod Plain
+pub mod Machine
+pub mod Courses
+pub mod Calls
