@@ -37,7 +37,7 @@ use Rattle.rl_model.specs.declared.rows.Item.TheVariants as item
 -- ---- a write, and a read, of an access
 
 -- no written operation failed
-all_written : (answers : List Answer) (ops : List BusOp) → answers ≡ map written_answer ops → All (λ a. a.failed ≡ false) answers
+pub all_written : (answers : List Answer) (ops : List BusOp) → answers ≡ map written_answer ops → All (λ a. a.failed ≡ false) answers
 all_written answers ops e = subst (All (λ a. a.failed ≡ false)) (sym e) (All-map (λ a. a.failed ≡ false) written_answer ops (λ k d low. refl))
 
 -- what a done operation sends, how it ends where no item failed, and the model that it then leaves

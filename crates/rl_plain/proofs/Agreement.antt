@@ -218,7 +218,7 @@ as_believed s new op event place reg d ok a inside st =
           ];
     }
 
-agree_after : (s new : Scene) (op : Op) (event : Event) (place reg : ℕ) → IsModel s.model → (a : Agree s) → reg < length s.model.chip.regs → IsStepped s new op event place reg a.device (believed s.model.chip s.model.mirror reg) → Agree new
+pub agree_after : (s new : Scene) (op : Op) (event : Event) (place reg : ℕ) → IsModel s.model → (a : Agree s) → reg < length s.model.chip.regs → IsStepped s new op event place reg a.device (believed s.model.chip s.model.mirror reg) → Agree new
 agree_after s new op event place reg ok a inside st = record {
   device = st.stepped.after;
   told = st.stepped.told;

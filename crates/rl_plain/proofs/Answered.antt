@@ -1,5 +1,5 @@
 -- Operations of which a device fails none, as the items of a call.
-use Rattle.std.proofs.Common.{◌≡◌, ℕ, suc, ◌+◌, Bool, false, cond, List, [], ◌∷◌, length, map, All, None, Some, option_map, Ok, MatchResult, refl, ap, ◌∙◌, subst}
+use Rattle.std.proofs.Common.{◌≡◌, ℕ, suc, ◌+◌, Bool, false, cond, List, [], ◌∷◌, length, map, All, Option, None, Some, option_map, Ok, MatchResult, refl, ap, ◌∙◌, subst}
 use Rattle.std.specs.List.{position_from}
 use Rattle.std.proofs.lemmas.Iterator.Adapters.{position_from-zero}
 use Rattle.std.proofs.lemmas.List.Elements.{All-head, All-tail}
@@ -15,7 +15,7 @@ use Rattle.rl_access.specs.Call.{Scene, IsDone, IsRefused, Performs}
 use Rattle.rl_access.specs.Items.{took_item, item_of, items_of, failed_at, words_answered, state_after_all as items_after, port_for, adapter_for}
 use Rattle.rl_access.specs.Model.{ModelData}
 use Rattle.rl_access.specs.Operation.{register_of}
-use Rattle.rl_access.specs.Rules.{Grant, Outcome, grant, named, sends, outcome, event_at, register_event, device_after}
+use Rattle.rl_access.specs.Rules.{Grant, Outcome, grant, named, sends, outcome, event_at, device_after}
 
 abbrev fails : TraceItem → Bool
 fails item = item.answer.failed
@@ -54,26 +54,26 @@ none_failed s d port ops h = position_from-zero fails (items_of s d port ops) �
 pub done_of : (s new : Scene) (op : Op) (place : ℕ) (event : Event) → grant s.model op ≡ Ok place → Performs s new op event → IsDone s new op place event
 done_of s new op place event granted performs = subst (λ (g : Grant). MatchResult g (λ p. IsDone s new op p event) (λ why. IsRefused s new op why event)) granted performs
 
--- what an operation over the bus sends, and what becomes of it
-pub record IsOverBus (m : ModelData) (op : Op) (place reg : ℕ) (ops : List BusOp) (o : List TraceItem → Outcome) : Type 0 where
+-- what an operation over the bus sends, and what becomes of it; the event is on this register, or on none
+pub record IsSentAs (m : ModelData) (op : Op) (place : ℕ) (on : Option ℕ) (ops : List BusOp) (o : List TraceItem → Outcome) : Type 0 where
   pub sends_are : sends m op place ≡ ops
   pub outcome_is : (sampled : ℕ) (items : List TraceItem) → outcome m op place sampled items ≡ o items
-  pub register : register_of m.chip (named m op) ≡ Some reg
+  pub register : register_of m.chip (named m op) ≡ on
   pub goes : (sampled : ℕ) (items : List TraceItem) (d : State) → device_after m op sampled items d ≡ items_after d items
 
 -- what it then did
-pub record HasRun (s new : Scene) (op : Op) (event : Event) (place reg : ℕ) (d : State) (ops : List BusOp) (o : List TraceItem → Outcome) : Type 0 where
+pub record HasRunAs (s new : Scene) (op : Op) (event : Event) (place : ℕ) (on : Option ℕ) (d : State) (ops : List BusOp) (o : List TraceItem → Outcome) : Type 0 where
   pub none : failed_at event.trace ≡ None
   pub words : words_answered event.trace ≡ map (λ a. a.word) (answers_of d (port_for s.model.layout place) ops)
   pub count : length event.trace ≡ length ops
   pub told : new.device ≡ Some (ops_after d (port_for s.model.layout place) ops)
-  pub event_is : event ≡ register_event (named s.model op) reg event.trace (o event.trace)
+  pub event_is : event ≡ event_at on (named s.model op) event.trace (o event.trace)
   pub model : new.model ≡ (o event.trace).model
 
-pub has_run : (s new : Scene) (op : Op) (event : Event) (place reg : ℕ) (d : State) (ops : List BusOp) (o : List TraceItem → Outcome) →
-    IsDone s new op place event → s.device ≡ Some d → IsOverBus s.model op place reg ops o → All (λ a. a.failed ≡ false) (answers_of d (port_for s.model.layout place) ops) →
-    HasRun s new op event place reg d ops o
-has_run s new op event place reg d ops o done told over fine_all =
+pub has_run_as : (s new : Scene) (op : Op) (event : Event) (place : ℕ) (on : Option ℕ) (d : State) (ops : List BusOp) (o : List TraceItem → Outcome) →
+    IsDone s new op place event → s.device ≡ Some d → IsSentAs s.model op place on ops o → All (λ a. a.failed ≡ false) (answers_of d (port_for s.model.layout place) ops) →
+    HasRunAs s new op event place on d ops o
+has_run_as s new op event place on d ops o done told over fine_all =
     let m = s.model in
     let port = port_for m.layout place in
     let st : Standing = standing_at s.adapters (adapter_for m.layout place) in
@@ -91,6 +91,18 @@ has_run s new op event place reg d ops o done told over fine_all =
       event_is =
           done.event_is
           ∙ ap (λ r. event_at r (named m op) event.trace (outcome m op place done.sampled event.trace)) over.register
-          ∙ ap (register_event (named m op) reg event.trace) out;
+          ∙ ap (event_at on (named m op) event.trace) out;
       model = done.model ∙ ap (λ (x : Outcome). x.model) out;
     }
+
+-- the same of an operation on a register
+abbrev pub IsOverBus : ModelData → Op → (place reg : ℕ) → List BusOp → (List TraceItem → Outcome) → Type 0
+IsOverBus m op place reg ops o = IsSentAs m op place (Some reg) ops o
+
+abbrev pub HasRun : (s new : Scene) → Op → Event → (place reg : ℕ) → State → List BusOp → (List TraceItem → Outcome) → Type 0
+HasRun s new op event place reg d ops o = HasRunAs s new op event place (Some reg) d ops o
+
+pub has_run : (s new : Scene) (op : Op) (event : Event) (place reg : ℕ) (d : State) (ops : List BusOp) (o : List TraceItem → Outcome) →
+    IsDone s new op place event → s.device ≡ Some d → IsOverBus s.model op place reg ops o → All (λ a. a.failed ≡ false) (answers_of d (port_for s.model.layout place) ops) →
+    HasRun s new op event place reg d ops o
+has_run s new op event place reg d ops o done told over fine_all = has_run_as s new op event place (Some reg) d ops o done told over fine_all

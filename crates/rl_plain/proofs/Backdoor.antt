@@ -220,7 +220,7 @@ read_agrees s new a reg sampled ok inside found told is =
     (read_here c reg (back_value s.model reg sampled) s.model.mirror h.within ∙ ap (λ x. learned_by_read fs (bit every_field) (shown fs x) m) sample ∙ sym (left_learned fs m few))
     (λ q other. read_other c reg (back_value s.model reg sampled) q s.model.mirror other) (read_spent c reg (back_value s.model reg sampled) s.model.mirror)
 
-back_done : (s new : Scene) (op : Op) (event : Event) (place : ℕ) → IsBackdoor op → HasNumbers s.model.chip (length s.model.layout.maps) op → IsModel s.model → Agree s → IsDone s new op place event → Agree new
+pub back_done : (s new : Scene) (op : Op) (event : Event) (place : ℕ) → IsBackdoor op → HasNumbers s.model.chip (length s.model.layout.maps) op → IsModel s.model → Agree s → IsDone s new op place event → Agree new
 back_done s new (op.BackWrite reg value) event place is numbers ok a done =
     let by = alone_by s new (op.BackWrite reg value) event place a.device done a.told refl in
     raw_agrees s new a reg (back_written s.model reg value done.sampled) ok numbers by.told by.model

@@ -3,6 +3,7 @@ use Rattle.std.proofs.Common.{◌≡◌, ℕ, ◌-◌, ◌^◌, ◌<◌, Bool, t
 use Rattle.std.specs.Int.{bit_at}
 use Rattle.std.specs.Prelude.{slice_set}
 use Rattle.std.proofs.lemmas.Bool.{cases_eq}
+use Rattle.std.proofs.lemmas.List.{length-set}
 use Rattle.std.proofs.lemmas.List.Elements.{All-set}
 use Rattle.std.proofs.lemmas.Nat.Bits.{bit_at-pow_same, bit_at-pow_other}
 use Rattle.rl_policy.specs.Bits.{bit}
@@ -45,6 +46,14 @@ forgotten_by : (explicit : Bool) (place : ℕ) (gathered : List Gathered) → Is
 forgotten_by true place gathered none = All-set (λ g. g ≡ no_words) gathered place no_words refl none
 forgotten_by false place gathered none = none
 
+forgotten_many : (explicit : Bool) (place : ℕ) (gathered : List Gathered) → length (cond explicit (slice_set gathered place no_words) gathered) ≡ length gathered
+forgotten_many true place gathered = length-set gathered place no_words
+forgotten_many false place gathered = refl
+
+kept_many : (alone : Bool) (xs ys : List Gathered) → length ys ≡ length xs → length (cond alone xs ys) ≡ length xs
+kept_many true xs ys e = refl
+kept_many false xs ys e = e
+
 kept_by : (alone : Bool) (xs ys : List Gathered) → IsNothingGathered xs → IsNothingGathered ys → IsNothingGathered (cond alone xs ys)
 kept_by true xs ys p q = p
 kept_by false xs ys p q = q
@@ -55,6 +64,7 @@ pub record IsEntry (m entry : ModelData) : Type 0 where
   pub layout : entry.layout ≡ m.layout
   pub mirror : entry.mirror ≡ m.mirror
   pub gathered : IsNothingGathered m.gathered → IsNothingGathered entry.gathered
+  pub many : length entry.gathered ≡ length m.gathered
 
 pub whole_entry : (m : ModelData) (place : ℕ) → IsEntry m (forgetting m place)
 whole_entry m place = record {
@@ -62,6 +72,7 @@ whole_entry m place = record {
   layout = refl;
   mirror = refl;
   gathered = λ none. forgotten_by (port_at m.layout (place_at m.layout place).port).explicit place m.gathered none;
+  many = forgotten_many (port_at m.layout (place_at m.layout place).port).explicit place m.gathered;
 }
 
 pub field_entry : (m : ModelData) (field place : ℕ) (write : Bool) → IsEntry m (forgetting_field m field place write)
@@ -71,6 +82,7 @@ field_entry m field place write = record {
   mirror = refl;
   gathered = λ none. kept_by (is_alone m field place write) m.gathered (forgotten m.layout place m.gathered) none
       (forgotten_by (port_at m.layout (place_at m.layout place).port).explicit place m.gathered none);
+  many = kept_many (is_alone m field place write) m.gathered (forgotten m.layout place m.gathered) (forgotten_many (port_at m.layout (place_at m.layout place).port).explicit place m.gathered);
 }
 
 -- ---- what is believed afterwards
@@ -94,6 +106,7 @@ pub record Followed (m new : ModelData) (reg : ℕ) (step : Step) (r : Register)
   pub chip : new.chip ≡ m.chip
   pub layout : new.layout ≡ m.layout
   pub gathered : IsNothingGathered m.gathered → IsNothingGathered new.gathered
+  pub many : length new.gathered ≡ length m.gathered
   pub mirror : FollowsStep m.chip reg m.mirror new.mirror r step
 
 pub write_follows : (m entry : ModelData) (reg word fields : ℕ) (chosen : ℕ → Bool) (r : Register) (new : ModelData) → IsEntry m entry → AreChosen (fields_of m.chip reg) chosen fields →
@@ -102,6 +115,7 @@ write_follows m entry reg word fields chosen r new is are e = record {
   chip = ap (λ (x : ModelData). x.chip) e ∙ is.chip;
   layout = ap (λ (x : ModelData). x.layout) e ∙ is.layout;
   gathered = λ none. subst IsNothingGathered (sym (ap (λ (x : ModelData). x.gathered) e)) (is.gathered none);
+  many = ap (λ (x : ModelData). length x.gathered) e ∙ is.many;
   mirror = record {
     fields = fields;
     are = are;
@@ -115,6 +129,7 @@ read_follows m entry reg fields chosen r new is are e = record {
   chip = ap (λ (x : ModelData). x.chip) e ∙ is.chip;
   layout = ap (λ (x : ModelData). x.layout) e ∙ is.layout;
   gathered = λ none. subst IsNothingGathered (sym (ap (λ (x : ModelData). x.gathered) e)) (is.gathered none);
+  many = ap (λ (x : ModelData). length x.gathered) e ∙ is.many;
   mirror = record {
     fields = fields;
     are = are;
@@ -130,5 +145,6 @@ nothing_follows m reg r new e = record {
   chip = ap (λ (x : ModelData). x.chip) e;
   layout = ap (λ (x : ModelData). x.layout) e;
   gathered = λ none. subst IsNothingGathered (sym (ap (λ (x : ModelData). x.gathered) e)) none;
+  many = ap (λ (x : ModelData). length x.gathered) e;
   mirror = ap (λ (x : ModelData). x.mirror) e;
 }

@@ -10,7 +10,7 @@ use Rattle.rl_plain.specs.Agree.{HardwareKeepsAgreement}
 use Rattle.rl_plain.proofs.Agreement.{refused_agree}
 use Rattle.rl_plain.proofs.Granted.{only_ok}
 
-volatile_where : (m : ModelData) (field value place : ℕ) → grant m (op.Hw field value) ≡ Ok place → (field_of m.chip field).shape.volatile ≡ true
+pub volatile_where : (m : ModelData) (field value place : ℕ) → grant m (op.Hw field value) ≡ Ok place → (field_of m.chip field).shape.volatile ≡ true
 volatile_where m field value place e =
     let first = only_ok (only_where (Ok 0) (field_of m.chip field).shape.volatile NotVolatile) (nat_lt value (2 ^ field_width m.chip field)) TooWide place e in
     (only_ok (Ok 0) (field_of m.chip field).shape.volatile NotVolatile place first.0).1

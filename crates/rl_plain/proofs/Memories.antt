@@ -26,7 +26,7 @@ poked_there c l m d mem index value a = record {
   alone = a.alone;
 }
 
-memory_done : (s new : Scene) (op : Op) (event : Event) (place : ℕ) → IsMemoryBackdoor op → Agree s → IsDone s new op place event → Agree new
+pub memory_done : (s new : Scene) (op : Op) (event : Event) (place : ℕ) → IsMemoryBackdoor op → Agree s → IsDone s new op place event → Agree new
 memory_done s new (op.MemPeek mem index) event place is a done =
     let by = alone_by s new (op.MemPeek mem index) event place a.device done a.told refl in
     stays_agreed s new s.model.mirror a by.told by.model (λ reg. refl)

@@ -16,7 +16,7 @@ use Rattle.rl_access.specs.Rules.{Outcome, every_field, whole, field_alone, or_e
 
 -- ---- how they end where no item failed
 
-good_is : (f : Option ℕ) (m : ModelData) (good : Outcome) → f ≡ None → or_error f m good ≡ good
+pub good_is : (f : Option ℕ) (m : ModelData) (good : Outcome) → f ≡ None → or_error f m good ≡ good
 good_is None m good e = refl
 good_is (Some k) m good e = absurd (cc)
 

@@ -1,4 +1,4 @@
--- What is believed goes by the steps of whole registers.
+-- What is believed after a prediction is the plain machine after a step.
 use Rattle.std.proofs.Common.{◌≡◌, ◌⊎◌, ℕ, ◌+◌, ◌-◌, ◌<◌, ◌≤◌, Bool, true, false, cond, not, ◌&&◌, ◌||◌, eqb, eq-eqb, ne_eqb, List, length, map, get_or, Option, None, Some, refl, sym, ap, ◌∙◌, subst, inl, inr, arith}
 use Rattle.std.specs.Prelude.{slice_set}
 use Rattle.std.specs.List.{range_with_len}
@@ -22,8 +22,7 @@ use Rattle.rl_mirror.proofs.FieldLemmas.{seated, length-fields_of}
 use Rattle.rl_mirror.proofs.PlaceLemmas.{place_is}
 use Rattle.rl_mirror.proofs.SpentLemmas.{length-spent_after}
 use Rattle.rl_plain.specs.OneStep.{Step, write_step, read_step, no_step}
-use Rattle.rl_plain.specs.Agree.{believed}
-use Rattle.rl_plain.specs.Plain.{desired_after, stepped}
+use Rattle.rl_plain.specs.Machine.{Machine, register_at, mirror_of, desired_after, stepped}
 use Rattle.rl_plain.proofs.Registers.{AreChosen, written_bits, left_bits, bit-ranswer, marks_after}
 use Rattle.rl_plain.proofs.Followed.{FollowsStep}
 use Rattle.rl_plain.proofs.Agreement.{spent-wstep, spent-rstep}
@@ -151,12 +150,13 @@ mirror_with mirrored desired spent = record { mirrored = mirrored; desired = des
 same_mirror : (a b x y : List ℕ) (s t : List Bool) → a ≡ b → x ≡ y → s ≡ t → mirror_with a x s ≡ mirror_with b y t
 same_mirror a b x y s t p q r = ap (λ l. mirror_with l x s) p ∙ ap (λ l. mirror_with b l s) q ∙ ap (λ l. mirror_with b y l) r
 
-write_stepped : (c : ChipData) (reg word fields : ℕ) (chosen : ℕ → Bool) (m : MirrorData) → IsSound c → reg < length c.regs → IsMirrorOf c m → AreChosen (fields_of c reg) chosen fields →
-    predict_write c reg word fields m ≡ stepped c reg (write_step chosen word) m
+write_stepped : (c : ChipData) (reg word fields : ℕ) (chosen : ℕ → Bool) (p : Machine) → IsSound c → reg < length c.regs → IsMirrorOf c (mirror_of p) → AreChosen (fields_of c reg) chosen fields →
+    predict_write c reg word fields (mirror_of p) ≡ mirror_of (stepped c reg (write_step chosen word) p)
 unfolding predict_write
-write_stepped c reg word fields chosen m sound l built are =
+write_stepped c reg word fields chosen p sound l built are =
+    let m = mirror_of p in
     let fs = fields_of c reg in
-    let r = believed c m reg in
+    let r = register_at c p reg in
     let x = wstep fs chosen word r in
     same_mirror (slice_set m.mirrored reg (learned_by_write fs (bit fields) r.spent r.bits word r.bits)) (slice_set m.mirrored reg x.bits)
     (slice_set m.desired reg (learned_by_write fs (bit fields) r.spent r.bits word (desired_of m reg))) (slice_set m.desired reg (desired_after fs (write_step chosen word) x.bits (desired_of m reg)))
@@ -170,12 +170,13 @@ write_stepped c reg word fields chosen m sound l built are =
       others = λ n inside other. others_stay c reg fields n m.spent (omega (arith, inside, built.marks)) other;
     }))
 
-pub read_stepped : (c : ChipData) (reg fields : ℕ) (chosen : ℕ → Bool) (m : MirrorData) → IsSound c → reg < length c.regs → IsMirrorOf c m → AreChosen (fields_of c reg) chosen fields →
-    predict_read c reg (ranswer (fields_of c reg) chosen (believed c m reg)) fields m ≡ stepped c reg (read_step chosen) m
+pub read_stepped : (c : ChipData) (reg fields : ℕ) (chosen : ℕ → Bool) (p : Machine) → IsSound c → reg < length c.regs → IsMirrorOf c (mirror_of p) → AreChosen (fields_of c reg) chosen fields →
+    predict_read c reg (ranswer (fields_of c reg) chosen (register_at c p reg)) fields (mirror_of p) ≡ mirror_of (stepped c reg (read_step chosen) p)
 unfolding predict_read
-read_stepped c reg fields chosen m sound l built are =
+read_stepped c reg fields chosen p sound l built are =
+    let m = mirror_of p in
     let fs = fields_of c reg in
-    let r = believed c m reg in
+    let r = register_at c p reg in
     let x = rstep fs chosen r in
     let read = ranswer fs chosen r in
     same_mirror (slice_set m.mirrored reg (learned_by_read fs (bit fields) read r.bits)) (slice_set m.mirrored reg x.bits)
@@ -185,8 +186,8 @@ read_stepped c reg fields chosen m sound l built are =
     (ap (slice_set m.desired reg) (desired_left fs chosen fields (desired_of m reg) r are))
     (replaced c reg x.spent m.spent m.spent sound l built.marks (record { many = refl; own = λ k place. spent-rstep fs chosen r k; others = λ n inside other. refl }))
 
--- what is believed after an access is the plain machine's state
-pub plain_state : (c : ChipData) (reg : ℕ) (old new : MirrorData) (step : Step) → IsSound c → reg < length c.regs → IsMirrorOf c old → FollowsStep c reg old new (believed c old reg) step → new ≡ stepped c reg step old
-plain_state c reg old new (write_step chosen word) sound l built f = f.is ∙ write_stepped c reg word f.fields chosen old sound l built f.are
-plain_state c reg old new (read_step chosen) sound l built f = f.is ∙ read_stepped c reg f.fields chosen old sound l built f.are
-plain_state c reg old new no_step sound l built f = f
+-- what is believed after a step is the machine's
+pub plain_state : (c : ChipData) (reg : ℕ) (p : Machine) (new : MirrorData) (step : Step) → IsSound c → reg < length c.regs → IsMirrorOf c (mirror_of p) → FollowsStep c reg (mirror_of p) new (register_at c p reg) step → new ≡ mirror_of (stepped c reg step p)
+plain_state c reg p new (write_step chosen word) sound l built f = f.is ∙ write_stepped c reg word f.fields chosen p sound l built f.are
+plain_state c reg p new (read_step chosen) sound l built f = f.is ∙ read_stepped c reg f.fields chosen p sound l built f.are
+plain_state c reg p new no_step sound l built f = f

@@ -230,7 +230,7 @@ after c l d m kind sound built a =
 
 -- ---- the call
 
-reset_done : (s new : Scene) (op : Op) (event : Event) (place : ℕ) → IsReset op → IsModel s.model → Agree s → IsDone s new op place event → Agree new
+pub reset_done : (s new : Scene) (op : Op) (event : Event) (place : ℕ) → IsReset op → IsModel s.model → Agree s → IsDone s new op place event → Agree new
 reset_done s new (op.Reset kind) event place is ok a done =
     let m = s.model in
     let d = a.device in

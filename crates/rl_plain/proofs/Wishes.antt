@@ -40,7 +40,7 @@ stays_agreed s new mirror a told is same =
       gathered = subst (λ (x : ModelData). IsNothingGathered x.gathered) (sym is) a.gathered;
     }
 
-wish_done : (s new : Scene) (op : Op) (event : Event) (place : ℕ) → IsWish op → Agree s → IsDone s new op place event → Agree new
+pub wish_done : (s new : Scene) (op : Op) (event : Event) (place : ℕ) → IsWish op → Agree s → IsDone s new op place event → Agree new
 wish_done s new (op.Set field value) event place is a done =
     let m = s.model in
     let wished : MirrorData = set m.chip field value m.mirror in

@@ -9,7 +9,7 @@ use Rattle.rl_model.specs.Fields.{field_of, fields_of, policy_in, place_at}
 use Rattle.rl_map.specs.Layout.{LayoutData}
 use Rattle.rl_map.specs.Tables.{setup_of}
 use Rattle.rl_split.specs.Step.{Register}
-use Rattle.rl_split.specs.Law.{IsReady, Holds, no_flaws}
+use Rattle.rl_split.specs.Law.{IsReady, Holds, HasLocation, no_flaws}
 use Rattle.rl_mirror.specs.Mirror.{MirrorData, mirrored_of, marks_in}
 use Rattle.rl_mirror.specs.Prediction.{fresh}
 use Rattle.rl_access.specs.declared.event.Event.{Event}
@@ -18,7 +18,8 @@ use Rattle.rl_access.specs.declared.event.Op.TheVariants as op
 use Rattle.rl_access.specs.Call.{Scene, Performs}
 use Rattle.rl_access.specs.Gathering.{IsNothingGathered}
 use Rattle.rl_access.specs.Model.{IsModel}
-use Rattle.rl_access.specs.Operation.{HasNumbers}
+use Rattle.rl_access.specs.Operation.{location_size, HasNumbers}
+use Rattle.rl_access.specs.Rules.{memory_size}
 use Rattle.rl_plain.specs.OneStep.{IsAccess}
 
 -- what is believed of a register: its mirrored value, and the marks of its fields
@@ -106,6 +107,26 @@ ResetKeepsAgreement = KeepsAgreement IsReset
 
 abbrev pub HardwareKeepsAgreement : Type 0
 HardwareKeepsAgreement = KeepsAgreement IsHardware
+
+-- ---- accesses to a memory over the bus
+
+-- on memories over the bus
+abbrev pub IsMemoryAccess : Op → Type 0
+IsMemoryAccess (op.MemWrite mem map index value) = Unit {0}
+IsMemoryAccess (op.MemRead mem map index) = Unit {0}
+IsMemoryAccess (op.MemCheck mem map index value) = Unit {0}
+IsMemoryAccess _ = ⊥
+
+-- the device has each location of the memories, and nothing past its bytes in it
+abbrev pub HasLocations : ChipData → State → Type 0
+HasLocations c d = (mem index : ℕ) → mem < length c.mems → index < memory_size c mem → HasLocation d mem index (location_size c mem)
+
+-- an access to a memory over the bus leaves a device and a model that agree in agreement
+abbrev pub MemoryAccessKeepsAgreement : Type 0
+MemoryAccessKeepsAgreement =
+    (s new : Scene) (op : Op) (event : Event)
+    → IsMemoryAccess op → HasNumbers s.model.chip (length s.model.layout.maps) op → IsModel s.model → (a : Agree s) → HasLocations s.model.chip a.device
+    → Performs s new op event → Agree new
 
 -- ---- where they begin
 

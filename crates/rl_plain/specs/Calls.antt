@@ -1,31 +1,33 @@
 -- Each call on a device without flaws is the plain machine's.
-use Rattle.std.specs.Prelude.{◌≡◌, ℕ, ◌<◌, List, [], ◌∷◌, length, map, All, slice_index, Some, sum_by}
+use Rattle.std.specs.Prelude.{◌≡◌, ℕ, ◌<◌, List, [], length, map, All, slice_index, Some, sum_by}
 use Rattle.rl_bus.specs.Setup.{location}
 use Rattle.rl_bus.specs.State.{State, first_state}
 use Rattle.rl_model.specs.Rows.{ChipData}
+use Rattle.rl_map.specs.Layout.{LayoutData}
 use Rattle.rl_map.specs.Tables.{setup_of}
 use Rattle.rl_split.specs.Law.{HasLocation, no_flaws}
 use Rattle.rl_mirror.specs.Prediction.{fresh}
 use Rattle.rl_access.specs.declared.event.Event.{Event}
 use Rattle.rl_access.specs.declared.event.Op.{Op}
-use Rattle.rl_access.specs.Call.{Scene, Performs}
+use Rattle.rl_access.specs.declared.event.Refused.{Refused}
+use Rattle.rl_access.specs.Call.{Scene, IsRefused, Performs}
 use Rattle.rl_access.specs.Gathering.{IsNothingGathered}
 use Rattle.rl_access.specs.HandsOver.{Told}
-use Rattle.rl_access.specs.Model.{ModelData, IsModel}
+use Rattle.rl_access.specs.Model.{ModelData, IsModel, IsSameChip}
 use Rattle.rl_access.specs.Operation.{location_size, HasNumbers}
 use Rattle.rl_access.specs.Rules.{memory_size}
 use Rattle.rl_access.specs.Runs.{RunsThrough}
 use Rattle.rl_seq.specs.Plan.{Plan, stop, step, look, Runs}
 use Rattle.rl_plain.specs.Agree.{HasNoVolatile, Agree}
-use Rattle.rl_plain.specs.Machine.{Machine, seen, first_machine, machine_step}
-use Rattle.rl_plain.specs.Courses.{through, along}
+use Rattle.rl_plain.specs.Machine.{Machine, seen, first_machine, refused_at, machine_step}
+use Rattle.rl_plain.specs.Courses.{Course, through, along}
 
 -- the event without its items
 abbrev pub without_items : Event → Event
 without_items e = record e { trace = [] }
 
--- the device has the location, which holds what the machine's does
-pub record IsLocationOf (c : ChipData) (d : State) (p : Machine) (mem index : ℕ) : Type 0 where
+-- the device has the location, which holds what it holds in the machine
+pub record HasContent (c : ChipData) (d : State) (p : Machine) (mem index : ℕ) : Type 0 where
   pub has : HasLocation d mem index (location_size c mem)
   pub holds : slice_index d.locations (location d.setup mem index) ≡ p.locations mem index
 
@@ -34,7 +36,7 @@ pub record IsLocationOf (c : ChipData) (d : State) (p : Machine) (mem index : �
 pub record IsMachineOf (s : Scene) (p : Machine) : Type 0 where
   pub agree : Agree s
   pub model : s.model ≡ seen s.model.chip s.model.layout p
-  pub locations : (mem index : ℕ) → mem < length s.model.chip.mems → index < memory_size s.model.chip mem → IsLocationOf s.model.chip agree.device p mem index
+  pub locations : (mem index : ℕ) → mem < length s.model.chip.mems → index < memory_size s.model.chip mem → HasContent s.model.chip agree.device p mem index
 
 -- ---- every call leaves them so, and its event without items is the machine's; it is so too where the call is refused
 
@@ -44,6 +46,48 @@ CallIsPlain =
     → HasNumbers s.model.chip (length s.model.layout.maps) op → IsModel s.model → IsMachineOf s p → Performs s new op event
     → let done = machine_step s.model.chip s.model.layout p op in
     IsMachineOf new done.machine × (without_items event ≡ done.event)
+
+-- the model is again one, of the same chip and layout
+abbrev pub CallKeepsModel : Type 0
+CallKeepsModel =
+    (s new : Scene) (op : Op) (event : Event) (p : Machine)
+    → HasNumbers s.model.chip (length s.model.layout.maps) op → IsModel s.model → IsMachineOf s p → Performs s new op event
+    → IsModel new.model × IsSameChip s.model new.model
+
+-- ---- operations one after another
+
+pub record IsPlainCourse (s new : Scene) (told : List Told) (course : Course) : Type 0 where
+  pub machine : IsMachineOf new course.machine
+  pub model : IsModel new.model
+  pub same : IsSameChip s.model new.model
+  pub events : map (λ t. without_items t.event) told ≡ course.events
+
+-- those of a burst: none ends by a bus error
+abbrev pub RunIsPlain : Type 0
+RunIsPlain =
+    (s new : Scene) (ops : List Op) (told : List Told) (p : Machine)
+    → All (HasNumbers s.model.chip (length s.model.layout.maps)) ops → IsModel s.model → IsMachineOf s p → RunsThrough s ops told new
+    → IsPlainCourse s new told (through s.model.chip s.model.layout p ops)
+
+-- every operation of a plan has its numbers, whatever is believed
+abbrev pub PlanHasNumbers : ChipData → LayoutData → Plan → Type 0
+PlanHasNumbers c l stop = Unit {0}
+PlanHasNumbers c l (step op plan) = HasNumbers c (length l.maps) op × PlanHasNumbers c l plan
+PlanHasNumbers c l (look f) = (m : ModelData) → m.chip ≡ c → m.layout ≡ l → PlanHasNumbers c l (f m)
+
+-- those of a plan
+abbrev pub PlanIsPlain : Type 0
+PlanIsPlain =
+    (s new : Scene) (plan : Plan) (told : List Told) (p : Machine)
+    → PlanHasNumbers s.model.chip s.model.layout plan → IsModel s.model → IsMachineOf s p → Runs plan s told new
+    → IsPlainCourse s new told (along s.model.chip s.model.layout p plan)
+
+-- an operation that is refused as a whole, for whatever cause
+abbrev pub RefusedIsPlain : Type 0
+RefusedIsPlain =
+    (s new : Scene) (op : Op) (why : Refused) (event : Event) (p : Machine)
+    → IsMachineOf s p → IsRefused s new op why event
+    → IsMachineOf new p × (without_items event ≡ (refused_at s.model.chip s.model.layout op why p).event)
 
 -- ---- where they begin
 
