@@ -1,5 +1,5 @@
 -- A new device and a new model are those of the first machine.
-use Rattle.std.proofs.Common.{◌≡◌, ℕ, ◌*◌, ◌^◌, ◌<◌, length, replicate, refl, sym, ap, ◌∙◌, subst}
+use Rattle.std.proofs.Common.{◌≡◌, ℕ, ◌*◌, ◌^◌, ◌<◌, length, replicate, Some, refl, sym, ap, ◌∙◌, subst}
 use Rattle.std.specs.Prelude.{slice_index, sum_by}
 use Rattle.std.proofs.lemmas.List.{get_or-replicate, length-replicate}
 use Rattle.std.proofs.lemmas.Nat.{pow_pos}
@@ -57,8 +57,11 @@ pub first_ones_are_plain : FirstOnesArePlain
 first_ones_are_plain s ok steady mirror gathered told =
     let c = s.model.chip in
     let l = s.model.layout in
+    let a = new_ones_agree s (sum_by (λ m. m.size) c.mems) ok.chip steady mirror gathered told in
+    let both : Some (first c l) ≡ Some a.device = sym told ∙ a.told in
+    let same : first c l ≡ a.device = cc in
     record {
-      agree = new_ones_agree s (sum_by (λ m. m.size) c.mems) ok.chip steady mirror gathered told;
+      agree = a;
       model = seen_is c l (first_machine c) s.model refl refl (mirror ∙ fresh_is c) (none_of s.model.gathered (length l.places) ok.predictor.count gathered);
-      locations = λ mem index inside low. first_content c l mem index inside low;
+      locations = λ mem index inside low. subst (λ d. HasContent c d (first_machine c) mem index) same (first_content c l mem index inside low);
     }

@@ -69,9 +69,9 @@ nothing_more s new p same ok is = record {
 
 -- ---- a list of operations
 
-going_on : {A B : Type 0} (b : Bool) → b ≡ false → MatchBool b A B → B
-going_on true e m = absurd (cc)
-going_on false e m = m
+going_on : (A B : Type 0) (b : Bool) → b ≡ false → MatchBool b A B → B
+going_on A B true e m = absurd (cc)
+going_on A B false e m = m
 
 through_nil : (c : ChipData) (l : LayoutData) (p : Machine) → through c l p [] ≡ record { events = []; machine = p }
 unfolding through
@@ -94,7 +94,7 @@ run_is_plain s new (op ∷ ops) (t ∷ told) p numbers ok is (mid, first, rest) 
     let next = (machine_step c l p op).machine in
     let others : All (HasNumbers mid.model.chip (length mid.model.layout.maps)) ops =
     subst (λ x. All (HasNumbers x (length mid.model.layout.maps)) ops) (sym after.same.chip) (subst (λ (x : LayoutData). All (HasNumbers c (length x.maps)) ops) (sym after.same.layout) (All-tail (HasNumbers c maps) op ops numbers)) in
-    let more = run_is_plain mid new ops told next others after.ok after.machine (going_on (is_bus_error t.event.end) fine rest) in
+    let more = run_is_plain mid new ops told next others after.ok after.machine (going_on _ _ (is_bus_error t.event.end) fine rest) in
     let here : IsPlainCourse mid new told (through c l next ops) =
     subst (λ x. IsPlainCourse mid new told (through x l next ops)) after.same.chip (subst (λ x. IsPlainCourse mid new told (through mid.model.chip x next ops)) after.same.layout more) in
     subst (IsPlainCourse s new (t ∷ told)) (sym (through_cons c l p op ops)) (one_more s mid new t told p op (λ after. through c l after ops) after here)
