@@ -93,10 +93,10 @@ locations_after c d reg no_step r count = refl
 
 -- ---- each access
 
-access_by : (c : ChipData) (l : LayoutData) (p : Machine) (adapters : List Standing) (errors : ℕ) (told : Option State) (new : Scene) (op : Op) (event : Event) (place reg : ℕ) →
+access_by : {which : ℕ → ℕ → Type 0} (c : ChipData) (l : LayoutData) (p : Machine) (adapters : List Standing) (errors : ℕ) (told : Option State) (new : Scene) (op : Op) (event : Event) (place reg : ℕ) →
     let s = scene (seen c l p) adapters errors told in
-    IsAccess op → IsModel s.model → (a : Agree s) → HasContents c a.device p → register_of c op ≡ Some reg → reg < length c.regs → IsStepped s new op event place reg a.device (register_at c p reg) → IsMachineStep c l p new op place event
-access_by c l p adapters errors told new op event place reg is ok a has register inside st =
+    IsAccess op → IsModel s.model → (a : Agree s) → HasContents which c a.device p → register_of c op ≡ Some reg → reg < length c.regs → IsStepped s new op event place reg a.device (register_at c p reg) → IsMachineStep which c l p new op place event
+access_by {which} c l p adapters errors told new op event place reg is ok a has register inside st =
     let s = scene (seen c l p) adapters errors told in
     let m = s.model in
     let r = register_at c p reg in
@@ -113,16 +113,16 @@ access_by c l p adapters errors told new op event place reg is ok a has register
       kept = step_kept c reg (mirror_of p) new.model.mirror r step ok.chip inside (record { built = ok.mirror; reach = ok.reach }) st.follows.mirror;
       after = st.stepped.after;
       told = st.stepped.told;
-      contents = subst (HasContents c st.stepped.after) row
+      contents = subst (HasContents which c st.stepped.after) row
           (contents_stay c a.device st.stepped.after p (stepped c reg step p) has
           (ap (λ (x : State). x.setup) moved ∙ setup_after c a.device reg step r count) (ap (λ (x : State). x.locations) moved ∙ locations_after c a.device reg step r count) (stepped_locations c reg step p));
       ends = st.stepped.ends ∙ ends_as c l op place reg p is register;
       finds = st.finds ∙ finds_as c op reg p is ok.chip inside;
     }
 
-pub access_step : (c : ChipData) (l : LayoutData) (p : Machine) (adapters : List Standing) (errors : ℕ) (told : Option State) (new : Scene) (op : Op) (event : Event) (place : ℕ) →
+pub access_step : {which : ℕ → ℕ → Type 0} (c : ChipData) (l : LayoutData) (p : Machine) (adapters : List Standing) (errors : ℕ) (told : Option State) (new : Scene) (op : Op) (event : Event) (place : ℕ) →
     let s = scene (seen c l p) adapters errors told in
-    IsAccess op → HasNumbers c (length l.maps) op → IsModel s.model → (a : Agree s) → HasContents c a.device p → grant s.model op ≡ Ok place → IsDone s new op place event → IsMachineStep c l p new op place event
+    IsAccess op → HasNumbers c (length l.maps) op → IsModel s.model → (a : Agree s) → HasContents which c a.device p → grant s.model op ≡ Ok place → IsDone s new op place event → IsMachineStep which c l p new op place event
 access_step c l p adapters errors told new op event place is numbers ok a has granted done =
     let s = scene (seen c l p) adapters errors told in
     let n = register_in c (length l.maps) op ok.chip is numbers in

@@ -49,7 +49,7 @@ use Rattle.rl_plain.proofs.Followed.{all_chosen}
 use Rattle.rl_plain.proofs.Granted.{only_ok}
 use Rattle.rl_plain.proofs.Kept.{IsKept, raw_built, read_kept}
 use Rattle.rl_plain.proofs.Locations.{memory_row}
-use Rattle.rl_plain.proofs.MachineSteps.{HasContents, contents_stay, contents_stored, IsMachineStep}
+use Rattle.rl_plain.proofs.MachineSteps.{HasContents, everywhere, contents_stay, contents_stored, IsMachineStep}
 use Rattle.rl_plain.proofs.Memories.{memory_done}
 use Rattle.rl_plain.proofs.PlainSteps.{read_stepped}
 use Rattle.rl_plain.proofs.Resets.{reset_done}
@@ -76,8 +76,8 @@ told_alone s new op event place d done told none =
     }
 
 -- the mirror alone changes in the model
-pub quiet_step : (c : ChipData) (l : LayoutData) (p : Machine) (new : Scene) (op : Op) (place : ℕ) (event : Event) (after : State) (mirror : MirrorData) (e : End) (found : ℕ) → Agree new → new.model ≡ record (seen c l p) { mirror = mirror } → new.device ≡ Some after →
-    event.end ≡ e → event.differ ≡ found → IsKept c mirror → mirror ≡ mirror_of (machine_after c l op place p) → e ≡ machine_end c l op place p → found ≡ machine_differ op p → HasContents c after (machine_after c l op place p) → IsMachineStep c l p new op place event
+pub quiet_step : {which : ℕ → ℕ → Type 0} (c : ChipData) (l : LayoutData) (p : Machine) (new : Scene) (op : Op) (place : ℕ) (event : Event) (after : State) (mirror : MirrorData) (e : End) (found : ℕ) → Agree new → new.model ≡ record (seen c l p) { mirror = mirror } → new.device ≡ Some after →
+    event.end ≡ e → event.differ ≡ found → IsKept c mirror → mirror ≡ mirror_of (machine_after c l op place p) → e ≡ machine_end c l op place p → found ≡ machine_differ op p → HasContents which c after (machine_after c l op place p) → IsMachineStep which c l p new op place event
 quiet_step c l p new op place event after mirror e found agree model told ends finds kept state ended differs contents = record {
   agree = agree;
   chip = ap (λ (m : ModelData). m.chip) model;
@@ -168,9 +168,9 @@ found_in c l p adapters errors told reg sampled d h found =
 
 -- ---- each operation of the backdoor on registers
 
-pub back_step : (c : ChipData) (l : LayoutData) (p : Machine) (adapters : List Standing) (errors : ℕ) (told : Option State) (new : Scene) (op : Op) (event : Event) (place : ℕ) →
+pub back_step : {which : ℕ → ℕ → Type 0} (c : ChipData) (l : LayoutData) (p : Machine) (adapters : List Standing) (errors : ℕ) (told : Option State) (new : Scene) (op : Op) (event : Event) (place : ℕ) →
     let s = scene (seen c l p) adapters errors told in
-    IsBackdoor op → HasNumbers c (length l.maps) op → IsModel s.model → (a : Agree s) → HasContents c a.device p → IsDone s new op place event → IsMachineStep c l p new op place event
+    IsBackdoor op → HasNumbers c (length l.maps) op → IsModel s.model → (a : Agree s) → HasContents which c a.device p → IsDone s new op place event → IsMachineStep which c l p new op place event
 back_step c l p adapters errors told new (op.BackWrite n value) event place is numbers ok a has done =
     let s = scene (seen c l p) adapters errors told in
     let fs = fields_of c n in
@@ -238,9 +238,9 @@ back_step c l p adapters errors told new _ event place is numbers ok a has done 
 
 -- ---- desired values
 
-pub wish_step : (c : ChipData) (l : LayoutData) (p : Machine) (adapters : List Standing) (errors : ℕ) (told : Option State) (new : Scene) (op : Op) (event : Event) (place : ℕ) →
+pub wish_step : {which : ℕ → ℕ → Type 0} (c : ChipData) (l : LayoutData) (p : Machine) (adapters : List Standing) (errors : ℕ) (told : Option State) (new : Scene) (op : Op) (event : Event) (place : ℕ) →
     let s = scene (seen c l p) adapters errors told in
-    IsWish op → HasNumbers c (length l.maps) op → IsModel s.model → (a : Agree s) → HasContents c a.device p → IsDone s new op place event → IsMachineStep c l p new op place event
+    IsWish op → HasNumbers c (length l.maps) op → IsModel s.model → (a : Agree s) → HasContents which c a.device p → IsDone s new op place event → IsMachineStep which c l p new op place event
 wish_step c l p adapters errors told new (op.Set field value) event place is numbers ok a has done =
     let s = scene (seen c l p) adapters errors told in
     let d = a.device in
@@ -261,9 +261,9 @@ wish_step c l p adapters errors told new _ event place is numbers ok a has done 
 
 -- ---- a reset
 
-pub reset_step : (c : ChipData) (l : LayoutData) (p : Machine) (adapters : List Standing) (errors : ℕ) (told : Option State) (new : Scene) (kind : ℕ) (event : Event) (place : ℕ) →
+pub reset_step : {which : ℕ → ℕ → Type 0} (c : ChipData) (l : LayoutData) (p : Machine) (adapters : List Standing) (errors : ℕ) (told : Option State) (new : Scene) (kind : ℕ) (event : Event) (place : ℕ) →
     let s = scene (seen c l p) adapters errors told in
-    IsModel s.model → (a : Agree s) → HasContents c a.device p → IsDone s new (op.Reset kind) place event → IsMachineStep c l p new (op.Reset kind) place event
+    IsModel s.model → (a : Agree s) → HasContents which c a.device p → IsDone s new (op.Reset kind) place event → IsMachineStep which c l p new (op.Reset kind) place event
 reset_step c l p adapters errors told new kind event place ok a has done =
     let s = scene (seen c l p) adapters errors told in
     let d = a.device in
@@ -278,25 +278,25 @@ reset_step c l p adapters errors told new kind event place ok a has done =
 -- ---- the backdoor of a memory, and a burst by its name alone
 
 -- the device and the model stay
-pub stays_step : (c : ChipData) (l : LayoutData) (p : Machine) (adapters : List Standing) (errors : ℕ) (told : Option State) (new : Scene) (op : Op) (event : Event) (place : ℕ) (e : End) →
+pub stays_step : {which : ℕ → ℕ → Type 0} (c : ChipData) (l : LayoutData) (p : Machine) (adapters : List Standing) (errors : ℕ) (told : Option State) (new : Scene) (op : Op) (event : Event) (place : ℕ) (e : End) →
     let s = scene (seen c l p) adapters errors told in
-    IsModel s.model → (a : Agree s) → HasContents c a.device p → new.model ≡ s.model → new.device ≡ Some a.device → event.end ≡ e → event.differ ≡ 0 →
-    machine_after c l op place p ≡ p → e ≡ machine_end c l op place p → 0 ≡ machine_differ op p → IsMachineStep c l p new op place event
-stays_step c l p adapters errors told new op event place e ok a has model device ends finds same ended differs =
+    IsModel s.model → (a : Agree s) → HasContents which c a.device p → new.model ≡ s.model → new.device ≡ Some a.device → event.end ≡ e → event.differ ≡ 0 →
+    machine_after c l op place p ≡ p → e ≡ machine_end c l op place p → 0 ≡ machine_differ op p → IsMachineStep which c l p new op place event
+stays_step {which} c l p adapters errors told new op event place e ok a has model device ends finds same ended differs =
     let s = scene (seen c l p) adapters errors told in
     quiet_step c l p new op place event a.device (mirror_of p) e 0 (stays_agreed s new (mirror_of p) a device model (λ reg. refl)) model device ends finds (record { built = ok.mirror; reach = ok.reach })
-    (ap mirror_of (sym same)) ended differs (subst (HasContents c a.device) (sym same) has)
+    (ap mirror_of (sym same)) ended differs (subst (HasContents which c a.device) (sym same) has)
 
 pub memory_step : (c : ChipData) (l : LayoutData) (p : Machine) (adapters : List Standing) (errors : ℕ) (told : Option State) (new : Scene) (op : Op) (event : Event) (place : ℕ) →
     let s = scene (seen c l p) adapters errors told in
-    IsMemoryBackdoor op → HasNumbers c (length l.maps) op → IsModel s.model → (a : Agree s) → HasContents c a.device p → grant s.model op ≡ Ok place → IsDone s new op place event → IsMachineStep c l p new op place event
+    IsMemoryBackdoor op → HasNumbers c (length l.maps) op → IsModel s.model → (a : Agree s) → HasContents everywhere c a.device p → grant s.model op ≡ Ok place → IsDone s new op place event → IsMachineStep everywhere c l p new op place event
 memory_step c l p adapters errors told new (op.MemPeek mem index) event place is numbers ok a has granted done =
     let s = scene (seen c l p) adapters errors told in
     let d = a.device in
     let by = alone_by s new (op.MemPeek mem index) event place d done a.told refl in
     let tells = told_alone s new (op.MemPeek mem index) event place d done a.told refl in
     let low : index < memory_size c mem = ltb-true index (memory_size c mem) (only_ok (by_backdoor s.model (item.Mem mem)) (nat_lt index (memory_size c mem)) OutOfRange place granted).1 in
-    let h = has mem index numbers low in
+    let h = has.at mem index tt numbers low in
     let found : done.sampled ≡ slice_index d.locations (location d.setup mem index) = done.found d a.told ∙ peeked_at d mem index in
     let value : low_bytes (location_size c mem) done.sampled ≡ p.locations mem index = ap (low_bytes (location_size c mem)) found ∙ low_is (location_size c mem) (slice_index d.locations (location d.setup mem index)) h.has.fits ∙ h.holds in
     stays_step c l p adapters errors told new (op.MemPeek mem index) event place (end.Value (low_bytes (location_size c mem) done.sampled)) ok a has by.model by.told
@@ -319,9 +319,9 @@ memory_step c l p adapters errors told new (op.MemPoke mem index value) event pl
     (contents_stored c l d after p mem index value has ready.setup numbers low small poke.setup (poke.locations ∙ ap (slice_set d.locations (location d.setup mem index)) whole))
 memory_step c l p adapters errors told new _ event place is numbers ok a has granted done = absurd is
 
-pub burst_step : (c : ChipData) (l : LayoutData) (p : Machine) (adapters : List Standing) (errors : ℕ) (told : Option State) (new : Scene) (op : Op) (event : Event) (place : ℕ) →
+pub burst_step : {which : ℕ → ℕ → Type 0} (c : ChipData) (l : LayoutData) (p : Machine) (adapters : List Standing) (errors : ℕ) (told : Option State) (new : Scene) (op : Op) (event : Event) (place : ℕ) →
     let s = scene (seen c l p) adapters errors told in
-    IsBurstName op → IsModel s.model → (a : Agree s) → HasContents c a.device p → IsDone s new op place event → IsMachineStep c l p new op place event
+    IsBurstName op → IsModel s.model → (a : Agree s) → HasContents which c a.device p → IsDone s new op place event → IsMachineStep which c l p new op place event
 burst_step c l p adapters errors told new (op.BurstWrite mem map first count) event place is ok a has done =
     let s = scene (seen c l p) adapters errors told in
     let by = alone_by s new (op.BurstWrite mem map first count) event place a.device done a.told refl in

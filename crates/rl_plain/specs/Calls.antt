@@ -9,6 +9,7 @@ use Rattle.rl_split.specs.Law.{HasLocation, no_flaws}
 use Rattle.rl_mirror.specs.Prediction.{fresh}
 use Rattle.rl_access.specs.declared.event.Event.{Event}
 use Rattle.rl_access.specs.declared.event.Op.{Op}
+use Rattle.rl_access.specs.declared.event.Op.TheVariants as op
 use Rattle.rl_access.specs.declared.event.Refused.{Refused}
 use Rattle.rl_access.specs.Call.{Scene, IsRefused, Performs}
 use Rattle.rl_access.specs.Gathering.{IsNothingGathered}
@@ -53,6 +54,26 @@ CallKeepsModel =
     (s new : Scene) (op : Op) (event : Event) (p : Machine)
     → HasNumbers s.model.chip (length s.model.layout.maps) op → IsModel s.model → IsMachineOf s p → Performs s new op event
     → IsModel new.model × IsSameChip s.model new.model
+
+-- ---- of the registers alone
+
+-- the operations that aren't on a location of a memory
+abbrev pub IsOffMemory : Op → Type 0
+IsOffMemory (op.MemWrite mem _ index value) = ⊥
+IsOffMemory (op.MemRead mem _ index) = ⊥
+IsOffMemory (op.MemCheck mem _ index value) = ⊥
+IsOffMemory (op.MemPeek mem index) = ⊥
+IsOffMemory (op.MemPoke mem index value) = ⊥
+IsOffMemory _ = Unit {0}
+
+-- they are the machine's whatever the device has in the locations of its memories
+abbrev pub RegisterCallIsPlain : Type 0
+RegisterCallIsPlain =
+    (s new : Scene) (op : Op) (event : Event) (p : Machine)
+    → IsOffMemory op → HasNumbers s.model.chip (length s.model.layout.maps) op → IsModel s.model → Agree s → s.model ≡ seen s.model.chip s.model.layout p
+    → Performs s new op event
+    → let done = machine_step s.model.chip s.model.layout p op in
+    Agree new × (new.model ≡ seen new.model.chip new.model.layout done.machine) × (without_items event ≡ done.event)
 
 -- ---- operations one after another
 
