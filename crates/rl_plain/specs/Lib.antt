@@ -1,6 +1,5 @@
 pub mod OneStep
 pub mod Agree
-pub mod Plain
 pub mod Machine
 pub mod Courses
 pub mod Calls

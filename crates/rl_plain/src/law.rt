@@ -1,7 +1,7 @@
 //! What holds of the calls on a device without flaws. Each function does nothing; its contract is the law.
-ghost use Rattle.rl_plain.specs.Agree.{AccessKeepsAgreement, BackdoorKeepsAgreement, HardwareKeepsAgreement, MemoryBackdoorKeepsAgreement, NewOnesAgree, ResetKeepsAgreement, WishKeepsAgreement};
+ghost use Rattle.rl_plain.specs.Agree.{AccessKeepsAgreement, BackdoorKeepsAgreement, HardwareKeepsAgreement, MemoryAccessKeepsAgreement, MemoryBackdoorKeepsAgreement, NewOnesAgree, ResetKeepsAgreement, WishKeepsAgreement};
+ghost use Rattle.rl_plain.specs.Calls.{CallIsPlain, CallKeepsModel, FirstOnesArePlain, PlanIsPlain, RefusedIsPlain, RegisterCallIsPlain, RunIsPlain};
 ghost use Rattle.rl_plain.specs.OneStep.{AccessIsStep};
-ghost use Rattle.rl_plain.specs.Plain.{AccessIsPlain, BackdoorIsPlain, ResetIsPlain, WishIsPlain};
 
 /// An access over the bus is one step of its register: of all its fields, or in a narrow access of its one
 /// field.
@@ -34,6 +34,11 @@ pub fn memory_backdoor_keeps_agreement()
     ensures { MemoryBackdoorKeepsAgreement }
 {}
 
+/// So does an access to a memory over the bus, where the device has the memory's locations.
+pub fn memory_access_keeps_agreement()
+    ensures { MemoryAccessKeepsAgreement }
+{}
+
 /// So does a reset of any kind.
 pub fn reset_keeps_agreement()
     ensures { ResetKeepsAgreement }
@@ -44,23 +49,39 @@ pub fn hardware_keeps_agreement()
     ensures { HardwareKeepsAgreement }
 {}
 
-/// From a device and a model that agree, an access over the bus is that of a plain machine that steps whole
-/// registers: what is believed afterwards is the machine's state, and the event without its items the machine's.
-pub fn access_is_plain()
-    ensures { AccessIsPlain }
+/// From a device and a model that are the plain machine's, each call leaves them so, and its event without its
+/// items is the machine's, also where the call is refused. The machine steps whole registers and locations.
+pub fn call_is_plain()
+    ensures { CallIsPlain }
 {}
 
-/// An operation of the backdoor on a register is the plain machine's, from a device and a model that agree.
-pub fn backdoor_is_plain()
-    ensures { BackdoorIsPlain }
+/// The model is then again one of the same chip and layout.
+pub fn call_keeps_model()
+    ensures { CallKeepsModel }
 {}
 
-/// So are `set` and `show`.
-pub fn wish_is_plain()
-    ensures { WishIsPlain }
+/// A call that isn't on a location of a memory is the machine's whatever the device has in its locations.
+pub fn register_call_is_plain()
+    ensures { RegisterCallIsPlain }
 {}
 
-/// So is a reset.
-pub fn reset_is_plain()
-    ensures { ResetIsPlain }
+/// A new device without flaws and a new model of the same chip and layout are the first machine's, where no
+/// field is volatile.
+pub fn first_ones_are_plain()
+    ensures { FirstOnesArePlain }
+{}
+
+/// Operations one after another, as those of a burst, are the machine's: none of them ends by a bus error.
+pub fn run_is_plain()
+    ensures { RunIsPlain }
+{}
+
+/// So are the operations of a sequence's plan.
+pub fn plan_is_plain()
+    ensures { PlanIsPlain }
+{}
+
+/// An operation that is refused as a whole changes nothing, and its event is the machine's.
+pub fn refused_is_plain()
+    ensures { RefusedIsPlain }
 {}
