@@ -26,3 +26,4 @@ pub mod Told
 pub mod Machines
 pub mod FirstOnes
 pub mod PlainCourses
+pub mod PlanNumbers

@@ -1,9 +1,10 @@
 -- Each call on a device without flaws is the plain machine's.
-use Rattle.std.specs.Prelude.{◌≡◌, ℕ, ◌<◌, List, [], length, map, All, slice_index, Some, sum_by}
+use Rattle.std.specs.Prelude.{◌≡◌, ℕ, ◌<◌, List, [], length, map, All, slice_index, Option, Some, sum_by}
 use Rattle.rl_bus.specs.Setup.{location}
 use Rattle.rl_bus.specs.State.{State, first_state}
 use Rattle.rl_model.specs.Rows.{ChipData}
-use Rattle.rl_map.specs.Layout.{LayoutData}
+use Rattle.rl_model.specs.Chip.{IsSound as IsSoundChip}
+use Rattle.rl_map.specs.Layout.{LayoutData, IsSound as IsSoundLayout}
 use Rattle.rl_map.specs.Tables.{setup_of}
 use Rattle.rl_split.specs.Law.{HasLocation, no_flaws}
 use Rattle.rl_mirror.specs.Prediction.{fresh}
@@ -19,6 +20,8 @@ use Rattle.rl_access.specs.Operation.{location_size, HasNumbers}
 use Rattle.rl_access.specs.Rules.{memory_size}
 use Rattle.rl_access.specs.Runs.{RunsThrough}
 use Rattle.rl_seq.specs.Plan.{Plan, stop, step, look, Runs}
+use Rattle.rl_seq.specs.Steps.{hw_reset_plan, bit_bash_plan}
+use Rattle.rl_seq.specs.Tests.{access_test_plan, shared_access_plan, mem_walk_plan}
 use Rattle.rl_plain.specs.Agree.{HasNoVolatile, Agree}
 use Rattle.rl_plain.specs.Machine.{Machine, seen, first_machine, refused_at, machine_step}
 use Rattle.rl_plain.specs.Courses.{Course, through, along}
@@ -95,6 +98,17 @@ abbrev pub PlanHasNumbers : ChipData → LayoutData → Plan → Type 0
 PlanHasNumbers c l stop = Unit {0}
 PlanHasNumbers c l (step op plan) = HasNumbers c (length l.maps) op × PlanHasNumbers c l plan
 PlanHasNumbers c l (look f) = (m : ModelData) → m.chip ≡ c → m.layout ≡ l → PlanHasNumbers c l (f m)
+
+-- those of the sequences have
+pub record HaveNumbers (c : ChipData) (l : LayoutData) (block : Option ℕ) : Type 0 where
+  pub hw_reset : PlanHasNumbers c l (hw_reset_plan c l block)
+  pub bit_bash : PlanHasNumbers c l (bit_bash_plan c l block)
+  pub access : PlanHasNumbers c l (access_test_plan c l block)
+  pub shared_access : PlanHasNumbers c l (shared_access_plan c l block)
+  pub mem_walk : PlanHasNumbers c l (mem_walk_plan c l block)
+
+abbrev pub PlansHaveNumbers : Type 0
+PlansHaveNumbers = (c : ChipData) (l : LayoutData) (block : Option ℕ) → IsSoundChip c → IsSoundLayout l → HaveNumbers c l block
 
 -- those of a plan
 abbrev pub PlanIsPlain : Type 0

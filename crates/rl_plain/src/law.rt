@@ -1,6 +1,6 @@
 //! What holds of the calls on a device without flaws. Each function does nothing; its contract is the law.
 ghost use Rattle.rl_plain.specs.Agree.{AccessKeepsAgreement, BackdoorKeepsAgreement, HardwareKeepsAgreement, MemoryAccessKeepsAgreement, MemoryBackdoorKeepsAgreement, NewOnesAgree, ResetKeepsAgreement, WishKeepsAgreement};
-ghost use Rattle.rl_plain.specs.Calls.{CallIsPlain, CallKeepsModel, FirstOnesArePlain, PlanIsPlain, RefusedIsPlain, RegisterCallIsPlain, RunIsPlain};
+ghost use Rattle.rl_plain.specs.Calls.{CallIsPlain, CallKeepsModel, FirstOnesArePlain, PlanIsPlain, PlansHaveNumbers, RefusedIsPlain, RegisterCallIsPlain, RunIsPlain};
 ghost use Rattle.rl_plain.specs.OneStep.{AccessIsStep};
 
 /// An access over the bus is one step of its register: of all its fields, or in a narrow access of its one
@@ -76,9 +76,14 @@ pub fn run_is_plain()
     ensures { RunIsPlain }
 {}
 
-/// So are the operations of a sequence's plan.
+/// So are the operations of a plan whose operations have their numbers, whatever is then believed.
 pub fn plan_is_plain()
     ensures { PlanIsPlain }
+{}
+
+/// Those of the five sequences have.
+pub fn plans_have_numbers()
+    ensures { PlansHaveNumbers }
 {}
 
 /// An operation that is refused as a whole changes nothing, and its event is the machine's.
