@@ -138,6 +138,7 @@ plan_is_plain s new (look f) told p numbers ok is run =
 
 pub refused_is_plain : RefusedIsPlain
 refused_is_plain s new op why event p is refused =
-    let c = s.model.chip in
-    (subst (λ x. IsMachineOf x p) (sym refused.unchanged) is,
-    refused_told s new op why event p refused (ap (λ (m : ModelData). m.mirror) is.model) ∙ ap (λ (m : ModelData). told c (named m op) (end.Refused why) 0 p) is.model)
+    let c = s.model.chip in (
+      subst (λ x. IsMachineOf x p) (sym refused.unchanged) is,
+      refused_told s new op why event p refused (ap (λ (m : ModelData). m.mirror) is.model) ∙ ap (λ (m : ModelData). told c (named m op) (end.Refused why) 0 p) is.model,
+    )

@@ -42,7 +42,7 @@ hw_reset_numbers : (c : ChipData) (l : LayoutData) (block : Option ℕ) → IsSo
 hw_reset_numbers c l block sound ok = (
   omega (arith, sound.two_kinds),
   each c l (length c.regs) (check_reg c l block)
-  (λ reg inside. chosen c l (is_reg_tested c reg block no_reg_hw_reset_test) _ (each c l (length l.places) (check_at_place l reg) (λ place there. checked_at c l reg place ok inside there))),
+      (λ reg inside. chosen c l (is_reg_tested c reg block no_reg_hw_reset_test) _ (each c l (length l.places) (check_at_place l reg) (λ place there. checked_at c l reg place ok inside there))),
 )
 
 bashed : (c : ChipData) (l : LayoutData) (reg place bit : ℕ) → IsSound l → reg < length c.regs → place < length l.places → PlanHasNumbers c l (bash_bit c reg (map_at l place) bit)
@@ -70,8 +70,11 @@ share_numbers c l block ok =
     each c l (length c.regs) (share_reg c l block)
     (λ reg inside. chosen c l (is_shared c l reg block) _ (each c l (length l.places) (share_place c l reg)
     (λ place there. chosen c l (is_place l place (Reg reg) false true) _
-    (λ m chip layout. ((inside, in_map l place ok there), each c l (length l.places) (check_other l reg place)
-    (λ other here. chosen c l _ _ (checked_at c l reg other ok inside here)))))))
+    (λ m chip layout. (
+      (inside, in_map l place ok there),
+      each c l (length l.places) (check_other l reg place)
+          (λ other here. chosen c l _ _ (checked_at c l reg other ok inside here)),
+    )))))
 
 -- ---- the memory walk
 

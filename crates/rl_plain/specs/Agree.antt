@@ -38,8 +38,8 @@ IsMarkedAlone c d reg = (b : ℕ) → b < 64 → is_spendable (fields_of c reg) 
 abbrev pub HasNoVolatile : ChipData → Type 0
 HasNoVolatile c = (n : ℕ) → n < length c.fields → (field_of c n).shape.volatile ≡ false
 
--- The device has this chip and this layout, no flaw, and beats of 0. No field is volatile. Each register has its mirrored value
--- and the marks of its fields, and no other bit is marked.
+-- The device has this chip and this layout, no flaw, and beats of 0. No field is volatile. Each register has its mirrored
+-- value and the marks of its fields, and no other bit is marked.
 pub record IsAsBelieved (c : ChipData) (l : LayoutData) (m : MirrorData) (d : State) : Type 0 where
   pub ready : IsReady c l d
   pub steady : HasNoVolatile c
@@ -119,14 +119,15 @@ IsMemoryAccess _ = ⊥
 
 -- the device has each location of the memories, and nothing past its bytes in it
 abbrev pub HasLocations : ChipData → State → Type 0
-HasLocations c d = (mem index : ℕ) → mem < length c.mems → index < memory_size c mem → HasLocation d mem index (location_size c mem)
+HasLocations c d =
+    (mem index : ℕ) → mem < length c.mems → index < memory_size c mem → HasLocation d mem index (location_size c mem)
 
 -- an access to a memory over the bus leaves a device and a model that agree in agreement
 abbrev pub MemoryAccessKeepsAgreement : Type 0
 MemoryAccessKeepsAgreement =
     (s new : Scene) (op : Op) (event : Event)
-    → IsMemoryAccess op → HasNumbers s.model.chip (length s.model.layout.maps) op → IsModel s.model → (a : Agree s) → HasLocations s.model.chip a.device
-    → Performs s new op event → Agree new
+    → IsMemoryAccess op → HasNumbers s.model.chip (length s.model.layout.maps) op → IsModel s.model
+    → (a : Agree s) → HasLocations s.model.chip a.device → Performs s new op event → Agree new
 
 -- ---- where they begin
 

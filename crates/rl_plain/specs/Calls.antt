@@ -35,19 +35,24 @@ pub record HasContent (c : ChipData) (d : State) (p : Machine) (mem index : ℕ)
   pub has : HasLocation d mem index (location_size c mem)
   pub holds : slice_index d.locations (location d.setup mem index) ≡ p.locations mem index
 
--- The device and the model agree and are the machine's: what is believed, which is what the device has, and each location of
--- the memories.
+-- it has each location of the chip's memories so
+abbrev pub HasAllContents : ChipData → State → Machine → Type 0
+HasAllContents c d p = (mem index : ℕ) → mem < length c.mems → index < memory_size c mem → HasContent c d p mem index
+
+-- The device and the model agree and are the machine's: what is believed, which is what the device has, and each location
+-- of the memories.
 pub record IsMachineOf (s : Scene) (p : Machine) : Type 0 where
   pub agree : Agree s
   pub model : s.model ≡ seen s.model.chip s.model.layout p
-  pub locations : (mem index : ℕ) → mem < length s.model.chip.mems → index < memory_size s.model.chip mem → HasContent s.model.chip agree.device p mem index
+  pub locations : HasAllContents s.model.chip agree.device p
 
 -- ---- every call leaves them so, and its event without items is the machine's; it is so too where the call is refused
 
 abbrev pub CallIsPlain : Type 0
 CallIsPlain =
     (s new : Scene) (op : Op) (event : Event) (p : Machine)
-    → HasNumbers s.model.chip (length s.model.layout.maps) op → IsModel s.model → IsMachineOf s p → Performs s new op event
+    → HasNumbers s.model.chip (length s.model.layout.maps) op → IsModel s.model → IsMachineOf s p
+    → Performs s new op event
     → let done = machine_step s.model.chip s.model.layout p op in
     IsMachineOf new done.machine × (without_items event ≡ done.event)
 
@@ -55,7 +60,8 @@ CallIsPlain =
 abbrev pub CallKeepsModel : Type 0
 CallKeepsModel =
     (s new : Scene) (op : Op) (event : Event) (p : Machine)
-    → HasNumbers s.model.chip (length s.model.layout.maps) op → IsModel s.model → IsMachineOf s p → Performs s new op event
+    → HasNumbers s.model.chip (length s.model.layout.maps) op → IsModel s.model → IsMachineOf s p
+    → Performs s new op event
     → IsModel new.model × IsSameChip s.model new.model
 
 -- ---- of the registers alone
@@ -73,8 +79,8 @@ IsOffMemory _ = Unit {0}
 abbrev pub RegisterCallIsPlain : Type 0
 RegisterCallIsPlain =
     (s new : Scene) (op : Op) (event : Event) (p : Machine)
-    → IsOffMemory op → HasNumbers s.model.chip (length s.model.layout.maps) op → IsModel s.model → Agree s → s.model ≡ seen s.model.chip s.model.layout p
-    → Performs s new op event
+    → IsOffMemory op → HasNumbers s.model.chip (length s.model.layout.maps) op → IsModel s.model
+    → Agree s → s.model ≡ seen s.model.chip s.model.layout p → Performs s new op event
     → let done = machine_step s.model.chip s.model.layout p op in
     Agree new × (new.model ≡ seen new.model.chip new.model.layout done.machine) × (without_items event ≡ done.event)
 
@@ -90,7 +96,8 @@ pub record IsPlainCourse (s new : Scene) (told : List Told) (course : Course) : 
 abbrev pub RunIsPlain : Type 0
 RunIsPlain =
     (s new : Scene) (ops : List Op) (told : List Told) (p : Machine)
-    → All (HasNumbers s.model.chip (length s.model.layout.maps)) ops → IsModel s.model → IsMachineOf s p → RunsThrough s ops told new
+    → All (HasNumbers s.model.chip (length s.model.layout.maps)) ops → IsModel s.model → IsMachineOf s p
+    → RunsThrough s ops told new
     → IsPlainCourse s new told (through s.model.chip s.model.layout p ops)
 
 -- every operation of a plan has its numbers, whatever is believed
@@ -108,7 +115,8 @@ pub record HaveNumbers (c : ChipData) (l : LayoutData) (block : Option ℕ) : Ty
   pub mem_walk : PlanHasNumbers c l (mem_walk_plan c l block)
 
 abbrev pub PlansHaveNumbers : Type 0
-PlansHaveNumbers = (c : ChipData) (l : LayoutData) (block : Option ℕ) → IsSoundChip c → IsSoundLayout l → HaveNumbers c l block
+PlansHaveNumbers =
+    (c : ChipData) (l : LayoutData) (block : Option ℕ) → IsSoundChip c → IsSoundLayout l → HaveNumbers c l block
 
 -- those of a plan
 abbrev pub PlanIsPlain : Type 0
@@ -126,9 +134,14 @@ RefusedIsPlain =
 
 -- ---- where they begin
 
--- a new device without flaws, with all locations of its memories, and a new model of the same chip and layout
+-- the first state of a device without flaws, with all locations of its memories
+abbrev pub first_device : ChipData → LayoutData → State
+first_device c l = first_state (setup_of c l no_flaws) (sum_by (λ m. m.size) c.mems)
+
+-- it and a new model of the same chip and layout
 abbrev pub FirstOnesArePlain : Type 0
 FirstOnesArePlain =
-    (s : Scene) → IsModel s.model → HasNoVolatile s.model.chip → s.model.mirror ≡ fresh s.model.chip → IsNothingGathered s.model.gathered
-    → s.device ≡ Some (first_state (setup_of s.model.chip s.model.layout no_flaws) (sum_by (λ m. m.size) s.model.chip.mems))
+    (s : Scene) → IsModel s.model → HasNoVolatile s.model.chip
+    → s.model.mirror ≡ fresh s.model.chip → IsNothingGathered s.model.gathered
+    → s.device ≡ Some (first_device s.model.chip s.model.layout)
     → IsMachineOf s (first_machine s.model.chip)

@@ -14,7 +14,9 @@ pub record Course : Type 0 where
 
 -- one operation, and then the rest from the machine after it
 abbrev pub then_on : Done → (Machine → Course) → Course
-then_on done rest = let after = rest done.machine in record { events = done.event ∷ after.events; machine = after.machine }
+then_on done rest =
+    let after = rest done.machine in
+    record { events = done.event ∷ after.events; machine = after.machine }
 
 -- each operation: none of them ends by a bus error
 unfoldable pub through : ChipData → LayoutData → Machine → List Op → Course
@@ -30,4 +32,6 @@ along c l p (look f) = along c l p (f (seen c l p))
 -- an operation that is refused as a whole, or done as those that it stands for
 abbrev pub burst : ChipData → LayoutData → Machine → Grant → Op → List Op → Course
 burst c l p (Ok place) op ops = through c l p ops
-burst c l p (Err why) op ops = let done = refused_at c l op why p in record { events = done.event ∷ []; machine = done.machine }
+burst c l p (Err why) op ops =
+    let done = refused_at c l op why p in
+    record { events = done.event ∷ []; machine = done.machine }

@@ -56,19 +56,29 @@ settles (read_step chosen) p k = chosen k && not (is_write_only p)
 settles no_step p k = false
 
 abbrev pub desired_after : List FieldSeen → Step → (bits desired : ℕ) → ℕ
-desired_after fields step bits desired = word_by_field fields (λ k b. if settles step (policy_in fields k) k then bit bits b else bit desired b)
+desired_after fields step bits desired =
+    word_by_field fields (λ k b. if settles step (policy_in fields k) k then bit bits b else bit desired b)
+
+-- the mark of a field once the register is this one: those of other registers stay
+abbrev pub mark_after : ChipData → (reg : ℕ) → Register → Machine → ℕ → Bool
+mark_after c reg r p n =
+    if (field_of c n).shape.reg == reg then r.spent (n - first_of c reg) else get_or p.spent n false
 
 -- the register becomes this one
 abbrev pub becomes : ChipData → (reg : ℕ) → Step → Register → Machine → Machine
 becomes c reg step r p = record p {
   bits = slice_set p.bits reg r.bits;
   desired = slice_set p.desired reg (desired_after (fields_of c reg) step r.bits (get_or p.desired reg 0));
-  spent = map (λ n. if (field_of c n).shape.reg == reg then r.spent (n - first_of c reg) else get_or p.spent n false) (range_with_len 0 (length p.spent));
+  spent = map (mark_after c reg r p) (range_with_len 0 (length p.spent));
 }
 
+-- by a step of it
+abbrev pub taking : ChipData → (reg : ℕ) → Step → Machine → Machine
+taking c reg step p = becomes c reg step (register_after (fields_of c reg) step (register_at c p reg)) p
+
 abbrev pub stepped : ChipData → (reg : ℕ) → Step → Machine → Machine
-stepped c reg (write_step chosen word) p = becomes c reg (write_step chosen word) (register_after (fields_of c reg) (write_step chosen word) (register_at c p reg)) p
-stepped c reg (read_step chosen) p = becomes c reg (read_step chosen) (register_after (fields_of c reg) (read_step chosen) (register_at c p reg)) p
+stepped c reg (write_step chosen word) p = taking c reg (write_step chosen word) p
+stepped c reg (read_step chosen) p = taking c reg (read_step chosen) p
 stepped c reg no_step p = p
 
 -- ---- other changes of its state
@@ -89,11 +99,17 @@ with_wish c field value p =
 abbrev pub with_location : (mem index value : ℕ) → Machine → Machine
 with_location mem index value p = record p { locations = λ m i. if m == mem && i == index then value else p.locations m i }
 
--- each field with a value for the kind takes it as bits and as desired value, and the hard reset clears all marks
+-- each field with a value for the kind takes it
+abbrev pub values_reset : ChipData → (kind : ℕ) → List ℕ → List ℕ
+values_reset c kind values = map (λ reg. after_reset (fields_of c reg) kind (get_or values reg 0)) (range_with_len 0 (length values))
+
+-- as bits and as desired value, and the hard reset clears all marks
 abbrev pub with_reset : ChipData → (kind : ℕ) → Machine → Machine
-with_reset c kind p =
-    let after = λ (values : List ℕ). map (λ reg. after_reset (fields_of c reg) kind (get_or values reg 0)) (range_with_len 0 (length values)) in
-    record p { bits = after p.bits; desired = after p.desired; spent = if kind == 0 then replicate (length p.spent) false else p.spent }
+with_reset c kind p = record p {
+  bits = values_reset c kind p.bits;
+  desired = values_reset c kind p.desired;
+  spent = if kind == 0 then replicate (length p.spent) false else p.spent;
+}
 
 -- after a hard reset, with 0 in each field without a value for it and in each location
 abbrev pub first_machine : ChipData → Machine
@@ -106,22 +122,34 @@ first_machine c = with_reset c 0 (record {
 
 -- ---- what an operation at a place makes of it
 
+-- an access to a field is a step of it alone where it is narrow, and else of all fields of its register
+abbrev pub field_write_step : ChipData → LayoutData → (field place value : ℕ) → Machine → Step
+field_write_step c l field place value p =
+    write_step (reached_fields (seen c l p) field place true) (field_word (seen c l p) field place value)
+
+abbrev pub field_read_step : ChipData → LayoutData → (field place : ℕ) → Machine → Step
+field_read_step c l field place p = read_step (reached_fields (seen c l p) field place false)
+
 -- the word that an update sends, if some field has another desired value than its bits
 abbrev pub update_step : ChipData → (reg : ℕ) → Machine → Step
-update_step c reg p = if needs_update (mirror_of p) reg then write_step every (update_word_of c reg (mirror_of p)) else no_step
+update_step c reg p =
+    if needs_update (mirror_of p) reg then write_step every (update_word_of c reg (mirror_of p)) else no_step
+
+-- the bits after a write by the backdoor, which keeps the marks
+abbrev pub back_bits : ChipData → (reg value : ℕ) → Machine → ℕ
+back_bits c reg value p = written (fields_of c reg) (marks_in c p.spent reg) (get_or p.bits reg 0) value
 
 abbrev pub machine_after : ChipData → LayoutData → Op → (place : ℕ) → Machine → Machine
 machine_after c l (op.Write reg _ value) place p = stepped c reg (write_step every value) p
 machine_after c l (op.Read reg _) place p = stepped c reg (read_step every) p
 machine_after c l (op.Mirror reg _) place p = stepped c reg (read_step every) p
 machine_after c l (op.Check reg _) place p = stepped c reg (read_step every) p
-machine_after c l (op.FieldWrite field _ value) place p =
-    stepped c (reg_of c field) (write_step (reached_fields (seen c l p) field place true) (field_word (seen c l p) field place value)) p
-machine_after c l (op.FieldRead field _) place p = stepped c (reg_of c field) (read_step (reached_fields (seen c l p) field place false)) p
+machine_after c l (op.FieldWrite field _ value) place p = stepped c (reg_of c field) (field_write_step c l field place value p) p
+machine_after c l (op.FieldRead field _) place p = stepped c (reg_of c field) (field_read_step c l field place p) p
 machine_after c l (op.Set field value) place p = with_wish c field value p
 machine_after c l (op.Show reg) place p = p
 machine_after c l (op.Update reg _) place p = stepped c reg (update_step c reg p) p
-machine_after c l (op.BackWrite reg value) place p = with_both reg (written (fields_of c reg) (marks_in c p.spent reg) (get_or p.bits reg 0) value) p
+machine_after c l (op.BackWrite reg value) place p = with_both reg (back_bits c reg value p) p
 machine_after c l (op.BackRead reg) place p = stepped c reg (read_step every) p
 machine_after c l (op.BackCheck reg) place p = stepped c reg (read_step every) p
 machine_after c l (op.Peek reg) place p = with_both reg (get_or p.bits reg 0) p
@@ -147,14 +175,20 @@ answer_in c reg p = end.Value (ranswer (fields_of c reg) every (register_at c p 
 -- and a read of the field, alone or with its register
 abbrev pub field_answer : ChipData → LayoutData → (field place : ℕ) → Machine → End
 field_answer c l field place p =
-    end.Value (part_of (field_of c field).shape (ranswer (fields_of c (reg_of c field)) (reached_fields (seen c l p) field place false) (register_at c p (reg_of c field))))
+    let reg = reg_of c field in
+    let read = ranswer (fields_of c reg) (reached_fields (seen c l p) field place false) (register_at c p reg) in
+    end.Value (part_of (field_of c field).shape read)
+
+-- the word that an update sent
+abbrev pub update_end : ChipData → (reg : ℕ) → Machine → End
+update_end c reg p = if needs_update (mirror_of p) reg then end.Sent (update_word_of c reg (mirror_of p)) else end.Nothing
 
 abbrev pub machine_end : ChipData → LayoutData → Op → (place : ℕ) → Machine → End
 machine_end c l (op.Read reg _) place p = answer_in c reg p
 machine_end c l (op.Mirror reg _) place p = answer_in c reg p
 machine_end c l (op.Check reg _) place p = answer_in c reg p
 machine_end c l (op.FieldRead field _) place p = field_answer c l field place p
-machine_end c l (op.Update reg _) place p = if needs_update (mirror_of p) reg then end.Sent (update_word_of c reg (mirror_of p)) else end.Nothing
+machine_end c l (op.Update reg _) place p = update_end c reg p
 machine_end c l (op.BackRead reg) place p = answer_in c reg p
 machine_end c l (op.BackCheck reg) place p = answer_in c reg p
 machine_end c l (op.Peek reg) place p = end.Value (get_or p.bits reg 0)
@@ -194,7 +228,8 @@ told c op end differ p = record {
 abbrev pub done_at : ChipData → LayoutData → Op → (place : ℕ) → Machine → Done
 done_at c l op place p =
     let after = machine_after c l op place p in
-    record { event = told c (named (seen c l p) op) (machine_end c l op place p) (machine_differ op p) after; machine = after }
+    let end = machine_end c l op place p in
+    record { event = told c (named (seen c l p) op) end (machine_differ op p) after; machine = after }
 
 -- a refused operation changes nothing
 abbrev pub refused_at : ChipData → LayoutData → Op → Refused → Machine → Done
