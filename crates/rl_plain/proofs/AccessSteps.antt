@@ -1,9 +1,8 @@
 -- An access to a register over the bus is the plain machine's.
-use Rattle.std.proofs.Common.{◌≡◌, ℕ, ◌<◌, true, false, length, replicate, Option, Some, Ok, refl, sym, ap, ◌∙◌, subst}
+use Rattle.std.proofs.Common.{◌≡◌, ℕ, ◌<◌, true, false, length, Option, Some, Ok, refl, ap, ◌∙◌, subst}
 use Rattle.std.proofs.lemmas.List.{length-replicate}
 use Rattle.rl_bus.specs.Standing.{Standing}
 use Rattle.std.specs.Prelude.{List}
-use Rattle.rl_bus.specs.Setup.{Setup}
 use Rattle.rl_bus.specs.State.{State}
 use Rattle.rl_model.specs.Chip.{IsSound}
 use Rattle.rl_model.specs.Fields.{fields_of, field_of}
@@ -12,7 +11,6 @@ use Rattle.rl_map.specs.Layout.{LayoutData}
 use Rattle.rl_split.specs.Step.{Register, every, ranswer}
 use Rattle.rl_mirror.specs.Compared.{differ}
 use Rattle.rl_mirror.specs.Fields.{part_of}
-use Rattle.rl_mirror.specs.Prediction.{needs_update, update_word_of}
 use Rattle.rl_access.specs.declared.event.End.TheVariants as end
 use Rattle.rl_access.specs.declared.event.Event.{Event}
 use Rattle.rl_access.specs.declared.event.Op.{Op}
@@ -24,7 +22,7 @@ use Rattle.rl_access.specs.Operation.{register_of, reg_of, HasNumbers}
 use Rattle.rl_access.specs.Rules.{grant}
 use Rattle.rl_plain.specs.OneStep.{Step, write_step, read_step, no_step, device_after, step_of, end_of, reached_fields, field_word, IsAccess}
 use Rattle.rl_plain.specs.Agree.{Agree}
-use Rattle.rl_plain.specs.Machine.{Machine, register_at, mirror_of, seen, stepped, answer_in, field_answer, machine_after, machine_end, machine_differ}
+use Rattle.rl_plain.specs.Machine.{Machine, register_at, mirror_of, seen, stepped, machine_after, machine_end, machine_differ}
 use Rattle.rl_plain.proofs.Accesses.{IsStepped, differ_in}
 use Rattle.rl_plain.proofs.Agreement.{register_in, agree_after}
 use Rattle.rl_plain.proofs.EachAccess.{one_step}

@@ -4,7 +4,7 @@ use Rattle.std.specs.Prelude.{slice_index, sum_by}
 use Rattle.std.proofs.lemmas.List.{get_or-replicate, length-replicate}
 use Rattle.std.proofs.lemmas.Nat.{pow_pos}
 use Rattle.rl_bus.specs.Setup.{Setup, location}
-use Rattle.rl_bus.specs.State.{State, first_state, reset_by}
+use Rattle.rl_bus.specs.State.{first_state, reset_by}
 use Rattle.rl_model.specs.Rows.{ChipData}
 use Rattle.rl_map.specs.Layout.{LayoutData}
 use Rattle.rl_map.specs.Tables.{setup_of}

@@ -4,7 +4,7 @@ use Rattle.std.specs.Prelude.{slice_set}
 use Rattle.std.proofs.lemmas.Bool.{cases_eq}
 use Rattle.std.proofs.lemmas.List.{get_or-set_same, get_or-set_other, length-set}
 use Rattle.rl_policy.specs.Bits.{bit}
-use Rattle.rl_model.specs.Rows.{FieldSeen, ChipData}
+use Rattle.rl_model.specs.Rows.{ChipData}
 use Rattle.rl_model.specs.Chip.{IsSound}
 use Rattle.rl_model.specs.Fields.{fields_of}
 use Rattle.rl_split.specs.Step.{Register}

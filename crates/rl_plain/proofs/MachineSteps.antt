@@ -1,5 +1,5 @@
 -- What a done operation leaves and tells, against the plain machine.
-use Rattle.std.proofs.Common.{◌≡◌, ◌⊎◌, ℕ, ◌^◌, ◌<◌, cond, ◌&&◌, eqb, eq-eqb, ne_eqb, length, Option, Some, refl, sym, ap, ◌∙◌, subst, inl, inr, length-set}
+use Rattle.std.proofs.Common.{◌≡◌, ◌⊎◌, ℕ, ◌^◌, ◌<◌, cond, ◌&&◌, eqb, eq-eqb, ne_eqb, length, Some, refl, sym, ap, ◌∙◌, subst, inl, inr, length-set}
 use Rattle.std.specs.Prelude.{slice_index, slice_set}
 use Rattle.std.proofs.lemmas.Bool.{cases_eq}
 use Rattle.std.proofs.lemmas.List.{get_or-set_same, get_or-set_other}
@@ -8,9 +8,7 @@ use Rattle.rl_bus.specs.State.{State}
 use Rattle.rl_model.specs.Rows.{ChipData}
 use Rattle.rl_map.specs.Layout.{LayoutData}
 use Rattle.rl_map.specs.Tables.{setup_of}
-use Rattle.rl_split.specs.Law.{HasLocation, no_flaws}
-use Rattle.rl_mirror.specs.Mirror.{MirrorData}
-use Rattle.rl_access.specs.declared.event.End.{End}
+use Rattle.rl_split.specs.Law.{no_flaws}
 use Rattle.rl_access.specs.declared.event.Event.{Event}
 use Rattle.rl_access.specs.declared.event.Op.{Op}
 use Rattle.rl_access.specs.Call.{Scene}

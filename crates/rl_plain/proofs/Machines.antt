@@ -1,7 +1,7 @@
 -- Each call on a device without flaws is the plain machine's.
-use Rattle.std.proofs.Common.{◌≡◌, ℕ, ◌<◌, true, false, ◌==◌, List, length, replicate, All, Option, Some, Ok, Err, MatchResult, refl, sym, ap, ◌∙◌, subst}
+use Rattle.std.proofs.Common.{◌≡◌, ℕ, ◌<◌, true, false, ◌==◌, List, length, replicate, Option, Some, Ok, Err, MatchResult, refl, sym, ap, ◌∙◌, subst}
 use Rattle.std.specs.Prelude.{slice_index, if◌then◌else◌}
-use Rattle.std.proofs.lemmas.List.{same_lists, get_or_default, get_or-replicate, length-replicate}
+use Rattle.std.proofs.lemmas.List.{same_lists, get_or-replicate, length-replicate}
 use Rattle.std.proofs.lemmas.List.Elements.{All-get_or}
 use Rattle.rl_bus.specs.Setup.{location}
 use Rattle.rl_bus.specs.Standing.{Standing}
@@ -19,17 +19,17 @@ use Rattle.rl_access.specs.Call.{Scene, scene, IsDone, IsRefused, Performs}
 use Rattle.rl_access.specs.Gathering.{IsNothingGathered, no_words}
 use Rattle.rl_access.specs.Model.{ModelData, IsModel, IsSameChip}
 use Rattle.rl_access.specs.Operation.{HasNumbers}
-use Rattle.rl_access.specs.Rules.{Grant, grant, memory_size, location_bytes}
+use Rattle.rl_access.specs.Rules.{Grant, grant, location_bytes}
 use Rattle.rl_access.proofs.Places.{fresh_predictor}
 use Rattle.rl_plain.specs.Agree.{Agree, IsMemoryAccess}
-use Rattle.rl_plain.specs.Machine.{Machine, mirror_of, seen, with_location, machine_after, machine_end, machine_differ, Done, done_by, machine_step}
-use Rattle.rl_plain.specs.Calls.{without_items, HasContent, IsMachineOf, CallIsPlain, CallKeepsModel, IsOffMemory, RegisterCallIsPlain}
+use Rattle.rl_plain.specs.Machine.{Machine, mirror_of, seen, machine_after, machine_end, machine_differ, Done, done_by, machine_step}
+use Rattle.rl_plain.specs.Calls.{without_items, IsMachineOf, CallIsPlain, CallKeepsModel, IsOffMemory, RegisterCallIsPlain}
 use Rattle.rl_plain.proofs.AccessSteps.{access_step}
 use Rattle.rl_plain.proofs.Hardware.{volatile_where}
 use Rattle.rl_plain.proofs.Kept.{IsKept}
 use Rattle.rl_plain.proofs.MachineSteps.{HasContents, nowhere, everywhere, contents_stay, contents_stored, IsMachineStep}
 use Rattle.rl_plain.proofs.MemoryAccesses.{IsMemoryStep, stored, loaded, write_place, read_place, check_place, write_step_is, read_step_is, check_step_is, memory_agrees}
-use Rattle.rl_plain.proofs.QuietSteps.{quiet_step, back_step, wish_step, reset_step, memory_step, burst_step, stays_step}
+use Rattle.rl_plain.proofs.QuietSteps.{quiet_step, back_step, wish_step, reset_step, memory_step, burst_step}
 use Rattle.rl_plain.proofs.Told.{done_told, refused_told}
 
 -- ---- accesses to a memory over the bus

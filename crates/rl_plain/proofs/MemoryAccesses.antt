@@ -9,9 +9,8 @@ use Rattle.rl_bus.specs.State.{State}
 use Rattle.rl_model.specs.declared.rows.Item.TheVariants as item
 use Rattle.rl_model.specs.Rows.{ChipData}
 use Rattle.rl_map.specs.Layout.{LayoutData, place_at}
-use Rattle.rl_map.specs.Tables.{setup_of}
 use Rattle.rl_split.specs.Access.{all_bytes, ops_of, joined}
-use Rattle.rl_split.specs.Law.{IsReady, IsLocationOf, HasLocation, IsStore, IsLoad, no_flaws}
+use Rattle.rl_split.specs.Law.{IsReady, IsLocationOf, HasLocation, IsStore, IsLoad}
 use Rattle.rl_split.specs.Runs.{answers_of, counted_on}
 use Rattle.rl_split.proofs.Locations.{memory_write_is_store, memory_read_is_load}
 use Rattle.rl_mirror.specs.Mirror.{MirrorData}
@@ -24,7 +23,7 @@ use Rattle.rl_access.specs.declared.event.Refused.TheVariants.{NotWritable, OutO
 use Rattle.rl_access.specs.declared.trace.TraceItem.{TraceItem}
 use Rattle.rl_access.specs.Call.{Scene, IsDone}
 use Rattle.rl_access.specs.Gathering.{IsNothingGathered}
-use Rattle.rl_access.specs.Items.{failed_at, words_answered, port_for}
+use Rattle.rl_access.specs.Items.{failed_at, port_for}
 use Rattle.rl_access.specs.Model.{ModelData, IsModel}
 use Rattle.rl_access.specs.Operation.{location_size, HasNumbers}
 use Rattle.rl_access.specs.Rules.{Grant, Outcome, grant, way, only_where, at_location, writable, memory_size, is_writable, item_size, location_bytes, location_value, or_error, quiet}

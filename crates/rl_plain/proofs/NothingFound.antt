@@ -1,9 +1,8 @@
 -- A check of a register finds nothing: a field that is compared reads as its bits.
-use Rattle.std.proofs.Common.{◌≡◌, ℕ, ◌+◌, ◌<◌, ◌≤◌, Bool, true, false, not, ◌&&◌, eqb, eqb-true, eq-eqb, List, length, Option, None, Some, refl, sym, ap, ◌∙◌, arith}
-use Rattle.std.specs.Option.{option_map_or}
+use Rattle.std.proofs.Common.{◌≡◌, ℕ, ◌+◌, ◌<◌, Bool, true, false, not, ◌&&◌, eqb, eqb-true, eq-eqb, List, length, Option, None, Some, refl, sym, ap, ◌∙◌, arith}
 use Rattle.std.proofs.lemmas.Bool.Decides.{nat_tests}
 use Rattle.std.proofs.lemmas.Nat.{pow_pos}
-use Rattle.rl_policy.specs.Bits.{bit, is_within}
+use Rattle.rl_policy.specs.Bits.{bit}
 use Rattle.rl_policy.specs.Table.{value_read, is_write_only}
 use Rattle.rl_policy.specs.declared.policy.Policy.{Policy}
 use Rattle.rl_policy.specs.declared.policy.Policy.TheVariants.{Wo, Woc, Wos, Wo1}
@@ -12,7 +11,7 @@ use Rattle.rl_model.specs.Rows.{FieldSeen, ChipData}
 use Rattle.rl_model.specs.Chip.{IsSound}
 use Rattle.rl_model.specs.Fields.{fields_of, field_in, policy_in, covers, place_at}
 use Rattle.rl_split.specs.Step.{Register, every, ranswer, shown_bit}
-use Rattle.rl_mirror.specs.Compared.{differs, differing, is_compared}
+use Rattle.rl_mirror.specs.Compared.{differs, differing}
 use Rattle.rl_mirror.specs.Fields.{part_of}
 use Rattle.rl_mirror.proofs.FieldLemmas.{field_list}
 use Rattle.rl_mirror.proofs.PlaceLemmas.{IsFieldList, is_place, covers_is}

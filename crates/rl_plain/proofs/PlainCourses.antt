@@ -5,7 +5,6 @@ use Rattle.std.proofs.lemmas.List.Elements.{All-head, All-tail}
 use Rattle.rl_model.specs.Rows.{ChipData}
 use Rattle.rl_map.specs.Layout.{LayoutData}
 use Rattle.rl_mirror.specs.Prediction.{needs_update, update_word_of}
-use Rattle.rl_access.specs.declared.event.End.{End}
 use Rattle.rl_access.specs.declared.event.End.TheVariants as end
 use Rattle.rl_access.specs.declared.event.Event.{Event}
 use Rattle.rl_access.specs.declared.event.Op.{Op}
@@ -15,9 +14,8 @@ use Rattle.rl_access.specs.HandsOver.{Told}
 use Rattle.rl_access.specs.Model.{ModelData, IsModel, IsSameChip}
 use Rattle.rl_access.specs.Operation.{HasNumbers}
 use Rattle.rl_access.specs.Rules.{Grant, grant, named}
-use Rattle.rl_access.specs.Runs.{RunsThrough}
 use Rattle.rl_access.specs.Tally.{is_bus_error}
-use Rattle.rl_seq.specs.Plan.{Plan, stop, step, look, Runs}
+use Rattle.rl_seq.specs.Plan.{Plan, stop, step, look}
 use Rattle.rl_plain.specs.Machine.{Machine, mirror_of, seen, machine_end, told, done_by, machine_step}
 use Rattle.rl_plain.specs.Courses.{Course, then_on, through, along}
 use Rattle.rl_plain.specs.Calls.{without_items, IsMachineOf, IsPlainCourse, RunIsPlain, PlanHasNumbers, PlanIsPlain, RefusedIsPlain}

@@ -1,17 +1,15 @@
 -- Every operation of a sequence has its numbers.
-use Rattle.std.proofs.Common.{◌≡◌, ℕ, zero, suc, ◌+◌, ◌*◌, ◌<◌, Bool, true, false, length, Option, Some, arith}
+use Rattle.std.proofs.Common.{ℕ, zero, suc, ◌*◌, ◌<◌, Bool, true, false, length, Option, arith}
 use Rattle.rl_model.specs.declared.rows.Item.TheVariants.{Reg, Mem}
 use Rattle.rl_model.specs.Chip.{IsSound as IsSoundChip}
 use Rattle.rl_model.specs.Fields.{size_of}
 use Rattle.rl_model.specs.Rows.{ChipData}
 use Rattle.rl_map.specs.Layout.{LayoutData, IsSound}
-use Rattle.rl_mirror.specs.Mirror.{mirrored_of}
-use Rattle.rl_access.specs.declared.event.Op.TheVariants as op
 use Rattle.rl_access.specs.Rules.{memory_size}
 use Rattle.rl_seq.specs.Choice.{is_reg_tested, is_place, is_bit_compared, no_reg_hw_reset_test, no_reg_bit_bash_test, is_accessed, is_shared, is_walked}
 use Rattle.rl_seq.specs.Plan.{Plan, stop, step, look, followed_by, only_if, each_below}
 use Rattle.rl_seq.specs.Steps.{map_at, check_at_place, check_reg, hw_reset_plan, bash_once, bash_bit, bash_place, bash_reg, bit_bash_plan}
-use Rattle.rl_seq.specs.Tests.{access_at, access_place, access_reg, access_test_plan, check_other, share_at, share_place, share_reg, shared_access_plan, write_turned, check_turned, write_number, turn_back, turn_before, check_last, walk_location, walk_place, walk_mem, mem_walk_plan}
+use Rattle.rl_seq.specs.Tests.{access_place, access_reg, access_test_plan, check_other, share_place, share_reg, shared_access_plan, write_turned, check_turned, write_number, turn_before, check_last, walk_location, walk_place, walk_mem, mem_walk_plan}
 use Rattle.rl_plain.specs.Calls.{PlanHasNumbers, PlansHaveNumbers}
 
 -- ---- plans of plans

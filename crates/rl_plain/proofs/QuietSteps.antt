@@ -1,11 +1,11 @@
 -- An operation that sends nothing is the plain machine's.
-use Rattle.std.proofs.Common.{◌≡◌, ℕ, ◌^◌, ◌%◌, ◌<◌, Bool, false, List, [], length, replicate, Option, None, Some, Ok, refl, sym, ap, ◌∙◌, subst, arith}
+use Rattle.std.proofs.Common.{◌≡◌, ℕ, ◌^◌, ◌%◌, ◌<◌, Bool, false, List, [], length, Option, None, Some, Ok, refl, sym, ap, ◌∙◌, subst, arith}
 use Rattle.std.specs.Prelude.{◌+◌, ◌*◌, get_or, slice_index, slice_set, nat_lt}
 use Rattle.std.specs.Option.{option_map_or}
 use Rattle.std.proofs.lemmas.Bool.{ltb-true}
 use Rattle.std.proofs.lemmas.List.{length-replicate}
 use Rattle.std.proofs.Math.Nat.{mod-eq_of_lt}
-use Rattle.rl_policy.specs.Bits.{bit, from_bits}
+use Rattle.rl_policy.specs.Bits.{bit}
 use Rattle.rl_policy.specs.Table.{value_read}
 use Rattle.rl_policy.proofs.BitLemmas.{from_bits-same, is_from_bits}
 use Rattle.rl_bus.specs.Setup.{Setup, mem_of, location}
@@ -17,12 +17,10 @@ use Rattle.rl_model.specs.Rows.{FieldSeen, ChipData}
 use Rattle.rl_model.specs.Chip.{IsSound}
 use Rattle.rl_model.specs.Fields.{fields_of, policy_in, place_at}
 use Rattle.rl_map.specs.Layout.{LayoutData}
-use Rattle.rl_map.specs.Tables.{setup_of}
-use Rattle.rl_split.specs.Law.{no_flaws}
 use Rattle.rl_split.specs.Step.{Register, every, ranswer, shown_bit}
 use Rattle.rl_mirror.specs.Compared.{differ}
 use Rattle.rl_mirror.specs.Fields.{owned, word_by_field}
-use Rattle.rl_mirror.specs.Mirror.{MirrorData, mirrored_of, marks_in}
+use Rattle.rl_mirror.specs.Mirror.{MirrorData, marks_in}
 use Rattle.rl_mirror.specs.Prediction.{predict_raw, predict_read, written, shown, set, reset}
 use Rattle.rl_mirror.proofs.MirrorLemmas.{set_built, reset_built}
 use Rattle.rl_mirror.proofs.ReachLemmas.{raw_reach, reset_reach, set_reach}
@@ -39,10 +37,9 @@ use Rattle.rl_access.specs.Gathering.{no_words}
 use Rattle.rl_access.specs.Items.{items_of, port_for}
 use Rattle.rl_access.specs.Model.{ModelData, IsModel}
 use Rattle.rl_access.specs.Operation.{location_size, HasNumbers}
-use Rattle.rl_access.specs.Rules.{Outcome, grant, at_location, by_backdoor, memory_size, item_size, sends, named, outcome, event_of, every_field, back_written, back_value, back_left, low_bytes}
-use Rattle.rl_plain.specs.OneStep.{read_step}
+use Rattle.rl_access.specs.Rules.{grant, at_location, by_backdoor, memory_size, item_size, sends, named, outcome, event_of, every_field, back_written, back_value, back_left, low_bytes}
 use Rattle.rl_plain.specs.Agree.{Agree, IsBackdoor, IsWish, IsMemoryBackdoor}
-use Rattle.rl_plain.specs.Machine.{Machine, register_at, mirror_of, seen, stepped, with_both, with_wish, with_reset, machine_after, machine_end, machine_differ}
+use Rattle.rl_plain.specs.Machine.{Machine, register_at, mirror_of, seen, with_both, with_wish, with_reset, machine_after, machine_end, machine_differ}
 use Rattle.rl_plain.proofs.AccessSteps.{check_finds}
 use Rattle.rl_plain.proofs.Backdoor.{IsHeld, held_by, peeked_is, alone_by, back_done}
 use Rattle.rl_plain.proofs.Followed.{all_chosen}
