@@ -7,10 +7,11 @@ use Rattle.rl_policy.specs.declared.policy.Policy.{Policy}
 use Rattle.rl_model.specs.Rows.{FieldSeen, ChipData}
 use Rattle.rl_model.specs.Fields.{field_of, first_of, fields_of, policy_in}
 use Rattle.rl_map.specs.Layout.{LayoutData}
+use Rattle.rl_split.specs.Narrow.{is_narrow}
 use Rattle.rl_split.specs.Step.{Register, every, ranswer}
 use Rattle.rl_mirror.specs.Fields.{word_by_field, owned, part_of}
 use Rattle.rl_mirror.specs.Mirror.{MirrorData, marks_in}
-use Rattle.rl_mirror.specs.Prediction.{written, after_reset, needs_update, update_word_of}
+use Rattle.rl_mirror.specs.Prediction.{written, after_reset, needs_update, update_word_of, neutral_around}
 use Rattle.rl_access.specs.declared.event.End.{End}
 use Rattle.rl_access.specs.declared.event.End.TheVariants as end
 use Rattle.rl_access.specs.declared.event.Event.{Event}
@@ -21,7 +22,7 @@ use Rattle.rl_access.specs.Gathering.{no_words}
 use Rattle.rl_access.specs.Model.{ModelData}
 use Rattle.rl_access.specs.Operation.{reg_of, register_of}
 use Rattle.rl_access.specs.Rules.{Grant, grant, named}
-use Rattle.rl_plain.specs.OneStep.{Step, write_step, read_step, no_step, register_after, reached_fields, field_word}
+use Rattle.rl_plain.specs.OneStep.{Step, write_step, read_step, no_step, register_after, own_field}
 
 -- ---- its state
 
@@ -42,8 +43,8 @@ register_at c p reg = record { bits = get_or p.bits reg 0; spent = marks_in c p.
 abbrev pub mirror_of : Machine → MirrorData
 mirror_of p = record { mirrored = p.bits; desired = p.desired; spent = p.spent }
 
--- A model with this mirror, which has gathered nothing. By it the machine is told of the place used, of its rights, whether
--- its root is explicit, and whether an access to a field is narrow.
+-- A model with this mirror, which has gathered nothing. By its chip and its layout an operation is granted or refused, and
+-- its event names the map that was used. A plan may look at its mirror.
 abbrev pub seen : ChipData → LayoutData → Machine → ModelData
 seen c l p = record { chip = c; layout = l; mirror = mirror_of p; gathered = replicate (length l.places) no_words }
 
@@ -122,13 +123,22 @@ first_machine c = with_reset c 0 (record {
 
 -- ---- what an operation at a place makes of it
 
--- an access to a field is a step of it alone where it is narrow, and else of all fields of its register
-abbrev pub field_write_step : ChipData → LayoutData → (field place value : ℕ) → Machine → Step
-field_write_step c l field place value p =
-    write_step (reached_fields (seen c l p) field place true) (field_word (seen c l p) field place value)
+-- an access to a field reaches it alone where it is narrow, and else all fields of its register
+abbrev pub reached : ChipData → LayoutData → (field place : ℕ) → Bool → ℕ → Bool
+reached c l field place write = if is_narrow c l field place write then own_field c field else every
 
-abbrev pub field_read_step : ChipData → LayoutData → (field place : ℕ) → Machine → Step
-field_read_step c l field place p = read_step (reached_fields (seen c l p) field place false)
+-- the word with the value in the field: where all fields are written, it has the neutral word in each other one
+abbrev pub word_with : ChipData → LayoutData → (field place value : ℕ) → Machine → ℕ
+word_with c l field place value p =
+    let f = (field_of c field).shape in
+    if is_narrow c l field place true then from_bits 64 (put_bit f.lsb f.width (bit value) (bit 0))
+    else neutral_around c field value (mirror_of p)
+
+abbrev pub field_write_step : ChipData → LayoutData → (field place value : ℕ) → Machine → Step
+field_write_step c l field place value p = write_step (reached c l field place true) (word_with c l field place value p)
+
+abbrev pub field_read_step : ChipData → LayoutData → (field place : ℕ) → Step
+field_read_step c l field place = read_step (reached c l field place false)
 
 -- the word that an update sends, if some field has another desired value than its bits
 abbrev pub update_step : ChipData → (reg : ℕ) → Machine → Step
@@ -145,7 +155,7 @@ machine_after c l (op.Read reg _) place p = stepped c reg (read_step every) p
 machine_after c l (op.Mirror reg _) place p = stepped c reg (read_step every) p
 machine_after c l (op.Check reg _) place p = stepped c reg (read_step every) p
 machine_after c l (op.FieldWrite field _ value) place p = stepped c (reg_of c field) (field_write_step c l field place value p) p
-machine_after c l (op.FieldRead field _) place p = stepped c (reg_of c field) (field_read_step c l field place p) p
+machine_after c l (op.FieldRead field _) place p = stepped c (reg_of c field) (field_read_step c l field place) p
 machine_after c l (op.Set field value) place p = with_wish c field value p
 machine_after c l (op.Show reg) place p = p
 machine_after c l (op.Update reg _) place p = stepped c reg (update_step c reg p) p
@@ -176,7 +186,7 @@ answer_in c reg p = end.Value (ranswer (fields_of c reg) every (register_at c p 
 abbrev pub field_answer : ChipData → LayoutData → (field place : ℕ) → Machine → End
 field_answer c l field place p =
     let reg = reg_of c field in
-    let read = ranswer (fields_of c reg) (reached_fields (seen c l p) field place false) (register_at c p reg) in
+    let read = ranswer (fields_of c reg) (reached c l field place false) (register_at c p reg) in
     end.Value (part_of (field_of c field).shape read)
 
 -- the word that an update sent
