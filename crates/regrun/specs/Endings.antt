@@ -22,7 +22,11 @@ abbrev pub both : ℕ → ℕ → ℕ
 both a b = min (a + b) (2 ^ 64 - 1)
 
 abbrev pub added : Counts → Counts → Counts
-added a b = record { events = both a.events b.events; differences = both a.differences b.differences; errors = both a.errors b.errors }
+added a b = record {
+  events = both a.events b.events;
+  differences = both a.differences b.differences;
+  errors = both a.errors b.errors;
+}
 
 -- The lines that were left ended by the counts of what happened, and the counts rose by these.
 pub record PlayEnds (status : Status) (before after : Counts) : Type 0 where

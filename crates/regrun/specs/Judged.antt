@@ -1,5 +1,6 @@
--- The judged log of a session, and what `map` and `soak` write: the text, the status, and how the adapters stand afterwards.
-use Rattle.std.specs.Prelude.{◌≡◌, ℕ, List, [], ◌++◌, true, Option, Some, Result, Ok, Err}
+-- The judged log of a session, and what `map` and `soak` write: the text, the status, and how the adapters stand
+-- afterwards.
+use Rattle.std.specs.Prelude.{◌≡◌, ℕ, List, [], ◌++◌, map, true, Option, Some, Result, Ok, Err}
 use Rattle.std.specs.Io.KnownBytes.{Appends}
 use Rattle.rl_bus.specs.Standing.{Standing, kinds_of}
 use Rattle.rl_desc.specs.Data.{DescData}
@@ -7,7 +8,7 @@ use Rattle.rl_report.specs.Lines.{whole_lines}
 use Rattle.rl_report.specs.Opening.{separator_at}
 use Rattle.regrun.specs.declared.status.Status.{Status}
 use Rattle.regrun.specs.declared.status.Status.TheVariants.{Refused}
-use Rattle.regrun.specs.Log.{Ending, script_ending, behind, first_world, lines_text}
+use Rattle.regrun.specs.Log.{Ending, first_ending, script_ending, behind, first_world, lines_text}
 use Rattle.regrun.specs.Session.{opening_of, map_text, map_status}
 use Rattle.regrun.specs.Soak.{mirror_sum, soak_line_text, soak_text}
 use Rattle.regrun.specs.Statuses.{is_complete}
@@ -27,6 +28,10 @@ refused line adapters = record { text = line; status = Refused; adapters = adapt
 abbrev pub ending_judged : Ending → Judged
 ending_judged e = record { text = e.text; status = e.status; adapters = e.world.adapters }
 
+-- a script, from the first world of a description on
+abbrev pub script_judged : DescData → (script : List ℕ) → List Standing → Judged
+script_judged desc script adapters = ending_judged (first_ending desc script adapters)
+
 abbrev pub judged_by : Result DescData (List ℕ) → List ℕ → List Standing → Judged
 judged_by (Ok desc) bytes adapters = ending_judged (script_ending desc bytes adapters)
 judged_by (Err line) bytes adapters = refused line adapters
@@ -45,7 +50,15 @@ map_judged bytes adapters =
 -- ---- `soak`
 
 abbrev pub soak_ending : ℕ → Ending → Judged
-soak_ending n e = record { text = soak_line_text n e.counts (mirror_sum 0 e.world.model.mirror.mirrored); status = e.status; adapters = e.world.adapters }
+soak_ending n e = record {
+  text = soak_line_text n e.counts (mirror_sum 0 e.world.model.mirror.mirrored);
+  status = e.status;
+  adapters = e.world.adapters;
+}
+
+-- a script, from the first world of a description on
+abbrev pub soak_script_judged : ℕ → DescData → (script : List ℕ) → List Standing → Judged
+soak_script_judged n desc script adapters = soak_ending n (first_ending desc script adapters)
 
 abbrev pub soak_by : ℕ → Result DescData (List ℕ) → List Standing → Judged
 soak_by n (Ok desc) adapters = soak_ending n (script_ending desc (soak_text n) adapters)
@@ -62,11 +75,25 @@ pub record IsJudged (j : Judged) (status : Status) (old new : Option (List ℕ))
   pub tells : Tells status j.status old new j.text
   pub adapters_are : is_complete status ≡ true → adapters ≡ j.adapters
 
+-- what a sink was told, and how the adapters stand
+pub record Output : Type 0 where
+  pub text : Option (List ℕ)
+  pub adapters : List Standing
+
+-- a sink that may tell its bytes, and adapters as their callers see them
+abbrev pub output_of : {K A : Type 0} → (K → Option (List ℕ)) → (A → Standing) → K → List A → Output
+output_of written standing sink adapters = record { text = written sink; adapters = map standing adapters }
+
+-- a run from one output to the other wrote what is judged of the adapters as they stood, and answers its status
+abbrev pub WritesJudged : (List Standing → Judged) → Status → (before after : Output) → Type 0
+WritesJudged judge status before after = IsJudged (judge before.adapters) status before.text after.text after.adapters
+
 -- ---- a source that failed
 
 -- the log of the lines behind the separator whose 10 is among the bytes taken, with no last line
 abbrev pub taken_by : Result DescData (List ℕ) → (taken : List ℕ) → List Standing → List ℕ
-taken_by (Ok desc) taken adapters = lines_text 1 (first_world desc adapters) (whole_lines (behind (separator_at taken) taken))
+taken_by (Ok desc) taken adapters =
+    lines_text 1 (first_world desc adapters) (whole_lines (behind (separator_at taken) taken))
 taken_by (Err line) taken adapters = []
 
 abbrev pub taken_text : (taken : List ℕ) → List Standing → List ℕ

@@ -11,15 +11,21 @@ use Rattle.rl_report.specs.Pieces.{joined}
 
 -- a place, without its words
 abbrev pub heading_text : ChipData → LayoutData → ℕ → List ℕ
-heading_text chip l place = joined (codes "place " ∷ path_of_item chip (place_at l place).item ∷ codes " @" ∷ (map_at l (place_at l place).map).name ∷ codes " " ∷ rights_text (place_at l place).rights ∷ codes "\n" ∷ [])
+heading_text chip l place =
+    let at = place_at l place in
+    joined (codes "place " ∷ path_of_item chip at.item ∷ codes " @" ∷ (map_at l at.map).name
+    ∷ codes " " ∷ rights_text at.rights ∷ codes "\n" ∷ [])
 
 -- a word of a port of so many bytes, whose root map has this name
 abbrev pub word_line : List ℕ → ℕ → Word → List ℕ
-word_line root port_bytes w = joined (codes "  " ∷ root ∷ codes " 0x" ∷ hex_digits w.address ∷ codes ":" ∷ lanes_text port_bytes w ∷ codes "\n" ∷ [])
+word_line root port_bytes w =
+    joined (codes "  " ∷ root ∷ codes " 0x" ∷ hex_digits w.address ∷ codes ":" ∷ lanes_text port_bytes w ∷ codes "\n" ∷ [])
 
 -- the words of a place's first location
 abbrev pub words_text : LayoutData → ℕ → List ℕ
-words_text l place = flat_map (word_text (map_at l (port_at l (place_at l place).port).map).name (port_at l (place_at l place).port).bytes) (words_of l place 0)
+words_text l place =
+    let port = port_at l (place_at l place).port in
+    flat_map (word_text (map_at l port.map).name port.bytes) (words_of l place 0)
 
 abbrev pub places_text : ChipData → LayoutData → List ℕ
 places_text chip l = flat_map (place_text chip l) (range_with_len 0 (length l.places))

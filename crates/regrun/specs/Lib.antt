@@ -8,6 +8,7 @@ pub mod Heard
 pub mod Judged
 pub mod LayoutPieces
 pub mod Log
+pub mod Moment
 pub mod Named
 pub mod Opened
 pub mod Operations

@@ -76,14 +76,16 @@ abbrev pub after_text : List ℕ → Ending → Ending
 after_text text e = record e { text = text ++ e.text }
 
 -- a line that is refused stops the script, and any other one is followed by the rest
-abbrev pub goes_on : (number : ℕ) → Counts → World → Result Entry LineRefusal → (Counts → World → Ending) → Ending
+abbrev pub goes_on : (number : ℕ) → Counts → World → Result Entry LineRefusal → (rest : Counts → World → Ending) → Ending
 goes_on number counts w (Err why) rest = stops number why counts w
-goes_on number counts w (Ok entry) rest = after_text entry.text (rest (with_events counts entry.course.told) entry.course.world)
+goes_on number counts w (Ok entry) rest =
+    after_text entry.text (rest (with_events counts entry.course.told) entry.course.world)
 
 -- the lines from that number on
 unfoldable pub script_from : (number : ℕ) → Counts → World → List (List ℕ) → Ending
 script_from number counts w [] = ends counts w
-script_from number counts w (line ∷ lines) = goes_on number counts w (comes_of w (said number line)) (λ counts w. script_from (number + 1) counts w lines)
+script_from number counts w (line ∷ lines) =
+    goes_on number counts w (comes_of w (said number line)) (λ counts w. script_from (number + 1) counts w lines)
 
 -- a line that is refused writes nothing here, and nothing comes after it
 abbrev pub text_on : Result Entry LineRefusal → (World → List ℕ) → List ℕ
@@ -108,10 +110,19 @@ script_of bytes = lines_of (behind (separator_at bytes) bytes)
 -- a model that was just built, and a device after a hard reset, with exactly the flaws that are declared
 abbrev pub first_world : DescData → List Standing → World
 first_world desc adapters = record {
-  model = record { chip = desc.chip; layout = desc.layout; mirror = fresh desc.chip; gathered = replicate (length desc.layout.places) no_words };
+  model = record {
+    chip = desc.chip;
+    layout = desc.layout;
+    mirror = fresh desc.chip;
+    gathered = replicate (length desc.layout.places) no_words;
+  };
   adapters = adapters;
   device = first_of desc.chip desc.layout desc.flaws;
 }
+
+-- a script, from the first world of a description on
+abbrev pub first_ending : DescData → (script : List ℕ) → List Standing → Ending
+first_ending desc script adapters = script_from 1 no_counts (first_world desc adapters) (lines_of script)
 
 -- the script of a session that opens with this description
 abbrev pub script_ending : DescData → List ℕ → List Standing → Ending

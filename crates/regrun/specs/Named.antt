@@ -61,10 +61,13 @@ op_named m (line.Read reg map) = with_map (reg_named m.chip reg) (map_asked m.la
 op_named m (line.Mirror reg map) = with_map (reg_named m.chip reg) (map_asked m.layout map) (λ r t. op.Mirror r t)
 op_named m (line.Check reg map) = with_map (reg_named m.chip reg) (map_asked m.layout map) (λ r t. op.Check r t)
 op_named m (line.Update reg map) = with_map (reg_named m.chip reg) (map_asked m.layout map) (λ r t. op.Update r t)
-op_named m (line.OtherWrite reg value map) = with_map (reg_named m.chip reg) (map_asked m.layout map) (λ r t. op.OtherWrite r t value)
+op_named m (line.OtherWrite reg value map) =
+    with_map (reg_named m.chip reg) (map_asked m.layout map) (λ r t. op.OtherWrite r t value)
 op_named m (line.OtherRead reg map) = with_map (reg_named m.chip reg) (map_asked m.layout map) (λ r t. op.OtherRead r t)
-op_named m (line.FieldWrite field value map) = with_map (field_named m.chip field) (map_asked m.layout map) (λ f t. op.FieldWrite f t value)
-op_named m (line.FieldRead field map) = with_map (field_named m.chip field) (map_asked m.layout map) (λ f t. op.FieldRead f t)
+op_named m (line.FieldWrite field value map) =
+    with_map (field_named m.chip field) (map_asked m.layout map) (λ f t. op.FieldWrite f t value)
+op_named m (line.FieldRead field map) =
+    with_map (field_named m.chip field) (map_asked m.layout map) (λ f t. op.FieldRead f t)
 op_named m (line.Set field value) = with_number (field_named m.chip field) (λ f. op.Set f value)
 op_named m (line.Hw field value) = with_number (field_named m.chip field) (λ f. op.Hw f value)
 op_named m (line.Show reg) = with_number (reg_named m.chip reg) (λ r. op.Show r)
@@ -73,9 +76,12 @@ op_named m (line.BackCheck reg) = with_number (reg_named m.chip reg) (λ r. op.B
 op_named m (line.Peek reg) = with_number (reg_named m.chip reg) (λ r. op.Peek r)
 op_named m (line.BackWrite reg value) = with_number (reg_named m.chip reg) (λ r. op.BackWrite r value)
 op_named m (line.Poke reg value) = with_number (reg_named m.chip reg) (λ r. op.Poke r value)
-op_named m (line.MemWrite mem index value map) = with_map (mem_named m.chip mem) (map_asked m.layout map) (λ i t. op.MemWrite i t index value)
-op_named m (line.MemCheck mem index value map) = with_map (mem_named m.chip mem) (map_asked m.layout map) (λ i t. op.MemCheck i t index value)
-op_named m (line.MemRead mem index map) = with_map (mem_named m.chip mem) (map_asked m.layout map) (λ i t. op.MemRead i t index)
+op_named m (line.MemWrite mem index value map) =
+    with_map (mem_named m.chip mem) (map_asked m.layout map) (λ i t. op.MemWrite i t index value)
+op_named m (line.MemCheck mem index value map) =
+    with_map (mem_named m.chip mem) (map_asked m.layout map) (λ i t. op.MemCheck i t index value)
+op_named m (line.MemRead mem index map) =
+    with_map (mem_named m.chip mem) (map_asked m.layout map) (λ i t. op.MemRead i t index)
 op_named m (line.MemPeek mem index) = with_number (mem_named m.chip mem) (λ i. op.MemPeek i index)
 op_named m (line.MemPoke mem index value) = with_number (mem_named m.chip mem) (λ i. op.MemPoke i index value)
 op_named m (line.Reset kind) = with_number (kind_named m.chip kind) (λ k. op.Reset k)

@@ -11,6 +11,7 @@ use Rattle.rl_report.specs.EventText.{event_text}
 use Rattle.rl_report.specs.Pieces.{AppendsFront}
 use Rattle.regrun.specs.declared.counts.Counts.{Counts}
 use Rattle.regrun.specs.Course.{Course}
+use Rattle.regrun.specs.Moment.{Moment, FromWorld}
 use Rattle.regrun.specs.World.{World, Step, IsAt}
 
 -- ---- counts
@@ -64,7 +65,8 @@ with_steps counts [] = counts
 with_steps counts (s ∷ steps) = with_steps (with_event counts s.event) steps
 
 -- The first of these events were done and counted, no others, and they led here.
-pub record IsDone (steps : List Step) (w : World) (counts now : Counts) (model : ModelData) (adapters : List Standing) (device : Option State) : Type 0 where
+pub record IsDone (steps : List Step) (w : World) (counts now : Counts)
+    (model : ModelData) (adapters : List Standing) (device : Option State) : Type 0 where
   pub done : List Step
   pub others : List Step
   pub split : done ++ others ≡ steps
@@ -74,10 +76,16 @@ pub record IsDone (steps : List Step) (w : World) (counts now : Counts) (model :
 -- ---- a course
 
 -- its events were written and counted, and it led here; where the sink failed, a front of their text was written
-pub record IsRecorded {T E : Type 0} (c : Course) (old new : Option (List ℕ)) (counts now : Counts) (model : ModelData) (adapters : List Standing) (device : Option State) (r : Result T E) : Type 0 where
+pub record IsRecorded {T E : Type 0} (c : Course) (old new : Option (List ℕ)) (counts now : Counts)
+    (model : ModelData) (adapters : List Standing) (device : Option State) (r : Result T E) : Type 0 where
   pub whole : OnOk r (Appends old new (events_text c.told))
   pub part : OnErr r (AppendsFront old new (events_text c.told))
   pub counted : OnOk r (now ≡ with_events counts c.told)
   pub after : OnOk r (IsAt model adapters device c.world)
   -- at least one was done, so this holds whatever stood before
   pub done : OnErr r ((w : World) → IsDone c.steps w counts now model adapters device)
+
+-- a course that begins at one moment was written, counted and done at the other
+abbrev pub Records : {T E : Type 0} → (World → Course) → (before after : Moment) → Result T E → Type 0
+Records course before after r = FromWorld before (λ w.
+    IsRecorded (course w) before.text after.text before.counts after.counts after.model after.adapters after.device r)

@@ -34,7 +34,8 @@ field_text (Some field) = joined (codes " field " ∷ decimal (field + 1) ∷ []
 -- nothing for the text as a whole, and rows are counted from 1
 abbrev pub where_text : Option Spot → List ℕ
 where_text None = []
-where_text (Some spot) = joined (codes " " ∷ array_name spot.array ∷ codes " " ∷ decimal (spot.row + 1) ∷ field_text spot.field ∷ [])
+where_text (Some spot) =
+    joined (codes " " ∷ array_name spot.array ∷ codes " " ∷ decimal (spot.row + 1) ∷ field_text spot.field ∷ [])
 
 -- ---- why
 
@@ -71,12 +72,14 @@ map_reason map.PlacedTwice = codes "placed twice" ∷ []
 map_reason map.MemInFifo = codes "memory in fifo" ∷ []
 map_reason map.AddressOverflow = codes "address overflow" ∷ []
 map_reason map.Unaligned = codes "unaligned" ∷ []
-map_reason (map.SharedAddress address other) = codes "shared address 0x" ∷ hex_digits address ∷ codes " with place " ∷ decimal (other + 1) ∷ []
+map_reason (map.SharedAddress address other) =
+    codes "shared address 0x" ∷ hex_digits address ∷ codes " with place " ∷ decimal (other + 1) ∷ []
 
 -- ---- the line
 
 abbrev pub refusal_text : Option Spot → List (List ℕ) → List ℕ
-refusal_text spot reason = joined (codes "refused description" ∷ where_text spot ∷ codes ": " ∷ joined reason ∷ codes "\n" ∷ [])
+refusal_text spot reason =
+    joined (codes "refused description" ∷ where_text spot ∷ codes ": " ∷ joined reason ∷ codes "\n" ∷ [])
 
 abbrev pub flaw_at : ℕ → Option Spot
 flaw_at row = Some (record { array = array.Flaw; row = row; field = None })

@@ -12,7 +12,9 @@ use Rattle.regrun.specs.Refusals.{description_refused_text}
 
 -- the last line, where no separator begins within the bytes that a description may have
 abbrev pub no_head_text : List ℕ → List ℕ
-no_head_text bytes = if nat_lt 1048576 (length bytes) then codes "refused session: description too long\n" else codes "refused session: no separator\n"
+no_head_text bytes =
+    if nat_lt 1048576 (length bytes) then codes "refused session: description too long\n"
+    else codes "refused session: no separator\n"
 
 abbrev pub head_before : Option ℕ → List ℕ → Result (List ℕ) (List ℕ)
 head_before (Some at) bytes = if nat_le at 1048576 then Ok (take at bytes) else Err (no_head_text bytes)

@@ -28,13 +28,18 @@ rows_text row first (suc count) = row first ++ rows_text row (first + 1) count
 
 -- in the order of their numbers
 abbrev pub policies : List Policy
-policies = Ro ∷ Rw ∷ Rc ∷ Rs ∷ Wrc ∷ Wrs ∷ Wc ∷ Ws ∷ Wsrc ∷ Wcrs ∷ W1c ∷ W1s ∷ W1t ∷ W0c ∷ W0s ∷ W0t ∷ W1src ∷ W1crs ∷ W0src ∷ W0crs ∷ Wo ∷ Woc ∷ Wos ∷ W1 ∷ Wo1 ∷ []
+policies =
+    Ro ∷ Rw ∷ Rc ∷ Rs ∷ Wrc ∷ Wrs ∷ Wc ∷ Ws ∷ Wsrc ∷ Wcrs ∷ W1c ∷ W1s ∷ W1t ∷ W0c ∷ W0s ∷ W0t ∷ W1src ∷ W1crs ∷ W0src
+    ∷ W0crs ∷ Wo ∷ Woc ∷ Wos ∷ W1 ∷ Wo1 ∷ []
 
 unfoldable pub policy_of : ℕ → Policy
 policy_of k = slice_index_or policies (k % 25) Ro
 
 abbrev pub reg_text : ℕ → List ℕ
-reg_text k = joined (codes "[[reg]]\nname = 'r" ∷ decimal k ∷ codes "'\nbytes = 4\nfield = [{name = 'f', lsb = 0, width = 32, policy = '" ∷ name_of (policy_of k) ∷ codes "', reset = 0}]\n" ∷ [])
+reg_text k =
+    joined (codes "[[reg]]\nname = 'r" ∷ decimal k
+    ∷ codes "'\nbytes = 4\nfield = [{name = 'f', lsb = 0, width = 32, policy = '" ∷ name_of (policy_of k)
+    ∷ codes "', reset = 0}]\n" ∷ [])
 
 abbrev pub maps_text : List ℕ
 maps_text = codes "[[map]]\nname = 'bus'\nbytes = 2\nendian = 'big'\nadapter = 'plain'\n[[map]]\nname = 'per'\nbytes = 4\nendian = 'little'\nadapter = 'apb'\n"
@@ -44,7 +49,9 @@ abbrev pub map_of : ℕ → List ℕ
 map_of k = if k % 2 == 0 then codes "bus" else codes "per"
 
 abbrev pub place_text : ℕ → List ℕ
-place_text k = joined (codes "[[place]]\nmap = '" ∷ map_of k ∷ codes "'\nitem = 'r" ∷ decimal k ∷ codes "'\noffset = " ∷ decimal (4 * k) ∷ codes "\n" ∷ [])
+place_text k =
+    joined (codes "[[place]]\nmap = '" ∷ map_of k ∷ codes "'\nitem = 'r" ∷ decimal k
+    ∷ codes "'\noffset = " ∷ decimal (4 * k) ∷ codes "\n" ∷ [])
 
 -- ---- the script
 
@@ -78,7 +85,9 @@ line_text step k v = joined (verb_text step ∷ decimal k ∷ joined (value_piec
 
 -- the line after a state: it takes the next three
 abbrev pub line_after : ℕ → List ℕ
-line_after x = line_text (step_of (drawn (next_state x) 8)) (drawn (next_state (next_state x)) 64) (drawn (next_state (next_state (next_state x))) 2147483648)
+line_after x =
+    line_text (step_of (drawn (next_state x) 8)) (drawn (next_state (next_state x)) 64)
+    (drawn (next_state (next_state (next_state x))) 2147483648)
 
 -- so many lines, and then the last one
 unfoldable pub script_text : (count x : ℕ) → List ℕ
@@ -99,4 +108,7 @@ mirror_sum h [] = h
 mirror_sum h (value ∷ values) = mirror_sum ((h * 31 + value) % 2 ^ 64) values
 
 abbrev pub soak_line_text : ℕ → Counts → ℕ → List ℕ
-soak_line_text n counts sum = joined (codes "soak " ∷ decimal n ∷ codes ": " ∷ decimal counts.events ∷ codes " events, " ∷ decimal counts.differences ∷ codes " differences, " ∷ decimal counts.errors ∷ codes " bus errors, mirror 0x" ∷ last_digits 16 16 sum ∷ codes "\n" ∷ [])
+soak_line_text n counts sum =
+    joined (codes "soak " ∷ decimal n ∷ codes ": " ∷ decimal counts.events ∷ codes " events, "
+    ∷ decimal counts.differences ∷ codes " differences, " ∷ decimal counts.errors ∷ codes " bus errors, mirror 0x"
+    ∷ last_digits 16 16 sum ∷ codes "\n" ∷ [])

@@ -19,8 +19,11 @@ reason_text TooManyLines = codes "too many lines"
 
 -- the last line, where a line was refused
 abbrev pub refused_text : ℕ → LineRefusal → List ℕ
-refused_text number refusal = joined (codes "refused line " ∷ decimal number ∷ codes ": " ∷ reason_text refusal ∷ codes "\n" ∷ [])
+refused_text number refusal =
+    joined (codes "refused line " ∷ decimal number ∷ codes ": " ∷ reason_text refusal ∷ codes "\n" ∷ [])
 
 -- the last line, at the end
 abbrev pub end_text : Counts → List ℕ
-end_text counts = joined (codes "end: " ∷ decimal counts.events ∷ codes " events, " ∷ decimal counts.differences ∷ codes " differences, " ∷ decimal counts.errors ∷ codes " bus errors\n" ∷ [])
+end_text counts =
+    joined (codes "end: " ∷ decimal counts.events ∷ codes " events, "
+    ∷ decimal counts.differences ∷ codes " differences, " ∷ decimal counts.errors ∷ codes " bus errors\n" ∷ [])

@@ -1,5 +1,5 @@
 -- What the words of a call ask for.
-use Rattle.std.specs.Prelude.{ℕ, List, [], ◌∷◌, Option, Some, None, codes, if◌then◌else◌}
+use Rattle.std.specs.Prelude.{ℕ, List, [], ◌∷◌, map, Option, Some, None, String, string_bytes, codes, if◌then◌else◌}
 use Rattle.std.specs.Str.{bytes_eq}
 use Rattle.rl_policy.specs.declared.number.NumberText.{NumberText}
 use Rattle.rl_policy.specs.declared.number.NumberText.TheVariants.{Value, Bad, TooLarge}
@@ -13,7 +13,9 @@ abbrev pub task_named : List ℕ → Option Task
 task_named word = if bytes_eq word (codes "run") then Some Run else (if bytes_eq word (codes "map") then Some Map else None)
 
 abbrev pub numbered_task : List ℕ → NumberText → Option Task
-numbered_task word (Value n) = if bytes_eq word (codes "soak") then Some (Soak n) else (if bytes_eq word (codes "weave") then Some (Weave n) else None)
+numbered_task word (Value n) =
+    if bytes_eq word (codes "soak") then Some (Soak n)
+    else (if bytes_eq word (codes "weave") then Some (Weave n) else None)
 numbered_task word Bad = None
 numbered_task word TooLarge = None
 
@@ -34,3 +36,7 @@ built (Some (Weave n)) = None
 
 abbrev pub task_built : List (List ℕ) → Option Built
 task_built words = built (task_of words)
+
+-- what a call with these words is asked to do
+abbrev pub asked_by : {Z : Type 0} → (words : List (String Z)) → Option Built
+asked_by words = task_built (map string_bytes words)

@@ -42,7 +42,9 @@ found_by d _ = 0
 
 -- the items of an operation at its place, as the device answers them
 abbrev pub items_at : World → Op → (place : ℕ) → List TraceItem
-items_at w op place = items_of (standing_at w.adapters (adapter_for w.model.layout place)) w.device (port_for w.model.layout place) (sends w.model op place)
+items_at w op place =
+    let adapter = standing_at w.adapters (adapter_for w.model.layout place) in
+    items_of adapter w.device (port_for w.model.layout place) (sends w.model op place)
 
 abbrev pub done_with : World → Op → (place : ℕ) → List TraceItem → Outcome → Step
 done_with w op place items o = record {
@@ -56,7 +58,9 @@ done_with w op place items o = record {
 
 -- what a granted operation does
 abbrev pub done_at : World → Op → (place : ℕ) → Step
-done_at w op place = done_with w op place (items_at w op place) (outcome w.model op place (found_by w.device op) (items_at w op place))
+done_at w op place =
+    let items = items_at w op place in
+    done_with w op place items (outcome w.model op place (found_by w.device op) items)
 
 -- a refused operation changes nothing
 abbrev pub unchanged : World → Op → Refused → Step
