@@ -1,18 +1,15 @@
 // What a line does, and its log.
-ghost use Rattle.std.specs.Prelude.{◌≡◌, ◌<◌, ◌∷◌, [], length, map as each, IfSome, IfOk, option_map};
+ghost use Rattle.std.specs.Prelude.{◌≡◌, ◌<◌, ◌∷◌, [], length, map as each, IfSome, IfOk};
 ghost use Rattle.rl_bus.specs.Causes.{HasCause};
 ghost use Rattle.rl_access.specs.Model.{IsReady, IsSameChip};
 ghost use Rattle.rl_access.specs.Operation.{IsMapIn};
-ghost use Rattle.rl_access.specs.Rules.{grant};
-ghost use Rattle.rl_access.specs.Runs.{write_grant, writes_of, reads_of, no_tally, counted_all};
-ghost use Rattle.rl_access.specs.declared.event.Op.TheVariants as op;
+ghost use Rattle.rl_access.specs.Runs.{no_tally, counted_all};
+ghost use Rattle.rl_script.specs.declared.line.Line.TheVariants as say;
 ghost use Rattle.rl_script.specs.Said.{line_said};
-ghost use Rattle.regrun.specs.Course.{alone, along, burst};
-ghost use Rattle.regrun.specs.Entry.{plan_of, entry_of, with_both, plain, framed};
-ghost use Rattle.regrun.specs.Named.{mem_named, map_asked, block_asked, op_named};
-ghost use Rattle.regrun.specs.Played.{IsLineRun};
-ghost use Rattle.regrun.specs.Recording.{IsRecorded};
-ghost use Rattle.regrun.specs.World.{world, step_of};
+ghost use Rattle.regrun.specs.Entry.{entry_of, op_entry, sequence_course, burst_write_course, burst_read_course};
+ghost use Rattle.regrun.specs.Moment.{moment_of, FromWorld};
+ghost use Rattle.regrun.specs.Played.{RunsLine};
+ghost use Rattle.regrun.specs.Recording.{Records};
 
 use crate::Counts;
 use crate::log::Log;
@@ -37,10 +34,15 @@ fn run_sequence<D: Device, K: Log>(
     requires block { IfSome block (λ b. b < m.old.chip.blocks) }
     ensures ready { IsReady m.new (each standing a.new.items) (D.state d.new) }
     ensures parts { IsSameChip m.old m.new }
-    ensures recorded { IfSome (D.state d.old) (λ device. IsRecorded (along (world m.old (each standing a.old.items) device) (plan_of which m.old block)) (K.written rec.old.sink.now) (K.written rec.new.sink.now) rec.old.counts rec.new.counts m.new (each standing a.new.items) (D.state d.new) result) }
-    ensures tally { IfSome (D.state d.old) (λ device. IfOk result (λ tally. tally ≡ counted_all no_tally (along (world m.old (each standing a.old.items) device) (plan_of which m.old block)).told)) }
+    ensures recorded { Records (sequence_course which block)
+        (moment_of standing D.state K.written m.old a.old.items d.old rec.old.sink.now rec.old.counts)
+        (moment_of standing D.state K.written m.new a.new.items d.new rec.new.sink.now rec.new.counts) result }
+    ensures tally { FromWorld
+        (moment_of standing D.state K.written m.old a.old.items d.old rec.old.sink.now rec.old.counts)
+        (λ w. IfOk result (λ tally. tally ≡ counted_all no_tally (sequence_course which block w).told)) }
     ensures cause { HasCause (K.faults rec.old.sink.now) (K.faults rec.new.sink.now) result }
-    ensures steady { rec.new.sink.ghost_name ∷ K.ends rec.new.sink.now ∷ K.target rec.new.sink.now ∷ [] ≡ rec.old.sink.ghost_name ∷ K.ends rec.old.sink.now ∷ K.target rec.old.sink.now ∷ [] }
+    ensures steady { rec.new.sink.ghost_name ∷ K.ends rec.new.sink.now ∷ K.target rec.new.sink.now ∷ []
+        ≡ rec.old.sink.ghost_name ∷ K.ends rec.old.sink.now ∷ K.target rec.old.sink.now ∷ [] }
 {
     match which {
         Sequence::HwReset => rl_seq::hw_reset(m, d, a, block, rec),
@@ -65,8 +67,12 @@ fn record_sequence<D: Device, K: Log>(
     requires block { IfSome block (λ b. b < m.old.chip.blocks) }
     ensures ready { IsReady m.new (each standing a.new.items) (D.state d.new) }
     ensures parts { IsSameChip m.old m.new }
-    ensures recorded { IfSome (D.state d.old) (λ device. IsRecorded (along (world m.old (each standing a.old.items) device) (plan_of which m.old block)) (K.written rec.old.sink.now) (K.written rec.new.sink.now) rec.old.counts rec.new.counts m.new (each standing a.new.items) (D.state d.new) result) }
-    ensures tally { IfSome (D.state d.old) (λ device. IfOk result (λ tally. tally ≡ counted_all no_tally (along (world m.old (each standing a.old.items) device) (plan_of which m.old block)).told)) }
+    ensures recorded { Records (sequence_course which block)
+        (moment_of standing D.state K.written m.old a.old.items d.old rec.old.sink.now rec.old.counts)
+        (moment_of standing D.state K.written m.new a.new.items d.new rec.new.sink.now rec.new.counts) result }
+    ensures tally { FromWorld
+        (moment_of standing D.state K.written m.old a.old.items d.old rec.old.sink.now rec.old.counts)
+        (λ w. IfOk result (λ tally. tally ≡ counted_all no_tally (sequence_course which block w).told)) }
     ensures cause { HasCause (K.faults rec.old.sink.now) (K.faults rec.new.sink.now) result }
     ensures ends_kept { K.ends rec.new.sink.now ≡ K.ends rec.old.sink.now }
     ensures same_target { K.target rec.new.sink.now ≡ K.target rec.old.sink.now }
@@ -92,7 +98,9 @@ fn record_burst_write<D: Device, K: Log>(
     requires through { IsMapIn (length m.old.layout.maps) through }
     ensures ready { IsReady m.new (each standing a.new.items) (D.state d.new) }
     ensures parts { IsSameChip m.old m.new }
-    ensures recorded { IfSome (D.state d.old) (λ device. IsRecorded (burst (world m.old (each standing a.old.items) device) (write_grant m.old mem through first values.now) (op.BurstWrite mem through first (length values.now)) (writes_of mem through first values.now)) (K.written rec.old.sink.now) (K.written rec.new.sink.now) rec.old.counts rec.new.counts m.new (each standing a.new.items) (D.state d.new) result) }
+    ensures recorded { Records (burst_write_course mem through first values.now)
+        (moment_of standing D.state K.written m.old a.old.items d.old rec.old.sink.now rec.old.counts)
+        (moment_of standing D.state K.written m.new a.new.items d.new rec.new.sink.now rec.new.counts) result }
     ensures cause { HasCause (K.faults rec.old.sink.now) (K.faults rec.new.sink.now) result }
     ensures ends_kept { K.ends rec.new.sink.now ≡ K.ends rec.old.sink.now }
     ensures same_target { K.target rec.new.sink.now ≡ K.target rec.old.sink.now }
@@ -118,7 +126,9 @@ fn record_burst_read<D: Device, K: Log>(
     requires through { IsMapIn (length m.old.layout.maps) through }
     ensures ready { IsReady m.new (each standing a.new.items) (D.state d.new) }
     ensures parts { IsSameChip m.old m.new }
-    ensures recorded { IfSome (D.state d.old) (λ device. IsRecorded (burst (world m.old (each standing a.old.items) device) (grant m.old (op.BurstRead mem through first count)) (op.BurstRead mem through first count) (reads_of mem through first count)) (K.written rec.old.sink.now) (K.written rec.new.sink.now) rec.old.counts rec.new.counts m.new (each standing a.new.items) (D.state d.new) result) }
+    ensures recorded { Records (burst_read_course mem through first count)
+        (moment_of standing D.state K.written m.old a.old.items d.old rec.old.sink.now rec.old.counts)
+        (moment_of standing D.state K.written m.new a.new.items d.new rec.new.sink.now rec.new.counts) result }
     ensures cause { HasCause (K.faults rec.old.sink.now) (K.faults rec.new.sink.now) result }
     ensures ends_kept { K.ends rec.new.sink.now ≡ K.ends rec.old.sink.now }
     ensures same_target { K.target rec.new.sink.now ≡ K.target rec.old.sink.now }
@@ -141,8 +151,12 @@ fn log_sequence<D: Device, K: Log>(
     requires block { IfSome block (λ b. b < m.old.chip.blocks) }
     ensures ready { IsReady m.new (each standing a.new.items) (D.state d.new) }
     ensures parts { IsSameChip m.old m.new }
-    ensures recorded { IfSome (D.state d.old) (λ device. IsRecorded (along (world m.old (each standing a.old.items) device) (plan_of which m.old block)) (K.written out.old) (K.written out.new) counts.old counts.new m.new (each standing a.new.items) (D.state d.new) result) }
-    ensures tally { IfSome (D.state d.old) (λ device. IfOk result (λ tally. tally ≡ counted_all no_tally (along (world m.old (each standing a.old.items) device) (plan_of which m.old block)).told)) }
+    ensures recorded { Records (sequence_course which block)
+        (moment_of standing D.state K.written m.old a.old.items d.old out.old counts.old)
+        (moment_of standing D.state K.written m.new a.new.items d.new out.new counts.new) result }
+    ensures tally { FromWorld
+        (moment_of standing D.state K.written m.old a.old.items d.old out.old counts.old)
+        (λ w. IfOk result (λ tally. tally ≡ counted_all no_tally (sequence_course which block w).told)) }
     ensures cause { HasCause (K.faults out.old) (K.faults out.new) result }
     ensures ends_kept { K.ends out.new ≡ K.ends out.old }
     ensures same_target { K.target out.new ≡ K.target out.old }
@@ -173,7 +187,9 @@ fn log_burst_write<D: Device, K: Log>(
     requires through { IsMapIn (length m.old.layout.maps) through }
     ensures ready { IsReady m.new (each standing a.new.items) (D.state d.new) }
     ensures parts { IsSameChip m.old m.new }
-    ensures recorded { IfSome (D.state d.old) (λ device. IsRecorded (burst (world m.old (each standing a.old.items) device) (write_grant m.old mem through first values.now) (op.BurstWrite mem through first (length values.now)) (writes_of mem through first values.now)) (K.written out.old) (K.written out.new) counts.old counts.new m.new (each standing a.new.items) (D.state d.new) result) }
+    ensures recorded { Records (burst_write_course mem through first values.now)
+        (moment_of standing D.state K.written m.old a.old.items d.old out.old counts.old)
+        (moment_of standing D.state K.written m.new a.new.items d.new out.new counts.new) result }
     ensures cause { HasCause (K.faults out.old) (K.faults out.new) result }
     ensures ends_kept { K.ends out.new ≡ K.ends out.old }
     ensures same_target { K.target out.new ≡ K.target out.old }
@@ -204,7 +220,9 @@ fn log_burst_read<D: Device, K: Log>(
     requires through { IsMapIn (length m.old.layout.maps) through }
     ensures ready { IsReady m.new (each standing a.new.items) (D.state d.new) }
     ensures parts { IsSameChip m.old m.new }
-    ensures recorded { IfSome (D.state d.old) (λ device. IsRecorded (burst (world m.old (each standing a.old.items) device) (grant m.old (op.BurstRead mem through first count)) (op.BurstRead mem through first count) (reads_of mem through first count)) (K.written out.old) (K.written out.new) counts.old counts.new m.new (each standing a.new.items) (D.state d.new) result) }
+    ensures recorded { Records (burst_read_course mem through first count)
+        (moment_of standing D.state K.written m.old a.old.items d.old out.old counts.old)
+        (moment_of standing D.state K.written m.new a.new.items d.new out.new counts.new) result }
     ensures cause { HasCause (K.faults out.old) (K.faults out.new) result }
     ensures ends_kept { K.ends out.new ≡ K.ends out.old }
     ensures same_target { K.target out.new ≡ K.target out.old }
@@ -234,7 +252,9 @@ fn write_burst<D: Device, K: Log>(
     requires ready { IsReady m.old (each standing a.old.items) (D.state d.old) }
     ensures ready { IsReady m.new (each standing a.new.items) (D.state d.new) }
     ensures parts { IsSameChip m.old m.new }
-    ensures run { IfSome (D.state d.old) (λ device. IsLineRun (with_both (mem_named m.old.chip mem.now) (map_asked m.old.layout name.now) (λ i t. plain (burst (world m.old (each standing a.old.items) device) (write_grant m.old i t first values.now) (op.BurstWrite i t first (length values.now)) (writes_of i t first values.now)))) (world m.old (each standing a.old.items) device) (K.written out.old) (K.written out.new) counts.old counts.new m.new (each standing a.new.items) (D.state d.new) result) }
+    ensures run { RunsLine (λ w. entry_of w (say.BurstWrite mem.now first values.now name.now))
+        (moment_of standing D.state K.written m.old a.old.items d.old out.old counts.old)
+        (moment_of standing D.state K.written m.new a.new.items d.new out.new counts.new) result }
     ensures cause { HasCause (K.faults out.old) (K.faults out.new) result }
     ensures ends_kept { K.ends out.new ≡ K.ends out.old }
     ensures same_target { K.target out.new ≡ K.target out.old }
@@ -265,7 +285,9 @@ fn read_burst<D: Device, K: Log>(
     requires ready { IsReady m.old (each standing a.old.items) (D.state d.old) }
     ensures ready { IsReady m.new (each standing a.new.items) (D.state d.new) }
     ensures parts { IsSameChip m.old m.new }
-    ensures run { IfSome (D.state d.old) (λ device. IsLineRun (with_both (mem_named m.old.chip mem.now) (map_asked m.old.layout name.now) (λ i t. plain (burst (world m.old (each standing a.old.items) device) (grant m.old (op.BurstRead i t first count)) (op.BurstRead i t first count) (reads_of i t first count)))) (world m.old (each standing a.old.items) device) (K.written out.old) (K.written out.new) counts.old counts.new m.new (each standing a.new.items) (D.state d.new) result) }
+    ensures run { RunsLine (λ w. entry_of w (say.BurstRead mem.now first count name.now))
+        (moment_of standing D.state K.written m.old a.old.items d.old out.old counts.old)
+        (moment_of standing D.state K.written m.new a.new.items d.new out.new counts.new) result }
     ensures cause { HasCause (K.faults out.old) (K.faults out.new) result }
     ensures ends_kept { K.ends out.new ≡ K.ends out.old }
     ensures same_target { K.target out.new ≡ K.target out.old }
@@ -294,7 +316,9 @@ fn sequence<D: Device, K: Log>(
     requires ready { IsReady m.old (each standing a.old.items) (D.state d.old) }
     ensures ready { IsReady m.new (each standing a.new.items) (D.state d.new) }
     ensures parts { IsSameChip m.old m.new }
-    ensures run { IfSome (D.state d.old) (λ device. IsLineRun (option_map (λ block. framed which path.now (along (world m.old (each standing a.old.items) device) (plan_of which m.old block))) (block_asked m.old.chip path.now)) (world m.old (each standing a.old.items) device) (K.written out.old) (K.written out.new) counts.old counts.new m.new (each standing a.new.items) (D.state d.new) result) }
+    ensures run { RunsLine (λ w. entry_of w (say.Seq which path.now))
+        (moment_of standing D.state K.written m.old a.old.items d.old out.old counts.old)
+        (moment_of standing D.state K.written m.new a.new.items d.new out.new counts.new) result }
     ensures cause { HasCause (K.faults out.old) (K.faults out.new) result }
     ensures ends_kept { K.ends out.new ≡ K.ends out.old }
     ensures same_target { K.target out.new ≡ K.target out.old }
@@ -321,7 +345,9 @@ fn operation<D: Device, K: Log>(
     requires ready { IsReady m.old (each standing a.old.items) (D.state d.old) }
     ensures ready { IsReady m.new (each standing a.new.items) (D.state d.new) }
     ensures parts { IsSameChip m.old m.new }
-    ensures run { IfSome (D.state d.old) (λ device. IsLineRun (option_map (λ op. plain (alone (step_of (world m.old (each standing a.old.items) device) op))) (op_named m.old (line_said line.now))) (world m.old (each standing a.old.items) device) (K.written out.old) (K.written out.new) counts.old counts.new m.new (each standing a.new.items) (D.state d.new) result) }
+    ensures run { RunsLine (λ w. op_entry w (line_said line.now))
+        (moment_of standing D.state K.written m.old a.old.items d.old out.old counts.old)
+        (moment_of standing D.state K.written m.new a.new.items d.new out.new counts.new) result }
     ensures cause { HasCause (K.faults out.old) (K.faults out.new) result }
     ensures ends_kept { K.ends out.new ≡ K.ends out.old }
     ensures same_target { K.target out.new ≡ K.target out.old }
@@ -345,7 +371,9 @@ pub(crate) fn run_line<D: Device, K: Log>(
     requires ready { IsReady m.old (each standing a.old.items) (D.state d.old) }
     ensures ready { IsReady m.new (each standing a.new.items) (D.state d.new) }
     ensures parts { IsSameChip m.old m.new }
-    ensures run { IfSome (D.state d.old) (λ device. IsLineRun (entry_of (world m.old (each standing a.old.items) device) (line_said line.now)) (world m.old (each standing a.old.items) device) (K.written out.old) (K.written out.new) counts.old counts.new m.new (each standing a.new.items) (D.state d.new) result) }
+    ensures run { RunsLine (λ w. entry_of w (line_said line.now))
+        (moment_of standing D.state K.written m.old a.old.items d.old out.old counts.old)
+        (moment_of standing D.state K.written m.new a.new.items d.new out.new counts.new) result }
     ensures cause { HasCause (K.faults out.old) (K.faults out.new) result }
     ensures ends_kept { K.ends out.new ≡ K.ends out.old }
     ensures same_target { K.target out.new ≡ K.target out.old }

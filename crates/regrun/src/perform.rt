@@ -1,13 +1,13 @@
 // One operation, by the call that does it, and its log.
-ghost use Rattle.std.specs.Prelude.{◌≡◌, true, false, List, length, map as each, IfSome};
+ghost use Rattle.std.specs.Prelude.{◌≡◌, true, false, List, length, map as each};
 ghost use Rattle.rl_bus.specs.Causes.{HasCause};
 ghost use Rattle.rl_bus.specs.Standing.{Standing};
 ghost use Rattle.rl_access.specs.Model.{IsReady, IsDeviceOf, IsSameChip};
 ghost use Rattle.rl_access.specs.Operation.{HasNumbers};
-ghost use Rattle.regrun.specs.Course.{alone};
+ghost use Rattle.regrun.specs.Entry.{op_course};
+ghost use Rattle.regrun.specs.Moment.{moment, moment_of};
 ghost use Rattle.regrun.specs.Operations.{is_single, is_over_bus};
-ghost use Rattle.regrun.specs.Recording.{IsRecorded};
-ghost use Rattle.regrun.specs.World.{world, step_of};
+ghost use Rattle.regrun.specs.Recording.{Records};
 
 use crate::Counts;
 use crate::log::Log;
@@ -30,7 +30,9 @@ fn perform_bus<D: Device, K: Log>(
     requires over_bus { is_over_bus op ≡ true }
     ensures ready { IsReady m.new (each standing a.new.items) (D.state d.new) }
     ensures parts { IsSameChip m.old m.new }
-    ensures recorded { IfSome (D.state d.old) (λ device. IsRecorded (alone (step_of (world m.old (each standing a.old.items) device) op)) (K.written out.old) (K.written out.new) counts.old counts.new m.new (each standing a.new.items) (D.state d.new) result) }
+    ensures recorded { Records (op_course op)
+        (moment_of standing D.state K.written m.old a.old.items d.old out.old counts.old)
+        (moment_of standing D.state K.written m.new a.new.items d.new out.new counts.new) result }
     ensures cause { HasCause (K.faults out.old) (K.faults out.new) result }
     ensures ends_kept { K.ends out.new ≡ K.ends out.old }
     ensures same_target { K.target out.new ≡ K.target out.old }
@@ -77,7 +79,9 @@ fn perform_back<D: Device, K: Log>(
     requires over_bus { is_over_bus op ≡ false }
     ensures device { IsDeviceOf m.new (D.state d.new) }
     ensures parts { IsSameChip m.old m.new }
-    ensures recorded { (adapters : List Standing) → IfSome (D.state d.old) (λ device. IsRecorded (alone (step_of (world m.old adapters device) op)) (K.written out.old) (K.written out.new) counts.old counts.new m.new adapters (D.state d.new) result) }
+    ensures recorded { (adapters : List Standing) → Records (op_course op)
+        (moment m.old adapters (D.state d.old) (K.written out.old) counts.old)
+        (moment m.new adapters (D.state d.new) (K.written out.new) counts.new) result }
     ensures cause { HasCause (K.faults out.old) (K.faults out.new) result }
     ensures ends_kept { K.ends out.new ≡ K.ends out.old }
     ensures same_target { K.target out.new ≡ K.target out.old }
@@ -134,7 +138,9 @@ pub(crate) fn perform<D: Device, K: Log>(
     requires single { is_single op ≡ true }
     ensures ready { IsReady m.new (each standing a.new.items) (D.state d.new) }
     ensures parts { IsSameChip m.old m.new }
-    ensures recorded { IfSome (D.state d.old) (λ device. IsRecorded (alone (step_of (world m.old (each standing a.old.items) device) op)) (K.written out.old) (K.written out.new) counts.old counts.new m.new (each standing a.new.items) (D.state d.new) result) }
+    ensures recorded { Records (op_course op)
+        (moment_of standing D.state K.written m.old a.old.items d.old out.old counts.old)
+        (moment_of standing D.state K.written m.new a.new.items d.new out.new counts.new) result }
     ensures cause { HasCause (K.faults out.old) (K.faults out.new) result }
     ensures ends_kept { K.ends out.new ≡ K.ends out.old }
     ensures same_target { K.target out.new ≡ K.target out.old }
