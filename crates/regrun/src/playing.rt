@@ -1,24 +1,20 @@
 // The lines of a script, one after another.
-ghost use Rattle.std.specs.Prelude.{◌≡◌, ◌≢◌, ◌≤◌, ◌+◌, ℕ, List, map, true, false, Ok, Err, MatchResult, IfOk, IfErr, IfSome, OnOk};
-ghost use Rattle.std.specs.declared.option.Option.{Option};
+ghost use Rattle.std.specs.Prelude.{◌≡◌, ◌≢◌, ◌≤◌, map, true, false, Ok, Err, MatchResult, IfOk, IfErr, IfSome, OnOk};
 ghost use Rattle.std.specs.Io.KnownBytes.{Keeps};
 ghost use Rattle.rl_bus.specs.Causes.{Rose};
-ghost use Rattle.rl_bus.specs.Standing.{Standing};
-ghost use Rattle.rl_bus.specs.State.{State};
-ghost use Rattle.rl_access.specs.Model.{ModelData, IsReady, IsSameChip};
+ghost use Rattle.rl_access.specs.Model.{IsReady, IsSameChip};
 ghost use Rattle.regrun.specs.Causes.{IsCaused, NoneFailed};
-ghost use Rattle.regrun.specs.Done.{Does, DoesFirst};
+ghost use Rattle.regrun.specs.Done.{DoesFrom, DoesFirstEvents, DoesWithRest};
 ghost use Rattle.regrun.specs.Earlier.{KeepsEarlier};
 ghost use Rattle.regrun.specs.Endings.{end_status, IsCounted, PlayEnds};
-ghost use Rattle.regrun.specs.Log.{comes_of, said_by};
-ghost use Rattle.regrun.specs.Played.{coming, Breaks, EndsAs, IsTurn, IsWrittenOut, PassesTo};
-ghost use Rattle.regrun.specs.Recording.{no_counts};
+ghost use Rattle.regrun.specs.Log.{said_by};
+ghost use Rattle.regrun.specs.Moment.{moment_of};
+ghost use Rattle.regrun.specs.Played.{BreaksAsRest, BreaksFrom, Ends, GoesOn, TakesTurn, PlaysScript};
 ghost use Rattle.regrun.specs.Heard.{heard};
 ghost use Rattle.regrun.specs.Statuses.{is_complete};
 ghost use Rattle.regrun.specs.Telling.{Tells};
 ghost use Rattle.regrun.specs.Texts.{refused_text, end_text};
 ghost use Rattle.regrun.specs.Told.{told};
-ghost use Rattle.regrun.specs.World.{world};
 ghost use Rattle.rl_report.specs.Got.{Hands};
 ghost use Rattle.rl_script.specs.Reading.{read_of};
 ghost use Rattle.rl_script.specs.Said.{line_said};
@@ -56,14 +52,17 @@ fn take_line<S: Source, L: Log>(
     requires going { lines.old.refused ≡ false }
     ensures found { lines.new.found ≡ true }
     ensures going { IfOk result (λ got. got ≢ Got.TooLong → lines.new.refused ≡ false) }
-    ensures handed { IfOk result (λ got. IfSome (input_of lines.old (S.left source.old)) (λ bytes. Hands bytes got lines.new (S.left source.new))) }
+    ensures handed { IfOk result (λ got. IfSome (input_of lines.old (S.left source.old))
+        (λ bytes. Hands bytes got lines.new (S.left source.new))) }
     ensures ended { lines.old.ended ≡ true → lines.new.ended ≡ true }
     ensures told { Keeps (L.written out.old) (L.written out.new) }
     ensures broken { IfErr result (λ status. is_complete status ≡ false) }
 
     // A source that fails loses no byte, and nothing is kept back of what was written.
-    ensures none_lost { result ≡ Err Status.SourceFault → Keeps (input_of lines.old (S.left source.old)) (input_of lines.new (S.left source.new)) }
-    ensures none_whole { result ≡ Err Status.SourceFault → (first_line lines.new.pending ≡ lines.new.pending) × (lines.new.ended ≡ false) }
+    ensures none_lost { result ≡ Err Status.SourceFault
+        → Keeps (input_of lines.old (S.left source.old)) (input_of lines.new (S.left source.new)) }
+    ensures none_whole { result ≡ Err Status.SourceFault
+        → (first_line lines.new.pending ≡ lines.new.pending) × (lines.new.ended ≡ false) }
     ensures flushed { result ≡ Err Status.SourceFault → L.is_out out.new }
 
     // Where no whole line was here, nothing is kept back of what was written before, and nothing is written since.
@@ -71,7 +70,8 @@ fn take_line<S: Source, L: Log>(
 
     ensures source_later { S.faults source.old ≤ S.faults source.new }
     ensures sink_later { L.faults out.old ≤ L.faults out.new }
-    ensures cause { IfErr result (λ status. IsCaused status (S.faults source.old) (S.faults source.new) (L.faults out.old) (L.faults out.new)) }
+    ensures cause { IfErr result (λ status.
+        IsCaused status (S.faults source.old) (S.faults source.new) (L.faults out.old) (L.faults out.new)) }
     ensures ends_kept { L.ends out.new ≡ L.ends out.old }
     ensures same_target { L.target out.new ≡ L.target out.old }
 {
@@ -137,13 +137,18 @@ fn run_read<D: Device, L: Log>(
     counts: &mut Counts,
 ) -> Turn
     requires ready { IsReady model.old (map standing adapters.old.items) (D.state device.old) }
-    requires read { MatchResult read.now (λ l. read_of line.now ≡ Ok (line_said l)) (λ fault. fault ≢ LineFault.Memory → read_of line.now ≡ Err fault) }
+    requires read { MatchResult read.now
+        (λ l. read_of line.now ≡ Ok (line_said l))
+        (λ fault. fault ≢ LineFault.Memory → read_of line.now ≡ Err fault) }
     ensures ready { IsReady model.new (map standing adapters.new.items) (D.state device.new) }
     ensures parts { IsSameChip model.old model.new }
-    ensures turn { IfSome (D.state device.old) (λ d. IsTurn number (comes_of (world model.old (map standing adapters.old.items) d) (said_by (read_of line.now))) (L.written out.old) (L.written out.new) counts.old counts.new (world model.old (map standing adapters.old.items) d) model.new (map standing adapters.new.items) (D.state device.new) result) }
+    ensures turn { TakesTurn number (said_by (read_of line.now))
+        (moment_of standing D.state L.written model.old adapters.old.items device.old out.old counts.old)
+        (moment_of standing D.state L.written model.new adapters.new.items device.new out.new counts.new) result }
     ensures counted { (status : Status) → result ≡ Turn.Stop status → (status ≢ Status.Passed) × (status ≢ Status.Found) }
     ensures sink_later { L.faults out.old ≤ L.faults out.new }
-    ensures cause { (status : Status) → result ≡ Turn.Stop status → IsCaused status 0 0 (L.faults out.old) (L.faults out.new) }
+    ensures cause { (status : Status) → result ≡ Turn.Stop status
+        → IsCaused status 0 0 (L.faults out.old) (L.faults out.new) }
     ensures ends_kept { L.ends out.new ≡ L.ends out.old }
     ensures same_target { L.target out.new ≡ L.target out.old }
 {
@@ -177,10 +182,13 @@ fn run_taken<D: Device, L: Log>(
     ensures parts { IsSameChip model.old model.new }
     ensures short { result ≡ Turn.Next → got ≢ Got.TooLong }
     ensures last { result ≡ Turn.Next → number ≤ 1000000 }
-    ensures turn { IfSome (D.state device.old) (λ d. IsTurn number (comes_of (world model.old (map standing adapters.old.items) d) (heard number got line.now)) (L.written out.old) (L.written out.new) counts.old counts.new (world model.old (map standing adapters.old.items) d) model.new (map standing adapters.new.items) (D.state device.new) result) }
+    ensures turn { TakesTurn number (heard number got line.now)
+        (moment_of standing D.state L.written model.old adapters.old.items device.old out.old counts.old)
+        (moment_of standing D.state L.written model.new adapters.new.items device.new out.new counts.new) result }
     ensures counted { (status : Status) → result ≡ Turn.Stop status → (status ≢ Status.Passed) × (status ≢ Status.Found) }
     ensures sink_later { L.faults out.old ≤ L.faults out.new }
-    ensures cause { (status : Status) → result ≡ Turn.Stop status → IsCaused status 0 0 (L.faults out.old) (L.faults out.new) }
+    ensures cause { (status : Status) → result ≡ Turn.Stop status
+        → IsCaused status 0 0 (L.faults out.old) (L.faults out.new) }
     ensures ends_kept { L.ends out.new ≡ L.ends out.old }
     ensures same_target { L.target out.new ≡ L.target out.old }
 {
@@ -232,21 +240,40 @@ fn play_line<S: Source, D: Device, L: Log>(
     ensures found { lines.new.found ≡ true }
     ensures going { result ≡ Turn.Next → lines.new.refused ≡ false }
     ensures last { result ≡ Turn.Next → number ≤ 1000000 }
-    ensures next { result ≡ Turn.Next → IfSome (coming number counts.old model.old (map standing adapters.old.items) (D.state device.old) (input_of lines.old (S.left source.old))) (λ e. PassesTo e (coming (number + 1) counts.new model.new (map standing adapters.new.items) (D.state device.new) (input_of lines.new (S.left source.new))) (L.written out.old) (L.written out.new)) }
-    ensures stop { (status : Status) → result ≡ Turn.Stop status → IfSome (coming number counts.old model.old (map standing adapters.old.items) (D.state device.old) (input_of lines.old (S.left source.old))) (λ e. EndsAs e status (L.written out.old) (L.written out.new) counts.new model.new (map standing adapters.new.items) (D.state device.new)) }
+    ensures next { result ≡ Turn.Next → GoesOn number
+        (moment_of standing D.state L.written model.old adapters.old.items device.old out.old counts.old)
+        (input_of lines.old (S.left source.old))
+        (moment_of standing D.state L.written model.new adapters.new.items device.new out.new counts.new)
+        (input_of lines.new (S.left source.new)) }
+    ensures stop { (status : Status) → result ≡ Turn.Stop status → Ends number
+        (moment_of standing D.state L.written model.old adapters.old.items device.old out.old counts.old)
+        (input_of lines.old (S.left source.old))
+        (moment_of standing D.state L.written model.new adapters.new.items device.new out.new counts.new) status }
     ensures ended { lines.old.ended ≡ true → lines.new.ended ≡ true }
     ensures unended { result ≡ Turn.Stop Status.SourceFault → lines.old.ended ≡ false }
-    ensures at_fault { result ≡ Turn.Stop Status.SourceFault → Breaks number model.old (map standing adapters.old.items) (D.state device.old) (input_of lines.old (S.left source.old)) (S.left source.new) (L.written out.old) (L.written out.new) }
-    ensures later_fault { result ≡ Turn.Next → lines.new.ended ≡ false → (left last : Option (List ℕ)) → Breaks (number + 1) model.new (map standing adapters.new.items) (D.state device.new) (input_of lines.new (S.left source.new)) left (L.written out.new) last
-        → Breaks number model.old (map standing adapters.old.items) (D.state device.old) (input_of lines.old (S.left source.old)) left (L.written out.old) last }
-    ensures done_next { result ≡ Turn.Next → (total : Counts) (last : ModelData) (standings : List Standing) (state : Option State) → Does (number + 1) model.new (map standing adapters.new.items) (D.state device.new) (input_of lines.new (S.left source.new)) counts.new total last standings state
-        → Does number model.old (map standing adapters.old.items) (D.state device.old) (input_of lines.old (S.left source.old)) counts.old total last standings state }
-    ensures done_stop { (status : Status) → result ≡ Turn.Stop status → Does number model.old (map standing adapters.old.items) (D.state device.old) (input_of lines.old (S.left source.old)) counts.old counts.new model.new (map standing adapters.new.items) (D.state device.new) }
+    ensures at_fault { result ≡ Turn.Stop Status.SourceFault → BreaksFrom number
+        (moment_of standing D.state L.written model.old adapters.old.items device.old out.old counts.old)
+        (input_of lines.old (S.left source.old)) (S.left source.new) (L.written out.new) }
+    ensures later_fault { result ≡ Turn.Next → lines.new.ended ≡ false → BreaksAsRest number
+        (moment_of standing D.state L.written model.old adapters.old.items device.old out.old counts.old)
+        (input_of lines.old (S.left source.old))
+        (moment_of standing D.state L.written model.new adapters.new.items device.new out.new counts.new)
+        (input_of lines.new (S.left source.new)) }
+    ensures done_next { result ≡ Turn.Next → DoesWithRest number
+        (moment_of standing D.state L.written model.old adapters.old.items device.old out.old counts.old)
+        (input_of lines.old (S.left source.old))
+        (moment_of standing D.state L.written model.new adapters.new.items device.new out.new counts.new)
+        (input_of lines.new (S.left source.new)) }
+    ensures done_stop { (status : Status) → result ≡ Turn.Stop status → DoesFrom number
+        (moment_of standing D.state L.written model.old adapters.old.items device.old out.old counts.old)
+        (input_of lines.old (S.left source.old))
+        (moment_of standing D.state L.written model.new adapters.new.items device.new out.new counts.new) }
     ensures flushed { result ≡ Turn.Stop Status.SourceFault → L.is_out out.new }
     ensures counted { (status : Status) → result ≡ Turn.Stop status → IsCounted status counts.new }
     ensures source_later { S.faults source.old ≤ S.faults source.new }
     ensures sink_later { L.faults out.old ≤ L.faults out.new }
-    ensures cause { (status : Status) → result ≡ Turn.Stop status → IsCaused status (S.faults source.old) (S.faults source.new) (L.faults out.old) (L.faults out.new) }
+    ensures cause { (status : Status) → result ≡ Turn.Stop status
+        → IsCaused status (S.faults source.old) (S.faults source.new) (L.faults out.old) (L.faults out.new) }
     ensures ends_kept { L.ends out.new ≡ L.ends out.old }
     ensures same_target { L.target out.new ≡ L.target out.old }
 {
@@ -286,10 +313,18 @@ pub(crate) fn play_lines<S: Source, D: Device, L: Log>(
     requires going { lines.old.refused ≡ false }
     ensures ready { IsReady model.new (map standing adapters.new.items) (D.state device.new) }
     ensures parts { IsSameChip model.old model.new }
-    ensures log { IfSome (coming 1 counts.old model.old (map standing adapters.old.items) (D.state device.old) (input_of lines.old (S.left source.old))) (λ e. EndsAs e result (L.written out.old) (L.written out.new) counts.new model.new (map standing adapters.new.items) (D.state device.new)) }
-    ensures at_fault { result ≡ Status.SourceFault → Breaks 1 model.old (map standing adapters.old.items) (D.state device.old) (input_of lines.old (S.left source.old)) (S.left source.new) (L.written out.old) (L.written out.new) }
+    ensures log { Ends 1
+        (moment_of standing D.state L.written model.old adapters.old.items device.old out.old counts.old)
+        (input_of lines.old (S.left source.old))
+        (moment_of standing D.state L.written model.new adapters.new.items device.new out.new counts.new) result }
+    ensures at_fault { result ≡ Status.SourceFault → BreaksFrom 1
+        (moment_of standing D.state L.written model.old adapters.old.items device.old out.old counts.old)
+        (input_of lines.old (S.left source.old)) (S.left source.new) (L.written out.new) }
     ensures unended { result ≡ Status.SourceFault → lines.old.ended ≡ false }
-    ensures done { Does 1 model.old (map standing adapters.old.items) (D.state device.old) (input_of lines.old (S.left source.old)) counts.old counts.new model.new (map standing adapters.new.items) (D.state device.new) }
+    ensures done { DoesFrom 1
+        (moment_of standing D.state L.written model.old adapters.old.items device.old out.old counts.old)
+        (input_of lines.old (S.left source.old))
+        (moment_of standing D.state L.written model.new adapters.new.items device.new out.new counts.new) }
     ensures flushed { result ≡ Status.SourceFault → L.is_out out.new }
     ensures counted { IsCounted result counts.new }
     ensures source_later { S.faults source.old ≤ S.faults source.new }
@@ -314,11 +349,14 @@ fn settle<K: Sink, E: Earlier>(status: Status, out: &mut Buffered<'_, K, E>) -> 
     requires { status ≢ Status.Words }
     ensures sink_later { K.faults out.old.sink.now ≤ K.faults out.new.sink.now }
     ensures kept { result ≢ Status.SinkFault → result ≡ status }
-    ensures cause { result ≡ Status.SinkFault → status ≢ Status.SinkFault → Rose (K.faults out.old.sink.now) (K.faults out.new.sink.now) }
+    ensures cause { result ≡ Status.SinkFault → status ≢ Status.SinkFault
+        → Rose (K.faults out.old.sink.now) (K.faults out.new.sink.now) }
     ensures told { Keeps (told K.written out.old) (told K.written out.new) }
     ensures whole { is_complete result ≡ true → Keeps (told K.written out.old) (K.written out.new.sink.now) }
-    ensures at_fault { status ≡ Status.SourceFault → out.old.end ≡ 0 → Keeps (told K.written out.old) (K.written out.new.sink.now) }
-    ensures at_memory { result ≡ Status.Memory → NoneFailed (K.faults out.old.sink.now) (K.faults out.new.sink.now) → Keeps (told K.written out.old) (K.written out.new.sink.now) }
+    ensures at_fault { status ≡ Status.SourceFault → out.old.end ≡ 0
+        → Keeps (told K.written out.old) (K.written out.new.sink.now) }
+    ensures at_memory { result ≡ Status.Memory → NoneFailed (K.faults out.old.sink.now) (K.faults out.new.sink.now)
+        → Keeps (told K.written out.old) (K.written out.new.sink.now) }
     ensures ends_kept { K.ends out.new.sink.now ≡ K.ends out.old.sink.now }
     ensures same_sink { out.new.sink.ghost_name ≡ out.old.sink.ghost_name }
 {
@@ -348,10 +386,18 @@ fn play_through<S: Source, K: Sink, D: Device, E: Earlier>(
     requires earlier { K.written sink.old ≡ E.bytes }
     ensures ready { IsReady model.new (map standing adapters.new.items) (D.state device.new) }
     ensures parts { IsSameChip model.old model.new }
-    ensures log { IfSome (coming 1 counts.old model.old (map standing adapters.old.items) (D.state device.old) (input_of lines.old (S.left source.old))) (λ e. EndsAs e result (K.written sink.old) (K.written sink.new) counts.new model.new (map standing adapters.new.items) (D.state device.new)) }
-    ensures at_fault { result ≡ Status.SourceFault → Breaks 1 model.old (map standing adapters.old.items) (D.state device.old) (input_of lines.old (S.left source.old)) (S.left source.new) (K.written sink.old) (K.written sink.new) }
+    ensures log { Ends 1
+        (moment_of standing D.state K.written model.old adapters.old.items device.old sink.old counts.old)
+        (input_of lines.old (S.left source.old))
+        (moment_of standing D.state K.written model.new adapters.new.items device.new sink.new counts.new) result }
+    ensures at_fault { result ≡ Status.SourceFault → BreaksFrom 1
+        (moment_of standing D.state K.written model.old adapters.old.items device.old sink.old counts.old)
+        (input_of lines.old (S.left source.old)) (S.left source.new) (K.written sink.new) }
     ensures keeps_earlier { KeepsEarlier (K.written sink.old) (K.written sink.new) }
-    ensures done { Does 1 model.old (map standing adapters.old.items) (D.state device.old) (input_of lines.old (S.left source.old)) counts.old counts.new model.new (map standing adapters.new.items) (D.state device.new) }
+    ensures done { DoesFrom 1
+        (moment_of standing D.state K.written model.old adapters.old.items device.old sink.old counts.old)
+        (input_of lines.old (S.left source.old))
+        (moment_of standing D.state K.written model.new adapters.new.items device.new sink.new counts.new) }
     ensures counted { IsCounted result counts.new }
     ensures source_later { S.faults source.old ≤ S.faults source.new }
     ensures sink_later { K.faults sink.old ≤ K.faults sink.new }
@@ -388,18 +434,25 @@ pub fn play<S: Source, K: Sink, D: Device>(
     // Where the device tells its state and the source its bytes: what is written is the log of the lines that are
     // left, from the device and the model as they are, with its status, and the counts rise by what it counts.
     // After any fault, and where memory ran out, it is a front of that log.
-    ensures log { IfSome (coming 1 no_counts model.old (map standing adapters.old.items) (D.state device.old) (input_of lines.old (S.left source.old)))
-        (λ e. IsWrittenOut e result (K.written sink.old) (K.written sink.new) counts.old counts.new model.new (map standing adapters.new.items) (D.state device.new)) }
+    ensures log { PlaysScript
+        (moment_of standing D.state K.written model.old adapters.old.items device.old sink.old counts.old)
+        (input_of lines.old (S.left source.old))
+        (moment_of standing D.state K.written model.new adapters.new.items device.new sink.new counts.new) result }
 
     // After a source that failed, the sink has exactly the log of the lines that were taken whole.
-    ensures at_fault { result ≡ Status.SourceFault → Breaks 1 model.old (map standing adapters.old.items) (D.state device.old) (input_of lines.old (S.left source.old)) (S.left source.new) (K.written sink.old) (K.written sink.new) }
+    ensures at_fault { result ≡ Status.SourceFault → BreaksFrom 1
+        (moment_of standing D.state K.written model.old adapters.old.items device.old sink.old counts.old)
+        (input_of lines.old (S.left source.old)) (S.left source.new) (K.written sink.new) }
 
     // However it ends, the sink keeps the bytes that it had before.
     ensures keeps_earlier { KeepsEarlier (K.written sink.old) (K.written sink.new) }
 
     // However it ends: model, adapters and device are as after the first events of the script, as many as the count
     // of events rose by, and the counts rose by what these count.
-    ensures done { DoesFirst model.old (map standing adapters.old.items) (D.state device.old) (input_of lines.old (S.left source.old)) counts.old counts.new model.new (map standing adapters.new.items) (D.state device.new) }
+    ensures done { DoesFirstEvents
+        (moment_of standing D.state K.written model.old adapters.old.items device.old sink.old counts.old)
+        (input_of lines.old (S.left source.old))
+        (moment_of standing D.state K.written model.new adapters.new.items device.new sink.new counts.new) }
 
     // In any case the status goes by what happened in this call, and the counts rise by it.
     ensures ends { PlayEnds result counts.old counts.new }
