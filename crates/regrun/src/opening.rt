@@ -38,8 +38,10 @@ fn kinds_of(alloc: Global, adapters: &Adapters) -> Result<Vec<AdapterKind>, Allo
 pub(crate) fn described(alloc: Global, head: &[u8], adapters: &Adapters) -> Result<Desc, DescFault>
     requires few { length (map standing adapters.now.items) < 2 ^ 32 }
     ensures kinds { IfOk result (λ desc. desc.layout.kinds ≡ kinds_of (map standing adapters.now.items)) }
-    ensures read { IfOk result (λ desc. opening_after (Ok head.now) (kinds_of (map standing adapters.now.items)) ≡ Ok desc) }
-    ensures refused { IfErr result (λ fault. fault ≢ DescFault.Memory → opening_after (Ok head.now) (kinds_of (map standing adapters.now.items)) ≡ Err (description_refused_text fault)) }
+    ensures read { IfOk result (λ desc.
+        opening_after (Ok head.now) (kinds_of (map standing adapters.now.items)) ≡ Ok desc) }
+    ensures refused { IfErr result (λ fault. fault ≢ DescFault.Memory
+        → opening_after (Ok head.now) (kinds_of (map standing adapters.now.items)) ≡ Err (description_refused_text fault)) }
     ensures built_with { IfOk result (λ desc. IsBuiltWith desc.layout desc.chip) }
     ensures flaws { IfOk result (λ desc. AreFlawsOf desc.chip desc.layout desc.flaws) }
 {
@@ -54,7 +56,8 @@ pub(crate) fn open(alloc: Global, desc: Desc) -> Result<(Model, Bench), AllocErr
     requires built_with { IsBuiltWith desc.layout desc.chip }
     requires flaws { AreFlawsOf desc.chip desc.layout desc.flaws }
     ensures opened { IfOk result (λ opened. IsOpened desc opened.0 opened.1) }
-    ensures first { IfOk result (λ opened. (adapters : List Standing) → IsAt opened.0 adapters (Some (bench_state opened.1)) (first_world desc adapters)) }
+    ensures first { IfOk result (λ opened. (adapters : List Standing)
+        → IsAt opened.0 adapters (Some (bench_state opened.1)) (first_world desc adapters)) }
 {
     let bench = Bench::build(alloc, &desc.chip, &desc.layout, &desc.flaws)?;
     let Desc {

@@ -1,17 +1,14 @@
 // A session that is made from a number, run with nothing written but one line.
-ghost use Rattle.std.specs.Prelude.{◌≡◌, ◌≤◌, ◌<◌, ◌^◌, ◌-◌, ◌++◌, false, true, Some, IfErr, IfSome, map, length, min, take, drop, vec_len};
+ghost use Rattle.std.specs.Prelude.{◌≡◌, ◌≤◌, ◌<◌, ◌^◌, ◌-◌, ◌++◌, false, true, Some, IfSome, map, length, min, take, drop, vec_len};
 ghost use Rattle.rl_access.specs.Model.{IsReady, IsSameChip};
 ghost use Rattle.rl_map.specs.Maps.{IsBuiltWith};
 ghost use Rattle.rl_bench.specs.Flaws.{AreFlawsOf};
 ghost use Rattle.rl_bench.specs.State.{bench_state};
 ghost use Rattle.rl_bus.specs.Standing.{kinds_of};
-ghost use Rattle.rl_report.specs.Lines.{lines_of};
 ghost use Rattle.rl_report.specs.Reading.{input_of};
 ghost use Rattle.regrun.specs.Causes.{IsCaused};
-ghost use Rattle.regrun.specs.Judged.{soak_ending, soak_judged, IsJudged};
-ghost use Rattle.regrun.specs.Log.{first_world, script_from};
+ghost use Rattle.regrun.specs.Judged.{output_of, soak_judged, soak_script_judged, WritesJudged};
 ghost use Rattle.regrun.specs.Played.{coming, IsPlayed};
-ghost use Rattle.regrun.specs.Recording.{no_counts};
 ghost use Rattle.regrun.specs.Soak.{soak_line_text};
 ghost use Rattle.regrun.specs.Statuses.{is_complete};
 ghost use Rattle.regrun.specs.Telling.{Tells};
@@ -113,8 +110,10 @@ fn run_quietly(
     requires going { lines.old.refused ≡ false }
     ensures ready { IsReady model.new (map standing adapters.new.items) (Some (bench_state bench.new)) }
     ensures parts { IsSameChip model.old model.new }
-    ensures log { IfSome (coming 1 counts.old model.old (map standing adapters.old.items) (Some (bench_state bench.old)) (input_of lines.old (Some (drop source.old.at source.old.bytes.items))))
-        (λ e. is_complete result ≡ true → IsPlayed e result counts.new model.new (map standing adapters.new.items) (Some (bench_state bench.new))) }
+    ensures log { IfSome (coming 1 counts.old model.old (map standing adapters.old.items) (Some (bench_state bench.old))
+        (input_of lines.old (Some (drop source.old.at source.old.bytes.items))))
+        (λ e. is_complete result ≡ true
+        → IsPlayed e result counts.new model.new (map standing adapters.new.items) (Some (bench_state bench.new))) }
     ensures cause { IsCaused result 0 0 0 0 }
 {
     let mut quiet = Quiet {};
@@ -132,7 +131,8 @@ fn put_line<K: Sink, E: Earlier>(
     sum: u64,
 ) -> Status
     requires { is_complete status ≡ true }
-    ensures tells { Tells result status (told K.written out.old) (told K.written out.new) (soak_line_text n counts.now sum) }
+    ensures tells { Tells result status
+        (told K.written out.old) (told K.written out.new) (soak_line_text n counts.now sum) }
     ensures sink_later { K.faults out.old.sink.now ≤ K.faults out.new.sink.now }
     ensures cause { IsCaused result 0 0 (K.faults out.old.sink.now) (K.faults out.new.sink.now) }
     ensures ends_kept { K.ends out.new.sink.now ≡ K.ends out.old.sink.now }
@@ -160,7 +160,10 @@ fn soak_desc<K: Sink, E: Earlier>(
     requires found { lines.old.found ≡ true }
     requires going { lines.old.refused ≡ false }
     ensures kinds { kinds_of (map standing adapters.new.items) ≡ kinds_of (map standing adapters.old.items) }
-    ensures tells { IfSome (input_of lines.old (Some (drop source.old.at source.old.bytes.items))) (λ bytes. IsJudged (soak_ending n (script_from 1 no_counts (first_world desc (map standing adapters.old.items)) (lines_of bytes))) result (told K.written out.old) (told K.written out.new) (map standing adapters.new.items)) }
+    ensures tells { IfSome (input_of lines.old (Some (drop source.old.at source.old.bytes.items))) (λ bytes.
+        WritesJudged (soak_script_judged n desc bytes) result
+        (output_of (told K.written) standing out.old adapters.old.items)
+        (output_of (told K.written) standing out.new adapters.new.items)) }
     ensures sink_later { K.faults out.old.sink.now ≤ K.faults out.new.sink.now }
     ensures cause { IsCaused result 0 0 (K.faults out.old.sink.now) (K.faults out.new.sink.now) }
     ensures ends_kept { K.ends out.new.sink.now ≡ K.ends out.old.sink.now }
@@ -195,7 +198,9 @@ pub(crate) fn put_soak<K: Sink, E: Earlier>(
 ) -> Status
     requires few { length (map standing adapters.old.items) < 2 ^ 32 }
     ensures kinds { kinds_of (map standing adapters.new.items) ≡ kinds_of (map standing adapters.old.items) }
-    ensures tells { IsJudged (soak_judged n (map standing adapters.old.items)) result (told K.written out.old) (told K.written out.new) (map standing adapters.new.items) }
+    ensures tells { WritesJudged (soak_judged n) result
+        (output_of (told K.written) standing out.old adapters.old.items)
+        (output_of (told K.written) standing out.new adapters.new.items) }
     ensures sink_later { K.faults out.old.sink.now ≤ K.faults out.new.sink.now }
     ensures cause { IsCaused result 0 0 (K.faults out.old.sink.now) (K.faults out.new.sink.now) }
     ensures ends_kept { K.ends out.new.sink.now ≡ K.ends out.old.sink.now }

@@ -1,25 +1,23 @@
 // All that the program does.
-ghost use Rattle.std.specs.Prelude.{◌≡◌, ◌≢◌, ℕ, ◌≤◌, ◌<◌, ◌^◌, ◌↔◌, List, [], None, Some, Ok, Err, map, length, true, false, string_bytes, OnOk, IfOk, IfErr, IfSome};
+ghost use Rattle.std.specs.Prelude.{◌≡◌, ◌≢◌, ℕ, ◌≤◌, ◌<◌, ◌^◌, ◌↔◌, List, [], None, Some, Ok, Err, map, length, true, false, OnOk, IfOk, IfErr, IfSome};
 ghost use Rattle.std.specs.Io.KnownBytes.{Keeps};
 ghost use Rattle.std.specs.declared.option.Option.{Option};
 ghost use Rattle.rl_bus.specs.Causes.{Rose};
 ghost use Rattle.rl_bus.specs.Standing.{kinds_of};
 ghost use Rattle.regrun.specs.Causes.{IsCaused, NoneFailed};
 ghost use Rattle.regrun.specs.Earlier.{KeepsEarlier};
-ghost use Rattle.regrun.specs.Judged.{ending_judged, judged, map_judged, soak_judged, BreaksOff, IsJudged};
-ghost use Rattle.regrun.specs.Log.{behind, first_world, script_from};
+ghost use Rattle.regrun.specs.Judged.{judged, map_judged, output_of, script_judged, soak_judged, BreaksOff, WritesJudged};
+ghost use Rattle.regrun.specs.Log.{behind, first_world};
 ghost use Rattle.regrun.specs.Played.{BreaksAfter};
-ghost use Rattle.regrun.specs.Recording.{no_counts};
 ghost use Rattle.regrun.specs.Refusals.{description_refused_text};
 ghost use Rattle.regrun.specs.Session.{head_of, opening_after, opening_of};
 ghost use Rattle.regrun.specs.Statuses.{is_complete};
 ghost use Rattle.regrun.specs.Telling.{Tells, Stops};
 ghost use Rattle.regrun.specs.Told.{told};
-ghost use Rattle.regrun.specs.Words.{task_built};
+ghost use Rattle.regrun.specs.Words.{asked_by};
 ghost use Rattle.rl_bus.specs.declared.op.AdapterKind.{AdapterKind};
 ghost use Rattle.rl_map.specs.LayoutText.{layout_text};
 ghost use Rattle.rl_map.specs.Maps.{IsBuiltWith};
-ghost use Rattle.rl_report.specs.Lines.{lines_of};
 ghost use Rattle.rl_report.specs.Opening.{separator_at, FindsHead, TakesNoHead};
 ghost use Rattle.rl_report.specs.Reading.{input_of};
 ghost use Rattle.rl_bench.specs.Flaws.{AreFlawsOf};
@@ -73,23 +71,29 @@ fn read_head<S: Source, K: Sink, E: Earlier>(
     requires first { lines.old.asked ≡ false }
     requires going { lines.old.refused ≡ false }
     ensures found { OnOk result ((lines.new.found ≡ true) × (lines.new.refused ≡ false)) }
-    ensures head { OnOk result (IfSome (input_of lines.old (S.left source.old)) (λ bytes. head_of bytes ≡ Ok head.new.items)) }
-    ensures rest { OnOk result (IfSome (input_of lines.old (S.left source.old)) (λ bytes. input_of lines.new (S.left source.new) ≡ Some (behind (separator_at bytes) bytes))) }
-    ensures finds { OnOk result (IfSome (input_of lines.old (S.left source.old)) (λ bytes. FindsHead bytes head.new.items lines.new (S.left source.new))) }
+    ensures head { OnOk result (IfSome (input_of lines.old (S.left source.old))
+        (λ bytes. head_of bytes ≡ Ok head.new.items)) }
+    ensures rest { OnOk result (IfSome (input_of lines.old (S.left source.old))
+        (λ bytes. input_of lines.new (S.left source.new) ≡ Some (behind (separator_at bytes) bytes))) }
+    ensures finds { OnOk result (IfSome (input_of lines.old (S.left source.old))
+        (λ bytes. FindsHead bytes head.new.items lines.new (S.left source.new))) }
 
     // Where the source fails, no whole separator was taken, and nothing was told.
-    ensures at_fault { result ≡ Err Status.SourceFault → IfSome (input_of lines.old (S.left source.old)) (λ bytes. TakesNoHead bytes (S.left source.new)) }
+    ensures at_fault { result ≡ Err Status.SourceFault → IfSome (input_of lines.old (S.left source.old))
+        (λ bytes. TakesNoHead bytes (S.left source.new)) }
     ensures same_told { result ≡ Err Status.SourceFault → Keeps (told K.written out.old) (told K.written out.new) }
     ensures flushed { result ≡ Err Status.SourceFault → out.old.end ≡ 0 → out.new.end ≡ 0 }
     ensures unwritten { result ≡ Err Status.SourceFault → out.new ≡ out.old }
 
     ensures told { OnOk result (Keeps (told K.written out.old) (told K.written out.new)) }
-    ensures stops { IfErr result (λ status. IfSome (input_of lines.old (S.left source.old))
-        (λ bytes. (kinds : List AdapterKind) → Stops (opening_of bytes kinds) status (told K.written out.old) (told K.written out.new))) }
+    ensures stops { IfErr result (λ status. IfSome (input_of lines.old (S.left source.old)) (λ bytes.
+        (kinds : List AdapterKind)
+        → Stops (opening_of bytes kinds) status (told K.written out.old) (told K.written out.new))) }
     ensures none_found { IfErr result (λ status. status ≢ Status.Found) }
     ensures source_later { S.faults source.old ≤ S.faults source.new }
     ensures sink_later { K.faults out.old.sink.now ≤ K.faults out.new.sink.now }
-    ensures cause { IfErr result (λ status. IsCaused status (S.faults source.old) (S.faults source.new) (K.faults out.old.sink.now) (K.faults out.new.sink.now)) }
+    ensures cause { IfErr result (λ status. IsCaused status
+        (S.faults source.old) (S.faults source.new) (K.faults out.old.sink.now) (K.faults out.new.sink.now)) }
     ensures ends_kept { K.ends out.new.sink.now ≡ K.ends out.old.sink.now }
     ensures same_sink { out.new.sink.ghost_name ≡ out.old.sink.ghost_name }
 {
@@ -111,7 +115,8 @@ fn refuse_description<K: Sink, E: Earlier>(
     out: &mut Buffered<'_, K, E>,
 ) -> Status
     requires { fault.now ≢ DescFault.Memory }
-    ensures tells { Tells result Status.Refused (told K.written out.old) (told K.written out.new) (description_refused_text fault.now) }
+    ensures tells { Tells result Status.Refused
+        (told K.written out.old) (told K.written out.new) (description_refused_text fault.now) }
     ensures none_found { result ≢ Status.Found }
     ensures sink_later { K.faults out.old.sink.now ≤ K.faults out.new.sink.now }
     ensures cause { IsCaused result 0 0 (K.faults out.old.sink.now) (K.faults out.new.sink.now) }
@@ -135,9 +140,12 @@ fn read_desc<K: Sink, E: Earlier>(
     ensures kinds { IfOk result (λ desc. desc.layout.kinds ≡ kinds_of (map standing adapters.now.items)) }
     ensures built_with { IfOk result (λ desc. IsBuiltWith desc.layout desc.chip) }
     ensures flaws { IfOk result (λ desc. AreFlawsOf desc.chip desc.layout desc.flaws) }
-    ensures opening { IfOk result (λ desc. opening_after (Ok head.now) (kinds_of (map standing adapters.now.items)) ≡ Ok desc) }
+    ensures opening { IfOk result (λ desc.
+        opening_after (Ok head.now) (kinds_of (map standing adapters.now.items)) ≡ Ok desc) }
     ensures told { OnOk result (Keeps (told K.written out.old) (told K.written out.new)) }
-    ensures stops { IfErr result (λ status. Stops (opening_after (Ok head.now) (kinds_of (map standing adapters.now.items))) status (told K.written out.old) (told K.written out.new)) }
+    ensures stops { IfErr result (λ status. Stops
+        (opening_after (Ok head.now) (kinds_of (map standing adapters.now.items)))
+        status (told K.written out.old) (told K.written out.new)) }
     ensures none_found { IfErr result (λ status. status ≢ Status.Found) }
     ensures sink_later { K.faults out.old.sink.now ≤ K.faults out.new.sink.now }
     ensures cause { IfErr result (λ status. IsCaused status 0 0 (K.faults out.old.sink.now) (K.faults out.new.sink.now)) }
@@ -171,22 +179,27 @@ pub(crate) fn open_session<S: Source, K: Sink, E: Earlier>(
     ensures flaws { IfOk result (λ desc. AreFlawsOf desc.chip desc.layout desc.flaws) }
     ensures opening { IfOk result (λ desc. IfSome (input_of lines.old (S.left source.old))
         (λ bytes. opening_of bytes (kinds_of (map standing adapters.now.items)) ≡ Ok desc)) }
-    ensures rest { OnOk result (IfSome (input_of lines.old (S.left source.old)) (λ bytes. input_of lines.new (S.left source.new) ≡ Some (behind (separator_at bytes) bytes))) }
-    ensures finds { OnOk result (IfSome (input_of lines.old (S.left source.old)) (λ bytes. (head : List ℕ) × FindsHead bytes head lines.new (S.left source.new))) }
+    ensures rest { OnOk result (IfSome (input_of lines.old (S.left source.old))
+        (λ bytes. input_of lines.new (S.left source.new) ≡ Some (behind (separator_at bytes) bytes))) }
+    ensures finds { OnOk result (IfSome (input_of lines.old (S.left source.old))
+        (λ bytes. (head : List ℕ) × FindsHead bytes head lines.new (S.left source.new))) }
 
     // Where the source fails, no whole separator was taken, and nothing was told.
-    ensures at_fault { result ≡ Err Status.SourceFault → IfSome (input_of lines.old (S.left source.old)) (λ bytes. TakesNoHead bytes (S.left source.new)) }
+    ensures at_fault { result ≡ Err Status.SourceFault → IfSome (input_of lines.old (S.left source.old))
+        (λ bytes. TakesNoHead bytes (S.left source.new)) }
     ensures same_told { result ≡ Err Status.SourceFault → Keeps (told K.written out.old) (told K.written out.new) }
     ensures flushed { result ≡ Err Status.SourceFault → out.old.end ≡ 0 → out.new.end ≡ 0 }
     ensures unwritten { result ≡ Err Status.SourceFault → out.new ≡ out.old }
 
     ensures told { OnOk result (Keeps (told K.written out.old) (told K.written out.new)) }
-    ensures stops { IfErr result (λ status. IfSome (input_of lines.old (S.left source.old))
-        (λ bytes. Stops (opening_of bytes (kinds_of (map standing adapters.now.items))) status (told K.written out.old) (told K.written out.new))) }
+    ensures stops { IfErr result (λ status. IfSome (input_of lines.old (S.left source.old)) (λ bytes. Stops
+        (opening_of bytes (kinds_of (map standing adapters.now.items)))
+        status (told K.written out.old) (told K.written out.new))) }
     ensures none_found { IfErr result (λ status. status ≢ Status.Found) }
     ensures source_later { S.faults source.old ≤ S.faults source.new }
     ensures sink_later { K.faults out.old.sink.now ≤ K.faults out.new.sink.now }
-    ensures cause { IfErr result (λ status. IsCaused status (S.faults source.old) (S.faults source.new) (K.faults out.old.sink.now) (K.faults out.new.sink.now)) }
+    ensures cause { IfErr result (λ status. IsCaused status
+        (S.faults source.old) (S.faults source.new) (K.faults out.old.sink.now) (K.faults out.new.sink.now)) }
     ensures ends_kept { K.ends out.new.sink.now ≡ K.ends out.old.sink.now }
     ensures same_sink { out.new.sink.ghost_name ≡ out.old.sink.ghost_name }
 {
@@ -210,13 +223,18 @@ fn run_session<S: Source, K: Sink, E: Earlier>(
     requires found { lines.old.found ≡ true }
     requires going { lines.old.refused ≡ false }
     ensures kinds { kinds_of (map standing adapters.new.items) ≡ kinds_of (map standing adapters.old.items) }
-    ensures tells { IfSome (input_of lines.old (S.left source.old)) (λ bytes. IsJudged (ending_judged (script_from 1 no_counts (first_world desc (map standing adapters.old.items)) (lines_of bytes))) result (told K.written out.old) (told K.written out.new) (map standing adapters.new.items)) }
-    ensures at_fault { result ≡ Status.SourceFault → IfSome (input_of lines.old (S.left source.old)) (λ bytes. BreaksAfter 1 (first_world desc (map standing adapters.old.items)) bytes (S.left source.new) (told K.written out.old) (told K.written out.new)) }
+    ensures tells { IfSome (input_of lines.old (S.left source.old)) (λ bytes. WritesJudged (script_judged desc bytes) result
+        (output_of (told K.written) standing out.old adapters.old.items)
+        (output_of (told K.written) standing out.new adapters.new.items)) }
+    ensures at_fault { result ≡ Status.SourceFault → IfSome (input_of lines.old (S.left source.old)) (λ bytes.
+        BreaksAfter 1 (first_world desc (map standing adapters.old.items)) bytes
+        (S.left source.new) (told K.written out.old) (told K.written out.new)) }
     ensures unended { result ≡ Status.SourceFault → lines.old.ended ≡ false }
     ensures flushed { result ≡ Status.SourceFault → out.new.end ≡ 0 }
     ensures source_later { S.faults source.old ≤ S.faults source.new }
     ensures sink_later { K.faults out.old.sink.now ≤ K.faults out.new.sink.now }
-    ensures cause { IsCaused result (S.faults source.old) (S.faults source.new) (K.faults out.old.sink.now) (K.faults out.new.sink.now) }
+    ensures cause { IsCaused result
+        (S.faults source.old) (S.faults source.new) (K.faults out.old.sink.now) (K.faults out.new.sink.now) }
     ensures ends_kept { K.ends out.new.sink.now ≡ K.ends out.old.sink.now }
     ensures same_sink { out.new.sink.ghost_name ≡ out.old.sink.ghost_name }
 {
@@ -245,12 +263,17 @@ fn run<S: Source, K: Sink, E: Earlier>(
 ) -> Status
     requires few { length (map standing adapters.old.items) < 2 ^ 32 }
     ensures kinds { kinds_of (map standing adapters.new.items) ≡ kinds_of (map standing adapters.old.items) }
-    ensures tells { IfSome (S.left source.old) (λ bytes. IsJudged (judged bytes (map standing adapters.old.items)) result (told K.written out.old) (told K.written out.new) (map standing adapters.new.items)) }
-    ensures at_fault { result ≡ Status.SourceFault → IfSome (S.left source.old) (λ bytes. BreaksOff bytes (map standing adapters.old.items) (S.left source.new) (told K.written out.old) (told K.written out.new)) }
+    ensures tells { IfSome (S.left source.old) (λ bytes. WritesJudged (judged bytes) result
+        (output_of (told K.written) standing out.old adapters.old.items)
+        (output_of (told K.written) standing out.new adapters.new.items)) }
+    ensures at_fault { result ≡ Status.SourceFault → IfSome (S.left source.old) (λ bytes.
+        BreaksOff bytes (map standing adapters.old.items)
+        (S.left source.new) (told K.written out.old) (told K.written out.new)) }
     ensures flushed { result ≡ Status.SourceFault → out.old.end ≡ 0 → out.new.end ≡ 0 }
     ensures source_later { S.faults source.old ≤ S.faults source.new }
     ensures sink_later { K.faults out.old.sink.now ≤ K.faults out.new.sink.now }
-    ensures cause { IsCaused result (S.faults source.old) (S.faults source.new) (K.faults out.old.sink.now) (K.faults out.new.sink.now) }
+    ensures cause { IsCaused result
+        (S.faults source.old) (S.faults source.new) (K.faults out.old.sink.now) (K.faults out.new.sink.now) }
     ensures ends_kept { K.ends out.new.sink.now ≡ K.ends out.old.sink.now }
     ensures same_sink { out.new.sink.ghost_name ≡ out.old.sink.ghost_name }
 {
@@ -266,7 +289,8 @@ fn run<S: Source, K: Sink, E: Earlier>(
 // Writes where the items of a description stand.
 fn put_description<K: Sink, E: Earlier>(desc: &Desc, out: &mut Buffered<'_, K, E>) -> Status
     requires { IsBuiltWith desc.now.layout desc.now.chip }
-    ensures tells { Tells result Status.Passed (told K.written out.old) (told K.written out.new) (layout_text desc.now.chip desc.now.layout) }
+    ensures tells { Tells result Status.Passed
+        (told K.written out.old) (told K.written out.new) (layout_text desc.now.chip desc.now.layout) }
     ensures none_found { result ≢ Status.Found }
     ensures sink_later { K.faults out.old.sink.now ≤ K.faults out.new.sink.now }
     ensures cause { IsCaused result 0 0 (K.faults out.old.sink.now) (K.faults out.new.sink.now) }
@@ -287,12 +311,15 @@ fn show_layout<S: Source, K: Sink, E: Earlier>(
     adapters: &Adapters,
 ) -> Status
     requires few { length (map standing adapters.now.items) < 2 ^ 32 }
-    ensures tells { IfSome (S.left source.old) (λ bytes. IsJudged (map_judged bytes (map standing adapters.now.items)) result (told K.written out.old) (told K.written out.new) (map standing adapters.now.items)) }
+    ensures tells { IfSome (S.left source.old) (λ bytes. WritesJudged (map_judged bytes) result
+        (output_of (told K.written) standing out.old adapters.now.items)
+        (output_of (told K.written) standing out.new adapters.now.items)) }
     ensures unwritten { result ≡ Status.SourceFault → out.new ≡ out.old }
     ensures none_found { result ≢ Status.Found }
     ensures source_later { S.faults source.old ≤ S.faults source.new }
     ensures sink_later { K.faults out.old.sink.now ≤ K.faults out.new.sink.now }
-    ensures cause { IsCaused result (S.faults source.old) (S.faults source.new) (K.faults out.old.sink.now) (K.faults out.new.sink.now) }
+    ensures cause { IsCaused result
+        (S.faults source.old) (S.faults source.new) (K.faults out.old.sink.now) (K.faults out.new.sink.now) }
     ensures ends_kept { K.ends out.new.sink.now ≡ K.ends out.old.sink.now }
     ensures same_sink { out.new.sink.ghost_name ≡ out.old.sink.ghost_name }
 {
@@ -311,14 +338,17 @@ fn finish<K: Sink, E: Earlier>(status: Status, out: &mut Buffered<'_, K, E>) -> 
     requires { status ≢ Status.Words }
     ensures sink_later { K.faults out.old.sink.now ≤ K.faults out.new.sink.now }
     ensures kept { result ≢ Status.SinkFault → result ≡ status }
-    ensures cause { result ≡ Status.SinkFault → status ≢ Status.SinkFault → Rose (K.faults out.old.sink.now) (K.faults out.new.sink.now) }
+    ensures cause { result ≡ Status.SinkFault → status ≢ Status.SinkFault
+        → Rose (K.faults out.old.sink.now) (K.faults out.new.sink.now) }
     ensures ended { is_complete result ≡ true → Rose (K.ends out.old.sink.now) (K.ends out.new.sink.now) }
     ensures not_ended { is_complete result ≡ false → K.ends out.new.sink.now ≡ K.ends out.old.sink.now }
     ensures told { Keeps (told K.written out.old) (told K.written out.new) }
     ensures whole { is_complete result ≡ true → Keeps (told K.written out.old) (K.written out.new.sink.now) }
-    ensures at_fault { status ≡ Status.SourceFault → out.old.end ≡ 0 → Keeps (told K.written out.old) (K.written out.new.sink.now) }
+    ensures at_fault { status ≡ Status.SourceFault → out.old.end ≡ 0
+        → Keeps (told K.written out.old) (K.written out.new.sink.now) }
     ensures unwritten { status ≡ Status.SourceFault → out.new ≡ out.old }
-    ensures at_memory { result ≡ Status.Memory → NoneFailed (K.faults out.old.sink.now) (K.faults out.new.sink.now) → Keeps (told K.written out.old) (K.written out.new.sink.now) }
+    ensures at_memory { result ≡ Status.Memory → NoneFailed (K.faults out.old.sink.now) (K.faults out.new.sink.now)
+        → Keeps (told K.written out.old) (K.written out.new.sink.now) }
     ensures same_sink { out.new.sink.ghost_name ≡ out.old.sink.ghost_name }
 {
     if status.is_complete() {
@@ -344,10 +374,18 @@ fn perform_task<S: Source, K: Sink, E: Earlier>(
 ) -> Status
     requires few { length (map standing adapters.old.items) < 2 ^ 32 }
     ensures kinds { kinds_of (map standing adapters.new.items) ≡ kinds_of (map standing adapters.old.items) }
-    ensures run { task ≡ Built.Run → IfSome (S.left source.old) (λ bytes. IsJudged (judged bytes (map standing adapters.old.items)) result (told K.written out.old) (told K.written out.new) (map standing adapters.new.items)) }
-    ensures map { task ≡ Built.Map → IfSome (S.left source.old) (λ bytes. IsJudged (map_judged bytes (map standing adapters.old.items)) result (told K.written out.old) (told K.written out.new) (map standing adapters.new.items)) }
-    ensures soak { (n : ℕ) → task ≡ Built.Soak n → IsJudged (soak_judged n (map standing adapters.old.items)) result (told K.written out.old) (told K.written out.new) (map standing adapters.new.items) }
-    ensures at_fault { task ≡ Built.Run → result ≡ Status.SourceFault → IfSome (S.left source.old) (λ bytes. BreaksOff bytes (map standing adapters.old.items) (S.left source.new) (told K.written out.old) (told K.written out.new)) }
+    ensures run { task ≡ Built.Run → IfSome (S.left source.old) (λ bytes. WritesJudged (judged bytes) result
+        (output_of (told K.written) standing out.old adapters.old.items)
+        (output_of (told K.written) standing out.new adapters.new.items)) }
+    ensures map { task ≡ Built.Map → IfSome (S.left source.old) (λ bytes. WritesJudged (map_judged bytes) result
+        (output_of (told K.written) standing out.old adapters.old.items)
+        (output_of (told K.written) standing out.new adapters.new.items)) }
+    ensures soak { (n : ℕ) → task ≡ Built.Soak n → WritesJudged (soak_judged n) result
+        (output_of (told K.written) standing out.old adapters.old.items)
+        (output_of (told K.written) standing out.new adapters.new.items) }
+    ensures at_fault { task ≡ Built.Run → result ≡ Status.SourceFault → IfSome (S.left source.old) (λ bytes.
+        BreaksOff bytes (map standing adapters.old.items)
+        (S.left source.new) (told K.written out.old) (told K.written out.new)) }
     ensures flushed { task ≡ Built.Run → result ≡ Status.SourceFault → out.old.end ≡ 0 → out.new.end ≡ 0 }
     ensures unwritten { task ≡ Built.Map → result ≡ Status.SourceFault → out.new ≡ out.old }
     ensures map_adapters { task ≡ Built.Map → adapters.new ≡ adapters.old }
@@ -355,7 +393,8 @@ fn perform_task<S: Source, K: Sink, E: Earlier>(
     ensures soak_unread { (n : ℕ) → task ≡ Built.Soak n → (source.new ≡ source.old) × (result ≢ Status.SourceFault) }
     ensures source_later { S.faults source.old ≤ S.faults source.new }
     ensures sink_later { K.faults out.old.sink.now ≤ K.faults out.new.sink.now }
-    ensures cause { IsCaused result (S.faults source.old) (S.faults source.new) (K.faults out.old.sink.now) (K.faults out.new.sink.now) }
+    ensures cause { IsCaused result
+        (S.faults source.old) (S.faults source.new) (K.faults out.old.sink.now) (K.faults out.new.sink.now) }
     ensures ends_kept { K.ends out.new.sink.now ≡ K.ends out.old.sink.now }
     ensures same_sink { out.new.sink.ghost_name ≡ out.old.sink.ghost_name }
 {
@@ -376,10 +415,17 @@ fn run_task<S: Source, K: Sink, E: Earlier>(
 ) -> Status
     requires few { length (map standing adapters.old.items) < 2 ^ 32 }
     requires earlier { K.written sink.old ≡ E.bytes }
-    ensures run { task ≡ Built.Run → IfSome (S.left source.old) (λ bytes. IsJudged (judged bytes (map standing adapters.old.items)) result (K.written sink.old) (K.written sink.new) (map standing adapters.new.items)) }
-    ensures map { task ≡ Built.Map → IfSome (S.left source.old) (λ bytes. IsJudged (map_judged bytes (map standing adapters.old.items)) result (K.written sink.old) (K.written sink.new) (map standing adapters.new.items)) }
-    ensures soak { (n : ℕ) → task ≡ Built.Soak n → IsJudged (soak_judged n (map standing adapters.old.items)) result (K.written sink.old) (K.written sink.new) (map standing adapters.new.items) }
-    ensures at_fault { task ≡ Built.Run → result ≡ Status.SourceFault → IfSome (S.left source.old) (λ bytes. BreaksOff bytes (map standing adapters.old.items) (S.left source.new) (K.written sink.old) (K.written sink.new)) }
+    ensures run { task ≡ Built.Run → IfSome (S.left source.old) (λ bytes. WritesJudged (judged bytes) result
+        (output_of K.written standing sink.old adapters.old.items)
+        (output_of K.written standing sink.new adapters.new.items)) }
+    ensures map { task ≡ Built.Map → IfSome (S.left source.old) (λ bytes. WritesJudged (map_judged bytes) result
+        (output_of K.written standing sink.old adapters.old.items)
+        (output_of K.written standing sink.new adapters.new.items)) }
+    ensures soak { (n : ℕ) → task ≡ Built.Soak n → WritesJudged (soak_judged n) result
+        (output_of K.written standing sink.old adapters.old.items)
+        (output_of K.written standing sink.new adapters.new.items) }
+    ensures at_fault { task ≡ Built.Run → result ≡ Status.SourceFault → IfSome (S.left source.old) (λ bytes.
+        BreaksOff bytes (map standing adapters.old.items) (S.left source.new) (K.written sink.old) (K.written sink.new)) }
     ensures unwritten { task ≡ Built.Map → result ≡ Status.SourceFault → sink.new ≡ sink.old }
     ensures map_adapters { task ≡ Built.Map → adapters.new ≡ adapters.old }
     ensures map_status { task ≡ Built.Map → result ≢ Status.Found }
@@ -414,31 +460,40 @@ pub fn regrun<S: Source, K: Sink>(
     requires few { length (map standing adapters.old.items) < 2 ^ 32 }
 
     // Other words do nothing.
-    ensures words { (result ≡ Status.Words) ↔ (task_built (map string_bytes words.now) ≡ None) }
-    ensures untouched { result ≡ Status.Words → (source.new ≡ source.old) × (sink.new ≡ sink.old) × (adapters.new ≡ adapters.old) }
+    ensures words { (result ≡ Status.Words) ↔ (asked_by words.now ≡ None) }
+    ensures untouched { result ≡ Status.Words
+        → (source.new ≡ source.old) × (sink.new ≡ sink.old) × (adapters.new ≡ adapters.old) }
 
     // The headline. Where the source tells its bytes, `run` writes the judged log, and answers its status: the
     // adapters then stand as its items leave them. After any fault, and where memory ran out, it wrote a front of that.
-    ensures run { task_built (map string_bytes words.now) ≡ Some Built.Run → IfSome (S.left source.old)
-        (λ bytes. IsJudged (judged bytes (map standing adapters.old.items)) result (K.written sink.old) (K.written sink.new) (map standing adapters.new.items)) }
-    ensures map { task_built (map string_bytes words.now) ≡ Some Built.Map → IfSome (S.left source.old)
-        (λ bytes. IsJudged (map_judged bytes (map standing adapters.old.items)) result (K.written sink.old) (K.written sink.new) (map standing adapters.new.items)) }
-    ensures soak { (n : ℕ) → task_built (map string_bytes words.now) ≡ Some (Built.Soak n)
-        → IsJudged (soak_judged n (map standing adapters.old.items)) result (K.written sink.old) (K.written sink.new) (map standing adapters.new.items) }
+    ensures run { asked_by words.now ≡ Some Built.Run → IfSome (S.left source.old) (λ bytes.
+        WritesJudged (judged bytes) result
+        (output_of K.written standing sink.old adapters.old.items)
+        (output_of K.written standing sink.new adapters.new.items)) }
+    ensures map { asked_by words.now ≡ Some Built.Map → IfSome (S.left source.old) (λ bytes.
+        WritesJudged (map_judged bytes) result
+        (output_of K.written standing sink.old adapters.old.items)
+        (output_of K.written standing sink.new adapters.new.items)) }
+    ensures soak { (n : ℕ) → asked_by words.now ≡ Some (Built.Soak n)
+        → WritesJudged (soak_judged n) result
+        (output_of K.written standing sink.old adapters.old.items)
+        (output_of K.written standing sink.new adapters.new.items) }
 
     // After a source that failed, the sink has exactly the log of the lines of `run` that were taken whole.
-    ensures at_fault { task_built (map string_bytes words.now) ≡ Some Built.Run → result ≡ Status.SourceFault → IfSome (S.left source.old)
-        (λ bytes. BreaksOff bytes (map standing adapters.old.items) (S.left source.new) (K.written sink.old) (K.written sink.new)) }
+    ensures at_fault { asked_by words.now ≡ Some Built.Run → result ≡ Status.SourceFault
+        → IfSome (S.left source.old) (λ bytes.
+        BreaksOff bytes (map standing adapters.old.items) (S.left source.new) (K.written sink.old) (K.written sink.new)) }
 
     // After a source that failed, `map` has written nothing: the sink is as before.
-    ensures unwritten { task_built (map string_bytes words.now) ≡ Some Built.Map → result ≡ Status.SourceFault → sink.new ≡ sink.old }
+    ensures unwritten { asked_by words.now ≡ Some Built.Map → result ≡ Status.SourceFault → sink.new ≡ sink.old }
 
     // Whatever it answers, `map` leaves the adapters, and it compares nothing.
-    ensures map_adapters { task_built (map string_bytes words.now) ≡ Some Built.Map → adapters.new ≡ adapters.old }
-    ensures map_status { task_built (map string_bytes words.now) ≡ Some Built.Map → result ≢ Status.Found }
+    ensures map_adapters { asked_by words.now ≡ Some Built.Map → adapters.new ≡ adapters.old }
+    ensures map_status { asked_by words.now ≡ Some Built.Map → result ≢ Status.Found }
 
     // `soak` doesn't read the source, and so never fails by it.
-    ensures soak_unread { (n : ℕ) → task_built (map string_bytes words.now) ≡ Some (Built.Soak n) → (source.new ≡ source.old) × (result ≢ Status.SourceFault) }
+    ensures soak_unread { (n : ℕ) → asked_by words.now ≡ Some (Built.Soak n)
+        → (source.new ≡ source.old) × (result ≢ Status.SourceFault) }
 
     // However it ends, the sink keeps the bytes that it had before.
     ensures keeps_earlier { KeepsEarlier (K.written sink.old) (K.written sink.new) }

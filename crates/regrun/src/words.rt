@@ -1,6 +1,6 @@
 // What the words of a call ask for.
 ghost use Rattle.std.specs.Prelude.{◌≡◌, map, string_bytes};
-ghost use Rattle.regrun.specs.Words.{task_named, numbered_task, task_of, task_built};
+ghost use Rattle.regrun.specs.Words.{task_named, numbered_task, task_of, asked_by};
 
 use rl_policy::{NumberText, read_number};
 
@@ -64,7 +64,7 @@ pub(crate) enum Built {
 
 // What is built of what the words ask for.
 pub(crate) fn task_built(words: &[String]) -> Option<Built>
-    ensures { result ≡ task_built (map string_bytes words.now) }
+    ensures { result ≡ asked_by words.now }
 {
     match task_of(words) {
         Some(Task::Run) => Some(Built::Run),
