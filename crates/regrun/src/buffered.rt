@@ -90,7 +90,7 @@ impl<'a, K: Sink, E: Earlier> Buffered<'a, K, E> {
     // Writes some of what was kept back.
     fn write_some(&mut self) -> Result<(), Failed>
         requires { self.old.start < self.old.end }
-        ensures told { Keeps (append_known (K.written self.old.sink.now) (kept_back self.old)) (append_known (K.written self.new.sink.now) (kept_back self.new)) }
+        ensures told { Keeps (told K.written self.old) (told K.written self.new) }
         ensures less { OnOk result (self.new.end - self.new.start < self.old.end - self.old.start) }
         ensures cause { HasCause (K.faults self.old.sink.now) (K.faults self.new.sink.now) result }
         ensures ends_kept { K.ends self.new.sink.now ≡ K.ends self.old.sink.now }
@@ -103,7 +103,7 @@ impl<'a, K: Sink, E: Earlier> Buffered<'a, K, E> {
 
     // Writes what was kept back. A fault loses nothing of it.
     pub(crate) fn flush(&mut self) -> Result<(), Failed>
-        ensures told { Keeps (append_known (K.written self.old.sink.now) (kept_back self.old)) (append_known (K.written self.new.sink.now) (kept_back self.new)) }
+        ensures told { Keeps (told K.written self.old) (told K.written self.new) }
         ensures empty { OnOk result (self.new.end ≡ 0) }
         ensures idle { self.old.end ≡ 0 → self.new.end ≡ 0 }
         ensures cause { HasCause (K.faults self.old.sink.now) (K.faults self.new.sink.now) result }
@@ -133,7 +133,7 @@ impl<'a, K: Sink, E: Earlier> Buffered<'a, K, E> {
 
     // Writes what was kept back, where there is no room behind it.
     fn make_room(&mut self) -> Result<(), Failed>
-        ensures told { Keeps (append_known (K.written self.old.sink.now) (kept_back self.old)) (append_known (K.written self.new.sink.now) (kept_back self.new)) }
+        ensures told { Keeps (told K.written self.old) (told K.written self.new) }
         ensures room { OnOk result (self.new.end < 32768) }
         ensures cause { HasCause (K.faults self.old.sink.now) (K.faults self.new.sink.now) result }
         ensures ends_kept { K.ends self.new.sink.now ≡ K.ends self.old.sink.now }

@@ -50,7 +50,11 @@ impl Counts {
 
     // The counts of a sequence.
     pub(crate) fn of(tally: &Tally) -> Counts
-        ensures { result ≡ record { events = tally.now.steps; differences = tally.now.differences; errors = tally.now.errors } }
+        ensures { result ≡ record {
+          events = tally.now.steps;
+          differences = tally.now.differences;
+          errors = tally.now.errors;
+        } }
     {
         Counts {
             events: tally.steps,

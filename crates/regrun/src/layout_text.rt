@@ -131,7 +131,8 @@ fn put_place<K: Sink>(sink: &mut K, chip: &Chip, layout: &Layout, place: u32) ->
     requires place { place < length layout.now.places }
     requires sound { IsSound layout.now }
     requires built_with { IsBuiltWith layout.now chip.now }
-    ensures bytes { Puts (K.written sink.old) (K.written sink.new) (heading_text chip.now layout.now place ++ words_text layout.now place) result }
+    ensures bytes { Puts (K.written sink.old) (K.written sink.new)
+        (heading_text chip.now layout.now place ++ words_text layout.now place) result }
     ensures cause { HasCause (K.faults sink.old) (K.faults sink.new) result }
     ensures ends_kept { K.ends sink.new ≡ K.ends sink.old }
     ensures same_target { K.target sink.new ≡ K.target sink.old }

@@ -17,8 +17,10 @@ pub(crate) fn record<K: Log>(
     counts: &mut Counts,
 ) -> Result<(), Failed>
     requires { EventFits model.now event.now }
-    ensures whole { OnOk result (IsWritten (K.written out.old) (K.written out.new) counts.old counts.new model.now event.now) }
-    ensures part { OnErr result (IsBegun (K.written out.old) (K.written out.new) counts.old counts.new model.now event.now) }
+    ensures whole { OnOk result
+        (IsWritten (K.written out.old) (K.written out.new) counts.old counts.new model.now event.now) }
+    ensures part { OnErr result
+        (IsBegun (K.written out.old) (K.written out.new) counts.old counts.new model.now event.now) }
     ensures cause { HasCause (K.faults out.old) (K.faults out.new) result }
     ensures ends_kept { K.ends out.new ≡ K.ends out.old }
     ensures same_target { K.target out.new ≡ K.target out.old }
@@ -42,9 +44,11 @@ impl<K: Log> Recorder for Writing<'_, K> {
 
     ghost steady = { λ r. r.sink.ghost_name ∷ K.ends r.sink.now ∷ K.target r.sink.now ∷ [] };
 
-    ghost takes = { λ old model event new. IsWritten (K.written old.sink.now) (K.written new.sink.now) old.counts new.counts model event };
+    ghost takes = { λ old model event new.
+        IsWritten (K.written old.sink.now) (K.written new.sink.now) old.counts new.counts model event };
 
-    ghost breaks = { λ old model event new. IsBegun (K.written old.sink.now) (K.written new.sink.now) old.counts new.counts model event };
+    ghost breaks = { λ old model event new.
+        IsBegun (K.written old.sink.now) (K.written new.sink.now) old.counts new.counts model event };
 
     fn step(&mut self, model: &Model, event: &Event) -> Result<(), Failed> {
         record(event, model, self.sink, &mut self.counts)

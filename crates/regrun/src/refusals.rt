@@ -67,7 +67,8 @@ fn put_where<K: Sink>(sink: &mut K, spot: Option<Spot>) -> Result<(), Failed>
 }
 
 fn put_refusal<K: Sink>(sink: &mut K, spot: Option<Spot>, reason: &[&[u8]]) -> Result<(), Failed>
-    ensures bytes { Puts (K.written sink.old) (K.written sink.new) (refusal_text spot (map (λ piece. piece.now) reason.now)) result }
+    ensures bytes { Puts (K.written sink.old) (K.written sink.new)
+        (refusal_text spot (map (λ piece. piece.now) reason.now)) result }
     ensures cause { HasCause (K.faults sink.old) (K.faults sink.new) result }
     ensures ends_kept { K.ends sink.new ≡ K.ends sink.old }
     ensures same_target { K.target sink.new ≡ K.target sink.old }
@@ -131,7 +132,8 @@ fn model_reason(cause: ModelCause) -> &'static [u8]
 }
 
 fn put_shared<K: Sink>(sink: &mut K, spot: Spot, address: u64, other: u32) -> Result<(), Failed>
-    ensures bytes { Puts (K.written sink.old) (K.written sink.new) (refusal_text (Some spot) (map_reason (MapCause.SharedAddress address other))) result }
+    ensures bytes { Puts (K.written sink.old) (K.written sink.new)
+        (refusal_text (Some spot) (map_reason (MapCause.SharedAddress address other))) result }
     ensures cause { HasCause (K.faults sink.old) (K.faults sink.new) result }
     ensures ends_kept { K.ends sink.new ≡ K.ends sink.old }
     ensures same_target { K.target sink.new ≡ K.target sink.old }

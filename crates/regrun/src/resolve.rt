@@ -59,7 +59,9 @@ fn kind_named(model: &Model, name: &IdentRef<'_>) -> Option<u32>
 
 // The operation of a line on a register by another driver.
 fn other_op(model: &Model, line: &ItemLine<'_>) -> Option<Op>
-    ensures named { is_on_bus line.now.item ≡ false → is_on_field line.now.item ≡ false → is_on_memory line.now.item ≡ false → is_memory_by_backdoor line.now.item ≡ false → is_off_bus line.now.item ≡ false → result ≡ op_named model.now (item_said line.now) }
+    ensures named { is_on_bus line.now.item ≡ false → is_on_field line.now.item ≡ false → is_on_memory line.now.item ≡ false
+        → is_memory_by_backdoor line.now.item ≡ false → is_off_bus line.now.item ≡ false
+        → result ≡ op_named model.now (item_said line.now) }
     ensures numbers { IfSome result (HasNumbers model.now.chip (length model.now.layout.maps)) }
     ensures single { IfSome result (λ op. is_single op ≡ true) }
 {
@@ -84,7 +86,8 @@ fn other_op(model: &Model, line: &ItemLine<'_>) -> Option<Op>
 
 // The operation of a line on a register by the backdoor or on the model alone.
 fn back_op(model: &Model, line: &ItemLine<'_>) -> Option<Op>
-    ensures named { is_on_bus line.now.item ≡ false → is_on_field line.now.item ≡ false → is_on_memory line.now.item ≡ false → is_memory_by_backdoor line.now.item ≡ false → result ≡ op_named model.now (item_said line.now) }
+    ensures named { is_on_bus line.now.item ≡ false → is_on_field line.now.item ≡ false → is_on_memory line.now.item ≡ false
+        → is_memory_by_backdoor line.now.item ≡ false → result ≡ op_named model.now (item_said line.now) }
     ensures numbers { IfSome result (HasNumbers model.now.chip (length model.now.layout.maps)) }
     ensures single { IfSome result (λ op. is_single op ≡ true) }
 {
@@ -125,7 +128,8 @@ fn back_op(model: &Model, line: &ItemLine<'_>) -> Option<Op>
 
 // The operation of a line on a memory by the backdoor.
 fn mem_back_op(model: &Model, line: &ItemLine<'_>) -> Option<Op>
-    ensures named { is_on_bus line.now.item ≡ false → is_on_field line.now.item ≡ false → is_on_memory line.now.item ≡ false → result ≡ op_named model.now (item_said line.now) }
+    ensures named { is_on_bus line.now.item ≡ false → is_on_field line.now.item ≡ false → is_on_memory line.now.item ≡ false
+        → result ≡ op_named model.now (item_said line.now) }
     ensures numbers { IfSome result (HasNumbers model.now.chip (length model.now.layout.maps)) }
     ensures single { IfSome result (λ op. is_single op ≡ true) }
 {
@@ -151,7 +155,8 @@ fn mem_back_op(model: &Model, line: &ItemLine<'_>) -> Option<Op>
 
 // The operation of a line on a memory over the bus.
 fn mem_op(model: &Model, line: &ItemLine<'_>) -> Option<Op>
-    ensures named { is_on_bus line.now.item ≡ false → is_on_field line.now.item ≡ false → result ≡ op_named model.now (item_said line.now) }
+    ensures named { is_on_bus line.now.item ≡ false → is_on_field line.now.item ≡ false
+        → result ≡ op_named model.now (item_said line.now) }
     ensures numbers { IfSome result (HasNumbers model.now.chip (length model.now.layout.maps)) }
     ensures single { IfSome result (λ op. is_single op ≡ true) }
 {
@@ -228,7 +233,8 @@ fn field_op(model: &Model, line: &ItemLine<'_>) -> Option<Op>
     }
 }
 
-// The operation of a line on an item, if its names are there. Those on a register over the bus come first, as the most frequent.
+// The operation of a line on an item, if its names are there. Those on a register over the bus come first, as the most
+// frequent.
 fn item_op(model: &Model, line: &ItemLine<'_>) -> Option<Op>
     ensures named { result ≡ op_named model.now (item_said line.now) }
     ensures numbers { IfSome result (HasNumbers model.now.chip (length model.now.layout.maps)) }

@@ -162,7 +162,8 @@ pub(crate) fn put_sequence_begin<K: Sink>(
 
 // Writes what a sequence counted.
 fn put_tally<K: Sink>(sink: &mut K, counts: &Counts) -> Result<(), Failed>
-    ensures bytes { Puts (K.written sink.old) (K.written sink.new) (tally_text counts.now.events counts.now.differences counts.now.errors) result }
+    ensures bytes { Puts (K.written sink.old) (K.written sink.new)
+        (tally_text counts.now.events counts.now.differences counts.now.errors) result }
     ensures cause { HasCause (K.faults sink.old) (K.faults sink.new) result }
     ensures ends_kept { K.ends sink.new ≡ K.ends sink.old }
     ensures same_target { K.target sink.new ≡ K.target sink.old }
@@ -189,7 +190,8 @@ pub(crate) fn put_sequence_end<K: Sink>(
     block: &Option<PathRef<'_>>,
     counts: &Counts,
 ) -> Result<(), Failed>
-    ensures bytes { Puts (K.written sink.old) (K.written sink.new) (closing_text which block.now counts.now.events counts.now.differences counts.now.errors) result }
+    ensures bytes { Puts (K.written sink.old) (K.written sink.new)
+        (closing_text which block.now counts.now.events counts.now.differences counts.now.errors) result }
     ensures cause { HasCause (K.faults sink.old) (K.faults sink.new) result }
     ensures ends_kept { K.ends sink.new ≡ K.ends sink.old }
     ensures same_target { K.target sink.new ≡ K.target sink.old }
