@@ -7,10 +7,12 @@ use Rattle.std.specs.Io.KnownBytes.{Appends, Keeps, append_known}
 use Rattle.regrun.specs.Earlier.{KeepsEarlier}
 
 -- bytes that were kept back were written
-pub told_after : (a b : Option (List ℕ)) (kept : List ℕ) (n : ℕ) → Appends a b (take n kept) → Keeps (append_known a kept) (append_known b (drop n kept))
+pub told_after : (a b : Option (List ℕ)) (kept : List ℕ) (n : ℕ) → Appends a b (take n kept) → Keeps
+    (append_known a kept) (append_known b (drop n kept))
 told_after None b kept n h = tt
 told_after (Some xs) None kept n h = absurd h
-told_after (Some xs) (Some ys) kept n h = ap (λ l. l ++ drop n kept) h ∙ append_assoc xs (take n kept) (drop n kept) ∙ ap (λ l. xs ++ l) (take-append-drop n kept)
+told_after (Some xs) (Some ys) kept n h =
+    ap (λ l. l ++ drop n kept) h ∙ append_assoc xs (take n kept) (drop n kept) ∙ ap (λ l. xs ++ l) (take-append-drop n kept)
 
 pub told_same : (a b : Option (List ℕ)) (kept : List ℕ) → Keeps a b → Keeps (append_known a kept) (append_known b kept)
 told_same None b kept h = tt
@@ -18,7 +20,8 @@ told_same (Some xs) None kept h = absurd h
 told_same (Some xs) (Some ys) kept h = ap (λ l. l ++ kept) h
 
 -- bytes were kept back
-pub told_more : (a : Option (List ℕ)) (kept more : List ℕ) → Appends (append_known a kept) (append_known a (kept ++ more)) more
+pub told_more : (a : Option (List ℕ)) (kept more : List ℕ) → Appends (append_known a kept)
+    (append_known a (kept ++ more)) more
 told_more None kept more = tt
 told_more (Some xs) kept more = sym (append_assoc xs kept more)
 
@@ -39,7 +42,8 @@ keeps_then_appends (Some xs) (Some ys) None more h k = absurd k
 keeps_then_appends (Some xs) (Some ys) (Some zs) more h k = k ∙ ap (λ l. l ++ more) h
 
 -- more bytes behind them leave the earlier ones
-pub earlier_grown : (earlier old new : Option (List ℕ)) (more : List ℕ) → KeepsEarlier earlier old → Appends old new more → KeepsEarlier earlier new
+pub earlier_grown : (earlier old new : Option (List ℕ)) (more : List ℕ) → KeepsEarlier earlier old
+    → Appends old new more → KeepsEarlier earlier new
 earlier_grown None old new more kept h = tt
 earlier_grown (Some xs) None new more kept h = absurd (cc)
 earlier_grown (Some xs) (Some ys) None more kept h = absurd h

@@ -30,7 +30,8 @@ pub front_all : (a b : Option (List ℕ)) (text : List ℕ) → Appends a b text
 front_all a b text h = record { front = text; rest = []; split = append-nil text; appended = h }
 
 pub front_later : (a b c : Option (List ℕ)) (text : List ℕ) → Keeps a b → AppendsFront b c text → AppendsFront a c text
-front_later a b c text h f = record { front = f.front; rest = f.rest; split = f.split; appended = keeps_then_appends a b c f.front h f.appended }
+front_later a b c text h f =
+    record { front = f.front; rest = f.rest; split = f.split; appended = keeps_then_appends a b c f.front h f.appended }
 
 -- nothing is kept back
 pub append_none : (a : Option (List ℕ)) → append_known a [] ≡ a
@@ -46,13 +47,16 @@ none_kept bytes start end ordered none =
     let first : start ≡ 0 = omega arith in
     ap (λ e. slice_range bytes start e) none ∙ ap (λ s. slice_range bytes s 0) first
 
-pub keeps_on_ok : {T E : Type 0} (r : Result T E) (a b c : Option (List ℕ)) → Keeps a b → OnOk r (Keeps b c) → OnOk r (Keeps a c)
+pub keeps_on_ok : {T E : Type 0} (r : Result T E) (a b c : Option (List ℕ)) → Keeps a b → OnOk r (Keeps b c) → OnOk r
+    (Keeps a c)
 keeps_on_ok (Ok x) a b c h k = keeps_trans a b c h k
 keeps_on_ok (Err e) a b c h k = tt
 
 -- the bytes that were told are written, where nothing is kept back
-pub keeps_when_empty : (a b c : Option (List ℕ)) (kept : List ℕ) → Keeps a (append_known b kept) → kept ≡ [] → Keeps b c → Keeps a c
-keeps_when_empty a b c kept told none written = keeps_trans a b c (subst (Keeps a) (ap (append_known b) none ∙ append_none b) told) written
+pub keeps_when_empty : (a b c : Option (List ℕ)) (kept : List ℕ) → Keeps a (append_known b kept) → kept ≡ []
+    → Keeps b c → Keeps a c
+keeps_when_empty a b c kept told none written =
+    keeps_trans a b c (subst (Keeps a) (ap (append_known b) none ∙ append_none b) told) written
 
 pub appends_keeps : (a b c : Option (List ℕ)) (text : List ℕ) → Appends a b text → Keeps b c → Appends a c text
 appends_keeps None b c text h k = tt
@@ -69,10 +73,12 @@ begins_with xs ys h =
 -- of a front that was told, what isn't kept back
 not_kept : (xs ts w more kept front : List ℕ) → w ++ kept ≡ ts → ts ≡ xs ++ front → w ≡ xs ++ more → more ++ kept ≡ front
 not_kept xs ts w more kept front held told grown =
-    append_cancel_left xs (more ++ kept) front (sym (append_assoc xs more kept) ∙ ap (λ l. l ++ kept) (sym grown) ∙ held ∙ told)
+    append_cancel_left xs (more ++ kept) front (sym (append_assoc xs more kept) ∙ ap (λ l. l ++ kept) (sym grown)
+    ∙ held ∙ told)
 
 -- a front was told, where the earlier bytes stay: what isn't kept back of it is a front, too
-pub front_written : (old told new : Option (List ℕ)) (kept text : List ℕ) → KeepsEarlier old new → Keeps told (append_known new kept) → AppendsFront old told text → AppendsFront old new text
+pub front_written : (old told new : Option (List ℕ)) (kept text : List ℕ) → KeepsEarlier old new → Keeps told
+    (append_known new kept) → AppendsFront old told text → AppendsFront old new text
 front_written None told new kept text keeps held f = record { front = []; rest = text; split = refl; appended = tt }
 front_written (Some xs) None new kept text keeps held f = absurd f.appended
 front_written (Some xs) (Some ts) None kept text keeps held f = absurd held
@@ -82,22 +88,28 @@ front_written (Some xs) (Some ts) (Some w) kept text keeps held f =
     record {
       front = more;
       rest = kept ++ f.rest;
-      split = sym (append_assoc more kept f.rest) ∙ ap (λ l. l ++ f.rest) (not_kept xs ts w more kept f.front held f.appended grown) ∙ f.split;
+      split = sym (append_assoc more kept f.rest) ∙ ap (λ l. l ++ f.rest)
+          (not_kept xs ts w more kept f.front held f.appended grown) ∙ f.split;
       appended = grown;
     }
 
 -- ---- what a run told
 
-pub tells_all : (status : Status) (old new : Option (List ℕ)) (text : List ℕ) → Appends old new text → Tells status status old new text
+pub tells_all : (status : Status) (old new : Option (List ℕ)) (text : List ℕ) → Appends old new text
+    → Tells status status old new text
 tells_all status old new text h = record { whole = λ e. (refl, h); part = front_all old new text h }
 
-pub tells_front : (status expected : Status) (old new : Option (List ℕ)) (text : List ℕ) → is_complete status ≡ false → AppendsFront old new text → Tells status expected old new text
+pub tells_front : (status expected : Status) (old new : Option (List ℕ)) (text : List ℕ) → is_complete status ≡ false
+    → AppendsFront old new text → Tells status expected old new text
 tells_front status expected old new text broken f = record { whole = λ e. absurd (true≢false (sym e ∙ broken)); part = f }
 
-pub tells_none : (status expected : Status) (old new : Option (List ℕ)) (text : List ℕ) → is_complete status ≡ false → Keeps old new → Tells status expected old new text
-tells_none status expected old new text broken h = tells_front status expected old new text broken (front_none old new text h)
+pub tells_none : (status expected : Status) (old new : Option (List ℕ)) (text : List ℕ) → is_complete status ≡ false
+    → Keeps old new → Tells status expected old new text
+tells_none status expected old new text broken h =
+    tells_front status expected old new text broken (front_none old new text h)
 
-pub tells_later : (status expected : Status) (old mid new : Option (List ℕ)) (text : List ℕ) → Keeps old mid → Tells status expected mid new text → Tells status expected old new text
+pub tells_later : (status expected : Status) (old mid new : Option (List ℕ)) (text : List ℕ) → Keeps old mid
+    → Tells status expected mid new text → Tells status expected old new text
 tells_later status expected old mid new text h t = record {
   whole = λ e. let w = t.whole e in (w.0, keeps_then_appends old mid new text h w.1);
   part = front_later old mid new text h t.part;
@@ -105,18 +117,28 @@ tells_later status expected old mid new text h t = record {
 
 -- ---- a session that ended before its script
 
-pub stops_refused : (opening : Result DescData (List ℕ)) (line : List ℕ) (status : Status) (old new : Option (List ℕ)) → opening ≡ Err line → Tells status Refused old new line → Stops opening status old new
+pub stops_refused : (opening : Result DescData (List ℕ)) (line : List ℕ) (status : Status) (old new : Option (List ℕ))
+    → opening ≡ Err line → Tells status Refused old new line → Stops opening status old new
 stops_refused opening line status old new e t =
     subst (λ o. Stops o status old new) (sym e) (record { refused = λ c. refl; tells = t })
 
-pub stops_early : (opening : Result DescData (List ℕ)) (status : Status) (old new : Option (List ℕ)) → is_complete status ≡ false → Keeps old new → Stops opening status old new
-stops_early opening status old new broken h = record { refused = λ c. absurd (true≢false (sym c ∙ broken)); tells = tells_none status Refused old new (refusal_of opening) broken h }
+pub stops_early : (opening : Result DescData (List ℕ)) (status : Status) (old new : Option (List ℕ))
+    → is_complete status ≡ false → Keeps old new → Stops opening status old new
+stops_early opening status old new broken h =
+    record {
+      refused = λ c. absurd (true≢false (sym c ∙ broken));
+      tells = tells_none status Refused old new
+          (refusal_of opening) broken h;
+    }
 
-pub stops_later : (opening : Result DescData (List ℕ)) (status : Status) (old mid new : Option (List ℕ)) → Keeps old mid → Stops opening status mid new → Stops opening status old new
-stops_later opening status old mid new h s = record { refused = s.refused; tells = tells_later status Refused old mid new (refusal_of opening) h s.tells }
+pub stops_later : (opening : Result DescData (List ℕ)) (status : Status) (old mid new : Option (List ℕ))
+    → Keeps old mid → Stops opening status mid new → Stops opening status old new
+stops_later opening status old mid new h s =
+    record { refused = s.refused; tells = tells_later status Refused old mid new (refusal_of opening) h s.tells }
 
 -- with the line of a refused opening
-pub stops_line : (opening : Result DescData (List ℕ)) (line : List ℕ) (status : Status) (old new : Option (List ℕ)) → opening ≡ Err line → Stops opening status old new → Tells status Refused old new line
+pub stops_line : (opening : Result DescData (List ℕ)) (line : List ℕ) (status : Status) (old new : Option (List ℕ))
+    → opening ≡ Err line → Stops opening status old new → Tells status Refused old new line
 stops_line opening line status old new e s = subst (λ l. Tells status Refused old new l) (ap refusal_of e) s.tells
 
 no_front : (front rest : List ℕ) → front ++ rest ≡ [] → front ≡ []
@@ -124,15 +146,24 @@ no_front [] rest h = refl
 no_front (x ∷ front) rest h = absurd (cc)
 
 pub front_of_none : (old new : Option (List ℕ)) (text : List ℕ) → AppendsFront old new [] → AppendsFront old new text
-front_of_none old new text f = record { front = f.front; rest = text; split = ap (λ l. l ++ text) (no_front f.front f.rest f.split); appended = f.appended }
+front_of_none old new text f =
+    record {
+      front = f.front;
+      rest = text;
+      split = ap (λ l. l ++ text)
+          (no_front f.front f.rest f.split);
+      appended = f.appended;
+    }
 
 -- ---- what is written in the end
 
 pub not_sink_fault : (status : Status) → is_complete status ≡ true → status ≢ SinkFault
 not_sink_fault status c e = true≢false (sym c ∙ ap is_complete e)
 
-pub tells_written : (status result expected : Status) (old told new : Option (List ℕ)) (kept text : List ℕ) → (result ≢ SinkFault → result ≡ status) → KeepsEarlier old new → Keeps told (append_known new kept)
-    → (is_complete result ≡ true → Keeps told new) → Tells status expected old told text → Tells result expected old new text
+pub tells_written : (status result expected : Status) (old told new : Option (List ℕ)) (kept text : List ℕ) →
+    (result ≢ SinkFault → result ≡ status) → KeepsEarlier old new → Keeps told (append_known new kept)
+    → (is_complete result ≡ true → Keeps told new) → Tells status expected old told text
+    → Tells result expected old new text
 tells_written status result expected old told new kept text same keeps held whole t = record {
   whole = λ c. let is : result ≡ status = same (not_sink_fault result c) in
       let w = t.whole (subst (λ s. is_complete s ≡ true) is c) in
@@ -140,7 +171,8 @@ tells_written status result expected old told new kept text same keeps held whol
   part = front_written old told new kept text keeps held t.part;
 }
 
-pub counted_kept : (status result : Status) (counts : Counts) → (result ≢ SinkFault → result ≡ status) → IsCounted status counts → IsCounted result counts
+pub counted_kept : (status result : Status) (counts : Counts) → (result ≢ SinkFault → result ≡ status)
+    → IsCounted status counts → IsCounted result counts
 counted_kept status result counts same h = record {
   passed = λ e. h.passed (sym (same (not_sink_fault result (ap is_complete e))) ∙ e);
   found = λ e. h.found (sym (same (not_sink_fault result (ap is_complete e))) ∙ e);
@@ -165,7 +197,12 @@ not_clean false e = refl
 
 -- a status that goes by the counts at the end of a script
 pub counted_end : (status : Status) (counts : Counts) → status ≡ end_status counts → IsCounted status counts
-counted_end status counts is = record { passed = λ e. only_clean (is_clean counts) (sym is ∙ e); found = λ e. not_clean (is_clean counts) (sym is ∙ e) }
+counted_end status counts is =
+    record {
+      passed = λ e. only_clean (is_clean counts) (sym is ∙ e);
+      found = λ e. not_clean (is_clean counts)
+          (sym is ∙ e);
+    }
 
 pub incomplete : (b : Bool) → (b ≡ true → ⊥) → b ≡ false
 incomplete true h = absurd (h refl)

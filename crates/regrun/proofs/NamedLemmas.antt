@@ -15,17 +15,21 @@ lt_true a b h = grind (arith, nat_tests)
 lt_same : (a : ℕ) → nat_lt a a ≡ false
 lt_same a = grind (arith, nat_tests)
 
-at_first : {X : Type 0} (p : X → Bool) (xs : List X) (n : ℕ) → position_or_len p xs ≡ n → n < length xs → position p xs ≡ Some n
+at_first : {X : Type 0} (p : X → Bool) (xs : List X) (n : ℕ) → position_or_len p xs ≡ n → n < length xs
+    → position p xs ≡ Some n
 at_first p xs n e low = ap (λ t. cond t (Some (position_or_len p xs)) None) (lt_true _ _ (omega (arith, e))) ∙ ap Some e
 
 at_none : {X : Type 0} (p : X → Bool) (xs : List X) → position_or_len p xs ≡ length xs → position p xs ≡ None
-at_none p xs e = ap (λ n. cond (nat_lt n (length xs)) (Some (position_or_len p xs)) None) e ∙ ap (λ t. cond t (Some (position_or_len p xs)) None) (lt_same (length xs))
+at_none p xs e =
+    ap (λ n. cond (nat_lt n (length xs)) (Some (position_or_len p xs)) None) e ∙ ap
+    (λ t. cond t (Some (position_or_len p xs)) None) (lt_same (length xs))
 
 not_true : (b : Bool) → (b ≡ true → ⊥) → b ≡ false
 not_true true h = absurd (h refl)
 not_true false h = refl
 
-pub found_in : (names : List (List ℕ)) (name : List ℕ) (o : Option ℕ) → ((n : ℕ) → (o ≡ Some n) ↔ (slice_get names n ≡ Some name)) → o ≡ number_of names name
+pub found_in : (names : List (List ℕ)) (name : List ℕ) (o : Option ℕ) →
+    ((n : ℕ) → (o ≡ Some n) ↔ (slice_get names n ≡ Some name)) → o ≡ number_of names name
 found_in names name o h = sym (by o refl)
   where
     other : (k : ℕ) → k < length names → (o ≡ Some k → ⊥) → bytes_eq name (get_or names k []) ≡ false
@@ -43,11 +47,14 @@ found_in names name o h = sym (by o refl)
         let read : name ≡ get_or names n [] = sym (get_or_from_slice_get names n name [] at) in
         at_first (bytes_eq name) names n
         (position_or_len_is (bytes_eq name) names n [] (omega arith)
-        (λ k less. other k (omega arith) (λ f. let g : Some n ≡ Some k = sym e ∙ f in let m : n ≡ k = cc in absurd (omega arith)))
+        (λ k less. other k (omega arith) (λ f. let g : Some n ≡ Some k = sym e ∙ f in let m : n ≡ k = cc in absurd
+        (omega arith)))
         (λ low. (bytes_eq-Decides name (get_or names n [])).1 read)) inside
 
 -- a number from a place on, so many
-pub found_from : (paths : List (List ℕ)) (first len : ℕ) (path : List ℕ) (o : Option ℕ) → ((n : ℕ) → (o ≡ Some n) ↔ ((n < len) × (slice_get paths (first + n) ≡ Some path))) → o ≡ number_of (take len (drop first paths)) path
+pub found_from : (paths : List (List ℕ)) (first len : ℕ) (path : List ℕ) (o : Option ℕ) →
+    ((n : ℕ) → (o ≡ Some n) ↔ ((n < len) × (slice_get paths (first + n) ≡ Some path))) → o ≡ number_of
+    (take len (drop first paths)) path
 found_from paths first len path o h = found_in (take len (drop first paths)) path o (λ n. (forth n, back n))
   where
     part_at : (k : ℕ) → k < len → get_or (take len (drop first paths)) k [] ≡ get_or paths (first + k) []
@@ -57,7 +64,8 @@ found_from paths first len path o h = found_in (take len (drop first paths)) pat
     inside k low high = let n = length-take len (drop first paths) in let m = length-drop first paths in omega arith
 
     within : (k : ℕ) → k < length (take len (drop first paths)) → (k < len) × (first + k < length paths)
-    within k low = let n = length-take len (drop first paths) in let m = length-drop first paths in (omega arith, omega arith)
+    within k low = let n = length-take len (drop first paths) in let m = length-drop first paths in
+        (omega arith, omega arith)
 
     forth : (n : ℕ) → o ≡ Some n → slice_get (take len (drop first paths)) n ≡ Some path
     forth n e =
@@ -68,13 +76,25 @@ found_from paths first len path o h = found_in (take len (drop first paths)) pat
     back : (n : ℕ) → slice_get (take len (drop first paths)) n ≡ Some path → o ≡ Some n
     back n e =
         let in_part = within n (slice_get_within (take len (drop first paths)) n path e) in
-        (h n).1 (in_part.0, slice_get-get_or paths (first + n) [] in_part.1 ∙ ap Some (sym (part_at n in_part.0) ∙ get_or_from_slice_get (take len (drop first paths)) n path [] e))
+        (h n).1 (
+          in_part.0,
+          slice_get-get_or paths (first + n) [] in_part.1 ∙ ap Some
+              (sym (part_at n in_part.0) ∙ get_or_from_slice_get (take len (drop first paths)) n path [] e),
+        )
 
 -- a number among the first so many
-pub found_first : (paths : List (List ℕ)) (len : ℕ) (path : List ℕ) (o : Option ℕ) → ((n : ℕ) → (o ≡ Some n) ↔ ((n < len) × (slice_get paths n ≡ Some path))) → o ≡ number_of (take len paths) path
+pub found_first : (paths : List (List ℕ)) (len : ℕ) (path : List ℕ) (o : Option ℕ) →
+    ((n : ℕ) → (o ≡ Some n) ↔ ((n < len) × (slice_get paths n ≡ Some path))) → o ≡ number_of (take len paths) path
 found_first paths len path o h =
-    found_from paths 0 len path o (λ n. subst (λ k. (o ≡ Some n) ↔ ((n < len) × (slice_get paths k ≡ Some path))) (omega arith) (h n))
+    found_from paths 0 len path o (λ n. subst (λ k. (o ≡ Some n) ↔ ((n < len) × (slice_get paths k ≡ Some path)))
+    (omega arith) (h n))
 
 -- the name of a row
-pub found_row : {X : Type 0} (name_of : X → List ℕ) (rows : List X) (name : List ℕ) (o : Option ℕ) → ((n : ℕ) → (o ≡ Some n) ↔ (option_map name_of (slice_get rows n) ≡ Some name)) → o ≡ number_of (map name_of rows) name
-found_row name_of rows name o h = found_in (map name_of rows) name o (λ n. (λ e. slice_get-map name_of rows n ∙ (h n).0 e, λ e. (h n).1 (sym (slice_get-map name_of rows n) ∙ e)))
+pub found_row : {X : Type 0} (name_of : X → List ℕ) (rows : List X) (name : List ℕ) (o : Option ℕ) →
+    ((n : ℕ) → (o ≡ Some n) ↔ (option_map name_of (slice_get rows n) ≡ Some name)) → o ≡ number_of (map name_of rows) name
+found_row name_of rows name o h =
+    found_in (map name_of rows) name o (λ n. (
+      λ e. slice_get-map name_of rows n ∙ (h n).0 e,
+      λ e. (h n).1
+          (sym (slice_get-map name_of rows n) ∙ e),
+    ))

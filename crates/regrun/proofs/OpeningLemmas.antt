@@ -19,57 +19,75 @@ use Rattle.regrun.proofs.SessionLemmas.{found_head, missing_head, long_head, ope
 
 -- ---- the head
 
-pub head_is_found : (input : Option (List ℕ)) (answer : Head) (head : List ℕ) (new : Reading) (left : Option (List ℕ)) → answer ≡ Found → IfSome input (λ bytes. HeadIs bytes answer head new left) → IfSome input (λ bytes. head_of bytes ≡ Ok head)
+pub head_is_found : (input : Option (List ℕ)) (answer : Head) (head : List ℕ) (new : Reading) (left : Option (List ℕ))
+    → answer ≡ Found → IfSome input (λ bytes. HeadIs bytes answer head new left) → IfSome input
+    (λ bytes. head_of bytes ≡ Ok head)
 head_is_found None answer head new left is h = tt
 head_is_found (Some bytes) answer head new left is h = found_head bytes head new left (rw is at h)
 
-pub head_is_missing : (input : Option (List ℕ)) (answer : Head) (head : List ℕ) (new : Reading) (left : Option (List ℕ)) → answer ≡ Missing → IfSome input (λ bytes. HeadIs bytes answer head new left)
+pub head_is_missing : (input : Option (List ℕ)) (answer : Head) (head : List ℕ) (new : Reading)
+    (left : Option (List ℕ)) → answer ≡ Missing → IfSome input (λ bytes. HeadIs bytes answer head new left)
     → IfSome input (λ bytes. head_of bytes ≡ Err (codes "refused session: no separator\n"))
 head_is_missing None answer head new left is h = tt
 head_is_missing (Some bytes) answer head new left is h = let m = rw is at h in missing_head bytes m.0 m.1
 
-pub head_is_long : (input : Option (List ℕ)) (answer : Head) (head : List ℕ) (new : Reading) (left : Option (List ℕ)) → answer ≡ TooLong → IfSome input (λ bytes. HeadIs bytes answer head new left)
+pub head_is_long : (input : Option (List ℕ)) (answer : Head) (head : List ℕ) (new : Reading) (left : Option (List ℕ))
+    → answer ≡ TooLong → IfSome input (λ bytes. HeadIs bytes answer head new left)
     → IfSome input (λ bytes. head_of bytes ≡ Err (codes "refused session: description too long\n"))
 head_is_long None answer head new left is h = tt
 head_is_long (Some bytes) answer head new left is h = let m = rw is at h in long_head bytes m.0 m.1
 
 -- ---- a session that ended at its head
 
-pub stops_at_head : (input : Option (List ℕ)) (line : List ℕ) (status : Status) (old new : Option (List ℕ)) → IfSome input (λ bytes. head_of bytes ≡ Err line) → Tells status Refused old new line
+pub stops_at_head : (input : Option (List ℕ)) (line : List ℕ) (status : Status) (old new : Option (List ℕ))
+    → IfSome input (λ bytes. head_of bytes ≡ Err line) → Tells status Refused old new line
     → IfSome input (λ bytes. (kinds : List AdapterKind) → Stops (opening_of bytes kinds) status old new)
 stops_at_head None line status old new h t = tt
-stops_at_head (Some bytes) line status old new h t = λ kinds. stops_refused (opening_of bytes kinds) line status old new (opening_refused bytes line kinds h) t
+stops_at_head (Some bytes) line status old new h t =
+    λ kinds. stops_refused (opening_of bytes kinds) line status old new (opening_refused bytes line kinds h) t
 
-pub stops_before_head : (input : Option (List ℕ)) (status : Status) (old new : Option (List ℕ)) → is_complete status ≡ false → Keeps old new
+pub stops_before_head : (input : Option (List ℕ)) (status : Status) (old new : Option (List ℕ))
+    → is_complete status ≡ false → Keeps old new
     → IfSome input (λ bytes. (kinds : List AdapterKind) → Stops (opening_of bytes kinds) status old new)
 stops_before_head None status old new broken h = tt
-stops_before_head (Some bytes) status old new broken h = λ kinds. stops_early (opening_of bytes kinds) status old new broken h
+stops_before_head (Some bytes) status old new broken h =
+    λ kinds. stops_early (opening_of bytes kinds) status old new broken h
 
 -- ---- the description
 
-pub stops_for : (input : Option (List ℕ)) (kinds : List AdapterKind) (status : Status) (old new : Option (List ℕ)) → IfSome input (λ bytes. (kinds : List AdapterKind) → Stops (opening_of bytes kinds) status old new)
+pub stops_for : (input : Option (List ℕ)) (kinds : List AdapterKind) (status : Status) (old new : Option (List ℕ))
+    → IfSome input (λ bytes. (kinds : List AdapterKind) → Stops (opening_of bytes kinds) status old new)
     → IfSome input (λ bytes. Stops (opening_of bytes kinds) status old new)
 stops_for None kinds status old new h = tt
 stops_for (Some bytes) kinds status old new h = h kinds
 
-stops_at_desc : (input : Option (List ℕ)) (head : List ℕ) (kinds : List AdapterKind) (status : Status) (old mid new : Option (List ℕ)) → IfSome input (λ bytes. head_of bytes ≡ Ok head) → Keeps old mid
-    → Stops (opening_after (Ok head) kinds) status mid new → IfSome input (λ bytes. Stops (opening_of bytes kinds) status old new)
+stops_at_desc : (input : Option (List ℕ)) (head : List ℕ) (kinds : List AdapterKind) (status : Status)
+    (old mid new : Option (List ℕ)) → IfSome input (λ bytes. head_of bytes ≡ Ok head) → Keeps old mid
+    → Stops (opening_after (Ok head) kinds) status mid new → IfSome input
+    (λ bytes. Stops (opening_of bytes kinds) status old new)
 stops_at_desc None head kinds status old mid new found same s = tt
 stops_at_desc (Some bytes) head kinds status old mid new found same s =
-    subst (λ o. Stops o status old new) (sym (opening_found bytes head kinds found)) (stops_later (opening_after (Ok head) kinds) status old mid new same s)
+    subst (λ o. Stops o status old new) (sym (opening_found bytes head kinds found))
+    (stops_later (opening_after (Ok head) kinds) status old mid new same s)
 
-pub desc_stops : (input : Option (List ℕ)) (head : List ℕ) (kinds : List AdapterKind) (r : Result DescData Status) (old mid new : Option (List ℕ)) → IfSome input (λ bytes. head_of bytes ≡ Ok head) → Keeps old mid
-    → IfErr r (λ status. Stops (opening_after (Ok head) kinds) status mid new) → IfErr r (λ status. IfSome input (λ bytes. Stops (opening_of bytes kinds) status old new))
+pub desc_stops : (input : Option (List ℕ)) (head : List ℕ) (kinds : List AdapterKind) (r : Result DescData Status)
+    (old mid new : Option (List ℕ)) → IfSome input (λ bytes. head_of bytes ≡ Ok head) → Keeps old mid
+    → IfErr r (λ status. Stops (opening_after (Ok head) kinds) status mid new) → IfErr r
+    (λ status. IfSome input (λ bytes. Stops (opening_of bytes kinds) status old new))
 desc_stops input head kinds (Ok desc) old mid new found same s = tt
-desc_stops input head kinds (Err status) old mid new found same s = stops_at_desc input head kinds status old mid new found same s
+desc_stops input head kinds (Err status) old mid new found same s =
+    stops_at_desc input head kinds status old mid new found same s
 
-opens_at : (input : Option (List ℕ)) (head : List ℕ) (kinds : List AdapterKind) (desc : DescData) → IfSome input (λ bytes. head_of bytes ≡ Ok head) → opening_after (Ok head) kinds ≡ Ok desc
+opens_at : (input : Option (List ℕ)) (head : List ℕ) (kinds : List AdapterKind) (desc : DescData) → IfSome input
+    (λ bytes. head_of bytes ≡ Ok head) → opening_after (Ok head) kinds ≡ Ok desc
     → IfSome input (λ bytes. opening_of bytes kinds ≡ Ok desc)
 opens_at None head kinds desc found is = tt
 opens_at (Some bytes) head kinds desc found is = opening_found bytes head kinds found ∙ is
 
-pub desc_opens : (input : Option (List ℕ)) (head : List ℕ) (kinds : List AdapterKind) (r : Result DescData Status) → IfSome input (λ bytes. head_of bytes ≡ Ok head)
-    → IfOk r (λ desc. opening_after (Ok head) kinds ≡ Ok desc) → IfOk r (λ desc. IfSome input (λ bytes. opening_of bytes kinds ≡ Ok desc))
+pub desc_opens : (input : Option (List ℕ)) (head : List ℕ) (kinds : List AdapterKind) (r : Result DescData Status)
+    → IfSome input (λ bytes. head_of bytes ≡ Ok head)
+    → IfOk r (λ desc. opening_after (Ok head) kinds ≡ Ok desc) → IfOk r
+    (λ desc. IfSome input (λ bytes. opening_of bytes kinds ≡ Ok desc))
 desc_opens input head kinds (Ok desc) found is = opens_at input head kinds desc found is
 desc_opens input head kinds (Err status) found is = tt
 
@@ -79,15 +97,26 @@ prepended : (left : Option (List ℕ)) → prepend_known [] left ≡ left
 prepended None = refl
 prepended (Some xs) = refl
 
-pub fresh_input : (r : Reading) → r ≡ record { pending = []; line = []; asked = false; found = false; refused = false; ended = false; closed = false } → (left : Option (List ℕ)) → input_of r left ≡ left
+pub fresh_input : (r : Reading)
+    → r ≡ record {
+      pending = [];
+      line = [];
+      asked = false;
+      found = false;
+      refused = false;
+      ended = false;
+      closed = false;
+    } → (left : Option (List ℕ)) → input_of r left ≡ left
 fresh_input r is = λ left. ap (λ r. input_of r left) is ∙ prepended left
 
-pub from_fresh : (lines : Reading) (left : Option (List ℕ)) (P : List ℕ → Type 0) → ((left : Option (List ℕ)) → input_of lines left ≡ left) → IfSome (input_of lines left) P → IfSome left P
+pub from_fresh : (lines : Reading) (left : Option (List ℕ)) (P : List ℕ → Type 0) →
+    ((left : Option (List ℕ)) → input_of lines left ≡ left) → IfSome (input_of lines left) P → IfSome left P
 from_fresh lines left P fresh h = subst (λ o. IfSome o P) (fresh left) h
 
 -- ---- what is behind the separator
 
-pub rest_is : (input : Option (List ℕ)) (answer : Head) (head : List ℕ) (new : Reading) (left : Option (List ℕ)) → answer ≡ Found → IfSome input (λ bytes. HeadIs bytes answer head new left)
+pub rest_is : (input : Option (List ℕ)) (answer : Head) (head : List ℕ) (new : Reading) (left : Option (List ℕ))
+    → answer ≡ Found → IfSome input (λ bytes. HeadIs bytes answer head new left)
     → IfSome input (λ bytes. input_of new left ≡ Some (behind (separator_at bytes) bytes))
 rest_is None answer head new left is h = tt
 rest_is (Some bytes) answer head new left is h =
@@ -96,12 +125,23 @@ rest_is (Some bytes) answer head new left is h =
 
 -- ---- a session in memory
 
-pub of_text : (lines : Reading) (bytes text : List ℕ) (P : List ℕ → Type 0) → ((left : Option (List ℕ)) → input_of lines left ≡ left) → bytes ≡ text → IfSome (input_of lines (Some (drop 0 bytes))) P → P text
+pub of_text : (lines : Reading) (bytes text : List ℕ) (P : List ℕ → Type 0) →
+    ((left : Option (List ℕ)) → input_of lines left ≡ left) → bytes ≡ text → IfSome
+    (input_of lines (Some (drop 0 bytes))) P → P text
 of_text lines bytes text P fresh is h =
     let h1 : IfSome (Some (drop 0 bytes)) P = subst (λ o. IfSome o P) (fresh (Some (drop 0 bytes))) h in
     subst P is h1
 
-pub fresh_inputs : {E : Type 0} (r : Result Reading E) → IfOk r (λ r. r ≡ record { pending = []; line = []; asked = false; found = false; refused = false; ended = false; closed = false })
+pub fresh_inputs : {E : Type 0} (r : Result Reading E) → IfOk r
+    (λ r. r ≡ record {
+      pending = [];
+      line = [];
+      asked = false;
+      found = false;
+      refused = false;
+      ended = false;
+      closed = false;
+    })
     → IfOk r (λ lines. (left : Option (List ℕ)) → input_of lines left ≡ left)
 fresh_inputs (Ok r) is = fresh_input r is
 fresh_inputs (Err e) is = tt

@@ -5,10 +5,13 @@ use Rattle.regrun.specs.declared.status.Status.{Status}
 use Rattle.regrun.specs.Causes.{IsCaused}
 
 -- what was copied out of the rest, and what is left of it
-pub moved : (bytes to buf : List ℕ) (at n : ℕ) → to ≡ take n (drop at bytes) ++ drop n buf → n ≤ length (drop at bytes) → drop at bytes ≡ take n to ++ drop (at + n) bytes
+pub moved : (bytes to buf : List ℕ) (at n : ℕ) → to ≡ take n (drop at bytes) ++ drop n buf → n ≤ length
+    (drop at bytes) → drop at bytes ≡ take n to ++ drop (at + n) bytes
 moved bytes to buf at n copied fits =
-    let front : take n to ≡ take n (drop at bytes) = ap (take n) copied ∙ take_at _ _ n (length-take-le n (drop at bytes) fits) in
-    sym (take-append-drop n (drop at bytes)) ∙ ap (λ l. l ++ drop n (drop at bytes)) (sym front) ∙ ap (λ l. take n to ++ l) (drop-drop n at bytes)
+    let front : take n to ≡ take n (drop at bytes) = ap (take n) copied ∙ take_at _ _ n
+    (length-take-le n (drop at bytes) fits) in
+    sym (take-append-drop n (drop at bytes)) ∙ ap (λ l. l ++ drop n (drop at bytes)) (sym front) ∙ ap
+    (λ l. take n to ++ l) (drop-drop n at bytes)
 
 -- nothing is copied into room for a byte only where nothing is left
 pub ended : (bytes : List ℕ) (at n : ℕ) → n ≡ 0 → length (drop at bytes) ≤ 0 → drop (at + n) bytes ≡ []
@@ -17,4 +20,9 @@ ended bytes at n e none = drop_all (at + n) bytes (omega (arith, length-drop at 
 -- a run in which nothing can fail ends by no fault
 pub quiet_cause : (status : Status) (before now : ℕ) → IsCaused status 0 0 0 0 → IsCaused status 0 0 before now
 quiet_cause status before now h =
-    record { source_fault = h.source_fault; sink_fault = λ e. let rose = h.sink_fault e in absurd (omega (arith, rose)); known = h.known }
+    record {
+      source_fault = h.source_fault;
+      sink_fault = λ e. let rose = h.sink_fault e in absurd
+          (omega (arith, rose));
+      known = h.known;
+    }

@@ -5,7 +5,8 @@ use Rattle.regrun.proofs.layout_text.put_lane.Goals as goal
 pub returns-in_err-put_all-clause-bytes : goal.returns-in_err-put_all-clause-bytes
 returns-in_err-put_all-clause-bytes g c =
     let has = sym c.if-has_lane.true ∙ c.has_lane.ensures in
-    rw (← has) (puts_stopped _ _ _ _ c.from_residual.ensures.0 (front_before _ _ (32 ∷ []) _ c.in_err-put_all.ensures.bytes.part))
+    rw (← has) (puts_stopped _ _ _ _ c.from_residual.ensures.0
+    (front_before _ _ (32 ∷ []) _ c.in_err-put_all.ensures.bytes.part))
 
 pub returns-in_ok-put_all-clause-bytes : goal.returns-in_ok-put_all-clause-bytes
 returns-in_ok-put_all-clause-bytes g c =

@@ -4,7 +4,8 @@ use Rattle.regrun.proofs.ListingLemmas.{all_left, less_left, left_stopped, none_
 use Rattle.regrun.proofs.layout_text.put_lanes.Goals as goal
 
 pub loop-lanes-init : goal.loop-lanes-init
-loop-lanes-init g c = record { put = all_left _ _; few = c.requires; later = omega arith; ends_kept = refl; same_target = refl }
+loop-lanes-init g c =
+    record { put = all_left _ _; few = c.requires; later = omega arith; ends_kept = refl; same_target = refl }
 
 pub loop-lanes-preserved : goal.loop-lanes-preserved
 loop-lanes-preserved g c =
@@ -22,9 +23,14 @@ loop-lanes-preserved g c =
 pub returns-in_err-put_lane-clause-bytes : goal.returns-in_err-put_lane-clause-bytes
 returns-in_err-put_lane-clause-bytes g c =
     let more : c.loop-lanes.lanes ≡ (c.loop-lanes.lanes - 1) + 1 = omega arith in
-    left_stopped _ _ _ _ _ _ _ _ c.loop-lanes.invariant.put (next_down (lane_text c.args.word.now) _ _ more) c.from_residual.ensures.0 c.in_err-put_lane.ensures.bytes.part
+    left_stopped _ _ _ _ _ _ _ _ c.loop-lanes.invariant.put
+    (next_down (lane_text c.args.word.now) _ _ more) c.from_residual.ensures.0 c.in_err-put_lane.ensures.bytes.part
 
 pub returns-clause-bytes : goal.returns-clause-bytes
 returns-clause-bytes g c =
     let none : c.loop-lanes.lanes ≡ 0 = omega arith in
-    record { whole = none_left _ _ _ _ c.loop-lanes.invariant.put (none_down (lane_text c.args.word.now) _ none); part = tt }
+    record {
+      whole = none_left _ _ _ _ c.loop-lanes.invariant.put
+          (none_down (lane_text c.args.word.now) _ none);
+      part = tt;
+    }

@@ -9,7 +9,8 @@ abbrev pub invariant-loop-lanes : goal.invariant-loop-lanes
 invariant-loop-lanes g l =
     let written = g.K.Sink.written in
     record {
-      put : IsLeft (written l.initial.sink) (written l.sink) (lanes_text l.bytes l.word) (flat_map (lane_text l.word) (reverse (range_with_len 0 l.lanes)));
+      put : IsLeft (written l.initial.sink) (written l.sink) (lanes_text l.bytes l.word)
+          (flat_map (lane_text l.word) (reverse (range_with_len 0 l.lanes)));
       few : l.lanes ≤ 8;
       later : g.K.Sink.faults l.initial.sink ≤ g.K.Sink.faults l.sink;
       ends_kept : g.K.Sink.ends l.sink ≡ g.K.Sink.ends l.initial.sink;

@@ -12,7 +12,8 @@ invariant-loop-k g l =
     let written = g.K.Sink.written in
     let port = port_at l.layout (place_at l.layout l.place).port in
     record {
-      put : IsLeft (written l.initial.sink) (written l.sink) (words_text l.layout l.place) (flat_map (word_text (map_at l.layout port.map).name port.bytes) (drop l.k (words_of l.layout l.place 0)));
+      put : IsLeft (written l.initial.sink) (written l.sink) (words_text l.layout l.place)
+          (flat_map (word_text (map_at l.layout port.map).name port.bytes) (drop l.k (words_of l.layout l.place 0)));
       later : g.K.Sink.faults l.initial.sink ≤ g.K.Sink.faults l.sink;
       ends_kept : g.K.Sink.ends l.sink ≡ g.K.Sink.ends l.initial.sink;
       same_target : g.K.Sink.target l.sink ≡ g.K.Sink.target l.initial.sink;

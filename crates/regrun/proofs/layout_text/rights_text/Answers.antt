@@ -18,17 +18,22 @@ read_only read write e w = rw (e, w) refl
 
 pub returns-then-writes : goal.returns-then-writes
 returns-then-writes c =
-    let read : has_right c.args.rights false ≡ true = sym (reads c.args.rights.bits) ∙ sym (c.contains-reads.ensures _) ∙ c.if-reads.true in
-    let write : has_right c.args.rights true ≡ true = sym (writes c.args.rights.bits) ∙ sym (c.contains-writes.ensures _) ∙ c.if-writes.true in
+    let read : has_right c.args.rights false ≡ true = sym (reads c.args.rights.bits) ∙ sym
+    (c.contains-reads.ensures _) ∙ c.if-reads.true in
+    let write : has_right c.args.rights true ≡ true = sym (writes c.args.rights.bits) ∙ sym
+    (c.contains-writes.ensures _) ∙ c.if-writes.true in
     both (has_right c.args.rights false) (has_right c.args.rights true) read write
 
 pub returns-else-writes : goal.returns-else-writes
 returns-else-writes c =
-    let read : has_right c.args.rights false ≡ true = sym (reads c.args.rights.bits) ∙ sym (c.contains-reads.ensures _) ∙ c.if-reads.true in
-    let write : has_right c.args.rights true ≡ false = sym (writes c.args.rights.bits) ∙ sym (c.contains-writes.ensures _) ∙ c.if-writes.false in
+    let read : has_right c.args.rights false ≡ true = sym (reads c.args.rights.bits) ∙ sym
+    (c.contains-reads.ensures _) ∙ c.if-reads.true in
+    let write : has_right c.args.rights true ≡ false = sym (writes c.args.rights.bits) ∙ sym
+    (c.contains-writes.ensures _) ∙ c.if-writes.false in
     read_only (has_right c.args.rights false) (has_right c.args.rights true) read write
 
 pub returns-else-reads : goal.returns-else-reads
 returns-else-reads c =
-    let read : has_right c.args.rights false ≡ false = sym (reads c.args.rights.bits) ∙ sym (c.contains-reads.ensures _) ∙ c.if-reads.false in
+    let read : has_right c.args.rights false ≡ false = sym (reads c.args.rights.bits) ∙ sym
+    (c.contains-reads.ensures _) ∙ c.if-reads.false in
     write_only (has_right c.args.rights false) (has_right c.args.rights true) read

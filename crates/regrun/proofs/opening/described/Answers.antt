@@ -8,4 +8,5 @@ returns-clause-read g c =
     described_ok _ _ _ _ (c.deref.ensures.value ∙ c.in-Ok.ensures) e.valid e.read
 
 pub returns-clause-refused : goal.returns-clause-refused
-returns-clause-refused g c = described_err _ _ _ _ (c.deref.ensures.value ∙ c.in-Ok.ensures) c.read_description.ensures.refused
+returns-clause-refused g c =
+    described_err _ _ _ _ (c.deref.ensures.value ∙ c.in-Ok.ensures) c.read_description.ensures.refused

@@ -5,4 +5,5 @@ use Rattle.regrun.proofs.opening.kinds_of.Given as goal
 
 abbrev pub invariant-loop-adapter : goal.invariant-loop-adapter
 invariant-loop-adapter g l =
-    l.kinds.items ≡ map kind_in (map (λ b. (goal.Adapter-dyn g (b.vtable, b.value)).standing b.value) (take l.adapter-index l.adapters.items))
+    l.kinds.items ≡ map kind_in (map (λ b. (goal.Adapter-dyn g (b.vtable, b.value)).standing b.value)
+    (take l.adapter-index l.adapters.items))

@@ -36,10 +36,13 @@ returns-clause-device g c = elim c.match-op.branch [
 
 pub returns-clause-recorded : goal.returns-clause-recorded
 returns-clause-recorded g c = λ adapters.
-    let performs : Performs (scene c.args.m.now adapters (g.D.Device.errors c.args.d.now) (g.D.Device.state c.args.d.now)) (scene c.match-op.m adapters (g.D.Device.errors c.match-op.d) (g.D.Device.state c.match-op.d)) c.args.op c.match-op.event = elim c.match-op.branch [
+    let performs : Performs (scene c.args.m.now adapters (g.D.Device.errors c.args.d.now)
+    (g.D.Device.state c.args.d.now)) (scene c.match-op.m adapters (g.D.Device.errors c.match-op.d)
+    (g.D.Device.state c.match-op.d)) c.args.op c.match-op.event = elim c.match-op.branch [
       | in-BackWrite w ↦ rw (w.m-is, w.d-is, w.event-is, w.in-BackWrite.is) (w.back_write-event.ensures.performs adapters)
       | in-BackRead w ↦ rw (w.m-is, w.d-is, w.event-is, w.in-BackRead.is) (w.back_read-event.ensures.performs adapters)
-      | in-BackCheck w ↦ rw (w.m-is, w.d-is, w.event-is, w.in-BackCheck.is) (w.back_read-event-in-BackCheck.ensures.performs adapters)
+      | in-BackCheck w ↦ rw (w.m-is, w.d-is, w.event-is, w.in-BackCheck.is)
+          (w.back_read-event-in-BackCheck.ensures.performs adapters)
       | in-Peek w ↦ rw (w.m-is, w.d-is, w.event-is, w.in-Peek.is) (w.peek-event.ensures.performs adapters)
       | in-Poke w ↦ rw (w.m-is, w.d-is, w.event-is, w.in-Poke.is) (w.poke-event.ensures.performs adapters)
       | in-MemPeek w ↦ rw (w.m-is, w.d-is, w.event-is, w.in-MemPeek.is) (w.mem_peek-event.ensures.performs adapters)

@@ -38,7 +38,12 @@ returns-clause-ready g c = elim c.match-op.branch [
 
 pub returns-clause-recorded : goal.returns-clause-recorded
 returns-clause-recorded g c =
-    let performs : Performs (scene c.args.m.now (map (λ b. (goal.Adapter-dyn g (b.vtable, b.value)).standing b.value) c.args.a.now.items) (g.D.Device.errors c.args.d.now) (g.D.Device.state c.args.d.now)) (scene c.match-op.m (map (λ b. (goal.Adapter-dyn g (b.vtable, b.value)).standing b.value) c.match-op.a.items) (g.D.Device.errors c.match-op.d) (g.D.Device.state c.match-op.d)) c.args.op c.match-op.event = elim c.match-op.branch [
+    let performs : Performs
+    (scene c.args.m.now (map (λ b. (goal.Adapter-dyn g (b.vtable, b.value)).standing b.value) c.args.a.now.items)
+    (g.D.Device.errors c.args.d.now) (g.D.Device.state c.args.d.now))
+    (scene c.match-op.m (map (λ b. (goal.Adapter-dyn g (b.vtable, b.value)).standing b.value) c.match-op.a.items)
+    (g.D.Device.errors c.match-op.d)
+    (g.D.Device.state c.match-op.d)) c.args.op c.match-op.event = elim c.match-op.branch [
       | in-Write w ↦ rw (w.m-is, w.d-is, w.a-is, w.event-is, w.in-Write.is) w.front_write-event.ensures.performs
       | in-Read w ↦ rw (w.m-is, w.d-is, w.a-is, w.event-is, w.in-Read.is) w.front_read-event.ensures.performs
       | in-Mirror w ↦ rw (w.m-is, w.d-is, w.a-is, w.event-is, w.in-Mirror.is) w.mirror-event.ensures.performs

@@ -10,7 +10,9 @@ returns-clause-ends g c = record {
 }
 
 pub returns-clause-log : goal.returns-clause-log
-returns-clause-log g c = played_written _ _ _ _ _ _ _ _ _ _ c.add.ensures (rw c.new-own.ensures at c.play_through-status.ensures.log)
+returns-clause-log g c =
+    played_written _ _ _ _ _ _ _ _ _ _ c.add.ensures (rw c.new-own.ensures at c.play_through-status.ensures.log)
 
 pub returns-clause-done : goal.returns-clause-done
-returns-clause-done g c = does_first _ _ _ _ _ _ _ _ _ _ c.add.ensures (rw c.new-own.ensures at c.play_through-status.ensures.done)
+returns-clause-done g c =
+    does_first _ _ _ _ _ _ _ _ _ _ c.add.ensures (rw c.new-own.ensures at c.play_through-status.ensures.done)

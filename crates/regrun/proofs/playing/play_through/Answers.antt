@@ -16,7 +16,8 @@ pub returns-clause-log : goal.returns-clause-log
 returns-clause-log g c =
     let s = c.settle.ensures in
     let keeps = rw (← c.requires.earlier) at c.settle.new.out.keeps_earlier in
-    let w = ends_written _ _ _ _ _ _ _ _ _ _ _ s.kept keeps s.told s.whole (rw c.new-out.ensures.told at c.play_lines-status.ensures.log) in
+    let w = ends_written _ _ _ _ _ _ _ _ _ _ _ s.kept keeps s.told s.whole
+    (rw c.new-out.ensures.told at c.play_lines-status.ensures.log) in
     search (rules, w)
 
 pub returns-clause-at_fault : goal.returns-clause-at_fault
@@ -24,5 +25,6 @@ returns-clause-at_fault g c = λ is.
     let s = c.settle.ensures in
     let p = c.play_lines-status.ensures in
     let fault = same_status _ _ s.kept is in
-    let w = breaks_written _ _ _ _ _ _ _ _ _ (rw c.new-out.ensures.told at (p.at_fault fault)) (s.at_fault fault (p.flushed fault)) in
+    let w = breaks_written _ _ _ _ _ _ _ _ _ (rw c.new-out.ensures.told at (p.at_fault fault))
+    (s.at_fault fault (p.flushed fault)) in
     search (rules, w)

@@ -10,6 +10,8 @@ returns c = record {
   named =
       subst (λ (t : List ℕ). c.block_by_path.result ≡ block_named c.args.model.now.chip t) c.text.ensures.text
       (subst (λ (k : ChipData). c.block_by_path.result ≡ block_named k c.text.result.now) c.chip.ensures.chip
-      (found_first c.chip.result.now.paths c.chip.result.now.blocks c.text.result.now c.block_by_path.result c.block_by_path.ensures));
-  in_range = some_in _ (λ n. n < c.args.model.now.chip.blocks) (λ n e. subst (λ (k : ChipData). n < k.blocks) c.chip.ensures.chip ((c.block_by_path.ensures n).0 e).0);
+      (found_first c.chip.result.now.paths c.chip.result.now.blocks c.text.result.now c.block_by_path.result
+      c.block_by_path.ensures));
+  in_range = some_in _ (λ n. n < c.args.model.now.chip.blocks)
+      (λ n e. subst (λ (k : ChipData). n < k.blocks) c.chip.ensures.chip ((c.block_by_path.ensures n).0 e).0);
 }

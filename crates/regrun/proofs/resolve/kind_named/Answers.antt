@@ -14,5 +14,6 @@ returns c = record {
       (found_in c.chip.result.now.kinds c.text.result.now c.kind_by_name.result c.kind_by_name.ensures));
   in_range =
       some_in _ (λ n. n < length c.args.model.now.chip.kinds)
-      (λ n e. subst (λ (k : ChipData). n < length k.kinds) c.chip.ensures.chip (slice_get_within _ n _ ((c.kind_by_name.ensures n).0 e)));
+      (λ n e. subst (λ (k : ChipData). n < length k.kinds) c.chip.ensures.chip
+      (slice_get_within _ n _ ((c.kind_by_name.ensures n).0 e)));
 }

@@ -10,6 +10,8 @@ returns c = record {
   named =
       subst (λ (t : List ℕ). c.reg_by_path.result ≡ reg_named c.args.model.now.chip t) c.text.ensures.text
       (subst (λ (k : ChipData). c.reg_by_path.result ≡ reg_named k c.text.result.now) c.chip.ensures.chip
-      (found_from c.chip.result.now.paths c.chip.result.now.scopes (length c.chip.result.now.regs) c.text.result.now c.reg_by_path.result c.reg_by_path.ensures));
-  in_range = some_in _ (λ n. n < length c.args.model.now.chip.regs) (λ n e. subst (λ (k : ChipData). n < length k.regs) c.chip.ensures.chip ((c.reg_by_path.ensures n).0 e).0);
+      (found_from c.chip.result.now.paths c.chip.result.now.scopes
+      (length c.chip.result.now.regs) c.text.result.now c.reg_by_path.result c.reg_by_path.ensures));
+  in_range = some_in _ (λ n. n < length c.args.model.now.chip.regs)
+      (λ n e. subst (λ (k : ChipData). n < length k.regs) c.chip.ensures.chip ((c.reg_by_path.ensures n).0 e).0);
 }

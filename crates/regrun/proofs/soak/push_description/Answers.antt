@@ -8,5 +8,6 @@ unfolding description_text
 returns c =
     let first = c.args.text.now.items in
     then_pushed _ first _ _ (rows_text place_text 0 64) (rows_text reg_text 0 64 ++ maps_text) description_text
-    (pushed_twice first _ _ (rows_text reg_text 0 64) maps_text c.in_ok-push_regs.ensures c.in_ok-extend_from_slice.ensures.items)
+    (pushed_twice first _ _
+    (rows_text reg_text 0 64) maps_text c.in_ok-push_regs.ensures c.in_ok-extend_from_slice.ensures.items)
     (joined_three (rows_text reg_text 0 64) maps_text (rows_text place_text 0 64)) c.push_places.ensures

@@ -9,4 +9,6 @@ returns c =
     let before = c.args.before.now in
     let digits = hex_digits c.args.v in
     let pushed = rw (c.front.ensures, c.spell-len.ensures.digits) at c.extend_from_slice-2.ensures.items in
-    then_pushed _ c.args.text.now.items _ _ digits before (joined (before ∷ digits ∷ [])) c.in_ok-extend_from_slice.ensures.items (joined_two before digits) (extended _ _ _ digits pushed)
+    then_pushed _ c.args.text.now.items _ _ digits before
+    (joined (before ∷ digits ∷ [])) c.in_ok-extend_from_slice.ensures.items (joined_two before digits)
+    (extended _ _ _ digits pushed)

@@ -7,7 +7,8 @@ use Rattle.regrun.proofs.soak.push_pieces.Goals as goal
 pub loop-piece-preserved : goal.loop-piece-preserved
 loop-piece-preserved c =
     more_pushed c.args.text.now.items _ _ (joined (map (λ piece. piece.now) c.args.pieces.now)) _ _ _ c.loop-piece.invariant
-    (next_piece (λ piece. piece.now) c.args.pieces.now c.loop-piece.piece-index _ c.loop-piece-test.true) c.in_ok-extend_from_slice.ensures.items
+    (next_piece (λ piece. piece.now) c.args.pieces.now c.loop-piece.piece-index _ c.loop-piece-test.true)
+    c.in_ok-extend_from_slice.ensures.items
 
 pub returns : goal.returns
 returns c =

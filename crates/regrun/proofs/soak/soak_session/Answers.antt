@@ -4,4 +4,6 @@ use Rattle.regrun.proofs.soak.soak_session.Goals as goal
 
 pub returns : goal.returns
 unfolding soak_text
-returns c = pushed_thrice _ _ _ _ _ _ _ c.in_ok-text.ensures.items c.in_ok-push_description.ensures c.in_ok-extend_from_slice.ensures.items c.in_ok-push_script.ensures
+returns c =
+    pushed_thrice _ _ _ _ _ _ _ c.in_ok-text.ensures.items c.in_ok-push_description.ensures
+    c.in_ok-extend_from_slice.ensures.items c.in_ok-push_script.ensures

@@ -23,11 +23,15 @@ returns-in-Ok-open_session-clause-tells g c =
     let bytes = c.in-Ok.bytes.items in
     let fresh = c.in-Ok-fresh_lines.ensures.input in
     soaks_opened _ _ _ _ _ _ _ _ _
-    (of_text lines bytes (soak_text c.args.n) (λ text. opening_of text _ ≡ Ok c.in-Ok-open_session.desc) fresh c.in-Ok.ensures e.opening)
-    (of_text lines bytes (soak_text c.args.n) (λ text. input_of c.open_session.new.lines (Some (drop c.open_session.new.source.at c.open_session.new.source.bytes.items)) ≡ Some (behind (separator_at text) text)) fresh c.in-Ok.ensures e.rest)
+    (of_text lines bytes (soak_text c.args.n)
+    (λ text. opening_of text _ ≡ Ok c.in-Ok-open_session.desc) fresh c.in-Ok.ensures e.opening)
+    (of_text lines bytes (soak_text c.args.n) (λ text. input_of c.open_session.new.lines
+    (Some (drop c.open_session.new.source.at c.open_session.new.source.bytes.items)) ≡ Some
+    (behind (separator_at text) text)) fresh c.in-Ok.ensures e.rest)
     e.told c.soak_desc.ensures.tells
 
 pub returns-clause-tells : goal.returns-clause-tells
 returns-clause-tells g c =
-    let stops = of_text c.in-Ok-fresh_lines.lines c.in-Ok.bytes.items (soak_text c.args.n) (λ text. Stops (opening_of text _) _ _ _) c.in-Ok-fresh_lines.ensures.input c.in-Ok.ensures c.in-Err.ensures.stops in
+    let stops = of_text c.in-Ok-fresh_lines.lines c.in-Ok.bytes.items (soak_text c.args.n)
+    (λ text. Stops (opening_of text _) _ _ _) c.in-Ok-fresh_lines.ensures.input c.in-Ok.ensures c.in-Err.ensures.stops in
     soaks_stopped _ _ _ _ _ stops

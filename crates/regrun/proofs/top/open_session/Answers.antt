@@ -3,10 +3,13 @@ use Rattle.regrun.proofs.OpeningLemmas.{desc_stops, desc_opens}
 use Rattle.regrun.proofs.top.open_session.Goals as goal
 
 pub returns-clause-opening : goal.returns-clause-opening
-returns-clause-opening g c = desc_opens _ _ _ _ c.in_ok-read_head.ensures.head (rw (c.deref.ensures.value) at c.read_desc.ensures.opening)
+returns-clause-opening g c =
+    desc_opens _ _ _ _ c.in_ok-read_head.ensures.head (rw (c.deref.ensures.value) at c.read_desc.ensures.opening)
 
 pub returns-clause-told : goal.returns-clause-told
 returns-clause-told g c = keeps_on_ok _ _ _ _ c.in_ok-read_head.ensures.told c.read_desc.ensures.told
 
 pub returns-clause-stops : goal.returns-clause-stops
-returns-clause-stops g c = desc_stops _ _ _ _ _ _ _ c.in_ok-read_head.ensures.head c.in_ok-read_head.ensures.told (rw (c.deref.ensures.value) at c.read_desc.ensures.stops)
+returns-clause-stops g c =
+    desc_stops _ _ _ _ _ _ _ c.in_ok-read_head.ensures.head c.in_ok-read_head.ensures.told
+    (rw (c.deref.ensures.value) at c.read_desc.ensures.stops)

@@ -22,13 +22,15 @@ returns-in-Ok-open_session-clause-tells g c =
     let fresh = c.in-Ok.ensures.input in
     runs_opened left _ _ _ _ _ _ _ _
     (from_fresh lines left (λ bytes. opening_of bytes _ ≡ Ok c.in-Ok-open_session.desc) fresh e.opening)
-    (from_fresh lines left (λ bytes. input_of c.open_session.new.lines (g.S.Source.left c.open_session.new.source) ≡ Some (behind (separator_at bytes) bytes)) fresh e.rest)
+    (from_fresh lines left (λ bytes. input_of c.open_session.new.lines
+    (g.S.Source.left c.open_session.new.source) ≡ Some (behind (separator_at bytes) bytes)) fresh e.rest)
     e.told c.run_session.ensures.tells
 
 pub returns-clause-tells : goal.returns-clause-tells
 returns-clause-tells g c =
     let left = g.S.Source.left c.args.source.now in
-    runs_stopped left _ _ _ _ (from_fresh c.in-Ok.lines left (λ bytes. Stops (opening_of bytes _) _ _ _) c.in-Ok.ensures.input c.in-Err.ensures.stops)
+    runs_stopped left _ _ _ _ (from_fresh c.in-Ok.lines left
+    (λ bytes. Stops (opening_of bytes _) _ _ _) c.in-Ok.ensures.input c.in-Err.ensures.stops)
 
 pub returns-in-Ok-open_session-clause-at_fault : goal.returns-in-Ok-open_session-clause-at_fault
 returns-in-Ok-open_session-clause-at_fault g c = λ is.
@@ -39,7 +41,8 @@ returns-in-Ok-open_session-clause-at_fault g c = λ is.
     let fresh = c.in-Ok.ensures.input in
     let desc = c.in-Ok-open_session.desc in
     off_in_script left _ desc c.open_session.new.lines _ _ _ _ _
-    (from_fresh lines left (λ bytes. (head : List ℕ) × FindsHead bytes head c.open_session.new.lines (g.S.Source.left c.open_session.new.source)) fresh e.finds)
+    (from_fresh lines left (λ bytes. (head : List ℕ) × FindsHead bytes head c.open_session.new.lines
+    (g.S.Source.left c.open_session.new.source)) fresh e.finds)
     (r.unended is)
     (from_fresh lines left (λ bytes. opening_of bytes _ ≡ Ok desc) fresh e.opening)
     e.told (r.at_fault is)
@@ -50,4 +53,6 @@ returns-clause-at_fault g c = λ is.
     let fault : c.in-Err.status ≡ SourceFault = is in
     let err = c.in-Err.is ∙ ap Err fault in
     let e = c.open_session.ensures in
-    off_in_head left _ _ _ _ (from_fresh c.in-Ok.lines left (λ bytes. TakesNoHead bytes (g.S.Source.left c.open_session.new.source)) c.in-Ok.ensures.input (e.at_fault err)) (e.same_told err)
+    off_in_head left _ _ _ _ (from_fresh c.in-Ok.lines left
+    (λ bytes. TakesNoHead bytes (g.S.Source.left c.open_session.new.source)) c.in-Ok.ensures.input
+    (e.at_fault err)) (e.same_told err)

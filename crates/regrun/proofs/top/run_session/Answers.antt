@@ -13,7 +13,9 @@ returns-in_default-clause-tells g c =
     session_early _ c.args.desc here here Memory text text refl (keeps_refl text)
 
 pub returns-clause-tells : goal.returns-clause-tells
-returns-clause-tells g c = session_told _ c.args.desc _ _ _ _ _ _ _ _ _ _ _ c.new-counts.ensures (c.in-Ok.ensures.first _) c.play_lines.ensures.log
+returns-clause-tells g c =
+    session_told _ c.args.desc _ _ _ _ _ _ _ _ _ _ _ c.new-counts.ensures (c.in-Ok.ensures.first _) c.play_lines.ensures.log
 
 pub returns-clause-at_fault : goal.returns-clause-at_fault
-returns-clause-at_fault g c = λ is. breaks_first _ c.args.desc _ _ _ _ _ _ (c.in-Ok.ensures.first _) (c.play_lines.ensures.at_fault is)
+returns-clause-at_fault g c =
+    λ is. breaks_first _ c.args.desc _ _ _ _ _ _ (c.in-Ok.ensures.first _) (c.play_lines.ensures.at_fault is)

@@ -14,21 +14,24 @@ pub returns-clause-run : goal.returns-clause-run
 returns-clause-run g c = λ is.
     let f = c.finish.ensures in
     let keeps = rw (← c.requires.earlier) at c.finish.new.out.keeps_earlier in
-    let w = all_written _ (λ bytes. judged bytes _) _ _ _ _ _ _ _ f.kept keeps f.told f.whole (rw c.new-out.ensures.told at (c.perform_task-status.ensures.run is)) in
+    let w = all_written _ (λ bytes. judged bytes _) _ _ _ _ _ _ _ f.kept keeps f.told f.whole
+    (rw c.new-out.ensures.told at (c.perform_task-status.ensures.run is)) in
     search (rules, w)
 
 pub returns-clause-map : goal.returns-clause-map
 returns-clause-map g c = λ is.
     let f = c.finish.ensures in
     let keeps = rw (← c.requires.earlier) at c.finish.new.out.keeps_earlier in
-    let w = all_written _ (λ bytes. map_judged bytes _) _ _ _ _ _ _ _ f.kept keeps f.told f.whole (rw c.new-out.ensures.told at (c.perform_task-status.ensures.map is)) in
+    let w = all_written _ (λ bytes. map_judged bytes _) _ _ _ _ _ _ _ f.kept keeps f.told f.whole
+    (rw c.new-out.ensures.told at (c.perform_task-status.ensures.map is)) in
     search (rules, w)
 
 pub returns-clause-soak : goal.returns-clause-soak
 returns-clause-soak g c = λ n is.
     let f = c.finish.ensures in
     let keeps = rw (← c.requires.earlier) at c.finish.new.out.keeps_earlier in
-    let w = judged_written _ _ _ _ _ _ _ _ f.kept keeps f.told f.whole (rw c.new-out.ensures.told at (c.perform_task-status.ensures.soak n is)) in
+    let w = judged_written _ _ _ _ _ _ _ _ f.kept keeps f.told f.whole
+    (rw c.new-out.ensures.told at (c.perform_task-status.ensures.soak n is)) in
     search (rules, w)
 
 pub returns-clause-at_fault : goal.returns-clause-at_fault
@@ -36,7 +39,8 @@ returns-clause-at_fault g c = λ run is.
     let f = c.finish.ensures in
     let p = c.perform_task-status.ensures in
     let fault = same_status _ _ f.kept is in
-    let w = off_written _ _ _ _ _ _ (rw c.new-out.ensures.told at (p.at_fault run fault)) (f.at_fault fault (p.flushed run fault c.new-out.ensures.empty)) in
+    let w = off_written _ _ _ _ _ _ (rw c.new-out.ensures.told at (p.at_fault run fault))
+    (f.at_fault fault (p.flushed run fault c.new-out.ensures.empty)) in
     search (rules, w)
 
 pub returns-clause-unwritten : goal.returns-clause-unwritten

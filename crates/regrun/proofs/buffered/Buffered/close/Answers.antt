@@ -8,4 +8,5 @@ returns-clause-told g c = keeps_trans _ _ _ c.in_ok-flush.ensures.told (told_sam
 pub returns-clause-whole : goal.returns-clause-whole
 returns-clause-whole g c =
     let b = c.flush.new.self in
-    on_ok _ _ (keeps_when_empty _ _ _ _ c.in_ok-flush.ensures.told (none_kept b.bytes b.start b.end b.ordered c.in_ok-flush.ensures.empty) c.finish.ensures.kept)
+    on_ok _ _ (keeps_when_empty _ _ _ _ c.in_ok-flush.ensures.told
+    (none_kept b.bytes b.start b.end b.ordered c.in_ok-flush.ensures.empty) c.finish.ensures.kept)

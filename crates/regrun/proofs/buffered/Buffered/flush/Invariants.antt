@@ -8,7 +8,8 @@ abbrev pub invariant-loop-self : goal.invariant-loop-self
 invariant-loop-self g l =
     let written = g.K.Sink.written in
     record {
-      told : Keeps (append_known (written l.initial.self.sink.now) (kept_back l.initial.self)) (append_known (written l.self.sink.now) (kept_back l.self));
+      told : Keeps (append_known (written l.initial.self.sink.now) (kept_back l.initial.self))
+          (append_known (written l.self.sink.now) (kept_back l.self));
       later : g.K.Sink.faults l.initial.self.sink.now ≤ g.K.Sink.faults l.self.sink.now;
       idle : l.initial.self.end ≡ 0 → l.self.end ≡ 0;
       ends_kept : g.K.Sink.ends l.self.sink.now ≡ g.K.Sink.ends l.initial.self.sink.now;
