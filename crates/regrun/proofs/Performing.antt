@@ -89,7 +89,7 @@ record IsStepTo (new : Scene) (e : Event) (st : Step) : Type 0 where
   event : e ≡ st.event
   world : IsWorld new st.world
 
-abbrev from_world : World → ℕ → Scene
+abbrev pub from_world : World → ℕ → Scene
 from_world w errors = scene w.model w.adapters errors (Some w.device)
 
 done : (w : World) (errors : ℕ) (new : Scene) (op : Op) (place : ℕ) (e : Event) → IsDone

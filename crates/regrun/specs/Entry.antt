@@ -92,7 +92,7 @@ burst_read_course mem map first count w =
 -- ---- lines
 
 -- by the numbers of both names, if both are there
-abbrev pub with_both : Option ℕ → Option (Option ℕ) → (ℕ → Option ℕ → Entry) → Option Entry
+abbrev pub with_both : {A : Type 0} → Option ℕ → Option (Option ℕ) → (ℕ → Option ℕ → A) → Option A
 with_both None map make = None
 with_both (Some number) map make = option_map (make number) map
 

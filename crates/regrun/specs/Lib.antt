@@ -12,6 +12,7 @@ pub mod Moment
 pub mod Named
 pub mod Opened
 pub mod Operations
+pub mod PlainLog
 pub mod Played
 pub mod Recording
 pub mod Refusals

@@ -2,7 +2,7 @@
 ghost use Rattle.std.specs.Prelude.{◌≡◌, ◌≢◌, ◌<◌, ◌^◌, List, map, length, Some, Ok, Err, IfOk, IfErr};
 ghost use Rattle.rl_bus.specs.Standing.{Standing, kinds_of};
 ghost use Rattle.rl_map.specs.Maps.{IsBuiltWith};
-ghost use Rattle.rl_access.specs.Model.{IsReady};
+ghost use Rattle.rl_access.specs.Model.{IsModel, IsReady};
 ghost use Rattle.rl_bench.specs.Flaws.{AreFlawsOf};
 ghost use Rattle.rl_bench.specs.State.{bench_state};
 ghost use Rattle.regrun.specs.Log.{first_world};
@@ -58,6 +58,7 @@ pub(crate) fn open(alloc: Global, desc: Desc) -> Result<(Model, Bench), AllocErr
     ensures opened { IfOk result (λ opened. IsOpened desc opened.0 opened.1) }
     ensures first { IfOk result (λ opened. (adapters : List Standing)
         → IsAt opened.0 adapters (Some (bench_state opened.1)) (first_world desc adapters)) }
+    ensures sound { IfOk result (λ opened. (adapters : List Standing) → IsModel (first_world desc adapters).model) }
 {
     let bench = Bench::build(alloc, &desc.chip, &desc.layout, &desc.flaws)?;
     let Desc {

@@ -2,12 +2,14 @@
 ghost use Rattle.std.specs.Prelude.{◌≡◌, ◌≢◌, ℕ, ◌≤◌, ◌<◌, ◌^◌, ◌↔◌, List, [], None, Some, Ok, Err, map, length, true, false, OnOk, IfOk, IfErr, IfSome};
 ghost use Rattle.std.specs.Io.KnownBytes.{Keeps};
 ghost use Rattle.std.specs.declared.option.Option.{Option};
+ghost use Rattle.rl_access.specs.Model.{IsModel};
 ghost use Rattle.rl_bus.specs.Causes.{Rose};
-ghost use Rattle.rl_bus.specs.Standing.{kinds_of};
+ghost use Rattle.rl_bus.specs.Standing.{Standing, kinds_of};
 ghost use Rattle.regrun.specs.Causes.{IsCaused, NoneFailed};
 ghost use Rattle.regrun.specs.Earlier.{KeepsEarlier};
 ghost use Rattle.regrun.specs.Judged.{judged, map_judged, output_of, script_judged, soak_judged, BreaksOff, WritesJudged};
 ghost use Rattle.regrun.specs.Log.{behind, first_world};
+ghost use Rattle.regrun.specs.PlainLog.{IsPlainLog, IsSteadyOpening, WritesPlainLog};
 ghost use Rattle.regrun.specs.Played.{BreaksAfter};
 ghost use Rattle.regrun.specs.Refusals.{description_refused_text};
 ghost use Rattle.regrun.specs.Session.{head_of, opening_after, opening_of};
@@ -226,6 +228,7 @@ fn run_session<S: Source, K: Sink, E: Earlier>(
     ensures tells { IfSome (input_of lines.old (S.left source.old)) (λ bytes. WritesJudged (script_judged desc bytes) result
         (output_of (told K.written) standing out.old adapters.old.items)
         (output_of (told K.written) standing out.new adapters.new.items)) }
+    ensures sound { is_complete result ≡ true → (adapters : List Standing) → IsModel (first_world desc adapters).model }
     ensures at_fault { result ≡ Status.SourceFault → IfSome (input_of lines.old (S.left source.old)) (λ bytes.
         BreaksAfter 1 (first_world desc (map standing adapters.old.items)) bytes
         (S.left source.new) (told K.written out.old) (told K.written out.new)) }
@@ -266,6 +269,8 @@ fn run<S: Source, K: Sink, E: Earlier>(
     ensures tells { IfSome (S.left source.old) (λ bytes. WritesJudged (judged bytes) result
         (output_of (told K.written) standing out.old adapters.old.items)
         (output_of (told K.written) standing out.new adapters.new.items)) }
+    ensures plain { is_complete result ≡ true → IfSome (S.left source.old) (λ bytes.
+        IsPlainLog bytes (map standing adapters.old.items)) }
     ensures at_fault { result ≡ Status.SourceFault → IfSome (S.left source.old) (λ bytes.
         BreaksOff bytes (map standing adapters.old.items)
         (S.left source.new) (told K.written out.old) (told K.written out.new)) }
@@ -377,6 +382,8 @@ fn perform_task<S: Source, K: Sink, E: Earlier>(
     ensures run { task ≡ Built.Run → IfSome (S.left source.old) (λ bytes. WritesJudged (judged bytes) result
         (output_of (told K.written) standing out.old adapters.old.items)
         (output_of (told K.written) standing out.new adapters.new.items)) }
+    ensures plain { task ≡ Built.Run → is_complete result ≡ true → IfSome (S.left source.old) (λ bytes.
+        IsPlainLog bytes (map standing adapters.old.items)) }
     ensures map { task ≡ Built.Map → IfSome (S.left source.old) (λ bytes. WritesJudged (map_judged bytes) result
         (output_of (told K.written) standing out.old adapters.old.items)
         (output_of (told K.written) standing out.new adapters.new.items)) }
@@ -418,6 +425,8 @@ fn run_task<S: Source, K: Sink, E: Earlier>(
     ensures run { task ≡ Built.Run → IfSome (S.left source.old) (λ bytes. WritesJudged (judged bytes) result
         (output_of K.written standing sink.old adapters.old.items)
         (output_of K.written standing sink.new adapters.new.items)) }
+    ensures plain { task ≡ Built.Run → is_complete result ≡ true → IfSome (S.left source.old) (λ bytes.
+        IsPlainLog bytes (map standing adapters.old.items)) }
     ensures map { task ≡ Built.Map → IfSome (S.left source.old) (λ bytes. WritesJudged (map_judged bytes) result
         (output_of K.written standing sink.old adapters.old.items)
         (output_of K.written standing sink.new adapters.new.items)) }
@@ -470,6 +479,14 @@ pub fn regrun<S: Source, K: Sink>(
         WritesJudged (judged bytes) result
         (output_of K.written standing sink.old adapters.old.items)
         (output_of K.written standing sink.new adapters.new.items)) }
+
+    // The other half. Where the description declares no flaw and no volatile field, and wherever the session is refused
+    // before its script, what `run` wrote as a whole is, without its item lines, the log of a plain machine that steps
+    // whole registers.
+    ensures plain { asked_by words.now ≡ Some Built.Run → is_complete result ≡ true → IfSome (S.left source.old) (λ bytes.
+        IsSteadyOpening (opening_of bytes (kinds_of (map standing adapters.old.items)))
+        → WritesPlainLog bytes (kinds_of (map standing adapters.old.items)) (K.written sink.old) (K.written sink.new)) }
+
     ensures map { asked_by words.now ≡ Some Built.Map → IfSome (S.left source.old) (λ bytes.
         WritesJudged (map_judged bytes) result
         (output_of K.written standing sink.old adapters.old.items)

@@ -6,6 +6,7 @@ use Rattle.rl_desc.specs.Data.{DescData}
 use Rattle.regrun.specs.Log.{first_world}
 use Rattle.regrun.specs.World.{IsAt}
 use Rattle.regrun.proofs.ReadyLemmas.{device_built, first_is}
+use Rattle.rl_access.specs.Model.{IsModel}
 use Rattle.regrun.proofs.opening.open.Goals as goal
 
 pub build-requires-clause-built_with : goal.build-requires-clause-built_with
@@ -42,3 +43,6 @@ returns-clause-first c =
     (first_world d adapters)) is
     (first_is adapters c.in_ok-model.model here
     (bench_state c.in_ok-bench.bench) m.chip m.layout m.mirror m.nothing_gathered m.sound c.in_ok-bench.ensures.state)
+
+pub returns-clause-sound : goal.returns-clause-sound
+returns-clause-sound c = λ adapters. subst IsModel (returns-clause-first c adapters).model_is c.in_ok-model.ensures.sound

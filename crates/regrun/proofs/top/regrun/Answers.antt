@@ -1,5 +1,6 @@
 use Rattle.std.proofs.Common.{◌≡◌, sym, ◌∙◌}
 use Rattle.regrun.specs.declared.words.Built.TheVariants as built
+use Rattle.regrun.proofs.PlainSession.{plain_written}
 use Rattle.regrun.proofs.top.regrun.Goals as goal
 
 pub returns-clause-run : goal.returns-clause-run
@@ -49,3 +50,9 @@ returns-clause-soak_unread g c = λ n asked.
     let found = sym c.in-Some.is ∙ c.task_built.ensures ∙ asked in
     let soak : c.in-Some.task ≡ built.Soak n = cc in
     c.run_task.ensures.soak_unread n soak
+
+pub returns-clause-plain : goal.returns-clause-plain
+returns-clause-plain g c = λ asked whole.
+    let found = sym c.in-Some.is ∙ c.task_built.ensures ∙ asked in
+    let is : c.in-Some.task ≡ built.Run = cc in
+    plain_written _ _ _ _ _ _ whole (c.run_task.ensures.run is) (c.run_task.ensures.plain is whole)

@@ -1,4 +1,4 @@
-use Rattle.std.proofs.Common.{◌≡◌, ℕ, List, Ok, Err, Some, refl, ap, ◌∙◌}
+use Rattle.std.proofs.Common.{◌≡◌, ℕ, List, Ok, Err, Some, refl, ap, ◌∙◌, true, false}
 use Rattle.rl_report.specs.Opening.{FindsHead, TakesNoHead, separator_at}
 use Rattle.rl_report.specs.Reading.{input_of}
 use Rattle.regrun.specs.declared.status.Status.TheVariants.{SourceFault}
@@ -9,6 +9,8 @@ use Rattle.regrun.proofs.BufferLemmas.{keeps_refl}
 use Rattle.regrun.proofs.FaultLemmas.{off_in_head, off_in_script}
 use Rattle.regrun.proofs.JudgedLemmas.{runs_early, runs_stopped, runs_opened}
 use Rattle.regrun.proofs.OpeningLemmas.{from_fresh}
+use Rattle.regrun.proofs.PlainLaws.{laws}
+use Rattle.regrun.proofs.PlainSession.{plain_opened, plain_stopped}
 use Rattle.regrun.proofs.top.run.Goals as goal
 
 pub returns-in_default-clause-tells : goal.returns-in_default-clause-tells
@@ -56,3 +58,18 @@ returns-clause-at_fault g c = λ is.
     off_in_head left _ _ _ _ (from_fresh c.in-Ok.lines left
     (λ bytes. TakesNoHead bytes (g.S.Source.left c.open_session.new.source)) c.in-Ok.ensures.input
     (e.at_fault err)) (e.same_told err)
+
+pub returns-in_default-clause-plain : goal.returns-in_default-clause-plain
+returns-in_default-clause-plain g c = λ whole. let no : false ≡ true = whole in absurd (cc)
+
+pub returns-in-Ok-open_session-clause-plain : goal.returns-in-Ok-open_session-clause-plain
+returns-in-Ok-open_session-clause-plain g c = λ whole.
+    let left = g.S.Source.left c.args.source.now in
+    let desc = c.in-Ok-open_session.desc in
+    plain_opened laws left _ desc (from_fresh c.in-Ok.lines left (λ bytes. opening_of bytes _ ≡ Ok desc) c.in-Ok.ensures.input c.in-Ok-open_session.ensures.opening)
+    (c.run_session.ensures.sound whole)
+
+pub returns-clause-plain : goal.returns-clause-plain
+returns-clause-plain g c = λ whole.
+    let left = g.S.Source.left c.args.source.now in
+    plain_stopped left _ c.in-Err.status _ _ whole (from_fresh c.in-Ok.lines left (λ bytes. Stops (opening_of bytes _) _ _ _) c.in-Ok.ensures.input c.in-Err.ensures.stops)

@@ -1,4 +1,4 @@
-use Rattle.std.proofs.Common.{map, refl}
+use Rattle.std.proofs.Common.{map, refl, ◌≡◌, true, false}
 use Rattle.regrun.specs.declared.status.Status.TheVariants.{Memory}
 use Rattle.regrun.specs.Told.{told}
 use Rattle.regrun.proofs.BufferLemmas.{keeps_refl}
@@ -19,3 +19,9 @@ returns-clause-tells g c =
 pub returns-clause-at_fault : goal.returns-clause-at_fault
 returns-clause-at_fault g c =
     λ is. breaks_first _ c.args.desc _ _ _ _ _ _ (c.in-Ok.ensures.first _) (c.play_lines.ensures.at_fault is)
+
+pub returns-in_default-clause-sound : goal.returns-in_default-clause-sound
+returns-in_default-clause-sound g c = λ whole. let no : false ≡ true = whole in absurd (cc)
+
+pub returns-clause-sound : goal.returns-clause-sound
+returns-clause-sound g c = λ whole. c.in-Ok.ensures.sound

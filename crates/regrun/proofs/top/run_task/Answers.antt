@@ -3,6 +3,7 @@ use Rattle.regrun.specs.declared.status.Status.TheVariants.{Found, SinkFault}
 use Rattle.regrun.specs.Judged.{judged, map_judged}
 use Rattle.regrun.proofs.FaultLemmas.{off_written, same_status}
 use Rattle.regrun.proofs.JudgedLemmas.{judged_written, all_written}
+use Rattle.regrun.proofs.PlainSession.{same_complete}
 use Rattle.regrun.proofs.top.run_task.Goals as goal
 
 pub returns-clause-keeps_earlier : goal.returns-clause-keeps_earlier
@@ -60,3 +61,6 @@ pub returns-clause-soak_unread : goal.returns-clause-soak_unread
 returns-clause-soak_unread g c = λ n soak.
     let p = c.perform_task-status.ensures.soak_unread n soak in
     (p.0, λ is. p.1 (same_status _ _ c.finish.ensures.kept is))
+
+pub returns-clause-plain : goal.returns-clause-plain
+returns-clause-plain g c = λ run whole. c.perform_task-status.ensures.plain run (same_complete _ _ c.finish.ensures.kept whole)
