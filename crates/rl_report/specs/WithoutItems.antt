@@ -56,8 +56,10 @@ pub record HasNames (c : ChipData) (l : LayoutData) : Type 0 where
 -- so it is in a chip and a layout of parts that no condition refuses
 abbrev pub BuiltOnesHaveNames : Type 0
 BuiltOnesHaveNames = (parts : PartsData) (maps : List MapNode) (places : List PlacePart) (kinds : List AdapterKind)
-    → chip_fault parts ≡ None → layout_fault (chip_of parts) maps places kinds ≡ None → HasNames (chip_of parts) (layout_of (chip_of parts) maps places kinds)
+    → chip_fault parts ≡ None → layout_fault (chip_of parts) maps places kinds ≡ None
+    → HasNames (chip_of parts) (layout_of (chip_of parts) maps places kinds)
 
 -- the text of an event, without the lines that begin with two spaces, is the text of the event without its items
 abbrev pub ItemsAreIndented : Type 0
-ItemsAreIndented = (m : ModelData) (e : Event) → IsModel m → HasNames m.chip m.layout → plain_part (event_text m e) ≡ event_text m (record e { trace = [] })
+ItemsAreIndented = (m : ModelData) (e : Event) → IsModel m → HasNames m.chip m.layout
+    → plain_part (event_text m e) ≡ event_text m (record e { trace = [] })
