@@ -1,7 +1,7 @@
 -- Operations one after another are the plain machine's.
-use Rattle.std.proofs.Common.{◌≡◌, ℕ, Bool, true, false, cond, List, [], ◌∷◌, length, map, All, Ok, Err, refl, sym, ap, ◌∙◌, subst}
+use Rattle.std.proofs.Common.{◌≡◌, ℕ, zero, suc, ◌+◌, ◌<◌, Option, Bool, true, false, cond, List, [], ◌∷◌, length, map, All, Ok, Err, refl, sym, ap, ◌∙◌, subst}
 use Rattle.std.specs.Bool.{MatchBool}
-use Rattle.std.proofs.lemmas.List.Elements.{All-head, All-tail}
+use Rattle.std.proofs.lemmas.List.Elements.{All-nil, All-cons, All-head, All-tail}
 use Rattle.rl_model.specs.Rows.{ChipData}
 use Rattle.rl_map.specs.Layout.{LayoutData}
 use Rattle.rl_mirror.specs.Prediction.{needs_update, update_word_of}
@@ -12,13 +12,14 @@ use Rattle.rl_access.specs.declared.event.Op.TheVariants as op
 use Rattle.rl_access.specs.Call.{Scene}
 use Rattle.rl_access.specs.HandsOver.{Told}
 use Rattle.rl_access.specs.Model.{ModelData, IsModel, IsSameChip}
-use Rattle.rl_access.specs.Operation.{HasNumbers}
+use Rattle.rl_access.specs.Operation.{IsMapIn, HasNumbers}
 use Rattle.rl_access.specs.Rules.{Grant, grant, named}
+use Rattle.rl_access.specs.Runs.{writes_of, reads_of}
 use Rattle.rl_access.specs.Tally.{is_bus_error}
 use Rattle.rl_seq.specs.Plan.{Plan, stop, step, look}
 use Rattle.rl_plain.specs.Machine.{Machine, mirror_of, seen, machine_end, told, done_by, machine_step}
-use Rattle.rl_plain.specs.Courses.{Course, then_on, through, along}
-use Rattle.rl_plain.specs.Calls.{without_items, IsMachineOf, IsPlainCourse, RunIsPlain, PlanHasNumbers, PlanIsPlain, RefusedIsPlain}
+use Rattle.rl_plain.specs.Courses.{Course, then_on, through, along, burst}
+use Rattle.rl_plain.specs.Calls.{without_items, IsMachineOf, IsPlainCourse, RunIsPlain, BurstIsPlain, BurstsHaveNumbers, PlanHasNumbers, PlanIsPlain, RefusedIsPlain}
 use Rattle.rl_plain.proofs.Machines.{IsPlainAfter, plain_after}
 use Rattle.rl_plain.proofs.Told.{refused_told}
 
@@ -140,3 +141,31 @@ refused_is_plain s new op why event p is refused =
       subst (λ x. IsMachineOf x p) (sym refused.unchanged) is,
       refused_told s new op why event p refused (ap (λ (m : ModelData). m.mirror) is.model) ∙ ap (λ (m : ModelData). told c (named m op) (end.Refused why) 0 p) is.model,
     )
+
+-- ---- bursts
+
+pub burst_is_plain : BurstIsPlain
+burst_is_plain s new (Ok place) op ops told p numbers ok is run = run_is_plain s new ops told p numbers ok is run
+burst_is_plain s new (Err why) op ops told p numbers ok is (event, refused, handed) =
+    let c = s.model.chip in
+    let l = s.model.layout in
+    let after = refused_is_plain s new op why event p is refused in
+    subst (λ told. IsPlainCourse s new told (burst c l p (Err why) op ops)) (sym handed) (record {
+      machine = after.0;
+      model = subst (λ (x : Scene). IsModel x.model) (sym refused.unchanged) ok;
+      same = record { chip = ap (λ (x : Scene). x.model.chip) refused.unchanged; layout = ap (λ (x : Scene). x.model.layout) refused.unchanged };
+      events = ap (λ e. e ∷ []) after.1;
+    })
+
+writes_have : (c : ChipData) (maps mem : ℕ) (over : Option ℕ) (first : ℕ) → mem < length c.mems → IsMapIn maps over → (values : List ℕ) → All (HasNumbers c maps) (writes_of mem over first values)
+writes_have c maps mem over first inside known [] = All-nil (HasNumbers c maps)
+writes_have c maps mem over first inside known (v ∷ values) =
+    All-cons (HasNumbers c maps) (op.MemWrite mem over first v) (writes_of mem over (first + 1) values) (inside, known) (writes_have c maps mem over (first + 1) inside known values)
+
+reads_have : (c : ChipData) (maps mem : ℕ) (over : Option ℕ) (first : ℕ) → mem < length c.mems → IsMapIn maps over → (count : ℕ) → All (HasNumbers c maps) (reads_of mem over first count)
+reads_have c maps mem over first inside known zero = All-nil (HasNumbers c maps)
+reads_have c maps mem over first inside known (suc count) =
+    All-cons (HasNumbers c maps) (op.MemRead mem over first) (reads_of mem over (first + 1) count) (inside, known) (reads_have c maps mem over (first + 1) inside known count)
+
+pub bursts_have_numbers : BurstsHaveNumbers
+bursts_have_numbers c maps mem over first inside known = record { writes = writes_have c maps mem over first inside known; reads = reads_have c maps mem over first inside known }

@@ -1,5 +1,5 @@
 -- Each call on a device without flaws is the plain machine's.
-use Rattle.std.specs.Prelude.{◌≡◌, ℕ, ◌<◌, List, [], length, map, All, slice_index, Option, Some, sum_by}
+use Rattle.std.specs.Prelude.{◌≡◌, ℕ, ◌<◌, List, [], ◌∷◌, length, map, All, slice_index, Option, Some, Ok, Err, sum_by}
 use Rattle.rl_bus.specs.Setup.{location}
 use Rattle.rl_bus.specs.State.{State, first_state}
 use Rattle.rl_model.specs.Rows.{ChipData}
@@ -16,15 +16,15 @@ use Rattle.rl_access.specs.Call.{Scene, IsRefused, Performs}
 use Rattle.rl_access.specs.Gathering.{IsNothingGathered}
 use Rattle.rl_access.specs.HandsOver.{Told}
 use Rattle.rl_access.specs.Model.{ModelData, IsModel, IsSameChip}
-use Rattle.rl_access.specs.Operation.{location_size, HasNumbers}
-use Rattle.rl_access.specs.Rules.{memory_size}
-use Rattle.rl_access.specs.Runs.{RunsThrough}
+use Rattle.rl_access.specs.Operation.{location_size, IsMapIn, HasNumbers}
+use Rattle.rl_access.specs.Rules.{Grant, memory_size}
+use Rattle.rl_access.specs.Runs.{RunsThrough, writes_of, reads_of}
 use Rattle.rl_seq.specs.Plan.{Plan, stop, step, look, Runs}
 use Rattle.rl_seq.specs.Steps.{hw_reset_plan, bit_bash_plan}
 use Rattle.rl_seq.specs.Tests.{access_test_plan, shared_access_plan, mem_walk_plan}
 use Rattle.rl_plain.specs.Agree.{HasNoVolatile, Agree}
 use Rattle.rl_plain.specs.Machine.{Machine, seen, first_machine, refused_at, machine_step}
-use Rattle.rl_plain.specs.Courses.{Course, through, along}
+use Rattle.rl_plain.specs.Courses.{Course, through, along, burst}
 
 -- the event without its items
 abbrev pub without_items : Event → Event
@@ -99,6 +99,29 @@ RunIsPlain =
     → All (HasNumbers s.model.chip (length s.model.layout.maps)) ops → IsModel s.model → IsMachineOf s p
     → RunsThrough s ops told new
     → IsPlainCourse s new told (through s.model.chip s.model.layout p ops)
+
+-- a burst: it is done as the operations that it stands for, or refused by its name
+abbrev pub IsBurstRun : (s new : Scene) → Grant → Op → List Op → List Told → Type 0
+IsBurstRun s new (Ok place) op ops told = RunsThrough s ops told new
+IsBurstRun s new (Err why) op ops told =
+    (event : Event) × IsRefused s new op why event × (told ≡ record { model = s.model; event = event } ∷ [])
+
+abbrev pub BurstIsPlain : Type 0
+BurstIsPlain =
+    (s new : Scene) (g : Grant) (op : Op) (ops : List Op) (told : List Told) (p : Machine)
+    → All (HasNumbers s.model.chip (length s.model.layout.maps)) ops → IsModel s.model → IsMachineOf s p
+    → IsBurstRun s new g op ops told
+    → IsPlainCourse s new told (burst s.model.chip s.model.layout p g op ops)
+
+-- the operations of a burst on a memory have their numbers
+pub record HaveNumbersOn (c : ChipData) (maps mem : ℕ) (over : Option ℕ) (first : ℕ) : Type 0 where
+  pub writes : (values : List ℕ) → All (HasNumbers c maps) (writes_of mem over first values)
+  pub reads : (count : ℕ) → All (HasNumbers c maps) (reads_of mem over first count)
+
+abbrev pub BurstsHaveNumbers : Type 0
+BurstsHaveNumbers =
+    (c : ChipData) (maps mem : ℕ) (over : Option ℕ) (first : ℕ)
+    → mem < length c.mems → IsMapIn maps over → HaveNumbersOn c maps mem over first
 
 -- every operation of a plan has its numbers, whatever is believed
 abbrev pub PlanHasNumbers : ChipData → LayoutData → Plan → Type 0

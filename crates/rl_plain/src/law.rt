@@ -1,6 +1,6 @@
 //! What holds of the calls on a device without flaws. Each function does nothing; its contract is the law.
 ghost use Rattle.rl_plain.specs.Agree.{AccessKeepsAgreement, BackdoorKeepsAgreement, HardwareKeepsAgreement, MemoryAccessKeepsAgreement, MemoryBackdoorKeepsAgreement, NewOnesAgree, ResetKeepsAgreement, WishKeepsAgreement};
-ghost use Rattle.rl_plain.specs.Calls.{CallIsPlain, CallKeepsModel, FirstOnesArePlain, PlanIsPlain, PlansHaveNumbers, RefusedIsPlain, RegisterCallIsPlain, RunIsPlain};
+ghost use Rattle.rl_plain.specs.Calls.{BurstIsPlain, BurstsHaveNumbers, CallIsPlain, CallKeepsModel, FirstOnesArePlain, PlanIsPlain, PlansHaveNumbers, RefusedIsPlain, RegisterCallIsPlain, RunIsPlain};
 ghost use Rattle.rl_plain.specs.OneStep.{AccessIsStep};
 
 /// An access over the bus is one step of its register: of all its fields, or in a narrow access of its one
@@ -71,9 +71,19 @@ pub fn first_ones_are_plain()
     ensures { FirstOnesArePlain }
 {}
 
-/// Operations one after another, as those of a burst, are the machine's: none of them ends by a bus error.
+/// Operations one after another are the machine's: none of them ends by a bus error.
 pub fn run_is_plain()
     ensures { RunIsPlain }
+{}
+
+/// So is a burst, which is done as its locations or refused by its name.
+pub fn burst_is_plain()
+    ensures { BurstIsPlain }
+{}
+
+/// The operations of a burst on a memory have their numbers.
+pub fn bursts_have_numbers()
+    ensures { BurstsHaveNumbers }
 {}
 
 /// So are the operations of a plan whose operations have their numbers, whatever is then believed.
