@@ -1,6 +1,9 @@
 //! What holds of the calls on a device without flaws. Each function does nothing; its contract is the law.
-ghost use Rattle.rl_plain.specs.Agree.{AccessKeepsAgreement, BackdoorKeepsAgreement, HardwareKeepsAgreement, MemoryAccessKeepsAgreement, MemoryBackdoorKeepsAgreement, NewOnesAgree, ResetKeepsAgreement, WishKeepsAgreement};
-ghost use Rattle.rl_plain.specs.Calls.{BurstIsPlain, BurstsHaveNumbers, CallIsPlain, CallKeepsModel, FirstOnesArePlain, PlanIsPlain, PlansHaveNumbers, RefusedIsPlain, RegisterCallIsPlain, RunIsPlain};
+ghost use Rattle.rl_plain.specs.Agree.{AccessKeepsAgreement, BackdoorKeepsAgreement, HardwareKeepsAgreement};
+ghost use Rattle.rl_plain.specs.Agree.{MemoryAccessKeepsAgreement, MemoryBackdoorKeepsAgreement, NewOnesAgree};
+ghost use Rattle.rl_plain.specs.Agree.{ResetKeepsAgreement, WishKeepsAgreement};
+ghost use Rattle.rl_plain.specs.Calls.{BurstIsPlain, BurstsHaveNumbers, CallIsPlain, CallKeepsModel, FirstOnesArePlain};
+ghost use Rattle.rl_plain.specs.Calls.{PlanIsPlain, PlansHaveNumbers, RefusedIsPlain, RegisterCallIsPlain, RunIsPlain};
 ghost use Rattle.rl_plain.specs.OneStep.{AccessIsStep};
 
 /// An access over the bus is one step of its register: of all its fields, or in a narrow access of its one
