@@ -2,6 +2,7 @@ pub mod BufferLemmas
 pub mod Courses
 pub mod DoneLemmas
 pub mod EndingLemmas
+pub mod EntryLemmas
 pub mod FaultLemmas
 pub mod HexLemmas
 pub mod JudgedLemmas

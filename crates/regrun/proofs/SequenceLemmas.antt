@@ -14,8 +14,8 @@ use Rattle.rl_report.proofs.PieceLemmas.{front_after, front_before}
 use Rattle.rl_script.specs.declared.line.Sequence.{Sequence}
 use Rattle.regrun.specs.declared.counts.Counts.{Counts}
 use Rattle.regrun.specs.declared.texts.LineRefusal.{LineRefusal}
-use Rattle.regrun.specs.Course.{along}
-use Rattle.regrun.specs.Entry.{Entry, plan_of, framed, begin_text, closing_text, closed_text}
+use Rattle.regrun.specs.Course.{Course, along}
+use Rattle.regrun.specs.Entry.{Entry, plain, plan_of, with_both, framed, begin_text, closing_text, closed_text}
 use Rattle.regrun.specs.Played.{BrokeOff, IsLineRun}
 use Rattle.regrun.specs.Recording.{events_text, IsRecorded}
 use Rattle.regrun.specs.World.{World, world}
@@ -57,6 +57,24 @@ broke_line : (given : Option Entry) (w : World) (old new : Option (List ℕ)) (c
 broke_line given w old new counts now m a st (Ok None) e b = absurd (true≢false (sym e))
 broke_line given w old new counts now m a st (Ok (Some why)) e b = absurd (true≢false (sym e))
 broke_line given w old new counts now m a st (Err failed) e b = b
+
+-- a line of a course alone, at which the sink failed
+pub plain_failed : (T : Type 0) {F : Type 0} (before : Option State) (m n : ModelData) (a b : List Standing) (after : Option State)
+    (entry : World → Option Entry) (course : World → Course) (old new : Option (List ℕ)) (counts now : Counts) (failed : F)
+    (r : Result (Option LineRefusal) Failed) → IsErr r
+    → ((d : State) → entry (world m a d) ≡ Some (plain (course (world m a d))))
+    → IfSome before (λ d. IsRecorded {T = T} (course (world m a d)) old new counts now n b after (Err failed))
+    → IfSome before (λ d. IsLineRun (entry (world m a d)) (world m a d) old new counts now n b after r)
+plain_failed T None m n a b after entry course old new counts now failed r e is h = tt
+plain_failed T (Some d) m n a b after entry course old new counts now failed r e is h =
+    let w = world m a d in
+    broke_line (entry w) w old new counts now n b after r e
+    (record { entry = plain (course w); is = is d; text = h.part; done = h.done w })
+
+-- where both names are there
+pub both_are : (number : Option ℕ) (map : Option (Option ℕ)) (i : ℕ) (t : Option ℕ) (make : ℕ → Option ℕ → Entry)
+    → number ≡ Some i → map ≡ Some t → with_both number map make ≡ Some (make i t)
+both_are number map i t make first second = ap (λ o. with_both o map make) first ∙ ap (option_map (make i)) second
 
 abbrev entry_for : Sequence → Option (List ℕ) → World → ModelData → Option ℕ → Entry
 entry_for which over w m block = framed which over (along w (plan_of which m block))
