@@ -25,9 +25,11 @@ after_item false s port ops rest h = h
 items_are : (s : Standing) (d : State) (port : ℕ) (ops : List BusOp) → AreItemsOf s port ops (items_of s d port ops)
 items_are s d port [] = tt
 items_are s d port (op ∷ ops) =
-    let item = item_of s port op (answer_of d port op) in
-    (refl, after_item item.answer.failed (took_item s item) port ops (items_of (took_item s item) (state_after d port op) port ops)
-        (items_are (took_item s item) (state_after d port op) port ops))
+    let item = item_of s port op (answer_of d port op) in (
+      refl,
+      after_item item.answer.failed (took_item s item) port ops (items_of (took_item s item) (state_after d port op) port ops)
+          (items_are (took_item s item) (state_after d port op) port ops),
+    )
 
 trace_is : (r : Option ℕ) (op : Op) (items : List TraceItem) (o : Outcome) → (event_at r op items o).trace ≡ items
 trace_is None op items o = refl

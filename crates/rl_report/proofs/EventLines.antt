@@ -201,8 +201,8 @@ module _ (m : ModelData) (chip : IsSound m.chip) (names : HasNames m.chip m.layo
       let port = port_at m.layout i.port in
       record {
         one = one_line-joined (codes "  ") _ (unbroken-fixed _ refl) (one_line-joined (map_at m.layout port.map).name _ (unbroken-map m names port.map)
-        (one_line-joined (way_text i.op.write) _ (unbroken-way_text i.op.write)
-        (one_line-joined (transfer_text port.bytes i) _ (unbroken-transfer_text port.bytes i) (answer_ends i.answer.failed))));
+            (one_line-joined (way_text i.op.write) _ (unbroken-way_text i.op.write)
+            (one_line-joined (transfer_text port.bytes i) _ (unbroken-transfer_text port.bytes i) (answer_ends i.answer.failed))));
         indented = item_is_indented _;
       }
 

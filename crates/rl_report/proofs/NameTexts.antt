@@ -54,10 +54,10 @@ path_below c s (suc n) i few within =
     elim (s.parents i within) [
       | inl top ↦ unbroken-name (path_at c i) top
       | inr (scope, inside) ↦
-        let front = path_at c scope in
-        let size : length (path_at c i) ≡ length front + suc (length inside.name) = ap length inside.joined ∙ length-append front (46 ∷ inside.name) in
-        let front_unbroken : IsUnbroken front = path_below c s n scope (omega (arith, size, few)) (omega (arith, inside.scope, s.paths)) in
-        subst IsUnbroken (sym inside.joined) (unbroken-append front (46 ∷ inside.name) front_unbroken (unbroken-cons 46 inside.name refl (unbroken-name inside.name inside.named)))
+          let front = path_at c scope in
+          let size : length (path_at c i) ≡ length front + suc (length inside.name) = ap length inside.joined ∙ length-append front (46 ∷ inside.name) in
+          let front_unbroken : IsUnbroken front = path_below c s n scope (omega (arith, size, few)) (omega (arith, inside.scope, s.paths)) in
+          subst IsUnbroken (sym inside.joined) (unbroken-append front (46 ∷ inside.name) front_unbroken (unbroken-cons 46 inside.name refl (unbroken-name inside.name inside.named)))
     ]
 
 pub unbroken-path : (c : ChipData) → IsSound c → (i : ℕ) → IsUnbroken (path_at c i)

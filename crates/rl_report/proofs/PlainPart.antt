@@ -12,12 +12,12 @@ cut_line [] rest h = absurd (true≢false (sym h))
 cut_line (b ∷ bs) rest h =
     elim (cases_Bool (b == 10)) [
       | inl ends ↦
-        let alone : (length bs == 0) ≡ true = sym (ap (λ d. if d then length bs == 0 else is_one_line bs) ends) ∙ h in
-        let empty : bs ≡ [] = nil_from_length bs (eqb-true _ _ alone) in
-        rw ends (ap (λ bs. (b ∷ []) ∷ ended_lines (bs ++ rest)) empty ∙ ap (λ bs. (b ∷ bs) ∷ ended_lines rest) (sym empty))
+          let alone : (length bs == 0) ≡ true = sym (ap (λ d. if d then length bs == 0 else is_one_line bs) ends) ∙ h in
+          let empty : bs ≡ [] = nil_from_length bs (eqb-true _ _ alone) in
+          rw ends (ap (λ bs. (b ∷ []) ∷ ended_lines (bs ++ rest)) empty ∙ ap (λ bs. (b ∷ bs) ∷ ended_lines rest) (sym empty))
       | inr within ↦
-        let more : is_one_line bs ≡ true = sym (ap (λ d. if d then length bs == 0 else is_one_line bs) within) ∙ h in
-        rw within (ap (onto_first b) (cut_line bs rest more))
+          let more : is_one_line bs ≡ true = sym (ap (λ d. if d then length bs == 0 else is_one_line bs) within) ∙ h in
+          rw within (ap (onto_first b) (cut_line bs rest more))
     ]
 
 -- a line that begins otherwise stays

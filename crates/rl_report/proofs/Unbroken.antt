@@ -54,8 +54,8 @@ one_line-append (b ∷ bs) ys u h =
     elim (cases_Bool (b == 10)) [
       | inl ends ↦ absurd (true≢false (sym u.each ∙ ap (λ d. not d && is_unbroken bs) ends))
       | inr within ↦
-        let rest : is_unbroken bs ≡ true = sym (ap (λ d. not d && is_unbroken bs) within) ∙ u.each in
-        rw within (one_line-append bs ys (record { each = rest }) h)
+          let rest : is_unbroken bs ≡ true = sym (ap (λ d. not d && is_unbroken bs) within) ∙ u.each in
+          rw within (one_line-append bs ys (record { each = rest }) h)
     ]
 
 pub one_line-joined : (piece : List ℕ) (pieces : List (List ℕ)) → IsUnbroken piece → is_one_line (joined pieces) ≡ true → is_one_line (joined (piece ∷ pieces)) ≡ true
