@@ -1,5 +1,6 @@
 -- A table of the 256 bytes, held against a test at each of them, by computing.
 use Rattle.std.proofs.Common.{◌≡◌, ℕ, zero, suc, ◌<◌, Bool, true, false, ◌&&◌, not, nat_eq, get_or, List, refl, arith, inl, inr}
+use Rattle.std.specs.Prelude.{nat_lt}
 use Rattle.std.specs.Bool.{beq}
 use Rattle.std.proofs.lemmas.Bool.{cases_eq}
 
@@ -24,3 +25,7 @@ agree_at f g (suc n) h b lt =
 -- what stands at a byte's place is no dot exactly if the test holds
 pub from_table : (test : ℕ → Bool) (table : List ℕ) (b : ℕ) → b < 256 → agree_below (λ k. not (nat_eq (get_or table k 0) 46)) test 256 ≡ true → not (nat_eq (get_or table b 0) 46) ≡ test b
 from_table test table b lt h = agree_at _ test 256 h b lt
+
+-- what stands at a byte's place is higher than a digit exactly if the test holds
+pub from_high : (test : ℕ → Bool) (table : List ℕ) (b : ℕ) → b < 256 → agree_below (λ k. nat_lt 57 (get_or table k 0)) test 256 ≡ true → nat_lt 57 (get_or table b 0) ≡ test b
+from_high test table b lt h = agree_at _ test 256 h b lt

@@ -1,6 +1,6 @@
 //! Names, and paths of names.
-ghost use Rattle.std.specs.Prelude.{◌≡◌, ◌&&◌, ◌||◌, nat_le, nat_lt};
-ghost use Rattle.std.specs.List.{list_all};
+ghost use Rattle.std.specs.Prelude.{◌≡◌, ◌≤◌, not, length};
+ghost use Rattle.std.specs.List.{list_all, position_or_len};
 ghost use Rattle.rl_script.specs.Names as spec;
 
 use std::alloc::{AllocError, Global};
@@ -200,12 +200,6 @@ pub(crate) fn is_name(text: &[u8]) -> bool
     }
 }
 
-fn begins_name(byte: u8) -> bool
-    ensures { result ≡ spec.begins_name byte }
-{
-    byte.is_ascii_alphabetic() || byte == b'_'
-}
-
 // Each byte that a name may have stands at its own place, and a dot at every other place.
 static IN_NAMES: [u8; 256] = *b"\
     ................................\
@@ -216,6 +210,13 @@ static IN_NAMES: [u8; 256] = *b"\
     ................................\
     ................................\
     ................................";
+
+// Letters and `_` stand higher than the digits, the dot lower.
+fn begins_name(byte: u8) -> bool
+    ensures { result ≡ spec.begins_name byte }
+{
+    IN_NAMES[byte as usize] > b'9'
+}
 
 fn is_in_name(byte: u8) -> bool
     ensures { result ≡ spec.is_in_name byte }
@@ -229,39 +230,40 @@ fn are_in_name(text: &[u8]) -> bool
     text.iter().all(|byte| is_in_name(*byte))
 }
 
-/// Whether a name may have so many bytes.
-fn is_name_len(len: usize) -> bool
-    ensures { result ≡ (nat_le 1 len && nat_le len 32) }
+/// How many bytes in front may stand in a name.
+fn count_in_name(text: &[u8]) -> usize
+    ensures count { result ≡ position_or_len (λ byte. not (spec.is_in_name byte)) text.now }
+    ensures within { result ≤ length text.now }
 {
-    matches!(len, 1..=32)
+    text.iter()
+        .position(|byte| !is_in_name(*byte))
+        .unwrap_or(text.len())
 }
 
-/// Whether a byte of a name may stand behind so many bytes of it.
-fn may_be_next(len: usize, byte: u8) -> bool
-    ensures { result ≡ (nat_lt 0 len || spec.begins_name byte) }
-{
-    len > 0 || begins_name(byte)
-}
-
-/// Counts the names on the way, and the bytes of each.
+/// Goes name by name: the first byte, those behind it, and the dot.
+// Not inlined, since its loops stay tighter by themselves.
+#[inline(never)]
 pub(crate) fn is_path(text: &[u8]) -> bool
     ensures { result ≡ spec.is_path text.now }
 {
     let mut names = 1usize;
-    let mut len = 0usize;
-    for byte in text {
-        if is_in_name(*byte) {
-            if !may_be_next(len, *byte) {
-                return false;
-            }
-            len += 1;
-        } else {
-            if *byte != b'.' || !is_name_len(len) || names == 9 {
-                return false;
-            }
-            names += 1;
-            len = 0;
+    let mut rest = text;
+    while let [first, behind @ ..] = rest {
+        if !begins_name(*first) {
+            return false;
         }
+        let len = count_in_name(behind);
+        if len >= 32 {
+            return false;
+        }
+        let [dot, next @ ..] = &behind[len..] else {
+            return true;
+        };
+        if *dot != b'.' || names == 9 {
+            return false;
+        }
+        names += 1;
+        rest = next;
     }
-    is_name_len(len)
+    false
 }

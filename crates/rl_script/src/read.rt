@@ -117,6 +117,8 @@ fn read_item(item: Item, text: &[u8]) -> Result<LineRef<'_>, LineFault>
 }
 
 /// The operands, once it is known that there are as many words as there should be.
+// Inlined, so that the answer doesn't go through memory.
+#[inline(always)]
 #[tactic(auto, unfolding(crate::specs::Cut::operands_of))]
 fn read_operands<'a>(
     item: Item,
