@@ -1,0 +1,13 @@
+//! What holds of the session that is made from a number.
+ghost use Rattle.rl_soak.specs.Description.{DescriptionReads};
+ghost use Rattle.rl_soak.specs.Script.{ScriptReads};
+
+/// The script of the session reads, line by line, as the operations that are drawn. None is refused.
+pub fn script_reads()
+    ensures { ScriptReads }
+{}
+
+/// Its description reads as the 64 registers on two buses that are meant, and the session opens with these.
+pub fn description_reads()
+    ensures { DescriptionReads }
+{}
