@@ -1,0 +1,2 @@
+pub mod RegionLists
+pub mod FreeRuns

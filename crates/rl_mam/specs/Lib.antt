@@ -1,0 +1,2 @@
+pub mod Mam
+pub mod Regions

@@ -1,0 +1,54 @@
+//! Regions of a memory, and why none is given out.
+ghost use Rattle.std.specs.Prelude.{◌≡◌, ◌+◌, nat_lt};
+ghost use Rattle.rl_mam.specs.declared.region.MamFault.TheVariants.{Memory};
+
+use std::alloc::{AllocError, AllocFailed};
+
+/// Consecutive locations of a memory: `uvm_mem_region`, whose start and end offset these give.
+#[derive(Clone, Copy, Debug, PartialEq, Eq)]
+pub struct Region {
+    /// The number of its first location, which names it.
+    pub first: u64,
+    /// How many locations it has.
+    pub len: u64,
+}
+
+impl Region {
+    /// Whether it ends behind a location.
+    pub(crate) fn ends_after(&self, x: u64) -> bool
+        ensures { result ≡ nat_lt x (self.now.first + self.now.len) }
+    {
+        x < self.first || x - self.first < self.len
+    }
+}
+
+/// Why a region is not given out: the first of these that holds. They are this project's own.
+#[derive(Clone, Copy, Debug, PartialEq, Eq)]
+pub enum MamFault {
+    /// The region would have no location.
+    Empty,
+    /// It would end past the memory.
+    OutOfRange,
+    /// It would have a location in common with a region that begins at `first`, the least of these.
+    Overlap { first: u64 },
+    /// No free run of locations is that long. The longest one has this many.
+    NoRoom { longest: u64 },
+    /// The allocator had no memory left.
+    Memory,
+}
+
+impl From<AllocError> for MamFault {
+    ghost from_gives = { λ _ e. e ≡ Memory };
+
+    fn from(_e: AllocError) -> MamFault {
+        MamFault::Memory
+    }
+}
+
+impl<T: Drop> From<AllocFailed<T>> for MamFault {
+    ghost from_gives = { λ _ e. e ≡ Memory };
+
+    fn from(_e: AllocFailed<T>) -> MamFault {
+        MamFault::Memory
+    }
+}
