@@ -1,2 +1,3 @@
-pub mod RegionLists
+pub mod Arms
 pub mod FreeRuns
+pub mod RegionLists

@@ -1,13 +1,15 @@
 -- Lists of regions that are apart: what comes, goes and is found.
-use Rattle.std.proofs.Common.{◌≡◌, ◌⊎◌, ℕ, zero, suc, ◌+◌, ◌<◌, ◌≤◌, Bool, true, false, nat_lt, not, ◌&&◌, cond, List, [], ◌∷◌, length, get_or, Option, Some, None, refl, sym, ap, subst, inl, inr, arith}
-use Rattle.std.specs.Prelude.{find, filter, insert, position, All, Any, AllPairs}
+use Rattle.std.proofs.Common.{◌≡◌, ◌⊎◌, ℕ, zero, suc, ◌+◌, ◌<◌, ◌≤◌, Bool, true, false, nat_lt, nat_le, ◌==◌, not, ◌&&◌, cond, Result, Ok, Err, List, [], ◌∷◌, length, get_or, Option, Some, None, refl, sym, ap, subst, inl, inr, arith}
+use Rattle.std.specs.Prelude.{find, filter, insert, position, All, Any, AllPairs, IfSome, IfOk}
 use Rattle.std.specs.List.{position_or_len}
 use Rattle.std.proofs.lemmas.Bool.{cases_lt}
 use Rattle.std.proofs.lemmas.Bool.Decides.{nat_tests}
 use Rattle.std.proofs.lemmas.List.Elements.{All-nil, All-cons, All-weaker}
 use Rattle.std.proofs.lemmas.List.Kept.{AllPairs-cons}
 use Rattle.rl_mam.specs.declared.region.Region.{Region}
-use Rattle.rl_mam.specs.Regions.{AreApart, IsIn, IsTaken, IsFirstMet, Meets, place_of, added}
+use Rattle.rl_mam.specs.Regions.{AreApart, IsIn, IsTaken, IsFirstMet, Meets, place_of, added, region_at, location_of, location_at}
+use Rattle.rl_mam.specs.declared.region.RegionFault.{RegionFault}
+use Rattle.rl_mam.specs.declared.region.RegionFault.TheVariants.{NoSuchRegion, OutsideRegion}
 
 -- ---- some element
 
@@ -184,3 +186,44 @@ none_found first len (s ∷ rs) e = by (is_met first len s) refl e (none_found f
         → (find (is_met first len) rs ≡ None → IsClear first len rs) → (s.first < first + len → s.first + s.len ≤ first) × IsClear first len rs
     by true is e more = cc
     by false is e more = (λ begins. grind (arith, nat_tests), more e)
+
+-- ---- the region that begins there
+
+begins_there : (from size first : ℕ) (rs : List Region) (r : Region) → AreApart from size rs → Some r ≡ region_at rs first → (r.first ≡ first) × (first + r.len ≤ size)
+begins_there from size first [] r h e = cc
+begins_there from size first (s ∷ rs) r h e = by (s.first == first) refl e (begins_there (s.first + s.len) size first rs r h.3)
+  where
+    by : (t : Bool) → (s.first == first) ≡ t → Some r ≡ cond t (Some s) (region_at rs first)
+        → (Some r ≡ region_at rs first → (r.first ≡ first) × (first + r.len ≤ size)) → (r.first ≡ first) × (first + r.len ≤ size)
+    by true is e more =
+        let same : s ≡ r = cc in
+        let at : s.first ≡ first = grind (arith, nat_tests) in
+        let ends : s.first + s.len ≤ size = h.2 in
+        let inside : first + s.len ≤ size = omega arith in
+        subst (λ (q : Region). (q.first ≡ first) × (first + q.len ≤ size)) same (at, inside)
+    by false is e more = more e
+
+pub some_first : (size first : ℕ) (rs : List Region) (o : Option Region) → AreApart 0 size rs → o ≡ region_at rs first → IfSome o (λ r. r.first ≡ first)
+some_first size first rs None h e = tt
+some_first size first rs (Some r) h e = (begins_there 0 size first rs r h e).0
+
+pub some_inside : (size first : ℕ) (rs : List Region) (o : Option Region) → AreApart 0 size rs → size ≤ 65536 → o ≡ region_at rs first → IfSome o (λ r. r.first + r.len ≤ 65536)
+some_inside size first rs None h small e = tt
+some_inside size first rs (Some r) h small e =
+    let both = begins_there 0 size first rs r h e in
+    let begins : r.first ≡ first = both.0 in
+    let ends : first + r.len ≤ size = both.1 in
+    omega arith
+
+pub location_none : (o : Option Region) (k count : ℕ) → None ≡ o → Err NoSuchRegion ≡ location_at o k count
+location_none o k count e = subst (λ (x : Option Region). Err NoSuchRegion ≡ location_at x k count) e refl
+
+pub location_some : (o : Option Region) (r : Region) (k count : ℕ) (x : Result ℕ RegionFault) → Some r ≡ o → x ≡ location_of r k count → x ≡ location_at o k count
+location_some o r k count x e is = subst (λ (y : Option Region). x ≡ location_at y k count) e is
+
+pub location_first : (r : Region) (first k count : ℕ) (x : Result ℕ RegionFault) → r.first ≡ first → x ≡ location_of r k count → IfOk x (λ at. at ≡ first + k)
+location_first r first k count x begins is = subst (λ (y : Result ℕ RegionFault). IfOk y (λ at. at ≡ first + k)) (sym is) (by (nat_le (k + count) r.len))
+  where
+    by : (t : Bool) → IfOk {E = RegionFault} (cond t (Ok (r.first + k)) (Err (OutsideRegion r.len))) (λ at. at ≡ first + k)
+    by true = omega arith
+    by false = tt

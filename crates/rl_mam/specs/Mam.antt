@@ -1,5 +1,7 @@
 -- A memory allocation manager as data.
-use Rattle.std.specs.Prelude.{◌≤◌, ℕ, ◌≡◌, List}
+use Rattle.std.specs.Prelude.{◌≤◌, ◌<◌, ◌≡◌, ℕ, List, length}
+use Rattle.rl_model.specs.Rows.{ChipData}
+use Rattle.rl_access.specs.Rules.{memory_size}
 use Rattle.rl_mam.specs.declared.region.Region.{Region}
 use Rattle.rl_mam.specs.Regions.{AreApart, added, without}
 
@@ -12,6 +14,11 @@ pub record MamData : Type 0 where
 pub record IsMam (m : MamData) : Type 0 where
   pub small : m.size ≤ 65536
   pub apart : AreApart 0 m.size m.regions
+
+-- the chip has the memory, with the size known to the manager
+pub record IsManagerOf (c : ChipData) (m : MamData) : Type 0 where
+  pub mem : m.mem < length c.mems
+  pub size : memory_size c m.mem ≡ m.size
 
 -- ---- the steps
 

@@ -1,9 +1,11 @@
 -- The regions of a memory: which locations they take, and why a region is refused.
-use Rattle.std.specs.Prelude.{◌≡◌, ℕ, ◌+◌, ◌<◌, ◌≤◌, ◌==◌, nat_lt, not, List, [], ◌∷◌, Option, find, filter, insert, All, Any}
+use Rattle.std.specs.Prelude.{◌≡◌, ℕ, ◌+◌, ◌<◌, ◌≤◌, ◌==◌, nat_lt, nat_le, not, if◌then◌else◌, List, [], ◌∷◌, Option, None, Some, Result, Ok, Err, find, filter, insert, All, Any}
 use Rattle.std.specs.List.{position_or_len}
 use Rattle.rl_mam.specs.declared.region.Region.{Region}
 use Rattle.rl_mam.specs.declared.region.MamFault.{MamFault}
 use Rattle.rl_mam.specs.declared.region.MamFault.TheVariants.{Empty, OutOfRange, Overlap, NoRoom, Memory}
+use Rattle.rl_mam.specs.declared.region.RegionFault.{RegionFault}
+use Rattle.rl_mam.specs.declared.region.RegionFault.TheVariants.{NoSuchRegion, OutsideRegion}
 
 abbrev pub region : (first len : ℕ) → Region
 region first len = record { first = first; len = len }
@@ -81,3 +83,17 @@ RequestCause size regions len OutOfRange = ⊥
 RequestCause size regions len (Overlap at) = ⊥
 RequestCause size regions len (NoRoom longest) = (longest < len) × IsLongestFree size regions longest
 RequestCause size regions len Memory = (0 < len) × ((first : ℕ) × IsLowestFree size regions len first)
+
+-- ---- accesses
+
+-- where `count` locations from location k of a region on begin, if it has them
+abbrev pub location_of : Region → (k count : ℕ) → Result ℕ RegionFault
+location_of r k count = if nat_le (k + count) r.len then Ok (r.first + k) else Err (OutsideRegion r.len)
+
+abbrev pub location_at : Option Region → (k count : ℕ) → Result ℕ RegionFault
+location_at None k count = Err NoSuchRegion
+location_at (Some r) k count = location_of r k count
+
+-- the same of the region that begins at `first`
+abbrev pub location_in : List Region → (first k count : ℕ) → Result ℕ RegionFault
+location_in regions first k count = location_at (region_at regions first) k count

@@ -7,9 +7,10 @@
 mod mam;
 mod region;
 mod search;
+mod through;
 
 pub use mam::Mam;
-pub use region::{MamFault, Region};
+pub use region::{MamFault, Region, RegionFault};
 
 #[cfg(test)]
 mod tests;

@@ -1,11 +1,11 @@
 //! The manager: which regions of a memory are given out.
-ghost use Rattle.std.specs.Prelude.{◌≡◌, ◌+◌, ◌<◌, ◌≤◌, [], length, All, AllPairs, OnOk, OnErr, IfOk, IfErr};
+ghost use Rattle.std.specs.Prelude.{◌≡◌, ◌+◌, ◌<◌, ◌≤◌, [], length, All, AllPairs, OnOk, OnErr, IfOk, IfErr, IfSome};
 ghost use Rattle.rl_access.specs.Rules.{memory_size};
 ghost use Rattle.rl_mam.specs.Mam.{adding, releasing};
-ghost use Rattle.rl_mam.specs.Regions.{region, region_at, IsFree, IsLowestFree, ReserveCause, RequestCause};
+ghost use Rattle.rl_mam.specs.Regions.{region, region_at, location_in, IsFree, IsLowestFree, ReserveCause, RequestCause};
 
-use crate::region::{MamFault, Region};
-use crate::search::{first_met, lowest_free, place_of};
+use crate::region::{MamFault, Region, RegionFault};
+use crate::search::{first_met, lowest_free, place_of, region_at};
 use rl_model::Chip;
 use std::alloc::Global;
 
@@ -105,14 +105,31 @@ impl Mam {
         lowest_free(&self.regions, self.size, len)
     }
 
+    /// The number of the memory.
+    pub(crate) fn mem(&self) -> u32
+        ensures { result ≡ self.now.mem }
+    {
+        self.mem
+    }
+
+    /// Where locations of a region begin: so many from location `k` on.
+    pub(crate) fn location(&self, first: u64, k: u64, count: u64) -> Result<u64, RegionFault>
+        ensures location { result ≡ location_in self.now.regions first k count }
+        ensures at { IfOk result (λ at. at ≡ first + k) }
+    {
+        match self.region_at(first) {
+            None => Err(RegionFault::NoSuchRegion),
+            Some(region) => region.location(k, count),
+        }
+    }
+
     /// The region that begins at `first`.
     fn region_at(&self, first: u64) -> Option<Region>
-        ensures { result ≡ region_at self.now.regions first }
+        ensures region { result ≡ region_at self.now.regions first }
+        ensures first { IfSome result (λ r. r.first ≡ first) }
+        ensures inside { IfSome result (λ r. r.first + r.len ≤ 65536) }
     {
-        self.regions
-            .iter()
-            .copied()
-            .find(|region| region.first == first)
+        region_at(&self.regions, first)
     }
 
     /// The first condition of a region that fails.

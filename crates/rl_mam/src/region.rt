@@ -1,5 +1,6 @@
-//! Regions of a memory, and why none is given out.
-ghost use Rattle.std.specs.Prelude.{◌≡◌, ◌+◌, nat_lt};
+//! Regions of a memory, why none is given out, and why one is not accessed.
+ghost use Rattle.std.specs.Prelude.{◌≡◌, ◌+◌, ◌<◌, ◌^◌, nat_lt};
+ghost use Rattle.rl_mam.specs.Regions.{location_of};
 ghost use Rattle.rl_mam.specs.declared.region.MamFault.TheVariants.{Memory};
 
 use std::alloc::{AllocError, AllocFailed};
@@ -19,6 +20,17 @@ impl Region {
         ensures { result ≡ nat_lt x (self.now.first + self.now.len) }
     {
         x < self.first || x - self.first < self.len
+    }
+
+    /// Where so many locations from location `k` on begin, if it has them.
+    pub(crate) fn location(&self, k: u64, count: u64) -> Result<u64, RegionFault>
+        requires { self.now.first + self.now.len < 2 ^ 64 }
+        ensures { result ≡ location_of self.now k count }
+    {
+        if k > self.len || count > self.len - k {
+            return Err(RegionFault::OutsideRegion { len: self.len });
+        }
+        Ok(self.first + k)
     }
 }
 
@@ -51,4 +63,15 @@ impl<T: Drop> From<AllocFailed<T>> for MamFault {
     fn from(_e: AllocFailed<T>) -> MamFault {
         MamFault::Memory
     }
+}
+
+/// Why an access through a region is not made. The names are this project's own.
+#[derive(Clone, Copy, Debug, PartialEq, Eq)]
+pub enum RegionFault {
+    /// No region begins there.
+    NoSuchRegion,
+    /// The access would pass the region, which has so many locations.
+    OutsideRegion { len: u64 },
+    /// The recorder failed.
+    Recorder,
 }

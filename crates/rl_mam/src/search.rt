@@ -1,6 +1,6 @@
 //! Look-ups in a list of regions.
 ghost use Rattle.std.specs.Prelude.{◌≡◌, ◌&&◌, ◌+◌, ◌<◌, ◌≤◌, ◌^◌, IfOk, IfErr, nat_lt, find, position};
-ghost use Rattle.rl_mam.specs.Regions.{AreApart, IsLowestFree, RequestCause, place_of};
+ghost use Rattle.rl_mam.specs.Regions.{AreApart, IsLowestFree, RequestCause, place_of, region_at};
 
 use crate::region::{MamFault, Region};
 
@@ -14,6 +14,13 @@ pub(crate) fn first_met(regions: &[Region], first: u64, len: u64) -> Option<Regi
         .iter()
         .copied()
         .find(|region| region.first < end && region.ends_after(first))
+}
+
+/// The region that begins at `first`.
+pub(crate) fn region_at(regions: &[Region], first: u64) -> Option<Region>
+    ensures { result ≡ region_at regions.now first }
+{
+    regions.iter().copied().find(|region| region.first == first)
 }
 
 /// How many regions stand before one that begins at `first`.

@@ -1,0 +1,150 @@
+//! Accesses through a region of a memory: reads and writes of `uvm_mem_region`.
+ghost use Rattle.std.specs.Prelude.{◌≡◌, ◌+◌, ◌<◌, map as each, length, Err, IfOk, IfErr, IsOkAnd, OnOk, OnErr};
+ghost use Rattle.rl_bus.specs.Causes.{HasCause};
+ghost use Rattle.rl_access.specs.Call.{scene_of, Performs};
+ghost use Rattle.rl_access.specs.Event.{EventFits};
+ghost use Rattle.rl_access.specs.declared.event.Op.TheVariants as op;
+ghost use Rattle.rl_access.specs.Model.{IsReady};
+ghost use Rattle.rl_access.specs.Operation.{IsMapIn};
+ghost use Rattle.rl_access.specs.Runs.{IsBurst, write_grant, writes_of};
+ghost use Rattle.rl_mam.specs.Mam.{IsManagerOf};
+ghost use Rattle.rl_mam.specs.Regions.{location_in};
+
+use crate::mam::Mam;
+use crate::region::RegionFault;
+use rl_access::{Event, Model, Recorder, Tally, burst_write, mem_read, mem_write};
+use rl_bus::{Adapter, Adapters, Device};
+
+impl Mam {
+    /// Writes location `k` of the region that begins at `first`, over the bus: `uvm_mem_region::write`.
+    pub fn write<D: Device>(
+        &self,
+        m: &mut Model,
+        d: &mut D,
+        a: &mut Adapters,
+        map: Option<u32>,
+        first: u64,
+        k: u64,
+        value: u64,
+    ) -> Result<Event, RegionFault>
+        requires ready { IsReady m.old (each standing a.old.items) (D.state d.old) }
+        requires manager { IsManagerOf m.old.chip self.now }
+        requires map { IsMapIn (length m.old.layout.maps) map }
+        ensures model { m.new ≡ m.old }
+        ensures ready { IsReady m.new (each standing a.new.items) (D.state d.new) }
+        ensures fits { IfOk result (EventFits m.new) }
+        ensures cause { IfErr (location_in self.now.regions first k 1) (λ why. result ≡ Err why) }
+        ensures performs { OnOk (location_in self.now.regions first k 1) (IsOkAnd result (Performs
+            (scene_of standing D.errors D.state m.old a.old.items d.old)
+            (scene_of standing D.errors D.state m.new a.new.items d.new)
+            (op.MemWrite self.now.mem map (first + k) value))) }
+        ensures refused { OnErr result (d.new ≡ d.old) }
+        ensures not_sent { OnErr result (a.new ≡ a.old) }
+    {
+        match self.location(first, k, 1) {
+            Ok(at) => Ok(mem_write(m, d, a, self.mem(), map, at, value)),
+            Err(why) => Err(why),
+        }
+    }
+
+    /// Reads location `k` of the region that begins at `first`, over the bus: `uvm_mem_region::read`.
+    pub fn read<D: Device>(
+        &self,
+        m: &mut Model,
+        d: &mut D,
+        a: &mut Adapters,
+        map: Option<u32>,
+        first: u64,
+        k: u64,
+    ) -> Result<Event, RegionFault>
+        requires ready { IsReady m.old (each standing a.old.items) (D.state d.old) }
+        requires manager { IsManagerOf m.old.chip self.now }
+        requires map { IsMapIn (length m.old.layout.maps) map }
+        ensures model { m.new ≡ m.old }
+        ensures ready { IsReady m.new (each standing a.new.items) (D.state d.new) }
+        ensures fits { IfOk result (EventFits m.new) }
+        ensures cause { IfErr (location_in self.now.regions first k 1) (λ why. result ≡ Err why) }
+        ensures performs { OnOk (location_in self.now.regions first k 1) (IsOkAnd result (Performs
+            (scene_of standing D.errors D.state m.old a.old.items d.old)
+            (scene_of standing D.errors D.state m.new a.new.items d.new)
+            (op.MemRead self.now.mem map (first + k)))) }
+        ensures refused { OnErr result (d.new ≡ d.old) }
+        ensures not_sent { OnErr result (a.new ≡ a.old) }
+    {
+        match self.location(first, k, 1) {
+            Ok(at) => Ok(mem_read(m, d, a, self.mem(), map, at)),
+            Err(why) => Err(why),
+        }
+    }
+
+    /// Writes values to consecutive locations of the region that begins at `first`, from location `k` on, and hands
+    /// each event to the recorder: `uvm_mem_region::burst_write`.
+    pub fn burst_write<D: Device, R: Recorder>(
+        &self,
+        m: &mut Model,
+        d: &mut D,
+        a: &mut Adapters,
+        map: Option<u32>,
+        first: u64,
+        k: u64,
+        values: &[u64],
+        rec: &mut R,
+    ) -> Result<Tally, RegionFault>
+        requires ready { IsReady m.old (each standing a.old.items) (D.state d.old) }
+        requires manager { IsManagerOf m.old.chip self.now }
+        requires map { IsMapIn (length m.old.layout.maps) map }
+        ensures model { m.new ≡ m.old }
+        ensures ready { IsReady m.new (each standing a.new.items) (D.state d.new) }
+        ensures cause { IfErr (location_in self.now.regions first k (length values.now)) (λ why. result ≡ Err why) }
+        ensures hands_over { OnOk (location_in self.now.regions first k (length values.now)) (IsBurst R.takes R.breaks rec.old rec.new
+            (scene_of standing D.errors D.state m.old a.old.items d.old)
+            (scene_of standing D.errors D.state m.new a.new.items d.new)
+            (write_grant m.old self.now.mem map (first + k) values.now)
+            (op.BurstWrite self.now.mem map (first + k) (length values.now))
+            (writes_of self.now.mem map (first + k) values.now) result) }
+        ensures recorder { OnOk (location_in self.now.regions first k (length values.now))
+            (IfErr result (λ why. why ≡ RegionFault.Recorder)) }
+        ensures failed { OnOk (location_in self.now.regions first k (length values.now))
+            (HasCause (R.faults rec.old) (R.faults rec.new) result) }
+        ensures steady { R.steady rec.new ≡ R.steady rec.old }
+        ensures refused { OnErr (location_in self.now.regions first k (length values.now)) (d.new ≡ d.old) }
+        ensures not_sent { OnErr (location_in self.now.regions first k (length values.now)) (a.new ≡ a.old) }
+        ensures not_told { OnErr (location_in self.now.regions first k (length values.now)) (rec.new ≡ rec.old) }
+    {
+        match self.location(first, k, values.len() as u64) {
+            Ok(at) => burst_at(m, d, a, self.mem(), map, at, values, rec),
+            Err(why) => Err(why),
+        }
+    }
+}
+
+// The burst, with a recorder that failed as the only error.
+fn burst_at<D: Device, R: Recorder>(
+    m: &mut Model,
+    d: &mut D,
+    a: &mut Adapters,
+    mem: u32,
+    map: Option<u32>,
+    at: u64,
+    values: &[u64],
+    rec: &mut R,
+) -> Result<Tally, RegionFault>
+    requires ready { IsReady m.old (each standing a.old.items) (D.state d.old) }
+    requires mem { mem < length m.old.chip.mems }
+    requires map { IsMapIn (length m.old.layout.maps) map }
+    ensures model { m.new ≡ m.old }
+    ensures ready { IsReady m.new (each standing a.new.items) (D.state d.new) }
+    ensures hands_over { IsBurst R.takes R.breaks rec.old rec.new
+        (scene_of standing D.errors D.state m.old a.old.items d.old)
+        (scene_of standing D.errors D.state m.new a.new.items d.new)
+        (write_grant m.old mem map at values.now) (op.BurstWrite mem map at (length values.now))
+        (writes_of mem map at values.now) result }
+    ensures recorder { IfErr result (λ why. why ≡ RegionFault.Recorder) }
+    ensures cause { HasCause (R.faults rec.old) (R.faults rec.new) result }
+    ensures steady { R.steady rec.new ≡ R.steady rec.old }
+{
+    match burst_write(m, d, a, mem, map, at, values, rec) {
+        Ok(tally) => Ok(tally),
+        Err(_) => Err(RegionFault::Recorder),
+    }
+}
