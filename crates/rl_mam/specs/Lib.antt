@@ -1,2 +1,3 @@
 pub mod Mam
+pub mod Outside
 pub mod Regions

@@ -1,5 +1,5 @@
 //! Accesses through a region of a memory: reads and writes of `uvm_mem_region`.
-ghost use Rattle.std.specs.Prelude.{◌≡◌, ◌+◌, ◌<◌, map as each, length, Err, IfOk, IfErr, IsOkAnd, OnOk, OnErr};
+ghost use Rattle.std.specs.Prelude.{◌≡◌, ◌+◌, ◌<◌, map as each, length, Err, IfOk, IfErr, IfSome, IsOkAnd, OnOk, OnErr};
 ghost use Rattle.rl_bus.specs.Causes.{HasCause};
 ghost use Rattle.rl_access.specs.Call.{scene_of, Performs};
 ghost use Rattle.rl_access.specs.Event.{EventFits};
@@ -8,7 +8,8 @@ ghost use Rattle.rl_access.specs.Model.{IsReady};
 ghost use Rattle.rl_access.specs.Operation.{IsMapIn};
 ghost use Rattle.rl_access.specs.Runs.{IsBurst, write_grant, writes_of};
 ghost use Rattle.rl_mam.specs.Mam.{IsManagerOf};
-ghost use Rattle.rl_mam.specs.Regions.{location_in};
+ghost use Rattle.rl_mam.specs.Outside.{LeavesOutside};
+ghost use Rattle.rl_mam.specs.Regions.{region_at, location_in};
 
 use crate::mam::Mam;
 use crate::region::RegionFault;
@@ -40,7 +41,10 @@ impl Mam {
             (op.MemWrite self.now.mem map (first + k) value))) }
         ensures refused { OnErr result (d.new ≡ d.old) }
         ensures not_sent { OnErr result (a.new ≡ a.old) }
+        ensures outside { IfSome (region_at self.now.regions first) (λ r.
+            LeavesOutside m.old.chip self.now.mem r (D.state d.old) (D.state d.new)) }
     {
+        let _sound = m.chip(); // a model that is looked at is known to be sound
         match self.location(first, k, 1) {
             Ok(at) => Ok(mem_write(m, d, a, self.mem(), map, at, value)),
             Err(why) => Err(why),
@@ -70,7 +74,10 @@ impl Mam {
             (op.MemRead self.now.mem map (first + k)))) }
         ensures refused { OnErr result (d.new ≡ d.old) }
         ensures not_sent { OnErr result (a.new ≡ a.old) }
+        ensures outside { IfSome (region_at self.now.regions first) (λ r.
+            LeavesOutside m.old.chip self.now.mem r (D.state d.old) (D.state d.new)) }
     {
+        let _sound = m.chip(); // a model that is looked at is known to be sound
         match self.location(first, k, 1) {
             Ok(at) => Ok(mem_read(m, d, a, self.mem(), map, at)),
             Err(why) => Err(why),
@@ -110,7 +117,10 @@ impl Mam {
         ensures refused { OnErr (location_in self.now.regions first k (length values.now)) (d.new ≡ d.old) }
         ensures not_sent { OnErr (location_in self.now.regions first k (length values.now)) (a.new ≡ a.old) }
         ensures not_told { OnErr (location_in self.now.regions first k (length values.now)) (rec.new ≡ rec.old) }
+        ensures outside { IfSome (region_at self.now.regions first) (λ r.
+            LeavesOutside m.old.chip self.now.mem r (D.state d.old) (D.state d.new)) }
     {
+        let _sound = m.chip(); // a model that is looked at is known to be sound
         match self.location(first, k, values.len() as u64) {
             Ok(at) => burst_at(m, d, a, self.mem(), map, at, values, rec),
             Err(why) => Err(why),
