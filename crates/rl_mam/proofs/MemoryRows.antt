@@ -1,10 +1,10 @@
 -- Where the locations of memories stand in a device with any flaws.
-use Rattle.std.proofs.Common.{◌≡◌, ◌≢◌, ℕ, zero, suc, ◌+◌, ◌<◌, ◌≤◌, List, [], ◌∷◌, length, get_or, refl, sym, ap, ◌∙◌, subst, inl, inr, arith}
+use Rattle.std.proofs.Common.{◌≡◌, ◌≢◌, ℕ, zero, suc, ◌+◌, ◌<◌, ◌≤◌, List, [], ◌∷◌, length, get_or, refl, ap, subst, inl, inr, arith}
 use Rattle.std.specs.Prelude.{slice_get}
 use Rattle.std.specs.Option.{option_map_or}
 use Rattle.std.proofs.lemmas.Bool.{cases_order}
 use Rattle.rl_bus.specs.declared.table.MemRow.{MemRow}
-use Rattle.rl_bus.specs.Setup.{Setup, Flaws, no_mem, mem_of, location}
+use Rattle.rl_bus.specs.Setup.{Setup, Flaws, no_mem, location}
 use Rattle.rl_model.specs.declared.rows.MemRow.{MemRow as Mem}
 use Rattle.rl_model.specs.Rows.{ChipData}
 use Rattle.rl_map.specs.Layout.{LayoutData}

@@ -1,23 +1,19 @@
 -- An access to locations of a region leaves every location outside the region.
-use Rattle.std.proofs.Common.{◌≡◌, ◌≢◌, ℕ, zero, suc, ◌+◌, ◌<◌, ◌≤◌, Bool, true, false, nat_le, cond, List, [], ◌∷◌, length, Option, None, Some, option_map, Result, Ok, Err, refl, sym, ap, ◌∙◌, subst, arith}
+use Rattle.std.proofs.Common.{◌≡◌, ℕ, ◌+◌, ◌<◌, ◌≤◌, Bool, true, false, nat_le, cond, List, [], ◌∷◌, length, Option, None, Some, option_map, Result, Ok, Err, refl, sym, ap, ◌∙◌, subst, arith}
 use Rattle.std.specs.Prelude.{All, slice_index, MatchResult, IfSome}
 use Rattle.std.specs.Bool.{MatchBool}
-use Rattle.rl_bus.specs.declared.op.BusOp.{BusOp}
 use Rattle.rl_bus.specs.declared.table.Cell.TheVariants.{Loc}
 use Rattle.rl_bus.specs.Setup.{Setup, location}
-use Rattle.rl_bus.specs.Standing.{Standing, standing_at}
+use Rattle.rl_bus.specs.Standing.{standing_at}
 use Rattle.rl_bus.specs.State.{State, peeked}
 use Rattle.std.proofs.lemmas.Bool.Decides.{nat_tests}
 use Rattle.rl_model.specs.Rows.{ChipData}
 use Rattle.rl_access.specs.declared.event.Tally.{Tally}
-use Rattle.rl_map.specs.Layout.{place_at}
-use Rattle.rl_map.specs.Tables.{setup_of}
 use Rattle.rl_split.specs.Access.{ops_of}
 use Rattle.rl_access.specs.declared.event.End.TheVariants as end
 use Rattle.rl_access.specs.declared.event.Event.{Event}
 use Rattle.rl_access.specs.declared.event.Op.{Op}
 use Rattle.rl_access.specs.declared.event.Op.TheVariants as op
-use Rattle.rl_access.specs.declared.event.Refused.{Refused}
 use Rattle.rl_access.specs.declared.trace.TraceItem.{TraceItem}
 use Rattle.rl_access.specs.Call.{Scene, Performs, IsDone, IsRefused}
 use Rattle.rl_access.specs.HandsOver.{Told}

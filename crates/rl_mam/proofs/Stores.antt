@@ -1,12 +1,12 @@
 -- Items at the words of a location of a memory leave every other location, on a device with any flaws.
-use Rattle.std.proofs.Common.{◌≡◌, ◌≢◌, ℕ, zero, suc, ◌+◌, ◌<◌, ◌≤◌, Bool, true, false, not, cond, List, [], ◌∷◌, length, get_or, set, map, Option, None, Some, refl, sym, ap, ◌∙◌, subst, get_or-set_other, arith}
-use Rattle.std.specs.Prelude.{All, slice_get, slice_index, filter}
+use Rattle.std.proofs.Common.{◌≡◌, ◌≢◌, ℕ, zero, suc, Bool, true, false, not, cond, List, [], ◌∷◌, get_or, set, map, Option, None, Some, refl, sym, ap, ◌∙◌, subst, get_or-set_other}
+use Rattle.std.specs.Prelude.{All, slice_get, slice_index}
 use Rattle.std.specs.Bool.{MatchBool}
 use Rattle.std.proofs.lemmas.List.Elements.{All-filter, All-map, All-head, All-tail}
 use Rattle.rl_policy.specs.Bits.{bit, from_bits}
 use Rattle.rl_bus.specs.declared.op.BusOp.{BusOp}
 use Rattle.rl_bus.specs.declared.table.Cell.{Cell}
-use Rattle.rl_bus.specs.declared.table.Cell.TheVariants.{Reg, Loc}
+use Rattle.rl_bus.specs.declared.table.Cell.TheVariants.{Loc}
 use Rattle.rl_bus.specs.declared.table.WordRow.{WordRow}
 use Rattle.rl_bus.specs.Setup.{Setup, Flaws, mem_of, location, is_deaf, words_at}
 use Rattle.rl_bus.specs.Spread.{spread_bit, lane_bit, lanes_in}
@@ -16,14 +16,14 @@ use Rattle.rl_model.specs.declared.rows.Item.{Item}
 use Rattle.rl_model.specs.declared.rows.Item.TheVariants as item
 use Rattle.rl_model.specs.Rows.{ChipData}
 use Rattle.rl_map.specs.declared.word.Word.{Word}
-use Rattle.rl_map.specs.Layout.{LayoutData, place_at, words_of, row_of, standing, has_right, cell_of, HasWords, IsLocation, IsSound}
+use Rattle.rl_map.specs.Layout.{LayoutData, place_at, words_of, row_of, standing, has_right, cell_of, IsLocation, IsSound}
 use Rattle.rl_map.specs.Tables.{setup_of}
 use Rattle.rl_map.specs.Words.{words_with, no_word}
 use Rattle.rl_split.specs.Access.{op_of, ops_of, sent_of, sent_words, has_chosen}
 use Rattle.rl_split.proofs.Sending.{all_numbered}
 use Rattle.rl_access.specs.declared.trace.TraceItem.{TraceItem}
-use Rattle.rl_access.specs.Items.{AreItemsOf, item_of, took_item, state_after_all}
-use Rattle.rl_access.proofs.Setups.{setup-state_after, setup-state_after_all}
+use Rattle.rl_access.specs.Items.{AreItemsOf, took_item, state_after_all}
+use Rattle.rl_access.proofs.Setups.{setup-state_after}
 
 -- ---- one item
 

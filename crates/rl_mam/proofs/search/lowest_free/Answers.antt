@@ -1,4 +1,4 @@
-use Rattle.std.proofs.Common.{◌≡◌, ◌∙◌, sym, ap, Ok, Err, arith}
+use Rattle.std.proofs.Common.{◌∙◌, sym, ap, Err, arith}
 use Rattle.rl_mam.specs.declared.region.MamFault.TheVariants.{NoRoom}
 use Rattle.rl_mam.proofs.FreeRuns.{hit_before, hit_last, none_hit, lowest_free, no_room}
 use Rattle.rl_mam.proofs.search.lowest_free.Goals as goal
