@@ -1,0 +1,1 @@
+autocmd BufRead,BufNewFile *.regrun,*.session setfiletype regrun
