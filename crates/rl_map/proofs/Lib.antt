@@ -32,3 +32,4 @@ pub mod Even
 pub mod Keeping
 pub mod EvenTests
 pub mod Linking
+pub mod Owner

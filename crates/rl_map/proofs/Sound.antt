@@ -18,7 +18,7 @@ use Rattle.rl_map.specs.Seat.{slots}
 use Rattle.rl_map.specs.Words.{words_with, word_of, orders_below, no_word}
 use Rattle.rl_map.proofs.Orders.{length-orders_below}
 use Rattle.rl_map.specs.Partition.{IsWordOn}
-use Rattle.rl_map.specs.Layout.{LayoutData, place_at, port_at, map_at, path_of, base_of, location_of, words_of, place_seats, row_of, cell_of, index_of, has_right, lets_through, standing, IsLocation, IsMapOf, IsPortOf, IsPlaceOf, HasWords, IsRowOf, IsAscending, IsSound}
+use Rattle.rl_map.specs.Layout.{LayoutData, place_at, port_at, map_at, path_of, base_of, location_of, words_of, place_seats, row_of, cell_of, index_of, has_right, lets_through, standing, IsLocation, IsMapOf, IsPortOf, IsPlaceOf, HasWords, IsRowOf, Occupies, IsAscending, IsSound}
 use Rattle.rl_map.specs.Maps.{location_rows, place_rows, all_rows}
 use Rattle.rl_map.proofs.Partition.{words_partition}
 use Rattle.rl_map.proofs.WordsApart.{words_apart}
@@ -343,6 +343,19 @@ even_of l t none keeps rows port address one other some_a some_b =
     two_ways (place_at l a.place).fifo (place_at l b.place).fifo (λ f. same (fifo_a f)) (λ f. same (fifo_b f))
     (λ f g. omega (arith, count_a, count_b, single_a f, single_b g, some_a, some_b))
 
+-- ---- who stands at an address of a FIFO path
+
+owner_of : (l : LayoutData) → IsTested l → NoneClash l → (port address p i q j : ℕ) → Occupies l port address p i → Occupies l port address q j
+    → (place_at l p).fifo ≡ true → (p ≡ q) × (i ≡ j)
+owner_of l t none port address p i q j a b fifo =
+    let shared : IsShared l p i a.number q j b.number =
+    record { here = a.location; here_in = a.number_in; there = b.location; there_in = b.number_in; port = a.port_is ∙ sym b.port_is; address = a.address_is ∙ sym b.address_is } in
+    let same : p ≡ q = none p i a.number q j b.number shared (inr (inl fifo)) in
+    let there : IsLocation l p j = subst (λ x. IsLocation l x j) (sym same) b.location in
+    (same, same_location l t p i j a.location there a.number b.number a.number_in
+    (subst (λ x. b.number < length (words_of l x j)) (sym same) b.number_in)
+    (a.address_is ∙ sym b.address_is ∙ ap (λ x. (get_or (words_of l x j) b.number no_word).address) (sym same)))
+
 -- ---- the whole
 
 few_words : (l : LayoutData) → IsTested l → (p i : ℕ) → IsLocation l p i → (0 < length (words_of l p i)) × (length (words_of l p i) ≤ 8)
@@ -397,4 +410,5 @@ sound_of l t none keeps moved ascending =
       each_row = rows;
       each_location = has_words l t none keeps;
       even = even_of l t none keeps (recursion_from_All (IsRowOf l) l.rows rows);
+      owner = owner_of l t none;
     }

@@ -207,6 +207,14 @@ pub record IsRowOf (l : LayoutData) (r : WordRow) : Type 0 where
   pub number_in : number < length (words_of l r.place (index_of r.cell))
   pub row : r ≡ row_of l r.place (index_of r.cell) (slice_index_or (words_of l r.place (index_of r.cell)) number no_word)
 
+-- a word of a location stands at an address of a port
+pub record Occupies (l : LayoutData) (port address place index : ℕ) : Type 0 where
+  pub location : IsLocation l place index
+  pub port_is : (place_at l place).port ≡ port
+  pub number : ℕ
+  pub number_in : number < length (words_of l place index)
+  pub address_is : (slice_index_or (words_of l place index) number no_word).address ≡ address
+
 -- by port, and then by address
 abbrev pub key_of : WordRow → ℕ
 key_of r = r.port * 2 ^ 64 + r.address
@@ -229,6 +237,10 @@ pub record IsSound (l : LayoutData) : Type 0 where
   -- where words of both directions stand at an address, there are as many of each
   pub even : (port address : ℕ) (one other : Bool) → 0 < length (standing l port address one) → 0 < length (standing l port address other)
       → length (standing l port address one) ≡ length (standing l port address other)
+  -- An address on a FIFO path belongs to one place in both directions: where a word of such a place stands, each word there,
+  -- of either direction and whatever its rights, is of the same location of the same place.
+  pub owner : (port address p i q j : ℕ) → Occupies l port address p i → Occupies l port address q j → (place_at l p).fifo ≡ true
+      → (p ≡ q) × (i ≡ j)
 
 -- what was found is there
 pub record IsHere (l : LayoutData) (port address : ℕ) (write : Bool) (h : Here) : Type 0 where
