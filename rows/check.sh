@@ -6,6 +6,11 @@
 # and NAME.words the command's words, one a line (absent: run). An example's log stands beside it as NAME.log.
 set -u
 bin=$(realpath "$1")
+if [ ! -x "$bin" ]; then
+    echo "there is no program $1"
+    echo '0 passed, 1 failed'
+    exit 1
+fi
 here=$(dirname "$(realpath "$0")")
 tmp=$(mktemp -d)
 trap 'rm -rf "$tmp"' EXIT
