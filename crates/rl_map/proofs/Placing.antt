@@ -1,10 +1,15 @@
 -- One place more.
-use Rattle.std.proofs.Common.{◌≡◌, ℕ, zero, suc, ◌+◌, ◌*◌, ◌^◌, ◌<◌, ◌≤◌, List, [], ◌∷◌, ◌++◌, length, get_or, map, refl, sym, ap, ◌∙◌, subst, arith}
+use Rattle.std.proofs.Common.{◌≡◌, ℕ, zero, suc, ◌+◌, ◌*◌, ◌^◌, ◌<◌, ◌≤◌, ◌⊎◌, inl, inr, Bool, true, false, ◌||◌, eq-eqb, List, [], ◌∷◌, ◌++◌, length, get_or, map, refl, sym, ap, ◌∙◌, subst, arith}
 use Rattle.std.specs.Prelude.{flat_map, IsPermutation}
 use Rattle.std.specs.List.{list_any, range_with_len, AllByRecursion}
 use Rattle.std.proofs.Common.{length-append}
 use Rattle.std.proofs.lemmas.List.Elements.{All-push, All-from_recursion}
 use Rattle.std.proofs.lemmas.List.Sorted.{All-permutation}
+use Rattle.std.proofs.lemmas.Bool.{cases_lt}
+use Rattle.std.proofs.lemmas.List.{get_or_append_left}
+use Rattle.std.proofs.Math.Seq.{get_or-append_seam}
+use Rattle.rl_model.specs.declared.rows.Item.{Item}
+use Rattle.rl_model.specs.declared.rows.Item.TheVariants as item
 use Rattle.rl_model.specs.Rows.{ChipData}
 use Rattle.rl_bus.specs.declared.table.WordRow.{WordRow}
 use Rattle.rl_map.specs.declared.path.Level.{Level}
@@ -14,8 +19,8 @@ use Rattle.rl_map.specs.declared.rows.PortRow.{PortRow}
 use Rattle.rl_map.specs.declared.rows.PlaceRow.{PlaceRow}
 use Rattle.rl_map.specs.Seat.{AddressesFit}
 use Rattle.rl_map.specs.Words.{item_words}
-use Rattle.rl_map.specs.Layout.{no_map, no_port, no_place, location_of, word_row}
-use Rattle.rl_map.specs.Faults.{is_above}
+use Rattle.rl_map.specs.Layout.{no_map, no_port, no_place, location_of, word_row, same_item, PlacedOnce}
+use Rattle.rl_map.specs.Faults.{is_above, is_same_place}
 use Rattle.rl_map.specs.Building.{path_in, port_for, placed_in, placed_at, IsPlaceRow, IsSeated, HasRoom, ArePlaces, AreRowsOf, location_rows_of, rows_of, rows_of_all}
 use Rattle.rl_map.proofs.Fitting.{as_many}
 use Rattle.rl_map.proofs.Lookups.{read_is}
@@ -44,6 +49,10 @@ fits_of maps ports p seated most index low byte in_byte =
 
 -- ---- rows
 
+or_false : (a b : Bool) → (a || b) ≡ false → (a ≡ false) × (b ≡ false)
+or_false true b e = cc
+or_false false b e = (refl, e)
+
 flat_length : {Y : Type 0} (f : ℕ → List Y) (first n c : ℕ) → ((j : ℕ) → length (f j) ≡ c) → length (flat_map f (range_with_len first n)) ≡ n * c
 flat_length f first zero c h = omega arith
 flat_length f first (suc n) c h = omega (arith, length-append (f first) (flat_map f (range_with_len (first + 1) n)), h first, flat_length f (first + 1) n c h)
@@ -60,17 +69,65 @@ length-rows_of maps ports number p =
     flat_length (location_rows_of maps ports number p) 0 p.size (length (item_words path base (location_of p 0)))
     (λ j. mapped_length (word_row p number j) (item_words path base (location_of p j)) ∙ as_many path base base (location_of p 0) j 0)
 
+-- ---- an item has one place in a map
+
+not_any : {X : Type 0} (t : X → Bool) (xs : List X) (i : ℕ) (d : X) → list_any t xs ≡ false → i < length xs → t (get_or xs i d) ≡ false
+not_any t [] i d e low = absurd (omega arith)
+not_any t (x ∷ xs) zero d e low = (or_false (t x) (list_any t xs) e).0
+not_any t (x ∷ xs) (suc i) d e low = not_any t xs i d (or_false (t x) (list_any t xs) e).1 (omega arith)
+
+same_self : (it : Item) → same_item it it ≡ true
+same_self (item.Reg r) = eq-eqb r r refl
+same_self (item.Mem m) = eq-eqb m m refl
+
+is_same : (p q : PlaceRow) → p.item ≡ q.item → p.map ≡ q.map → is_same_place p q ≡ true
+is_same p q e f = rw (eq-eqb p.map q.map f) (subst (λ it. same_item p.item it ≡ true) e (same_self p.item))
+
+pub once_more : (places : List PlaceRow) (row : PlaceRow) → PlacedOnce places → list_any (λ q. is_same_place q row) places ≡ false → PlacedOnce (places ++ row ∷ [])
+once_more places row once new p q low_p low_q = by (cases_lt p (length places)) (cases_lt q (length places))
+  where
+    At : ℕ → PlaceRow
+    At n = get_or (places ++ row ∷ []) n no_place
+
+    end : (n : ℕ) → n < length (places ++ row ∷ []) → length places ≤ n → n ≡ length places
+    end n low high = omega (arith, length-append places (row ∷ []))
+
+    old : (n : ℕ) → n < length places → At n ≡ get_or places n no_place
+    old n low = get_or_append_left places (row ∷ []) no_place n low
+
+    last : (n : ℕ) → n ≡ length places → At n ≡ row
+    last n e = ap At e ∙ get_or-append_seam places row [] no_place
+
+    clash : (n : ℕ) → n < length places → (get_or places n no_place).item ≡ row.item → (get_or places n no_place).map ≡ row.map → ⊥
+    clash n low e f = let h = not_any (λ q. is_same_place q row) places n no_place new low in absurd (let g = is_same (get_or places n no_place) row e f in cc)
+
+    by : (p < length places) ⊎ (length places ≤ p) → (q < length places) ⊎ (length places ≤ q) → (At p).item ≡ (At q).item → (At p).map ≡ (At q).map → p ≡ q
+    by (inl a) (inl b) e f =
+        once p q a b (ap (λ (r : PlaceRow). r.item) (sym (old p a)) ∙ e ∙ ap (λ (r : PlaceRow). r.item) (old q b))
+        (ap (λ (r : PlaceRow). r.map) (sym (old p a)) ∙ f ∙ ap (λ (r : PlaceRow). r.map) (old q b))
+    by (inl a) (inr b) e f =
+        let there = last q (end q low_q b) in
+        absurd (clash p a (ap (λ (r : PlaceRow). r.item) (sym (old p a)) ∙ e ∙ ap (λ (r : PlaceRow). r.item) there)
+        (ap (λ (r : PlaceRow). r.map) (sym (old p a)) ∙ f ∙ ap (λ (r : PlaceRow). r.map) there))
+    by (inr a) (inl b) e f =
+        let here = last p (end p low_p a) in
+        absurd (clash q b (ap (λ (r : PlaceRow). r.item) (sym (old q b)) ∙ sym e ∙ ap (λ (r : PlaceRow). r.item) here)
+        (ap (λ (r : PlaceRow). r.map) (sym (old q b)) ∙ sym f ∙ ap (λ (r : PlaceRow). r.map) here))
+    by (inr a) (inr b) e f = end p low_p a ∙ sym (end q low_q b)
+
 pub places_more : (chip : ChipData) (maps : List MapRow) (ports : List PortRow) (places : List PlaceRow) (rows : List WordRow) (p : PlaceRow) (number words : ℕ)
     (seen places' : List PlaceRow) (rows' : List WordRow)
     → ArePlaces chip maps ports places rows → IsPlaceRow chip maps ports p → HasRoom maps ports words p → seen ≡ places → length seen < 4096
+    → list_any (λ q. is_same_place q p) seen ≡ false
     → number ≡ length places → words ≡ length rows → places' ≡ places ++ p ∷ [] → rows' ≡ rows ++ rows_of maps ports number p
     → ArePlaces chip maps ports places' rows'
-places_more chip maps ports places rows p number words seen places' rows' t fits room see few a b e f =
+places_more chip maps ports places rows p number words seen places' rows' t fits room see few new a b e f =
     let all : rows' ≡ rows_of_all maps ports (places ++ p ∷ []) =
     f ∙ ap (λ n. rows ++ rows_of maps ports n p) a ∙ ap (λ x. x ++ rows_of maps ports (length places) p) t.words_are ∙ sym (rows_more maps ports places p) in
     let long : length rows' ≡ length rows + length (rows_of maps ports number p) = ap length f ∙ length-append rows (rows_of maps ports number p) in
     subst (λ x. ArePlaces chip maps ports x rows') (sym e) (record {
       few = omega (arith, length-append places (p ∷ []), ap length see);
+      once = once_more places p t.once (subst (λ x. list_any (λ q. is_same_place q p) x ≡ false) see new);
       each = All-push (IsPlaceRow chip maps ports) places p t.each fits;
       seated = All-push (λ q. IsSeated (placed_in maps ports q)) places p t.seated room.seated;
       words_are = all;

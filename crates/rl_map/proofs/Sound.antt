@@ -18,7 +18,7 @@ use Rattle.rl_map.specs.Seat.{slots}
 use Rattle.rl_map.specs.Words.{words_with, word_of, orders_below, no_word}
 use Rattle.rl_map.proofs.Orders.{length-orders_below}
 use Rattle.rl_map.specs.Partition.{IsWordOn}
-use Rattle.rl_map.specs.Layout.{LayoutData, place_at, port_at, map_at, path_of, base_of, location_of, words_of, place_seats, row_of, cell_of, index_of, has_right, lets_through, standing, IsLocation, IsMapOf, IsPortOf, IsPlaceOf, HasWords, IsRowOf, Occupies, IsAscending, IsSound}
+use Rattle.rl_map.specs.Layout.{LayoutData, place_at, port_at, map_at, path_of, base_of, location_of, words_of, place_seats, row_of, cell_of, index_of, has_right, lets_through, standing, IsLocation, IsMapOf, IsPortOf, IsPlaceOf, HasWords, IsRowOf, Occupies, PlacedOnce, IsAscending, IsSound}
 use Rattle.rl_map.specs.Maps.{location_rows, place_rows, all_rows}
 use Rattle.rl_map.proofs.Partition.{words_partition}
 use Rattle.rl_map.proofs.WordsApart.{words_apart}
@@ -35,6 +35,7 @@ pub record IsTested (l : LayoutData) : Type 0 where
   pub each_map : (m : ℕ) → m < length l.maps → IsMapOf l (map_at l m)
   pub each_port : (p : ℕ) → p < length l.ports → IsPortOf l (port_at l p)
   pub each_place : (p : ℕ) → p < length l.places → IsPlaceOf l (place_at l p)
+  pub once : PlacedOnce l.places
   pub paths : (m : ℕ) → m < length l.maps → 0 < length (map_at l m).path
   pub narrow : (p : ℕ) → p < length l.ports → (port_at l p).bytes ≤ 8
   pub most : (p : ℕ) → p < length l.ports → (port_at l p).kind.most_address < 2 ^ 64
@@ -406,6 +407,7 @@ sound_of l t none keeps moved ascending =
       each_map = t.each_map;
       each_port = t.each_port;
       each_place = t.each_place;
+      once = t.once;
       ascending = ascending;
       each_row = rows;
       each_location = has_words l t none keeps;

@@ -13,7 +13,7 @@ use Rattle.rl_map.specs.declared.rows.PortRow.{PortRow}
 use Rattle.rl_map.specs.declared.rows.PlaceRow.{PlaceRow}
 use Rattle.rl_map.specs.Level.{IsPath, has_fifo, root_bytes}
 use Rattle.rl_map.specs.Words.{item_words}
-use Rattle.rl_map.specs.Layout.{no_map, no_port, no_place, location_of, word_row, key_of}
+use Rattle.rl_map.specs.Layout.{no_map, no_port, no_place, location_of, word_row, PlacedOnce, key_of}
 use Rattle.rl_map.specs.Maps.{IsPlaceIn, map_number, port_row}
 use Rattle.rl_map.specs.Faults.{Placed, some_byte, is_above, is_unaligned}
 
@@ -104,6 +104,7 @@ rows_of_all maps ports places = flat_map (λ q. rows_of maps ports q (slice_inde
 
 pub record ArePlaces (chip : ChipData) (maps : List MapRow) (ports : List PortRow) (places : List PlaceRow) (rows : List WordRow) : Type 0 where
   pub few : length places ≤ 4096
+  pub once : PlacedOnce places
   pub each : All (IsPlaceRow chip maps ports) places
   pub seated : All (λ p. IsSeated (placed_in maps ports p)) places
   pub words_are : rows ≡ rows_of_all maps ports places

@@ -215,6 +215,12 @@ pub record Occupies (l : LayoutData) (port address place index : ℕ) : Type 0 w
   pub number_in : number < length (words_of l place index)
   pub address_is : (slice_index_or (words_of l place index) number no_word).address ≡ address
 
+-- an item has one place in a map at most
+abbrev pub PlacedOnce : List PlaceRow → Type 0
+PlacedOnce places = (p q : ℕ) → p < length places → q < length places
+    → (slice_index_or places p no_place).item ≡ (slice_index_or places q no_place).item
+    → (slice_index_or places p no_place).map ≡ (slice_index_or places q no_place).map → p ≡ q
+
 -- by port, and then by address
 abbrev pub key_of : WordRow → ℕ
 key_of r = r.port * 2 ^ 64 + r.address
@@ -231,6 +237,7 @@ pub record IsSound (l : LayoutData) : Type 0 where
   pub each_map : (m : ℕ) → m < length l.maps → IsMapOf l (map_at l m)
   pub each_port : (p : ℕ) → p < length l.ports → IsPortOf l (port_at l p)
   pub each_place : (p : ℕ) → p < length l.places → IsPlaceOf l (place_at l p)
+  pub once : PlacedOnce l.places
   pub ascending : IsAscending l.rows
   pub each_row : All (IsRowOf l) l.rows
   pub each_location : (place index : ℕ) → IsLocation l place index → HasWords l place index

@@ -239,6 +239,7 @@ fn checked_place(
     requires linked { AreLinked places.now links.now.lasts.items links.now.before.items }
     requires words { words ≤ 1048576 }
     ensures few { OnOk result (length places.now < 4096) }
+    ensures once { IfOk result (λ row. list_any (λ q. is_same_place q row) places.now ≡ false) }
     ensures row { IfOk result (IsPlaceRow chip.now maps.now ports.now) }
     ensures room { IfOk result (HasRoom maps.now ports.now words) }
     ensures exact { IfOk result (λ row. row ≡ place_row chip.now maps.now part.now) }

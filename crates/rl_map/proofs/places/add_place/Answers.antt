@@ -18,7 +18,7 @@ push_place-requires-clause-straight c = straight_of c.args.maps.now c.args.ports
 
 pub returns-in_ok-push-in-Ok-3-clause-places : goal.returns-in_ok-push-in-Ok-3-clause-places
 returns-in_ok-push-in-Ok-3-clause-places c =
-    places_more c.args.chip.now c.args.maps.now c.args.ports.now _ _ c.in-Ok.row _ _ _ _ _ c.requires.places c.in-Ok.ensures.row c.in-Ok.ensures.room c.deref.ensures.value c.in-Ok.ensures.few
+    places_more c.args.chip.now c.args.maps.now c.args.ports.now _ _ c.in-Ok.row _ _ _ _ _ c.requires.places c.in-Ok.ensures.row c.in-Ok.ensures.room c.deref.ensures.value c.in-Ok.ensures.few c.in-Ok.ensures.once
     (omega (arith, c.len-number.ensures, c.args.placing.now.places.ok)) (omega (arith, c.len-count.ensures, c.args.placing.now.rows.ok)) c.in_ok-push-in-Ok-3.ensures.items c.in_ok-words-in-Ok.ensures.rows
 
 pub returns-in_ok-push-in-Ok-3-clause-fault : goal.returns-in_ok-push-in-Ok-3-clause-fault

@@ -14,6 +14,9 @@ returns-clause-room c =
     (subst (λ n. n < length c.args.ports.now) (sym placed.port) (c.requires.tables.1.each_map row.map no_map placed.map).port)
     c.index-maps-row.is c.index-ports-row.is c.levels.ensures.levels c.in_ok-check_words.ensures.room c.in_ok-check_words.ensures.seated
 
+pub returns-clause-once : goal.returns-clause-once
+returns-clause-once c = sym c.is_placed.ensures ∙ c.if-is_placed.false
+
 pub returns-in_err-check_fifo-clause-fault : goal.returns-in_err-check_fifo-clause-fault
 returns-in_err-check_fifo-clause-fault c =
     let p = err_from_is_err_and c.from_residual-in_err-check_fifo.result c.from_residual-in_err-check_fifo.ensures.1 in
