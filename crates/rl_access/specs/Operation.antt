@@ -112,6 +112,29 @@ digits_of c (op.OtherRead reg map) = 2 * size_of c reg
 digits_of c (op.Hw field value) = 2 * size_of c (reg_of c field)
 digits_of c (op.Reset kind) = 0
 
+-- ---- which calls do it
+
+-- it is no burst, and so one access at most
+abbrev pub is_single : Op → Bool
+is_single (op.BurstWrite mem map first count) = false
+is_single (op.BurstRead mem map first count) = false
+is_single _ = true
+
+-- it sends nothing over the bus
+abbrev pub is_off_bus : Op → Bool
+is_off_bus (op.Set field value) = true
+is_off_bus (op.Show reg) = true
+is_off_bus (op.BackWrite reg value) = true
+is_off_bus (op.BackRead reg) = true
+is_off_bus (op.BackCheck reg) = true
+is_off_bus (op.Peek reg) = true
+is_off_bus (op.Poke reg value) = true
+is_off_bus (op.MemPeek mem index) = true
+is_off_bus (op.MemPoke mem index value) = true
+is_off_bus (op.Hw field value) = true
+is_off_bus (op.Reset kind) = true
+is_off_bus _ = false
+
 -- ---- how it may end
 
 abbrev pub ends_done : End → Bool
