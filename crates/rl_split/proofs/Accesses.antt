@@ -41,7 +41,7 @@ row_found c l place reg write at =
     let e : bytes_of c (item.Reg reg) ≡ Some (row_at l place).bytes = ap (bytes_of c) (sym at.item) ∙ (at.built_with place at.place_in).0 in
     row_of_bytes c reg (row_at l place).bytes (slice_get c.regs reg) refl e
 
-here_of : (c : ChipData) (l : LayoutData) (place reg : ℕ) (write : Bool) → IsPlaceOf c l place reg write → IsHere l place 0
+pub here_of : (c : ChipData) (l : LayoutData) (place reg : ℕ) (write : Bool) → IsPlaceOf c l place reg write → IsHere l place 0
 here_of c l place reg write at = is_here l place 0 at.layout (record { place_in = at.place_in; index_in = omega (arith, (at.layout.each_place place at.place_in).size) })
 
 cells_of : (l : LayoutData) (place reg : ℕ) → (row_at l place).item ≡ item.Reg reg → (w : Word) → (row_of l place 0 w).cell ≡ cell.Reg reg
@@ -66,7 +66,7 @@ field_inside c l place reg b k write at p =
 
 -- ---- a whole access
 
-whole_sends : (c : ChipData) (l : LayoutData) (place reg value : ℕ) (write : Bool) → IsPlaceOf c l place reg write → Sends c l place reg (all_bytes (row_at l place).bytes) value write every
+pub whole_sends : (c : ChipData) (l : LayoutData) (place reg value : ℕ) (write : Bool) → IsPlaceOf c l place reg write → Sends c l place reg (all_bytes (row_at l place).bytes) value write every
 whole_sends c l place reg value write at =
     let found = row_found c l place reg write at in
     let h = has_row c reg found.row found.row_is in

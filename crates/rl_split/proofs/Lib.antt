@@ -16,3 +16,4 @@ pub mod Registers
 pub mod Sent
 pub mod Locations
 pub mod BySeats
+pub mod UnderWay

@@ -46,7 +46,7 @@ filter_turned {A} p q (x ∷ xs) = by (p x) (q x) refl refl (filter_turned p q x
 
 -- ---- words at addresses of their own
 
-abbrev AreApart : List Word → Type 0
+abbrev pub AreApart : List Word → Type 0
 AreApart ws = (i k : ℕ) → i < length ws → k < length ws → (get_or ws i no_word).address ≡ (get_or ws k no_word).address → i ≡ k
 
 none_there : (a : ℕ) (ws : List Word) → ((k : ℕ) → k < length ws → (get_or ws k no_word).address ≡ a → ⊥) → words_with a ws ≡ []
@@ -57,7 +57,7 @@ none_there a (w ∷ ws) h = by (eqb w.address a) refl (none_there a ws (λ k l e
     by true e rest = absurd (h 0 (omega arith) (eqb-true w.address a e))
     by false e rest = rest
 
-alone_at : (ws : List Word) (i : ℕ) → AreApart ws → i < length ws → words_with (get_or ws i no_word).address ws ≡ get_or ws i no_word ∷ []
+pub alone_at : (ws : List Word) (i : ℕ) → AreApart ws → i < length ws → words_with (get_or ws i no_word).address ws ≡ get_or ws i no_word ∷ []
 alone_at [] i apart l = absurd (omega arith)
 alone_at (w ∷ ws) zero apart l =
     ap (λ t. cond t (w ∷ words_with w.address ws) (words_with w.address ws)) (eq-eqb w.address w.address refl)
@@ -215,24 +215,35 @@ pub record Reached (l : LayoutData) (place index chosen : ℕ) (write : Bool) : 
 word_lanes : (l : LayoutData) (place index k : ℕ) → IsHere l place index → k < length (words_of l place index) → (get_or (words_of l place index) k no_word).lanes < 2 ^ bus_bytes_of l place
 word_lanes l place index k here inside = (here.words.on k no_word inside).enabled
 
+whole_lanes : (l : LayoutData) (place index k : ℕ) → IsHere l place index → k < length (words_of l place index) →
+    chosen_lanes (all_bytes (place_at l place).bytes) (get_or (words_of l place index) k no_word) ≡ (get_or (words_of l place index) k no_word).lanes
+whole_lanes l place index k here inside =
+    let words = words_of l place index in
+    let bytes = (place_at l place).bytes in
+    all_chosen (get_or words k no_word) bytes (small_lanes (bus_bytes_of l place) _ here.port.width (word_lanes l place index k here inside)) (λ j low on. byte_in words bytes k j here.words.reach inside low on)
+
+-- where all bytes are chosen, each word is sent
+pub whole_sent : (l : LayoutData) (place index : ℕ) → IsHere l place index → sent_words (all_bytes (place_at l place).bytes) (words_of l place index) ≡ words_of l place index
+whole_sent l place index here =
+    let words = words_of l place index in
+    let bytes = (place_at l place).bytes in
+    filter_all (has_chosen (all_bytes bytes)) words
+    (all_numbered (λ w. has_chosen (all_bytes bytes) w ≡ true) words no_word (λ k inside. some_chosen (chosen_lanes (all_bytes bytes) (get_or words k no_word)) (omega (arith, whole_lanes l place index k here inside, (here.words.on k no_word inside).some))))
+  where
+    some_chosen : (x : ℕ) → 0 < x → not (eqb x 0) ≡ true
+    some_chosen x low = grind (arith, nat_tests)
+
 pub all_reached : (l : LayoutData) (place index : ℕ) (write : Bool) → IsHere l place index → Reached l place index (all_bytes (place_at l place).bytes) write
 all_reached l place index write here =
     let words = words_of l place index in
     let bytes = (place_at l place).bytes in
     let n = bus_bytes_of l place in
-    let whole : (k : ℕ) → k < length words → chosen_lanes (all_bytes bytes) (get_or words k no_word) ≡ (get_or words k no_word).lanes =
-    λ k inside. all_chosen (get_or words k no_word) bytes (small_lanes n _ here.port.width (word_lanes l place index k here inside)) (λ j low on. byte_in words bytes k j here.words.reach inside low on) in
-    let all : sent_words (all_bytes bytes) words ≡ words = filter_all (has_chosen (all_bytes bytes)) words
-    (all_numbered (λ w. has_chosen (all_bytes bytes) w ≡ true) words no_word (λ k inside. some_chosen (chosen_lanes (all_bytes bytes) (get_or words k no_word)) (omega (arith, whole k inside, (here.words.on k no_word inside).some)))) in
     record {
       lanes = all_numbered (λ w. bit_and (enabled_lanes (carries_lanes (kind_of l place) write) n (all_bytes bytes) w) w.lanes ≡ chosen_lanes (all_bytes bytes) w) words no_word
-          (λ k inside. either (carries_lanes (kind_of l place) write) (get_or words k no_word) bytes n here.port.width (word_lanes l place index k here inside) (whole k inside));
-      alike = subst (λ ws. All (IsAlike words ws) ws) (sym all) (λ k d inside. refl);
+          (λ k inside. either (carries_lanes (kind_of l place) write) (get_or words k no_word) bytes n here.port.width (word_lanes l place index k here inside) (whole_lanes l place index k here inside));
+      alike = subst (λ ws. All (IsAlike words ws) ws) (sym (whole_sent l place index here)) (λ k d inside. refl);
     }
   where
-    some_chosen : (x : ℕ) → 0 < x → not (eqb x 0) ≡ true
-    some_chosen x low = grind (arith, nat_tests)
-
     either : (carried : Bool) (w : Word) (bytes n : ℕ) → IsWidth n → w.lanes < 2 ^ n → chosen_lanes (all_bytes bytes) w ≡ w.lanes → bit_and (cond carried (chosen_lanes (all_bytes bytes) w) (2 ^ n - 1)) w.lanes ≡ chosen_lanes (all_bytes bytes) w
     either true w bytes n width low same = chosen_within (all_bytes bytes) w
     either false w bytes n width low same = lanes_within n w.lanes width low ∙ sym same

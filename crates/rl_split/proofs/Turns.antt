@@ -87,7 +87,7 @@ last_stands s port sent stands p a = stands.at p a ∙ ap (λ n. cond (eqb p por
 not_all : (total n : ℕ) → n < total → wrapped total n ≡ n
 not_all total n l = grind (arith, nat_tests)
 
-left_over : (sent done rest : List Word) (w : Word) → sent ≡ done ++ w ∷ rest → count_at w.address done < count_at w.address sent
+pub left_over : (sent done rest : List Word) (w : Word) → sent ≡ done ++ w ∷ rest → count_at w.address done < count_at w.address sent
 left_over sent done rest w is =
     let total : count_at w.address sent ≡ count_at w.address done + (count_at w.address (w ∷ []) + count_at w.address rest) =
     ap (count_at w.address) is ∙ count_append w.address done (w ∷ rest) ∙ ap (λ n. count_at w.address done + n) (count_append w.address (w ∷ []) rest) in

@@ -5,3 +5,4 @@ pub mod Step
 pub mod Runs
 pub mod Law
 pub mod Seats
+pub mod UnderWay

@@ -5,6 +5,7 @@
 //! changes. So it is on every device without flaws whose beats are all 0 and that has one mark per field.
 ghost use Rattle.rl_split.specs.Law.{WholeWriteIsStep, WholeReadIsStep, NarrowWriteIsStep, NarrowReadIsStep, MemoryWriteIsStore, MemoryReadIsLoad};
 ghost use Rattle.rl_split.specs.Seats.{OperationsAreBySeats, ValueIsBySeats};
+ghost use Rattle.rl_split.specs.UnderWay.{NoneSentIsUnderWay, NextWordGoesOn, OthersStayUnderWay, AllSentIsWrite, AllSentIsRead};
 
 /// Each chosen byte is carried by one operation, at the address and the lane of its seat.
 pub fn operations_are_by_seats()
@@ -44,4 +45,30 @@ pub fn memory_write_is_store()
 /// A read of a location brings what is stored there, and changes nothing.
 pub fn memory_read_is_load()
     ensures { MemoryReadIsLoad }
+{}
+
+/// An access of which no word was sent is under way from the device as it stands.
+pub fn none_sent_is_under_way()
+    ensures { NoneSentIsUnderWay }
+{}
+
+/// The next word of an access that is under way beside others is answered as if its words had been sent alone,
+/// and changes its register and the beat of its address alone.
+pub fn next_word_goes_on()
+    ensures { NextWordGoesOn }
+{}
+
+/// It leaves each access to another register under way as it was.
+pub fn others_stay_under_way()
+    ensures { OthersStayUnderWay }
+{}
+
+/// Once all words of a write were sent, beside whatever others, its register took one write of all fields.
+pub fn all_sent_is_write()
+    ensures { AllSentIsWrite }
+{}
+
+/// And once all words of a read were, one read of all fields.
+pub fn all_sent_is_read()
+    ensures { AllSentIsRead }
 {}
