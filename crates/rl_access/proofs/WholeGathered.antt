@@ -86,10 +86,10 @@ go_all : (l : LayoutData) (place chosen value : ℕ) (write : Bool) (ws : List W
 go_all l place chosen value write [] = tt
 go_all l place chosen value write (w ∷ ws) = (refl, go_all l place chosen value write ws)
 
-told_of : TraceItem → ℕ
+unfoldable pub told_of : TraceItem → ℕ
 told_of item = word_told item.op item.answer
 
-abbrev op_in : TraceItem → BusOp
+abbrev pub op_in : TraceItem → BusOp
 op_in item = item.op
 
 abbrev word_in : BusOp → ℕ
@@ -144,7 +144,7 @@ more_left k op rest ops e = let n : suc (length rest) ≡ length (drop (k + 1) o
 not_whole : (a b : ℕ) → a < b → eqb a b ≡ false
 not_whole a b low = grind (arith, nat_tests)
 
-list_of : Bool → List ℕ → Gathered
+unfoldable pub list_of : Bool → List ℕ → Gathered
 list_of write words = record { write = write; words = words }
 
 -- what follows a word that was taken
@@ -211,11 +211,11 @@ ops_are l place chosen value write ops is =
     at : (k : ℕ) → k < length (map (op_of l place chosen value write) (words_of l place 0)) → get_or (map (op_of l place chosen value write) (words_of l place 0)) k no_op ≡ op_of l place chosen value write (get_or (words_of l place 0) k no_word)
     at k inside = get_or-map (op_of l place chosen value write) (words_of l place 0) k no_word no_op (subst (λ n. k < n) (length-map (words_of l place 0) (op_of l place chosen value write)) inside)
 
-word_ops_are : (l : LayoutData) (place : ℕ) (value : Option ℕ) → IsHere l place 0 → word_ops l place value ≡ map (op_of l place (all_bytes (place_at l place).bytes) (unwrap_or value 0) (is_some value)) (words_of l place 0)
+pub word_ops_are : (l : LayoutData) (place : ℕ) (value : Option ℕ) → IsHere l place 0 → word_ops l place value ≡ map (op_of l place (all_bytes (place_at l place).bytes) (unwrap_or value 0) (is_some value)) (words_of l place 0)
 unfolding ops_of sent_of
 word_ops_are l place value here = ap (map (op_of l place (all_bytes (place_at l place).bytes) (unwrap_or value 0) (is_some value))) (all_sent l place 0 here)
 
-implied_is : (c : ChipData) (l : LayoutData) (place : ℕ) (value : Option ℕ) (items : List TraceItem) (m : MirrorData) → IsHere l place 0 → unwrap_or value 0 < 256 ^ (place_at l place).bytes → map op_in items ≡ word_ops l place value →
+pub implied_is : (c : ChipData) (l : LayoutData) (place : ℕ) (value : Option ℕ) (items : List TraceItem) (m : MirrorData) → IsHere l place 0 → unwrap_or value 0 < 256 ^ (place_at l place).bytes → map op_in items ≡ word_ops l place value →
     predicted c l place (list_of (is_some value) (map told_of items)) m ≡ implied c l place value items m
 unfolding list_of ops_of
 implied_is c l place None items m here fits ops =

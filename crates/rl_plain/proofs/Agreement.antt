@@ -33,11 +33,11 @@ use Rattle.rl_plain.proofs.EachAccess.{one_step}
 
 -- ---- two descriptions of a register
 
-record IsSame (c : ChipData) (reg : ℕ) (r x : Register) : Type 0 where
-  bits : r.bits ≡ x.bits
-  marks : (k : ℕ) → k < length (fields_of c reg) → r.spent k ≡ x.spent k
+pub record IsSame (c : ChipData) (reg : ℕ) (r x : Register) : Type 0 where
+  pub bits : r.bits ≡ x.bits
+  pub marks : (k : ℕ) → k < length (fields_of c reg) → r.spent k ≡ x.spent k
 
-holds_as : (c : ChipData) (d : State) (reg : ℕ) (r x : Register) → IsSame c reg r x → Holds c d reg r → Holds c d reg x
+pub holds_as : (c : ChipData) (d : State) (reg : ℕ) (r x : Register) → IsSame c reg r x → Holds c d reg r → Holds c d reg x
 holds_as c d reg r x same h = record {
   bits = h.bits ∙ same.bits;
   marks = λ b k low at. h.marks b k low at ∙ same.marks k (place_is (fields_of c reg) b k at).0;
@@ -81,7 +81,7 @@ spent-read c reg read fields m = refl
 
 -- ---- what is believed is what the device has
 
-here_same : (c : ChipData) (reg : ℕ) (old new : MirrorData) (step : Step) → IsSound c → reg < length c.regs → IsMirrorOf c old → FollowsStep c reg old new (believed c old reg) step →
+pub here_same : (c : ChipData) (reg : ℕ) (old new : MirrorData) (step : Step) → IsSound c → reg < length c.regs → IsMirrorOf c old → FollowsStep c reg old new (believed c old reg) step →
     IsSame c reg (register_after (fields_of c reg) step (believed c old reg)) (believed c new reg)
 here_same c reg old new (write_step chosen word) sound l built f =
     let fs = fields_of c reg in
@@ -117,7 +117,7 @@ here_same c reg old new no_step sound l built f = record {
   marks = λ k place. ap (λ (m : MirrorData). marks_in c m.spent reg k) (sym f);
 }
 
-other_same : (c : ChipData) (reg q : ℕ) (old new : MirrorData) (r : Register) (step : Step) → IsSound c → q < length c.regs → (q ≡ reg → ⊥) → IsMirrorOf c old → FollowsStep c reg old new r step →
+pub other_same : (c : ChipData) (reg q : ℕ) (old new : MirrorData) (r : Register) (step : Step) → IsSound c → q < length c.regs → (q ≡ reg → ⊥) → IsMirrorOf c old → FollowsStep c reg old new r step →
     IsSame c q (believed c old q) (believed c new q)
 other_same c reg q old new r (write_step chosen word) sound l other built f = record {
   bits = sym (mirrored-write_other c reg q word f.fields old other) ∙ ap (λ m. mirrored_of m q) (sym f.is);
@@ -175,7 +175,7 @@ still_alone c d reg chosen word r b (Some k) low h at e was =
     spent-wstep (fields_of c reg) chosen word r k
     ∙ none_spent (r.spent k) (chosen k) (spends_mark (policy_in (fields_of c reg) k)) (sym (h.marks b k low at) ∙ was) e
 
-here_alone : (c : ChipData) (l : LayoutData) (d : State) (reg : ℕ) (step : Step) (r : Register) (count : ℕ) → IsReady c l d → reg < length c.regs → Holds c d reg r → IsMarkedAlone c d reg → IsMarkedAlone c (device_after c d reg step r count) reg
+pub here_alone : (c : ChipData) (l : LayoutData) (d : State) (reg : ℕ) (step : Step) (r : Register) (count : ℕ) → IsReady c l d → reg < length c.regs → Holds c d reg r → IsMarkedAlone c d reg → IsMarkedAlone c (device_after c d reg step r count) reg
 here_alone c l d reg (write_step chosen word) r count ready inside h alone b low e =
     let fs = fields_of c reg in
     let within : reg < length d.marks = subst (λ n. reg < n) (sym ready.marks) inside in

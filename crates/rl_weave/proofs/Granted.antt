@@ -1,0 +1,112 @@
+-- What a grant of another master's access says of its place.
+use Rattle.std.proofs.Common.{◌≡◌, ℕ, ◌^◌, ◌<◌, nat_lt, ltb, Bool, true, false, ◌&&◌, eqb-true, Option, None, Some, is_some, Ok, Err, refl, sym, ap, ◌∙◌, subst, arith}
+use Rattle.std.specs.Prelude.{unwrap_or}
+use Rattle.std.proofs.lemmas.Bool.Decides.{nat_tests}
+use Rattle.std.proofs.lemmas.List.Quantifiers.{position-Some}
+use Rattle.rl_model.specs.declared.rows.Item.{Item}
+use Rattle.rl_model.specs.declared.rows.Item.TheVariants as item
+use Rattle.rl_model.specs.Fields.{size_of}
+use Rattle.rl_map.specs.declared.rows.PlaceRow.{PlaceRow}
+use Rattle.rl_map.specs.Layout.{LayoutData, place_at, port_at, place_of, same_item, is_in, has_right, no_place}
+use Rattle.rl_access.specs.declared.event.Refused.{Refused}
+use Rattle.rl_access.specs.declared.event.Refused.TheVariants.{NoRight, NotObserved, TooWide}
+use Rattle.rl_access.specs.declared.trace.TraceItem.{TraceItem}
+use Rattle.rl_access.specs.Access.{IsPlaceIn}
+use Rattle.rl_access.specs.Gathering.{IsRegister, IsRegisterPlace}
+use Rattle.rl_access.specs.Model.{ModelData, IsModel}
+use Rattle.rl_access.specs.Observed.{observing}
+use Rattle.rl_access.specs.Rules.{Grant, only_where, placed, with_right, with_watch, watched_way, grant}
+use Rattle.rl_access.proofs.Bytes.{zero_fits}
+use Rattle.rl_access.proofs.Places.{place_size}
+use Rattle.rl_weave.specs.declared.woven.Woven.{Woven}
+use Rattle.rl_weave.specs.Access.{op_with, op_of, IsWovenOn}
+
+only_ok : (g : Grant) (holds : Bool) (why : Refused) (place : ℕ) → only_where g holds why ≡ Ok place → (g ≡ Ok place) × (holds ≡ true)
+only_ok (Ok p) true why place e = (e, refl)
+only_ok (Ok p) false why place e = absurd (cc)
+only_ok (Err first) holds why place e = absurd (cc)
+
+placed_ok : (o : Option ℕ) (place : ℕ) → placed o ≡ Ok place → o ≡ Some place
+placed_ok None place e = absurd (cc)
+placed_ok (Some p) place e = cc
+
+right_ok : (l : LayoutData) (write : Bool) (g : Grant) (place : ℕ) → with_right l write g ≡ Ok place → (g ≡ Ok place) × (has_right (place_at l place).rights write ≡ true)
+right_ok l write (Ok p) place e =
+    let both = only_ok (Ok p) (has_right (place_at l p).rights write) NoRight place e in
+    let first : Ok p ≡ Ok place = both.0 in
+    let same : p ≡ place = cc in
+    (first, subst (λ n. has_right (place_at l n).rights write ≡ true) same both.1)
+right_ok l write (Err first) place e = absurd (cc)
+
+watch_ok : (l : LayoutData) (g : Grant) (place : ℕ) → with_watch l g ≡ Ok place → (g ≡ Ok place) × ((port_at l (place_at l place).port).explicit ≡ true)
+watch_ok l (Ok p) place e =
+    let both = only_ok (Ok p) (port_at l (place_at l p).port).explicit NotObserved place e in
+    let first : Ok p ≡ Ok place = both.0 in
+    let same : p ≡ place = cc in
+    (first, subst (λ n. (port_at l (place_at l n).port).explicit ≡ true) same both.1)
+watch_ok l (Err first) place e = absurd (cc)
+
+-- ---- the place that was found
+
+same_items : (a b : Item) → same_item a b ≡ true → a ≡ b
+same_items (item.Reg a) (item.Reg b) e = ap item.Reg (eqb-true a b e)
+same_items (item.Mem a) (item.Mem b) e = ap item.Mem (eqb-true a b e)
+same_items (item.Reg a) (item.Mem b) e = absurd (cc)
+same_items (item.Mem a) (item.Reg b) e = absurd (cc)
+
+first_holds : (a b : Bool) → (a && b) ≡ true → a ≡ true
+first_holds true b e = refl
+first_holds false b e = e
+
+place_found : (l : LayoutData) (i : Item) (map : Option ℕ) (place : ℕ) → place_of l i map ≡ Some place → IsPlaceIn l i place
+place_found l i map place e =
+    let at = position-Some (λ (p : PlaceRow). same_item p.item i && is_in map p.map) l.places place no_place e in
+    record { inside = at.0; item_is = same_items (place_at l place).item i (first_holds (same_item (place_at l place).item i) (is_in map (place_at l place).map) at.1) }
+
+pub record IsGranted (m : ModelData) (reg : ℕ) (map value : Option ℕ) (place : ℕ) : Type 0 where
+  pub found : place_of m.layout (item.Reg reg) map ≡ Some place
+  pub there : IsPlaceIn m.layout (item.Reg reg) place
+  pub explicit : (port_at m.layout (place_at m.layout place).port).explicit ≡ true
+  pub right : has_right (place_at m.layout place).rights (is_some value) ≡ true
+  pub fits : unwrap_or value 0 < 256 ^ size_of m.chip reg
+
+watched : (m : ModelData) (reg : ℕ) (map value : Option ℕ) (place : ℕ) → watched_way m reg map (is_some value) ≡ Ok place → unwrap_or value 0 < 256 ^ size_of m.chip reg → IsGranted m reg map value place
+watched m reg map value place e fits =
+    let l = m.layout in
+    let right = right_ok l (is_some value) (with_watch l (placed (place_of l (item.Reg reg) map))) place e in
+    let watch = watch_ok l (placed (place_of l (item.Reg reg) map)) place right.0 in
+    let found = placed_ok (place_of l (item.Reg reg) map) place watch.0 in
+    record { found = found; there = place_found l (item.Reg reg) map place found; explicit = watch.1; right = right.1; fits = fits }
+
+below : (a b : ℕ) → ltb a b ≡ true → a < b
+below a b e = grind (arith, nat_tests)
+
+pub granted_is : (m : ModelData) (reg : ℕ) (map value : Option ℕ) (place : ℕ) → grant m (op_with reg map value) ≡ Ok place → IsGranted m reg map value place
+granted_is m reg map None place e = watched m reg map None place e (zero_fits 256 (size_of m.chip reg) (omega arith))
+granted_is m reg map (Some value) place e =
+    let both = only_ok (watched_way m reg map true) (nat_lt value (256 ^ size_of m.chip reg)) TooWide place e in
+    watched m reg map (Some value) place both.0 (below value (256 ^ size_of m.chip reg) both.1)
+
+pub register_place : (l : LayoutData) (reg place : ℕ) → IsPlaceIn l (item.Reg reg) place → IsRegisterPlace l place
+register_place l reg place at = record { inside = at.inside; register = subst IsRegister (sym at.item_is) tt }
+
+pub granted_size : (m : ModelData) (reg : ℕ) (map value : Option ℕ) (place : ℕ) → IsModel m → IsGranted m reg map value place → (place_at m.layout place).bytes ≡ size_of m.chip reg
+granted_size m reg map value place ok at = place_size m (item.Reg reg) place ok at.there
+
+pub granted_value : (m : ModelData) (reg : ℕ) (map value : Option ℕ) (place : ℕ) → IsModel m → IsGranted m reg map value place → unwrap_or value 0 < 256 ^ (place_at m.layout place).bytes
+granted_value m reg map value place ok at = subst (λ n. unwrap_or value 0 < 256 ^ n) (sym (granted_size m reg map value place ok at)) at.fits
+
+-- ---- a model whose predictor saw an item
+
+grant_observing : (m : ModelData) (item : TraceItem) (reg : ℕ) (map value : Option ℕ) (place : ℕ) → grant m (op_with reg map value) ≡ Ok place → grant (observing m item) (op_with reg map value) ≡ Ok place
+grant_observing m item reg map None place e = e
+grant_observing m item reg map (Some value) place e = e
+
+pub woven_observing : (m new : ModelData) (item : TraceItem) (v : Woven) → new ≡ observing m item → IsWovenOn m v → IsWovenOn new v
+woven_observing m new item v e on =
+    subst (λ x. IsWovenOn x v) (sym e) (record {
+      numbers = on.numbers;
+      granted = grant_observing m item v.access.reg v.access.map v.access.value v.place on.granted;
+      words = on.words;
+      items = on.items;
+    })

@@ -1,0 +1,127 @@
+//! The event of an access that is over.
+ghost use Rattle.std.specs.Prelude.{◌≡◌, ◌<◌, ◌≤◌, ◌^◌, ◌+◌, ◌++◌, ◌∷◌, [], true, false, length, All, None, Ok};
+ghost use Rattle.rl_map.specs.Layout.{place_at, words_of};
+ghost use Rattle.rl_split.specs.Access.{all_bytes};
+ghost use Rattle.rl_model.specs.Fields.{size_of};
+ghost use Rattle.rl_access.specs.Event.{EventFits, ItemFits, IsEndWithin};
+ghost use Rattle.rl_access.specs.Items.{words_answered};
+ghost use Rattle.rl_access.specs.Operation.{register_of, HasNumbers, has_end, digits_of};
+ghost use Rattle.rl_access.specs.Rules.{grant, named, quiet, register_event, value_of, whole};
+ghost use Rattle.rl_weave.specs.Access.{op_of, IsWovenOn};
+ghost use Rattle.rl_weave.specs.Step.{good_end, event_with};
+
+use crate::access::Access;
+use crate::woven::Woven;
+use rl_access::{End, Event, Model, Op, Trace, TraceItem};
+use rl_model::Item;
+use rl_split::{Answers, join, split};
+
+impl Woven {
+    /// Ends the access with its last item: its event.
+    pub(crate) fn close(&mut self, model: &Model, item: TraceItem) -> Event
+        requires on { IsWovenOn model.now self.old }
+        requires item { ItemFits model.now.layout item }
+        requires room { length self.old.items < self.old.words }
+        requires last { item.answer.failed ≡ false → length self.old.items + 1 ≡ self.old.words }
+        ensures event { result ≡ event_with model.now self.old item }
+        ensures fits { EventFits model.now result }
+        ensures left { self.new ≡ record self.old { items = [] } }
+    {
+        // The call tells that the model is sound.
+        let _ = model.layout();
+        let word = self.items.len();
+        let op = op_used(model, &self.access, self.place);
+        let items = self.take_items(item);
+        let end = if item.answer.failed {
+            End::BusError { word }
+        } else {
+            good_end(model, &self.access, self.place, &items)
+        };
+        event_of(model, op, self.access.reg, end, items)
+    }
+}
+
+/// The operation as its event names it: with the map of the place used.
+fn op_used(model: &Model, access: &Access, place: u32) -> Op
+    requires { grant model.now (op_of access.now) ≡ Ok place }
+    ensures { result ≡ named model.now (op_of access.now) }
+{
+    let reg = access.reg;
+    let map = Some(model.layout().map_of(place));
+    match access.value {
+        Some(value) => Op::OtherWrite { reg, map, value },
+        None => Op::OtherRead { reg, map },
+    }
+}
+
+/// How an access ends of which no item failed.
+fn good_end(model: &Model, access: &Access, place: u32, items: &Trace) -> End
+    requires reg { access.now.reg < length model.now.chip.regs }
+    requires place { place < length model.now.layout.places }
+    requires bytes { (place_at model.now.layout place).bytes ≡ size_of model.now.chip access.now.reg }
+    requires whole { length items.now ≡ length (words_of model.now.layout place 0) }
+    ensures end { result ≡ good_end model.now access.now.reg place access.now.value items.now }
+    ensures ends { has_end (op_of access.now) result ≡ true }
+    ensures within { IsEndWithin (digits_of model.now.chip (op_of access.now)) result }
+{
+    match access.value {
+        Some(_) => End::Done,
+        None => End::Value {
+            value: value_read(model, access.reg, place, items),
+        },
+    }
+}
+
+/// The value that the items of a read brought.
+fn value_read(model: &Model, reg: u32, place: u32, items: &Trace) -> u64
+    requires reg { reg < length model.now.chip.regs }
+    requires place { place < length model.now.layout.places }
+    requires bytes { (place_at model.now.layout place).bytes ≡ size_of model.now.chip reg }
+    requires whole { length items.now ≡ length (words_of model.now.layout place 0) }
+    ensures value { result ≡ value_of model.now (whole model.now reg place 0) items.now }
+    ensures fits { result < 256 ^ size_of model.now.chip reg }
+{
+    let chosen = all_bytes(model.chip().bytes(Item::Reg(reg)));
+    let words = split(model.layout(), place, 0, chosen, 0, false);
+    join(model.layout(), place, 0, chosen, &words, &answers_of(items))
+}
+
+/// The words that the items answered.
+fn answers_of(items: &Trace) -> Answers
+    ensures { result ≡ words_answered items.now }
+{
+    let mut answers = Answers::new();
+    for k in 0..items.len() {
+        answers.push(items.item(k).answer.word);
+    }
+    answers
+}
+
+/// The bytes of a register: one bit for each.
+fn all_bytes(bytes: u32) -> u8
+    requires { bytes ≤ 8 }
+    ensures { result ≡ all_bytes bytes }
+{
+    ((1u16 << bytes) - 1) as u8
+}
+
+/// The event of an operation on a register that has ended, with its items.
+fn event_of(model: &Model, op: Op, reg: u32, end: End, items: Trace) -> Event
+    requires reg { reg < length model.now.chip.regs }
+    requires register { register_of model.now.chip op ≡ Some reg }
+    requires numbers { HasNumbers model.now.chip (length model.now.layout.maps) op }
+    requires ends { has_end op end ≡ true }
+    requires within { IsEndWithin (digits_of model.now.chip op) end }
+    requires items { All (ItemFits model.now.layout) items }
+    ensures event { result ≡ register_event op reg items (quiet end model.now) }
+    ensures fits { EventFits model.now result }
+{
+    Event {
+        op,
+        end,
+        trace: items,
+        mirrored: model.mirror().mirrored(reg),
+        desired: model.mirror().desired(reg),
+        differ: 0,
+    }
+}

@@ -1,0 +1,222 @@
+//! A weave: which accesses are open, and the next word of one of them.
+ghost use Rattle.std.specs.Prelude.{◌≡◌, ◌<◌, ◌≤◌, ◌==◌, true, map as each, length, slice_get, position, Some, Contains, All, IfOk, IfSome, IfNone, OnOk, OnErr};
+ghost use Rattle.rl_access.specs.Call.{scene_of};
+ghost use Rattle.rl_access.specs.Event.{EventFits, ItemFits};
+ghost use Rattle.rl_access.specs.Model.{IsReady, IsSameChip};
+ghost use Rattle.rl_weave.specs.Access.{IsNumbered, IsWovenOn, woven_at};
+ghost use Rattle.rl_weave.specs.Step.{IsStepOf, end_of};
+ghost use Rattle.rl_weave.specs.Weave.{WeaveData, IsWeave, IsWeaveOn, IsLeft, empty, adding, appended, woven_of, place_used, number_of, same_register, stepped};
+
+use crate::access::{Access, WeaveFault};
+use crate::granting::granted;
+use crate::woven::Woven;
+use rl_access::{Event, Model, Trace, TraceItem, send_word};
+use rl_bus::{Adapter, Adapters, Device};
+use std::alloc::{AllocError, Global};
+
+/// How many accesses a weave holds.
+const MOST: usize = 64;
+
+/// Accesses of masters that are open at once, to registers that are all different.
+#[derive(Drop)]
+pub struct Weave {
+    accesses: Vec<Woven>,
+    still_open: Vec<u32>,
+    fresh: bool,
+}
+
+impl std::marker::Model for Weave {
+    ghost use Rattle.std.specs.Prelude.{◌≤◌};
+    ghost use Rattle.std.specs.Vec.{vec_capacity};
+    ghost use Rattle.rl_weave.specs.Weave.{WeaveData, IsWeave};
+
+    ghost Value = { WeaveData };
+
+    ghost view = { λ w. record { accesses = w.accesses.items; still_open = w.still_open.items; fresh = w.fresh } };
+
+    ghost invariant = { λ w. IsWeave (record { accesses = w.accesses.items; still_open = w.still_open.items; fresh = w.fresh }) × (64 ≤ vec_capacity w.accesses) × (64 ≤ vec_capacity w.still_open) };
+}
+
+/// What one step did: the item of the word, and the event of the access where the word was its last one.
+#[derive(Drop)]
+pub struct Step {
+    pub item: TraceItem,
+    pub end: Option<Event>,
+}
+
+impl Weave {
+    /// A weave with no access, and with room for 64 of them. No later call takes memory.
+    pub fn build(alloc: Global) -> Result<Weave, AllocError>
+        ensures { IfOk result (λ w. w ≡ empty) }
+    {
+        Ok(Weave {
+            accesses: Vec::with_capacity(alloc, MOST)?,
+            still_open: Vec::with_capacity(alloc, MOST)?,
+            fresh: true,
+        })
+    }
+
+    /// Adds an access, which is then open, and answers its number, counted from 0.
+    pub fn add(&mut self, model: &Model, access: Access) -> Result<u32, WeaveFault>
+        requires fresh { self.old.fresh ≡ true }
+        requires numbers { IsNumbered model.now access }
+        ensures number { result ≡ number_of self.old model.now access }
+        ensures added { OnOk result (self.new ≡ adding self.old model.now access) }
+        ensures granted { OnOk result (IsWovenOn model.now (woven_of model.now access)) }
+        ensures err { OnErr result (self.new ≡ self.old) }
+    {
+        if self.accesses.len() >= MOST {
+            return Err(WeaveFault::TooMany);
+        }
+        let place = granted(model, &access)?;
+        if let Some(other) = self.same_register(access.reg) {
+            return Err(WeaveFault::SameRegister { other });
+        }
+        Ok(self.append(woven(model, access, place)))
+    }
+
+    /// Whether no step was made since `build` or the last `clear`.
+    pub fn fresh(&self) -> bool
+        ensures { result ≡ self.now.fresh }
+    {
+        self.fresh
+    }
+
+    /// How many accesses are open.
+    pub fn open_count(&self) -> u32
+        ensures count { result ≡ length self.now.still_open }
+        ensures few { result ≤ 64 }
+        ensures weave { IsWeave self.now }
+    {
+        self.still_open.len() as u32
+    }
+
+    /// The number of the `i`-th open access, counted from 0, in order of adding.
+    pub fn nth_open(&self, i: u32) -> u32
+        requires { i < length self.now.still_open }
+        ensures number { slice_get self.now.still_open i ≡ Some result }
+        ensures open { Contains self.now.still_open result }
+    {
+        self.still_open[i as usize]
+    }
+
+    /// Sends the next word of an open access. The event comes where the word failed or was the last one, and
+    /// the access is then closed.
+    pub fn step<D: Device>(
+        &mut self,
+        model: &mut Model,
+        device: &mut D,
+        adapters: &mut Adapters,
+        which: u32,
+    ) -> Step
+        requires open { Contains self.old.still_open which }
+        requires ready { IsReady model.old (each standing adapters.old.items) (D.state device.old) }
+        requires weave { IsWeaveOn model.old self.old }
+        ensures steps { IsStepOf (scene_of standing D.errors D.state model.old adapters.old.items device.old)
+            (scene_of standing D.errors D.state model.new adapters.new.items device.new)
+            (woven_at self.old.accesses which) result }
+        ensures stepped { self.new ≡ stepped self.old which result.item }
+        ensures ready { IsReady model.new (each standing adapters.new.items) (D.state device.new) }
+        ensures parts { IsSameChip model.old model.new }
+        ensures weave { IsWeaveOn model.new self.new }
+        ensures item { ItemFits model.new.layout result.item }
+        ensures event { IfSome result.end (EventFits model.new) }
+    {
+        // The call tells that the model is sound.
+        let _ = model.layout();
+        let woven = &self.accesses[which as usize];
+        let item = send_word(
+            model,
+            device,
+            adapters,
+            woven.place,
+            woven.items.len(),
+            woven.access.value,
+        );
+        let end = self.take_in(model, which, item);
+        Step { item, end }
+    }
+
+    /// Empties the weave.
+    pub fn clear(&mut self)
+        ensures { self.new ≡ empty }
+    {
+        self.accesses.clear();
+        self.still_open.clear();
+        self.fresh = true;
+    }
+
+    /// The number of the access that has a register.
+    fn same_register(&self, reg: u32) -> Option<u32>
+        ensures same { result ≡ same_register self.now reg }
+        ensures apart { IfNone result (All (λ v. v.access.reg ≡ reg → ⊥) self.now.accesses) }
+    {
+        // A weave that is opened is known to have at most 64 accesses.
+        let _ = &self.fresh;
+        match place_of(&self.accesses, reg) {
+            Some(number) => Some(number as u32),
+            None => None,
+        }
+    }
+
+    /// Appends an access, which is then open: its number.
+    fn append(&mut self, woven: Woven) -> u32
+        requires room { length self.old.accesses < 64 }
+        requires apart { All (λ v. v.access.reg ≡ woven.access.reg → ⊥) self.old.accesses }
+        requires short { length woven.items < woven.words }
+        ensures number { result ≡ length self.old.accesses }
+        ensures appended { self.new ≡ appended self.old woven }
+    {
+        let number = self.accesses.len() as u32;
+        if self.accesses.push(woven).is_err() || self.still_open.push(number).is_err() {
+            unreachable!();
+        }
+        number
+    }
+
+    /// Keeps the item of an access or, where it is the last one, closes the access.
+    fn take_in(&mut self, model: &Model, which: u32, item: TraceItem) -> Option<Event>
+        requires open { Contains self.old.still_open which }
+        requires on { IsWeaveOn model.now self.old }
+        requires item { ItemFits model.now.layout item }
+        ensures end { result ≡ end_of model.now (woven_at self.old.accesses which) item }
+        ensures fits { IfSome result (EventFits model.now) }
+        ensures stepped { self.new ≡ stepped self.old which item }
+        ensures on { IsWeaveOn model.now self.new }
+    {
+        // The call tells that the model is sound.
+        let _ = model.layout();
+        self.fresh = false;
+        let woven = &mut self.accesses[which as usize];
+        if woven.is_over(&item) {
+            let event = woven.close(model, item);
+            self.still_open.retain(|&number| number != which);
+            Some(event)
+        } else {
+            woven.items.push(item);
+            None
+        }
+    }
+}
+
+/// Where the access that has a register stands.
+fn place_of(accesses: &[Woven], reg: u32) -> Option<usize>
+    ensures { result ≡ position (λ v. v.access.reg == reg) accesses.now }
+{
+    accesses.iter().position(|woven| woven.access.reg == reg)
+}
+
+/// An access that has sent nothing yet.
+fn woven(model: &Model, access: Access, place: u32) -> Woven
+    requires place { place < length model.now.layout.places }
+    requires used { place_used model.now access ≡ place }
+    ensures woven { result ≡ woven_of model.now access }
+    ensures some { 0 < result.words }
+{
+    Woven {
+        access,
+        place,
+        words: model.layout().words(place),
+        items: Trace::new(),
+    }
+}
