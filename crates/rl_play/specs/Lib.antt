@@ -1,0 +1,9 @@
+pub mod Commands
+pub mod Done
+pub mod Earlier
+pub mod Heard
+pub mod Moment
+pub mod Operations
+pub mod Played
+pub mod Recording
+pub mod Told
