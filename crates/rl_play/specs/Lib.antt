@@ -3,7 +3,6 @@ pub mod Done
 pub mod Earlier
 pub mod Heard
 pub mod Moment
-pub mod Operations
 pub mod Played
 pub mod Recording
 pub mod Told

@@ -64,6 +64,7 @@ fn take_line<S: Source, L: Log>(
     ensures none_whole { result ≡ Err Status.SourceFault
         → (first_line lines.new.pending ≡ lines.new.pending) × (lines.new.ended ≡ false) }
     ensures flushed { result ≡ Err Status.SourceFault → L.is_out out.new }
+    ensures again { result ≡ Err Status.SourceFault → lines.new.refused ≡ false }
 
     // Where no whole line was here, nothing is kept back of what was written before, and nothing is written since.
     ensures out_first { OnOk result ((HoldsLine lines.old → ⊥) → L.is_out out.new) }
@@ -239,6 +240,7 @@ fn play_line<S: Source, D: Device, L: Log>(
     ensures parts { IsSameChip model.old model.new }
     ensures found { lines.new.found ≡ true }
     ensures going { result ≡ Turn.Next → lines.new.refused ≡ false }
+    ensures again { result ≡ Turn.Stop Status.SourceFault → lines.new.refused ≡ false }
     ensures last { result ≡ Turn.Next → number ≤ 1000000 }
     ensures next { result ≡ Turn.Next → GoesOn number
         (moment_of standing D.state L.written model.old adapters.old.items device.old out.old counts.old)
@@ -320,6 +322,8 @@ pub fn play_lines<S: Source, D: Device, L: Log>(
     ensures at_fault { result ≡ Status.SourceFault → BreaksFrom 1
         (moment_of standing D.state L.written model.old adapters.old.items device.old out.old counts.old)
         (input_of lines.old (S.left source.old)) (S.left source.new) (L.written out.new) }
+    ensures found { lines.new.found ≡ true }
+    ensures again { result ≡ Status.SourceFault → lines.new.refused ≡ false }
     ensures unended { result ≡ Status.SourceFault → lines.old.ended ≡ false }
     ensures done { DoesFrom 1
         (moment_of standing D.state L.written model.old adapters.old.items device.old out.old counts.old)
@@ -393,6 +397,8 @@ fn play_through<S: Source, K: Sink, D: Device, E: Earlier>(
     ensures at_fault { result ≡ Status.SourceFault → BreaksFrom 1
         (moment_of standing D.state K.written model.old adapters.old.items device.old sink.old counts.old)
         (input_of lines.old (S.left source.old)) (S.left source.new) (K.written sink.new) }
+    ensures found { lines.new.found ≡ true }
+    ensures again { result ≡ Status.SourceFault → lines.new.refused ≡ false }
     ensures keeps_earlier { KeepsEarlier (K.written sink.old) (K.written sink.new) }
     ensures done { DoesFrom 1
         (moment_of standing D.state K.written model.old adapters.old.items device.old sink.old counts.old)
@@ -443,6 +449,10 @@ pub fn play<S: Source, K: Sink, D: Device>(
     ensures at_fault { result ≡ Status.SourceFault → BreaksFrom 1
         (moment_of standing D.state K.written model.old adapters.old.items device.old sink.old counts.old)
         (input_of lines.old (S.left source.old)) (S.left source.new) (K.written sink.new) }
+
+    // The reader can then be handed to the next call, which goes on with the line that was cut.
+    ensures found { lines.new.found ≡ true }
+    ensures again { result ≡ Status.SourceFault → lines.new.refused ≡ false }
 
     // However it ends, the sink keeps the bytes that it had before.
     ensures keeps_earlier { KeepsEarlier (K.written sink.old) (K.written sink.new) }

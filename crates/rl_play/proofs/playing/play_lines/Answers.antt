@@ -64,3 +64,6 @@ returns-in-Stop-clause-unended g c =
 
 pub returns-in-Stop-clause-done : goal.returns-in-Stop-clause-done
 returns-in-Stop-clause-done g c = c.loop-number.invariant.doing _ _ _ _ (c.play_line.ensures.done_stop _ c.in-Stop.is)
+
+pub returns-in-Stop-clause-again : goal.returns-in-Stop-clause-again
+returns-in-Stop-clause-again g c = λ is. c.play_line.ensures.again (c.in-Stop.is ∙ ap Stop is)

@@ -28,3 +28,6 @@ returns-clause-at_fault g c = λ is.
     let w = breaks_written _ _ _ _ _ _ _ _ _ (rw c.new-out.ensures.told at (p.at_fault fault))
     (s.at_fault fault (p.flushed fault)) in
     search (rules, w)
+
+pub returns-clause-again : goal.returns-clause-again
+returns-clause-again g c = λ is. c.play_lines-status.ensures.again (same_status _ _ c.settle.ensures.kept is)
