@@ -184,10 +184,7 @@ fn flaw_at(row: u32) -> Option<Spot>
 }
 
 /// Writes that the description is refused. Want of memory has no line.
-pub fn put_description_refused<K: Sink>(
-    sink: &mut K,
-    fault: &DescFault,
-) -> Result<(), Failed>
+pub fn put_description_refused<K: Sink>(sink: &mut K, fault: &DescFault) -> Result<(), Failed>
     requires { fault.now ≢ DescFault.Memory }
     ensures bytes { Puts (K.written sink.old) (K.written sink.new) (description_refused_text fault.now) result }
     ensures cause { HasCause (K.faults sink.old) (K.faults sink.new) result }

@@ -257,12 +257,7 @@ pub fn mirror_sum(mirror: &Mirror, registers: u32) -> u64
 }
 
 /// Writes the one line of a soak run.
-pub fn put_soak_line<K: Sink>(
-    sink: &mut K,
-    n: u64,
-    counts: &Counts,
-    sum: u64,
-) -> Result<(), Failed>
+pub fn put_soak_line<K: Sink>(sink: &mut K, n: u64, counts: &Counts, sum: u64) -> Result<(), Failed>
     ensures bytes { Puts (K.written sink.old) (K.written sink.new) (soak_line_text n counts.now sum) result }
     ensures cause { HasCause (K.faults sink.old) (K.faults sink.new) result }
     ensures ends_kept { K.ends sink.new ≡ K.ends sink.old }
