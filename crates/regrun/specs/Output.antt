@@ -4,7 +4,7 @@ use Rattle.std.specs.Prelude.{◌≡◌, ℕ, List, ◌++◌, map, true, Option,
 use Rattle.std.specs.Io.KnownBytes.{Appends}
 use Rattle.rl_bus.specs.Standing.{Standing}
 use Rattle.rl_log.specs.declared.status.Status.{Status}
-use Rattle.rl_session.specs.Judged.{Judged, judged, taken_text}
+use Rattle.rl_session.specs.Judged.{Judged, taken_text}
 use Rattle.rl_log.specs.Statuses.{is_complete}
 use Rattle.rl_log.specs.Telling.{Tells}
 

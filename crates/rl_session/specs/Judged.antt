@@ -1,6 +1,6 @@
 -- The judged log of a session, and what `map` and `soak` write: the text, the status, and how the adapters stand
 -- afterwards.
-use Rattle.std.specs.Prelude.{ℕ, List, [], map, Result, Ok, Err, length, replicate}
+use Rattle.std.specs.Prelude.{ℕ, List, [], Result, Ok, Err, length, replicate}
 use Rattle.rl_bus.specs.Standing.{Standing, kinds_of}
 use Rattle.rl_desc.specs.Data.{DescData}
 use Rattle.rl_report.specs.Lines.{whole_lines, lines_of}

@@ -10,8 +10,6 @@ use Rattle.rl_map.specs.LayoutText.{layout_text}
 use Rattle.rl_desc.specs.declared.fault.DescFault.{DescFault}
 use Rattle.rl_desc.specs.Described.{first_fault, description_of}
 use Rattle.rl_session.specs.Refusals.{description_refused_text}
-use Rattle.rl_session.specs.Judged.{refused}
-use Rattle.rl_log.specs.Log.{ends}
 
 -- ---- a session
 
