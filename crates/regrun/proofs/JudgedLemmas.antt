@@ -9,21 +9,22 @@ use Rattle.rl_desc.specs.Data.{DescData}
 use Rattle.rl_map.specs.LayoutText.{layout_text}
 use Rattle.rl_report.specs.Lines.{lines_of}
 use Rattle.rl_report.specs.Opening.{separator_at}
-use Rattle.regrun.specs.declared.counts.Counts.{Counts}
-use Rattle.regrun.specs.declared.status.Status.{Status}
-use Rattle.regrun.specs.declared.status.Status.TheVariants.{Passed, SinkFault}
-use Rattle.regrun.specs.Earlier.{KeepsEarlier}
-use Rattle.regrun.specs.Endings.{added}
-use Rattle.regrun.specs.Judged.{Judged, refused, ending_judged, judged_by, judged, map_judged, soak_by, soak_ending, IsJudged}
-use Rattle.regrun.specs.Log.{Ending, behind, first_world, script_from, script_ending}
-use Rattle.regrun.specs.Played.{coming, EndsAs, IsPlayed, IsWrittenOut}
-use Rattle.regrun.specs.Recording.{no_counts}
-use Rattle.regrun.specs.Session.{opening_of, map_text, map_status}
-use Rattle.regrun.specs.Soak.{soak_line_text, soak_text, mirror_sum}
-use Rattle.regrun.specs.Statuses.{is_complete}
-use Rattle.regrun.specs.Telling.{Tells, Stops}
-use Rattle.regrun.specs.World.{IsAt, world}
-use Rattle.regrun.proofs.EndingLemmas.{tells_none, tells_front, tells_later, front_of_none, incomplete, not_sink_fault, appends_keeps, front_written, tells_written}
+use Rattle.rl_log.specs.declared.counts.Counts.{Counts}
+use Rattle.rl_log.specs.declared.status.Status.{Status}
+use Rattle.rl_log.specs.declared.status.Status.TheVariants.{Passed, SinkFault}
+use Rattle.rl_play.specs.Earlier.{KeepsEarlier}
+use Rattle.rl_session.specs.Judged.{Judged, refused, ending_judged, judged_by, judged, map_judged, soak_by, soak_ending, first_world, script_ending}
+use Rattle.regrun.specs.Output.{IsJudged}
+use Rattle.rl_log.specs.Log.{Ending, script_from}
+use Rattle.rl_session.specs.Session.{behind, opening_of, map_text, map_status}
+use Rattle.rl_play.specs.Played.{coming, EndsAs, IsPlayed}
+use Rattle.rl_log.specs.Recording.{no_counts}
+use Rattle.rl_session.specs.Soak.{soak_line_text, soak_text, mirror_sum}
+use Rattle.rl_log.specs.Statuses.{is_complete}
+use Rattle.rl_log.specs.Telling.{Tells}
+use Rattle.regrun.specs.Telling.{Stops}
+use Rattle.rl_log.specs.World.{IsAt, world}
+use Rattle.rl_play.proofs.EndingLemmas.{tells_none, tells_front, tells_later, front_of_none, incomplete, not_sink_fault, tells_written}
 
 -- ---- what was told
 
@@ -260,33 +261,3 @@ pub all_written : (left : Option (List ℕ)) (J : List ℕ → Judged) (status r
 all_written None J status result old told new kept adapters same keeps held whole t = tt
 all_written (Some bytes) J status result old told new kept adapters same keeps held whole t =
     judged_written (J bytes) status result old told new kept adapters same keeps held whole t
-
-pub ends_written : (o : Option Ending) (status result : Status) (old told new : Option (List ℕ)) (kept : List ℕ)
-    (counts : Counts) (m : ModelData) (a : List Standing) (st : Option State) → (result ≢ SinkFault → result ≡ status)
-    → KeepsEarlier old new
-    → Keeps told (append_known new kept) → (is_complete result ≡ true → Keeps told new) → IfSome o
-    (λ e. EndsAs e status old told counts m a st) → IfSome o (λ e. EndsAs e result old new counts m a st)
-ends_written None status result old told new kept counts m a st same keeps held whole h = tt
-ends_written (Some e) status result old told new kept counts m a st same keeps held whole h = record {
-  whole = λ c. let is : result ≡ status = same (not_sink_fault result c) in
-      let over = h.whole (subst (λ s. is_complete s ≡ true) is c) in
-      record {
-        status_is = is ∙ over.status_is;
-        text = appends_keeps old told new e.text over.text
-            (whole c);
-        counts_are = over.counts_are;
-        after = over.after;
-      };
-  part = front_written old told new kept e.text keeps held h.part;
-}
-
-pub played_written : (o : Option Ending) (status : Status) (old new : Option (List ℕ)) (before counts now : Counts)
-    (m : ModelData) (a : List Standing) (st : Option State) → now ≡ added before counts
-    → IfSome o (λ e. EndsAs e status old new counts m a st) → IfSome o
-    (λ e. IsWrittenOut e status old new before now m a st)
-played_written None status old new before counts now m a st risen h = tt
-played_written (Some e) status old new before counts now m a st risen h = record {
-  tells = record { whole = λ c. let o = h.whole c in (o.status_is, o.text); part = h.part };
-  counted = λ c. risen ∙ ap (added before) (h.whole c).counts_are;
-  after = λ c. (h.whole c).after;
-}

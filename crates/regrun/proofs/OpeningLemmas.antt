@@ -8,14 +8,14 @@ use Rattle.rl_report.specs.declared.opening.Head.{Head}
 use Rattle.rl_report.specs.declared.opening.Head.TheVariants.{Found, Missing, TooLong}
 use Rattle.rl_report.specs.Opening.{HeadIs, FindsHead, separator_at}
 use Rattle.rl_report.specs.Reading.{Reading, input_of}
-use Rattle.regrun.specs.declared.status.Status.{Status}
-use Rattle.regrun.specs.declared.status.Status.TheVariants.{Refused}
-use Rattle.regrun.specs.Log.{behind}
-use Rattle.regrun.specs.Session.{head_of, opening_after, opening_of}
-use Rattle.regrun.specs.Statuses.{is_complete}
-use Rattle.regrun.specs.Telling.{Tells, Stops}
-use Rattle.regrun.proofs.EndingLemmas.{stops_refused, stops_early, stops_later}
-use Rattle.regrun.proofs.SessionLemmas.{found_head, missing_head, long_head, opening_refused, opening_found}
+use Rattle.rl_log.specs.declared.status.Status.{Status}
+use Rattle.rl_log.specs.declared.status.Status.TheVariants.{Refused}
+use Rattle.rl_session.specs.Session.{behind, head_of, opening_after, opening_of}
+use Rattle.rl_log.specs.Statuses.{is_complete}
+use Rattle.rl_log.specs.Telling.{Tells}
+use Rattle.regrun.specs.Telling.{Stops}
+use Rattle.regrun.proofs.StopLemmas.{stops_refused, stops_early, stops_later}
+use Rattle.rl_session.proofs.SessionLemmas.{found_head, missing_head, long_head, opening_refused, opening_found}
 
 -- ---- the head
 

@@ -1,8 +1,8 @@
 -- Bytes that are read from a list.
 use Rattle.std.proofs.Common.{◌≡◌, ℕ, ◌+◌, ◌≤◌, List, [], ◌++◌, length, take, drop, arith, sym, ap, ◌∙◌, take-append-drop, take_at, length-take-le, length-drop}
 use Rattle.std.proofs.lemmas.List.{drop-drop, drop_all}
-use Rattle.regrun.specs.declared.status.Status.{Status}
-use Rattle.regrun.specs.Causes.{IsCaused}
+use Rattle.rl_log.specs.declared.status.Status.{Status}
+use Rattle.rl_log.specs.Causes.{IsCaused}
 
 -- what was copied out of the rest, and what is left of it
 pub moved : (bytes to buf : List ℕ) (at n : ℕ) → to ≡ take n (drop at bytes) ++ drop n buf → n ≤ length

@@ -1,27 +1,11 @@
 //! Runs a session of the register layer: reads a description and a script, drives the bus and writes the log.
 #![tactic(auto)]
 
-mod buffered;
-mod counts;
-mod digits;
-mod layout_text;
-mod line;
-mod log;
-mod opening;
-mod perform;
-mod playing;
-mod recorder;
-mod refusals;
-mod resolve;
-mod soak;
 mod soaking;
-mod status;
-mod texts;
 mod top;
 mod words;
 
-pub use counts::Counts;
-pub use playing::play;
-pub use soak::soak_session;
-pub use status::Status;
+pub use rl_log::{Counts, Status};
+pub use rl_play::play;
+pub use rl_session::soak_session;
 pub use top::regrun;

@@ -6,26 +6,24 @@ ghost use Rattle.rl_bench.specs.Flaws.{AreFlawsOf};
 ghost use Rattle.rl_bench.specs.State.{bench_state};
 ghost use Rattle.rl_bus.specs.Standing.{kinds_of};
 ghost use Rattle.rl_report.specs.Reading.{input_of};
-ghost use Rattle.regrun.specs.Causes.{IsCaused};
-ghost use Rattle.regrun.specs.Judged.{output_of, soak_judged, soak_script_judged, WritesJudged};
-ghost use Rattle.regrun.specs.Played.{coming, IsPlayed};
-ghost use Rattle.regrun.specs.Soak.{soak_line_text};
-ghost use Rattle.regrun.specs.Statuses.{is_complete};
-ghost use Rattle.regrun.specs.Telling.{Tells};
-ghost use Rattle.regrun.specs.Told.{told};
+ghost use Rattle.rl_log.specs.Causes.{IsCaused};
+ghost use Rattle.regrun.specs.Output.{output_of, WritesJudged};
+ghost use Rattle.rl_session.specs.Judged.{soak_judged, soak_script_judged};
+ghost use Rattle.rl_play.specs.Played.{coming, IsPlayed};
+ghost use Rattle.rl_session.specs.Soak.{soak_line_text};
+ghost use Rattle.rl_log.specs.Statuses.{is_complete};
+ghost use Rattle.rl_log.specs.Telling.{Tells};
+ghost use Rattle.rl_play.specs.Told.{told};
 
-use crate::buffered::{Buffered, Earlier};
-use crate::log::Log;
-use crate::opening::open;
-use crate::playing::play_lines;
-use crate::soak::{mirror_sum, put_soak_line, soak_session};
 use crate::top::{fresh_lines, open_session};
-use crate::{Counts, Status};
 use rl_access::{Event, Model};
 use rl_bench::Bench;
 use rl_bus::{Adapter, Adapters};
 use rl_desc::Desc;
+use rl_log::{Counts, Status};
+use rl_play::{Buffered, Earlier, Log, play_lines};
 use rl_report::{Failed, LineReader, Sink, Source};
+use rl_session::{mirror_sum, open, put_soak_line, soak_session};
 use std::alloc::Global;
 
 // A session in memory, which never fails.

@@ -20,8 +20,8 @@ use Rattle.rl_script.specs.Names.{is_name, is_path}
 use Rattle.rl_script.specs.Reading.{is_ascii, read_of}
 use Rattle.rl_script.specs.Spelling.{spelling, IsLine, MayBeWritten}
 use Rattle.rl_script.proofs.AgainLemmas.{read_again}
-use Rattle.regrun.specs.Log.{said}
-use Rattle.regrun.specs.Soak.{next_state, drawn, step_of, line_text, line_after, script_text}
+use Rattle.rl_log.specs.Log.{said}
+use Rattle.rl_session.specs.Soak.{next_state, drawn, step_of, line_text, line_after, script_text}
 use Rattle.rl_soak.specs.Script.{Command, Write, Read, Check, Set, Update, Peek, FieldWrite, command_of}
 use Rattle.rl_soak.specs.Script.{register, only_field, operation, drawn_after, drawn_lines, AllSay}
 

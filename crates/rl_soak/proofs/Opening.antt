@@ -9,9 +9,9 @@ use Rattle.rl_report.specs.Lines.{first_line, after_line, lines_of}
 use Rattle.rl_report.specs.Opening.{is_separator, separator_from, separator_at}
 use Rattle.rl_report.specs.Pieces.{joined}
 use Rattle.rl_report.proofs.OpeningLemmas.{step}
-use Rattle.regrun.specs.Log.{behind, script_of}
-use Rattle.regrun.specs.Session.{no_head_text, head_before, head_of}
-use Rattle.regrun.specs.Soak.{policy_of, rows_text, description_text, script_text, soak_text}
+use Rattle.rl_session.specs.Session.{behind, script_of}
+use Rattle.rl_session.specs.Session.{no_head_text, head_before, head_of}
+use Rattle.rl_session.specs.Soak.{policy_of, rows_text, description_text, script_text, soak_text}
 use Rattle.rl_soak.specs.Script.{AllSay, ScriptReads, drawn_lines}
 use Rattle.rl_soak.proofs.Lines.{script_lines, script_said}
 

@@ -13,8 +13,8 @@ use Rattle.rl_desc.specs.Shapes.{number}
 use Rattle.rl_desc.specs.Refusals.{or_else}
 use Rattle.rl_desc.specs.Reading.{document_fault, document_data}
 use Rattle.rl_desc.specs.Described.{document_of, text_fault, first_fault, rows_fault, description_of, described}
-use Rattle.regrun.specs.Session.{said_by, opening_after, opening_of}
-use Rattle.regrun.specs.Soak.{policy_of, rows_text, description_text, soak_text}
+use Rattle.rl_session.specs.Session.{said_by, opening_after, opening_of}
+use Rattle.rl_session.specs.Soak.{policy_of, rows_text, description_text, soak_text}
 use Rattle.rl_soak.specs.Description.{soak_table, soak_data, DescriptionReads}
 use Rattle.rl_soak.proofs.Opening.{soak_head}
 

@@ -13,8 +13,8 @@ use Rattle.rl_desc.specs.Data.{DocumentData}
 use Rattle.rl_desc.specs.Words.{skip, rights}
 use Rattle.rl_desc.specs.Reading.{document_fault, document_data}
 use Rattle.rl_desc.specs.Described.{document_of, first_fault, rows_fault, description_of, described}
-use Rattle.regrun.specs.Session.{said_by, opening_of}
-use Rattle.regrun.specs.Soak.{policy_of, map_of, description_text, soak_text}
+use Rattle.rl_session.specs.Session.{said_by, opening_of}
+use Rattle.rl_session.specs.Soak.{policy_of, map_of, description_text, soak_text}
 use Rattle.rl_soak.specs.Script.{register}
 
 -- one row for each number from the first on

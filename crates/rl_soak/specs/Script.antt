@@ -4,9 +4,10 @@ use Rattle.rl_script.specs.declared.line.Line.{Line}
 use Rattle.rl_script.specs.declared.line.Line.TheVariants as line
 use Rattle.rl_script.specs.declared.line.Sequence.TheVariants.{BitBash}
 use Rattle.rl_script.specs.Spelling.{spelling}
-use Rattle.regrun.specs.Log.{said, script_of}
-use Rattle.regrun.specs.Session.{head_of}
-use Rattle.regrun.specs.Soak.{next_state, drawn, description_text, soak_text}
+use Rattle.rl_log.specs.Log.{said}
+use Rattle.rl_session.specs.Session.{script_of}
+use Rattle.rl_session.specs.Session.{head_of}
+use Rattle.rl_session.specs.Soak.{next_state, drawn, description_text, soak_text}
 
 -- ---- what is drawn
 

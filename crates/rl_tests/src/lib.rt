@@ -19,4 +19,6 @@ mod parts;
 #[cfg(test)]
 mod sessions;
 #[cfg(test)]
+mod talk;
+#[cfg(test)]
 mod watching;

@@ -5,7 +5,7 @@ use regrun::{Counts, Status, play, regrun};
 use rl_access::Model;
 use rl_bus::{Adapter, AdapterKind, Adapters, PlainAdapter, kind_of};
 use rl_desc::{Desc, read_description};
-use rl_report::{Head, LineReader, MemSink, MemSource};
+use rl_report::{Head, LineReader, MemSink, MemSource, Sink, Source};
 use std::alloc::{AllocError, Global};
 use std::test::Fail;
 
@@ -83,7 +83,7 @@ fn opened(alloc: Global, kind: AdapterKind) -> Result<Model, Fail>
 }
 
 // A reader that is past the separator.
-fn reader(alloc: Global, source: &mut MemSource) -> Result<LineReader, Fail>
+fn reader<S: Source>(alloc: Global, source: &mut S) -> Result<LineReader, Fail>
     ensures { IfOk result (λ lines. (lines.found ≡ true) × (lines.refused ≡ false)) }
 {
     let mut lines = LineReader::build(alloc)?;
@@ -95,10 +95,10 @@ fn reader(alloc: Global, source: &mut MemSource) -> Result<LineReader, Fail>
 }
 
 // Plays the lines on a device that fails each third transfer.
-fn try_play(
+pub(crate) fn try_play<S: Source, K: Sink>(
     alloc: Global,
-    source: &mut MemSource,
-    sink: &mut MemSink,
+    source: &mut S,
+    sink: &mut K,
     counts: &mut Counts,
 ) -> Result<Status, Fail> {
     let mut adapters = plain_adapter(alloc)?;
@@ -160,5 +160,64 @@ fn a_device_that_tells_nothing(rt: HostRuntime) -> Result<(), Fail> {
     assert_eq!(rt; status, Status::Found);
     assert_eq!(rt; sink.written(), want(rt.alloc())?.as_bytes());
     assert_eq!(rt; counts, all);
+    Ok(())
+}
+
+// Plays up to a fault of the source, and then goes on with the same reader.
+fn try_play_on(
+    alloc: Global,
+    source: &mut MemSource,
+    sink: &mut MemSink,
+    counts: &mut Counts,
+) -> Result<Status, Fail> {
+    let mut adapters = plain_adapter(alloc)?;
+    let kind = kind_of(&adapters, 0);
+    let mut model = opened(alloc, kind)?;
+    let mut lines = reader(alloc, source)?;
+    let mut device = Wavering::new();
+    let status = play(
+        alloc,
+        &mut model,
+        &mut device,
+        &mut adapters,
+        &mut lines,
+        source,
+        sink,
+        counts,
+    );
+    if status != Status::SourceFault {
+        return Ok(status);
+    }
+    Ok(play(
+        alloc,
+        &mut model,
+        &mut device,
+        &mut adapters,
+        &mut lines,
+        source,
+        sink,
+        counts,
+    ))
+}
+
+const SHOWN: &[u8] =
+    b"show a: ok desired 0x00000000 mirror 0x00000000\nshow a: ok desired 0x00000000 mirror 0x00000000\nshow a: ok desired 0x00000000 mirror 0x00000000\nend: 2 events, 0 differences, 0 bus errors\n";
+
+// The source fails in the midst of a line. The next call goes on with that line, and counts its own events alone.
+#[test]
+fn a_script_goes_on_after_a_fault(rt: HostRuntime) -> Result<(), Fail> {
+    let alloc = rt.alloc();
+    let mut counts = Counts {
+        events: 0,
+        differences: 0,
+        errors: 0,
+    };
+    let script = b"---\nshow a\nshow a\nshow a\n".to_vec(alloc)?;
+    let mut source = MemSource::new(script, 7, vec![in alloc; 2]?);
+    let mut sink = MemSink::new(alloc, 64, 4096, Vec::new(alloc))?;
+    let status = try_play_on(alloc, &mut source, &mut sink, &mut counts)?;
+    assert_eq!(rt; status, Status::Passed);
+    assert_eq!(rt; sink.written(), SHOWN);
+    assert_eq!(rt; counts.events, 3);
     Ok(())
 }

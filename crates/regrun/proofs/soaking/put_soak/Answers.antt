@@ -1,11 +1,11 @@
 use Rattle.std.proofs.Common.{◌≡◌, Ok, Some, drop, refl}
 use Rattle.rl_report.specs.Opening.{separator_at}
 use Rattle.rl_report.specs.Reading.{input_of}
-use Rattle.regrun.specs.Log.{behind}
-use Rattle.regrun.specs.Session.{opening_of}
-use Rattle.regrun.specs.Soak.{soak_text}
+use Rattle.rl_session.specs.Session.{behind}
+use Rattle.rl_session.specs.Session.{opening_of}
+use Rattle.rl_session.specs.Soak.{soak_text}
 use Rattle.regrun.specs.Telling.{Stops}
-use Rattle.regrun.proofs.BufferLemmas.{keeps_refl}
+use Rattle.rl_play.proofs.BufferLemmas.{keeps_refl}
 use Rattle.regrun.proofs.JudgedLemmas.{told_early, soaks_stopped, soaks_opened}
 use Rattle.regrun.proofs.OpeningLemmas.{of_text}
 use Rattle.regrun.proofs.soaking.put_soak.Goals as goal

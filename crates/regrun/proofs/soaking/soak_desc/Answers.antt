@@ -1,7 +1,7 @@
 use Rattle.std.proofs.Common.{map, refl, sym, ◌∙◌}
-use Rattle.regrun.specs.declared.status.Status.TheVariants.{Memory}
-use Rattle.regrun.specs.Told.{told}
-use Rattle.regrun.proofs.BufferLemmas.{keeps_refl}
+use Rattle.rl_log.specs.declared.status.Status.TheVariants.{Memory}
+use Rattle.rl_play.specs.Told.{told}
+use Rattle.rl_play.proofs.BufferLemmas.{keeps_refl}
 use Rattle.regrun.proofs.JudgedLemmas.{soaks_early, soak_told}
 use Rattle.regrun.proofs.TextLemmas.{quiet_cause}
 use Rattle.regrun.proofs.soaking.soak_desc.Goals as goal

@@ -1,4 +1,4 @@
-use Rattle.regrun.proofs.EndingLemmas.{keeps_on_ok}
+use Rattle.rl_play.proofs.EndingLemmas.{keeps_on_ok}
 use Rattle.regrun.proofs.OpeningLemmas.{desc_stops, desc_opens}
 use Rattle.regrun.proofs.top.open_session.Goals as goal
 

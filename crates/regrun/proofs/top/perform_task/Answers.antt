@@ -1,5 +1,5 @@
 use Rattle.std.proofs.Common.{refl}
-use Rattle.regrun.proofs.FaultLemmas.{no_source}
+use Rattle.regrun.proofs.BreakLemmas.{no_source}
 use Rattle.regrun.proofs.top.perform_task.Goals as goal
 
 pub returns-in-Soak-clause-soak_unread : goal.returns-in-Soak-clause-soak_unread

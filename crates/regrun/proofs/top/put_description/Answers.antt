@@ -1,10 +1,10 @@
 use Rattle.std.proofs.Common.{refl, subst}
 use Rattle.rl_map.specs.LayoutText.{layout_text}
 use Rattle.rl_desc.specs.Data.{DescData}
-use Rattle.regrun.specs.declared.status.Status.TheVariants.{Passed, SinkFault}
-use Rattle.regrun.specs.Telling.{Tells}
-use Rattle.regrun.specs.Told.{told}
-use Rattle.regrun.proofs.EndingLemmas.{tells_all, tells_front}
+use Rattle.rl_log.specs.declared.status.Status.TheVariants.{Passed, SinkFault}
+use Rattle.rl_log.specs.Telling.{Tells}
+use Rattle.rl_play.specs.Told.{told}
+use Rattle.rl_play.proofs.EndingLemmas.{tells_all, tells_front}
 use Rattle.regrun.proofs.top.put_description.Goals as goal
 
 pub returns-in-Ok-clause-tells : goal.returns-in-Ok-clause-tells

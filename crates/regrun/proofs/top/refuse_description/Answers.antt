@@ -1,5 +1,5 @@
 use Rattle.std.proofs.Common.{refl}
-use Rattle.regrun.proofs.EndingLemmas.{tells_all, tells_front}
+use Rattle.rl_play.proofs.EndingLemmas.{tells_all, tells_front}
 use Rattle.regrun.proofs.top.refuse_description.Goals as goal
 
 pub returns-in-Ok-clause-tells : goal.returns-in-Ok-clause-tells

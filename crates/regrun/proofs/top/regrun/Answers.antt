@@ -1,6 +1,6 @@
 use Rattle.std.proofs.Common.{◌≡◌, sym, ◌∙◌}
 use Rattle.regrun.specs.declared.words.Built.TheVariants as built
-use Rattle.regrun.proofs.PlainSession.{plain_written}
+use Rattle.regrun.proofs.PlainLemmas.{plain_written}
 use Rattle.regrun.proofs.top.regrun.Goals as goal
 
 pub returns-clause-run : goal.returns-clause-run

@@ -1,16 +1,17 @@
 use Rattle.std.proofs.Common.{◌≡◌, ℕ, List, Ok, Err, Some, refl, ap, ◌∙◌, true, false}
 use Rattle.rl_report.specs.Opening.{FindsHead, TakesNoHead, separator_at}
 use Rattle.rl_report.specs.Reading.{input_of}
-use Rattle.regrun.specs.declared.status.Status.TheVariants.{SourceFault}
-use Rattle.regrun.specs.Log.{behind}
-use Rattle.regrun.specs.Session.{opening_of}
+use Rattle.rl_log.specs.declared.status.Status.TheVariants.{SourceFault}
+use Rattle.rl_session.specs.Session.{behind}
+use Rattle.rl_session.specs.Session.{opening_of}
 use Rattle.regrun.specs.Telling.{Stops}
-use Rattle.regrun.proofs.BufferLemmas.{keeps_refl}
-use Rattle.regrun.proofs.FaultLemmas.{off_in_head, off_in_script}
+use Rattle.rl_play.proofs.BufferLemmas.{keeps_refl}
+use Rattle.regrun.proofs.BreakLemmas.{off_in_head, off_in_script}
 use Rattle.regrun.proofs.JudgedLemmas.{runs_early, runs_stopped, runs_opened}
 use Rattle.regrun.proofs.OpeningLemmas.{from_fresh}
-use Rattle.regrun.proofs.PlainLaws.{laws}
-use Rattle.regrun.proofs.PlainSession.{plain_opened, plain_stopped}
+use Rattle.rl_plain_log.proofs.PlainLaws.{laws}
+use Rattle.rl_plain_log.proofs.PlainSession.{plain_opened}
+use Rattle.regrun.proofs.PlainLemmas.{plain_stopped}
 use Rattle.regrun.proofs.top.run.Goals as goal
 
 pub returns-in_default-clause-tells : goal.returns-in_default-clause-tells

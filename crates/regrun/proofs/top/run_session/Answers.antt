@@ -1,8 +1,8 @@
 use Rattle.std.proofs.Common.{map, refl, ◌≡◌, true, false}
-use Rattle.regrun.specs.declared.status.Status.TheVariants.{Memory}
-use Rattle.regrun.specs.Told.{told}
-use Rattle.regrun.proofs.BufferLemmas.{keeps_refl}
-use Rattle.regrun.proofs.FaultLemmas.{breaks_first}
+use Rattle.rl_log.specs.declared.status.Status.TheVariants.{Memory}
+use Rattle.rl_play.specs.Told.{told}
+use Rattle.rl_play.proofs.BufferLemmas.{keeps_refl}
+use Rattle.regrun.proofs.BreakLemmas.{breaks_first}
 use Rattle.regrun.proofs.JudgedLemmas.{session_early, session_told}
 use Rattle.regrun.proofs.top.run_session.Goals as goal
 

@@ -1,9 +1,10 @@
 use Rattle.std.proofs.Common.{◌≡◌, sym, ap, ◌∙◌, rules}
-use Rattle.regrun.specs.declared.status.Status.TheVariants.{Found, SinkFault}
-use Rattle.regrun.specs.Judged.{judged, map_judged}
-use Rattle.regrun.proofs.FaultLemmas.{off_written, same_status}
+use Rattle.rl_log.specs.declared.status.Status.TheVariants.{Found, SinkFault}
+use Rattle.rl_session.specs.Judged.{judged, map_judged}
+use Rattle.regrun.proofs.BreakLemmas.{off_written}
+use Rattle.rl_play.proofs.FaultLemmas.{same_status}
 use Rattle.regrun.proofs.JudgedLemmas.{judged_written, all_written}
-use Rattle.regrun.proofs.PlainSession.{same_complete}
+use Rattle.regrun.proofs.PlainLemmas.{same_complete}
 use Rattle.regrun.proofs.top.run_task.Goals as goal
 
 pub returns-clause-keeps_earlier : goal.returns-clause-keeps_earlier

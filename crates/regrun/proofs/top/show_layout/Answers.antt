@@ -1,7 +1,7 @@
 use Rattle.std.proofs.Common.{◌≡◌, Ok, refl}
-use Rattle.regrun.specs.Session.{opening_of}
+use Rattle.rl_session.specs.Session.{opening_of}
 use Rattle.regrun.specs.Telling.{Stops}
-use Rattle.regrun.proofs.BufferLemmas.{keeps_refl}
+use Rattle.rl_play.proofs.BufferLemmas.{keeps_refl}
 use Rattle.regrun.proofs.JudgedLemmas.{maps_early, maps_stopped, maps_opened}
 use Rattle.regrun.proofs.OpeningLemmas.{from_fresh}
 use Rattle.regrun.proofs.top.show_layout.Goals as goal

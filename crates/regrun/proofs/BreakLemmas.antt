@@ -1,0 +1,206 @@
+-- What was told when a source failed.
+use Rattle.std.proofs.Common.{◌≡◌, ◌≢◌, ℕ, ◌+◌, ◌≤◌, Bool, true, false, ◌&&◌, cond, eqb, List, [], ◌∷◌, ◌++◌, length, drop, Option, Some, None, IfSome, Result, Ok, Err, refl, sym, ap, subst, ◌∙◌, append_assoc, length-append, arith}
+use Rattle.std.specs.Io.KnownBytes.{Appends, Keeps}
+use Rattle.std.proofs.lemmas.Bool.{true≢false}
+use Rattle.std.proofs.Math.Seq.{drop-append_seam}
+use Rattle.rl_bus.specs.declared.op.AdapterKind.{AdapterKind}
+use Rattle.rl_bus.specs.Standing.{Standing, kinds_of}
+use Rattle.rl_bus.specs.State.{State}
+use Rattle.rl_access.specs.Model.{ModelData}
+use Rattle.rl_desc.specs.Data.{DescData}
+use Rattle.rl_report.specs.Lines.{first_line, after_line, whole_lines}
+use Rattle.rl_report.specs.Opening.{FindsHead, TakesNoHead, is_separator, separator_at, separator_from}
+use Rattle.rl_report.specs.Reading.{Reading, input_of}
+use Rattle.rl_report.proofs.OpeningLemmas.{no_ten}
+use Rattle.rl_report.proofs.TakenLemmas.{begins_later}
+use Rattle.rl_log.specs.declared.status.Status.{Status}
+use Rattle.rl_log.specs.declared.status.Status.TheVariants.{SourceFault}
+use Rattle.rl_log.specs.Causes.{IsCaused}
+use Rattle.regrun.specs.Output.{BreaksOff}
+use Rattle.rl_session.specs.Judged.{taken_by, taken_text, first_world}
+use Rattle.rl_session.specs.Session.{behind, opening_of}
+use Rattle.rl_log.specs.Log.{lines_text}
+use Rattle.rl_play.specs.Played.{BreaksAfter, Breaks}
+use Rattle.rl_log.specs.World.{IsAt}
+use Rattle.rl_play.proofs.BufferLemmas.{keeps_then_appends}
+use Rattle.rl_play.proofs.EndingLemmas.{appends_keeps, keeps_nothing}
+use Rattle.rl_session.proofs.SessionLemmas.{found_head, opening_found}
+use Rattle.rl_play.proofs.FaultLemmas.{nothing_from, breaks_at}
+
+-- ---- what is behind a separator
+
+pub after_none : (p : List ℕ) → first_line p ≡ p → after_line p ≡ []
+after_none [] none = refl
+after_none (b ∷ bs) none = let t = no_ten b bs none in ap (λ c. cond c bs (after_line bs)) t.0 ∙ after_none bs t.1
+
+after_by : (b : ℕ) (bs more : List ℕ) (t : Bool) → eqb b 10 ≡ t → after_line (first_line bs ++ 10 ∷ more) ≡ more
+    → after_line (cond t [] (b ∷ first_line bs) ++ 10 ∷ more) ≡ more
+after_by b bs more true e rest = refl
+after_by b bs more false e rest =
+    ap (λ c. cond c (first_line bs ++ 10 ∷ more) (after_line (first_line bs ++ 10 ∷ more))) e ∙ rest
+
+after_first : (p more : List ℕ) → after_line (first_line p ++ 10 ∷ more) ≡ more
+after_first [] more = refl
+after_first (b ∷ bs) more = after_by b bs more (eqb b 10) refl (after_first bs more)
+
+-- the lines before a 10 don't depend on what is behind it
+first_same : (l a b : List ℕ) → first_line (l ++ 10 ∷ a) ≡ first_line (l ++ 10 ∷ b)
+first_same [] a b = refl
+first_same (x ∷ xs) a b = ap (λ l. cond (eqb x 10) [] (x ∷ l)) (first_same xs a b)
+
+stays_by : (at n : ℕ) (t u : Bool) (o p : Option ℕ) → t ≡ u → (o ≡ Some n → p ≡ Some n) → cond t (Some at) o ≡ Some n
+    → cond u (Some at) p ≡ Some n
+stays_by at n true true o p same rest h = h
+stays_by at n true false o p same rest h = absurd (true≢false same)
+stays_by at n false true o p same rest h = absurd (true≢false (sym same))
+stays_by at n false false o p same rest h = rest h
+
+too_late : (at n : ℕ) (o p : Option ℕ) → (o ≡ Some n → at + 1 ≤ n) → n ≤ at → o ≡ Some n → p ≡ Some n
+too_late at n o p later early e = absurd (omega (arith, later e, early))
+
+-- a separator that begins before a 10 begins there whatever is behind it
+stays : (at n : ℕ) (starts : Bool) (l a b : List ℕ) → n ≤ at + length l → separator_from at starts
+    (l ++ 10 ∷ a) ≡ Some n → separator_from at starts (l ++ 10 ∷ b) ≡ Some n
+stays at n starts [] a b within h =
+    stays_by at n (starts && is_separator []) (starts && is_separator []) (separator_from (at + 1) true a)
+    (separator_from (at + 1) true b) refl
+    (too_late at n (separator_from (at + 1) true a) (separator_from (at + 1) true b) (begins_later (at + 1) true a n)
+    (omega (arith, within))) h
+stays at n starts (x ∷ xs) a b within h =
+    stays_by at n (starts && is_separator (first_line (x ∷ (xs ++ 10 ∷ a))))
+    (starts && is_separator (first_line (x ∷ (xs ++ 10 ∷ b))))
+    (separator_from (at + 1) (eqb x 10) (xs ++ 10 ∷ a)) (separator_from (at + 1) (eqb x 10) (xs ++ 10 ∷ b))
+    (ap (λ l. starts && is_separator l) (first_same (x ∷ xs) a b))
+    (stays (at + 1) n (eqb x 10) xs a b (omega (arith, within))) h
+
+-- ---- a session that broke off in its head
+
+nothing_behind : (place : Option ℕ) (taken : List ℕ) →
+    ((at : ℕ) → place ≡ Some at → first_line (drop at taken) ≡ drop at taken) → behind place taken ≡ []
+nothing_behind None taken none = refl
+nothing_behind (Some at) taken none = after_none (drop at taken) (none at refl)
+
+nothing_taken : (o : Result DescData (List ℕ)) (taken : List ℕ) (adapters : List Standing) → behind
+    (separator_at taken) taken ≡ [] → taken_by o taken adapters ≡ []
+nothing_taken (Ok desc) taken adapters none =
+    nothing_from 1 (first_world desc adapters) (whole_lines (behind (separator_at taken) taken)) (ap whole_lines none)
+nothing_taken (Err line) taken adapters none = refl
+
+pub off_in_head : (input : Option (List ℕ)) (adapters : List Standing) (left old new : Option (List ℕ)) → IfSome input
+    (λ bytes. TakesNoHead bytes left) → Keeps old new → IfSome input (λ bytes. BreaksOff bytes adapters left old new)
+off_in_head None adapters left old new h same = tt
+off_in_head (Some bytes) adapters left old new h same = record {
+  taken = h.taken;
+  others = h.others;
+  split = h.split;
+  is_left = h.is_left;
+  text = subst (Appends old new) (sym (nothing_taken (opening_of h.taken (kinds_of adapters)) h.taken adapters
+      (nothing_behind (separator_at h.taken) h.taken h.none))) (keeps_nothing old new same);
+}
+
+-- ---- a session that broke off in its script
+
+-- a reader at its end, that holds these bytes
+abbrev holding : List ℕ → Reading
+holding bytes =
+    record { pending = bytes; line = []; asked = true; found = true; refused = false; ended = true; closed = false }
+
+-- the front of a session up to its separator's line describes the same
+same_opening : (bytes taken head : List ℕ) (kinds : List AdapterKind) (desc : DescData) (new : Reading)
+    (left : Option (List ℕ)) → FindsHead bytes head new left → opening_of bytes kinds ≡ Ok desc
+    → separator_at taken ≡ Some (length head) → head ++ drop (length head) taken ≡ taken → opening_of taken kinds ≡ Ok desc
+same_opening bytes taken head kinds desc new left f is place front =
+    let g : FindsHead taken head (holding (after_line (drop (length head) taken))) None =
+    record { place = place; short = f.short; front = front; rest = refl; whole = λ going. absurd (true≢false going) } in
+    opening_found taken head kinds (found_head taken head (holding (after_line (drop (length head) taken))) None g)
+    ∙ sym (opening_found bytes head kinds (found_head bytes head new left f)) ∙ is
+
+taken_is : (taken more : List ℕ) (place : ℕ) (adapters : List Standing) (desc : DescData) → opening_of taken
+    (kinds_of adapters) ≡ Ok desc → separator_at taken ≡ Some place → after_line (drop place taken) ≡ more
+    → taken_text taken adapters ≡ lines_text 1 (first_world desc adapters) (whole_lines more)
+taken_is taken more place adapters desc is at rest =
+    ap (λ o. taken_by o taken adapters) is ∙ ap (λ place. lines_text 1 (first_world desc adapters)
+    (whole_lines (behind place taken))) at ∙ ap (λ l. lines_text 1 (first_world desc adapters) (whole_lines l)) rest
+
+off_behind : (bytes head : List ℕ) (adapters : List Standing) (desc : DescData) (new : Reading)
+    (reached left old mid last : Option (List ℕ)) → FindsHead bytes head new reached → new.ended ≡ false
+    → opening_of bytes (kinds_of adapters) ≡ Ok desc
+    → Keeps old mid → BreaksAfter 1 (first_world desc adapters) (after_line (drop (length head) bytes)) left mid last
+    → BreaksOff bytes adapters left old last
+off_behind bytes head adapters desc new reached left old mid last f going is same b =
+    let d = drop (length head) bytes in
+    let line = first_line d in
+    let before = head ++ line in
+    let taken = before ++ 10 ∷ b.taken in
+    let all : before ++ 10 ∷ after_line d ≡ bytes = append_assoc head line (10 ∷ after_line d) ∙ ap (λ l. head ++ l)
+    (sym (f.whole going)) ∙ f.front in
+    let place : separator_at taken ≡ Some (length head) =
+    stays 0 (length head) true before (after_line d) b.taken (omega (arith, length-append head line))
+    (ap separator_at all ∙ f.place) in
+    let dropped : drop (length head) taken ≡ line ++ 10 ∷ b.taken = ap (drop (length head))
+    (append_assoc head line (10 ∷ b.taken)) ∙ drop-append_seam head (line ++ 10 ∷ b.taken) in
+    let front : head ++ drop (length head) taken ≡ taken = ap (λ l. head ++ l) dropped ∙ sym
+    (append_assoc head line (10 ∷ b.taken)) in
+    let opening = same_opening bytes taken head (kinds_of adapters) desc new reached f is place front in
+    let text = taken_is taken b.taken (length head) adapters desc opening place
+    (ap after_line dropped ∙ after_first d b.taken) in
+    record {
+      taken = taken;
+      others = b.others;
+      split = append_assoc before (10 ∷ b.taken) b.others ∙ ap (λ l. before ++ 10 ∷ l) b.split ∙ all;
+      is_left = b.is_left;
+      text = subst (Appends old last) (sym text) (keeps_then_appends old mid last
+          (lines_text 1 (first_world desc adapters) (whole_lines b.taken)) same b.text);
+    }
+
+off_one : (bytes head : List ℕ) (adapters : List Standing) (desc : DescData) (new : Reading)
+    (reached left old mid last : Option (List ℕ)) → FindsHead bytes head new reached → new.ended ≡ false
+    → opening_of bytes (kinds_of adapters) ≡ Ok desc
+    → Keeps old mid → IfSome (input_of new reached)
+    (λ rest. BreaksAfter 1 (first_world desc adapters) rest left mid last) → BreaksOff bytes adapters left old last
+off_one bytes head adapters desc new reached left old mid last f going is same b =
+    off_behind bytes head adapters desc new reached left old mid last f going is same
+    (subst (λ o. IfSome o (λ rest. BreaksAfter 1 (first_world desc adapters) rest left mid last)) f.rest b)
+
+pub off_in_script : (input : Option (List ℕ)) (adapters : List Standing) (desc : DescData) (new : Reading)
+    (reached left old mid last : Option (List ℕ)) → IfSome input
+    (λ bytes. (head : List ℕ) × FindsHead bytes head new reached) → new.ended ≡ false
+    → IfSome input (λ bytes. opening_of bytes (kinds_of adapters) ≡ Ok desc) → Keeps old mid → IfSome
+    (input_of new reached) (λ rest. BreaksAfter 1 (first_world desc adapters) rest left mid last)
+    → IfSome input (λ bytes. BreaksOff bytes adapters left old last)
+off_in_script None adapters desc new reached left old mid last f going is same b = tt
+off_in_script (Some bytes) adapters desc new reached left old mid last f going is same b =
+    off_one bytes f.0 adapters desc new reached left old mid last f.1 going is same b
+
+-- ---- from the first state
+
+some_is : {x y : State} → Some x ≡ Some y → x ≡ y
+some_is e = cc
+
+pub breaks_first : (input : Option (List ℕ)) (desc : DescData) (adapters : List Standing) (m : ModelData) (st : State)
+    (left old new : Option (List ℕ)) → IsAt m adapters (Some st) (first_world desc adapters)
+    → Breaks 1 m adapters (Some st) input left old new → IfSome input
+    (λ bytes. BreaksAfter 1 (first_world desc adapters) bytes left old new)
+breaks_first None desc adapters m st left old new here h = tt
+breaks_first (Some bytes) desc adapters m st left old new here h =
+    breaks_at 1 m adapters (Some st) (first_world desc adapters) (Some bytes) left old new bytes here refl h
+
+-- ---- what was written in the end
+
+pub off_written : (input : Option (List ℕ)) (adapters : List Standing) (left old told new : Option (List ℕ))
+    → IfSome input (λ bytes. BreaksOff bytes adapters left old told) → Keeps told new → IfSome input
+    (λ bytes. BreaksOff bytes adapters left old new)
+off_written None adapters left old told new h same = tt
+off_written (Some bytes) adapters left old told new h same =
+    record {
+      taken = h.taken;
+      others = h.others;
+      split = h.split;
+      is_left = h.is_left;
+      text = appends_keeps old told new
+          (taken_text h.taken adapters) h.text same;
+    }
+
+-- a source that didn't fail is no cause
+pub no_source : (status : Status) (sink now : ℕ) → IsCaused status 0 0 sink now → status ≢ SourceFault
+no_source status sink now h is = omega (arith, h.source_fault is)

@@ -1,5 +1,0 @@
-use Rattle.regrun.proofs.EndingLemmas.{append_none}
-use Rattle.regrun.proofs.buffered.Buffered.new.Goals as goal
-
-pub returns-clause-told : goal.returns-clause-told
-returns-clause-told g c = append_none _

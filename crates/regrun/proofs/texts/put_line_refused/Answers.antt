@@ -1,5 +1,0 @@
-use Rattle.regrun.proofs.texts.put_line_refused.Goals as goal
-
-pub returns-clause-bytes : goal.returns-clause-bytes
-returns-clause-bytes g c =
-    rw (c.as_bytes.ensures.value, c.format.ensures.text, c.reason.ensures) at c.put_pieces.ensures.bytes

@@ -1,0 +1,11 @@
+pub mod Causes
+pub mod Course
+pub mod Endings
+pub mod Entry
+pub mod Log
+pub mod Named
+pub mod Recording
+pub mod Statuses
+pub mod Telling
+pub mod Texts
+pub mod World

@@ -1,0 +1,10 @@
+//! What a log says: the definitions of the judged log of a script, and the counts, statuses and refusals that it tells.
+#![tactic(auto)]
+
+mod counts;
+mod refusal;
+mod status;
+
+pub use counts::Counts;
+pub use refusal::LineRefusal;
+pub use status::Status;

@@ -1,0 +1,9 @@
+pub mod LogLines
+pub mod PlainCourse
+pub mod PlainEntries
+pub mod PlainLaws
+pub mod PlainNames
+pub mod PlainNumbers
+pub mod PlainSession
+pub mod PlainStep
+pub mod PlainText

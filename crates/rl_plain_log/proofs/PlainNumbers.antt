@@ -1,0 +1,207 @@
+-- The numbers in the operations of a script are in range.
+use Rattle.std.proofs.Common.{◌≡◌, ℕ, zero, suc, ◌+◌, ◌*◌, ◌<◌, Bool, true, false, List, [], length, take, drop, map, Option, Some, None, refl, sym, ap, subst, ◌∙◌, arith, length-take}
+use Rattle.std.specs.Prelude.{option_map, bytes_eq}
+use Rattle.std.proofs.lemmas.List.{length-map}
+use Rattle.std.proofs.lemmas.List.Quantifiers.{position-Some}
+use Rattle.rl_map.specs.declared.rows.MapRow.{MapRow}
+use Rattle.rl_map.specs.Layout.{LayoutData, place_at, map_named, no_map, IsSound as IsLayout}
+use Rattle.rl_model.specs.Chip.{IsSound, field_path}
+use Rattle.rl_model.specs.Rows.{ChipData}
+use Rattle.rl_model.specs.Fields.{size_of}
+use Rattle.rl_model.specs.declared.rows.Item.TheVariants.{Reg, Mem}
+use Rattle.rl_access.specs.declared.event.Op.{Op}
+use Rattle.rl_access.specs.declared.event.Op.TheVariants as op
+use Rattle.rl_access.specs.Model.{ModelData}
+use Rattle.rl_access.specs.Operation.{IsMapIn, HasNumbers}
+use Rattle.rl_access.specs.Rules.{memory_size}
+use Rattle.rl_script.specs.declared.line.Line.{Line}
+use Rattle.rl_script.specs.declared.line.Line.TheVariants as line
+use Rattle.rl_script.specs.declared.line.Sequence.{Sequence}
+use Rattle.rl_script.specs.declared.line.Sequence.TheVariants.{HwReset, BitBash, Access, Shared, MemWalk}
+use Rattle.rl_seq.specs.Choice.{is_place}
+use Rattle.rl_seq.specs.Plan.{Plan, stop, step, look, followed_by, only_if, each_below}
+use Rattle.rl_seq.specs.Steps.{check_at_place, check_reg, bash_once, bash_bit, bash_place, bash_reg, hw_reset_plan, bit_bash_plan}
+use Rattle.rl_seq.specs.Tests.{access_at, access_place, access_reg, check_other, share_at, share_place, share_reg, write_turned, check_turned, turn_before, check_last, walk_location, walk_place, walk_mem, access_test_plan, shared_access_plan, mem_walk_plan}
+use Rattle.rl_log.specs.Entry.{plan_of}
+use Rattle.rl_log.specs.Named.{number_of, reg_named, mem_named, field_named, kind_named, map_asked, with_number, with_map, op_named}
+
+-- ---- the number of a name
+
+number_in : (names : List (List ℕ)) (name : List ℕ) (n : ℕ) → number_of names name ≡ Some n → n < length names
+number_in names name n is = (position-Some (bytes_eq name) names n [] is).0
+
+pub reg_in : (c : ChipData) (path : List ℕ) (n : ℕ) → reg_named c path ≡ Some n → n < length c.regs
+reg_in c path n is =
+    let low = number_in (take (length c.regs) (drop c.scopes c.paths)) path n is in
+    let long = length-take (length c.regs) (drop c.scopes c.paths) in omega arith
+
+pub mem_in : (c : ChipData) (path : List ℕ) (n : ℕ) → mem_named c path ≡ Some n → n < length c.mems
+mem_in c path n is =
+    let low = number_in (take (length c.mems) (drop (c.scopes + length c.regs) c.paths)) path n is in
+    let long = length-take (length c.mems) (drop (c.scopes + length c.regs) c.paths) in omega arith
+
+field_in : (c : ChipData) (path : List ℕ) (n : ℕ) → field_named c path ≡ Some n → n < length c.fields
+field_in c path n is =
+    let low = number_in (map (field_path c) c.fields) path n is in
+    let long = length-map c.fields (field_path c) in omega arith
+
+kind_in : (c : ChipData) (name : List ℕ) (n : ℕ) → kind_named c name ≡ Some n → n < length c.kinds
+kind_in c name n is = number_in c.kinds name n is
+
+some_is : {A : Type 0} {x y : A} → Some x ≡ Some y → x ≡ y
+some_is e = cc
+
+map_there : (l : LayoutData) (o : Option ℕ) (t : Option ℕ) → ((n : ℕ) → o ≡ Some n → n < length l.maps) → option_map Some o ≡ Some t → IsMapIn (length l.maps) t
+map_there l None t h is = absurd (cc)
+map_there l (Some n) t h is = subst (IsMapIn (length l.maps)) (some_is is) (h n refl)
+
+pub map_in : (l : LayoutData) (name : Option (List ℕ)) (t : Option ℕ) → map_asked l name ≡ Some t → IsMapIn (length l.maps) t
+map_in l None t is = subst (IsMapIn (length l.maps)) (some_is is) tt
+map_in l (Some name) t is =
+    map_there l (map_named l name) t (λ n at. (position-Some (λ (m : MapRow). bytes_eq m.name name) l.maps n no_map at).0) is
+
+-- ---- the operation of a line
+
+by_map : (number : Option ℕ) (map : Option (Option ℕ)) (make : ℕ → Option ℕ → Op) (op : Op) (P : Op → Type 0) → ((n : ℕ) (t : Option ℕ) → number ≡ Some n → map ≡ Some t → P (make n t)) → with_map number map make ≡ Some op → P op
+by_map None map make op P h is = absurd (cc)
+by_map (Some n) None make op P h is = absurd (cc)
+by_map (Some n) (Some t) make op P h is = subst P (some_is is) (h n t refl refl)
+
+by_number : (number : Option ℕ) (make : ℕ → Op) (op : Op) (P : Op → Type 0) → ((n : ℕ) → number ≡ Some n → P (make n)) → with_number number make ≡ Some op → P op
+by_number None make op P h is = absurd (cc)
+by_number (Some n) make op P h is = subst P (some_is is) (h n refl)
+
+module _ (m : ModelData) where
+  abbrev Fine : Op → Type 0
+  Fine op = HasNumbers m.chip (length m.layout.maps) op
+
+  on_reg : (reg : List ℕ) (map : Option (List ℕ)) (make : ℕ → Option ℕ → Op) (op : Op) → ((n : ℕ) (t : Option ℕ) → (n < length m.chip.regs) × IsMapIn (length m.layout.maps) t → Fine (make n t))
+      → with_map (reg_named m.chip reg) (map_asked m.layout map) make ≡ Some op → Fine op
+  on_reg reg map make op h is = by_map (reg_named m.chip reg) (map_asked m.layout map) make op Fine (λ n t a b. h n t (reg_in m.chip reg n a, map_in m.layout map t b)) is
+
+  on_field : (field : List ℕ) (map : Option (List ℕ)) (make : ℕ → Option ℕ → Op) (op : Op) → ((n : ℕ) (t : Option ℕ) → (n < length m.chip.fields) × IsMapIn (length m.layout.maps) t → Fine (make n t))
+      → with_map (field_named m.chip field) (map_asked m.layout map) make ≡ Some op → Fine op
+  on_field field map make op h is = by_map (field_named m.chip field) (map_asked m.layout map) make op Fine (λ n t a b. h n t (field_in m.chip field n a, map_in m.layout map t b)) is
+
+  on_mem : (mem : List ℕ) (map : Option (List ℕ)) (make : ℕ → Option ℕ → Op) (op : Op) → ((n : ℕ) (t : Option ℕ) → (n < length m.chip.mems) × IsMapIn (length m.layout.maps) t → Fine (make n t))
+      → with_map (mem_named m.chip mem) (map_asked m.layout map) make ≡ Some op → Fine op
+  on_mem mem map make op h is = by_map (mem_named m.chip mem) (map_asked m.layout map) make op Fine (λ n t a b. h n t (mem_in m.chip mem n a, map_in m.layout map t b)) is
+
+  reg_alone : (reg : List ℕ) (make : ℕ → Op) (op : Op) → ((n : ℕ) → n < length m.chip.regs → Fine (make n)) → with_number (reg_named m.chip reg) make ≡ Some op → Fine op
+  reg_alone reg make op h is = by_number (reg_named m.chip reg) make op Fine (λ n a. h n (reg_in m.chip reg n a)) is
+
+  field_alone : (field : List ℕ) (make : ℕ → Op) (op : Op) → ((n : ℕ) → n < length m.chip.fields → Fine (make n)) → with_number (field_named m.chip field) make ≡ Some op → Fine op
+  field_alone field make op h is = by_number (field_named m.chip field) make op Fine (λ n a. h n (field_in m.chip field n a)) is
+
+  mem_alone : (mem : List ℕ) (make : ℕ → Op) (op : Op) → ((n : ℕ) → n < length m.chip.mems → Fine (make n)) → with_number (mem_named m.chip mem) make ≡ Some op → Fine op
+  mem_alone mem make op h is = by_number (mem_named m.chip mem) make op Fine (λ n a. h n (mem_in m.chip mem n a)) is
+
+  pub op_numbers : (l : Line) (op : Op) → op_named m l ≡ Some op → HasNumbers m.chip (length m.layout.maps) op
+  op_numbers (line.Write reg value map) o is = on_reg reg map (λ r t. op.Write r t value) o (λ n t h. h) is
+  op_numbers (line.Read reg map) o is = on_reg reg map (λ r t. op.Read r t) o (λ n t h. h) is
+  op_numbers (line.Mirror reg map) o is = on_reg reg map (λ r t. op.Mirror r t) o (λ n t h. h) is
+  op_numbers (line.Check reg map) o is = on_reg reg map (λ r t. op.Check r t) o (λ n t h. h) is
+  op_numbers (line.Update reg map) o is = on_reg reg map (λ r t. op.Update r t) o (λ n t h. h) is
+  op_numbers (line.OtherWrite reg value map) o is = on_reg reg map (λ r t. op.OtherWrite r t value) o (λ n t h. h) is
+  op_numbers (line.OtherRead reg map) o is = on_reg reg map (λ r t. op.OtherRead r t) o (λ n t h. h) is
+  op_numbers (line.FieldWrite field value map) o is = on_field field map (λ f t. op.FieldWrite f t value) o (λ n t h. h) is
+  op_numbers (line.FieldRead field map) o is = on_field field map (λ f t. op.FieldRead f t) o (λ n t h. h) is
+  op_numbers (line.Set field value) o is = field_alone field (λ f. op.Set f value) o (λ n h. h) is
+  op_numbers (line.Hw field value) o is = field_alone field (λ f. op.Hw f value) o (λ n h. h) is
+  op_numbers (line.Show reg) o is = reg_alone reg (λ r. op.Show r) o (λ n h. h) is
+  op_numbers (line.BackRead reg) o is = reg_alone reg (λ r. op.BackRead r) o (λ n h. h) is
+  op_numbers (line.BackCheck reg) o is = reg_alone reg (λ r. op.BackCheck r) o (λ n h. h) is
+  op_numbers (line.Peek reg) o is = reg_alone reg (λ r. op.Peek r) o (λ n h. h) is
+  op_numbers (line.BackWrite reg value) o is = reg_alone reg (λ r. op.BackWrite r value) o (λ n h. h) is
+  op_numbers (line.Poke reg value) o is = reg_alone reg (λ r. op.Poke r value) o (λ n h. h) is
+  op_numbers (line.MemWrite mem index value map) o is = on_mem mem map (λ i t. op.MemWrite i t index value) o (λ n t h. h) is
+  op_numbers (line.MemCheck mem index value map) o is = on_mem mem map (λ i t. op.MemCheck i t index value) o (λ n t h. h) is
+  op_numbers (line.MemRead mem index map) o is = on_mem mem map (λ i t. op.MemRead i t index) o (λ n t h. h) is
+  op_numbers (line.MemPeek mem index) o is = mem_alone mem (λ i. op.MemPeek i index) o (λ n h. h) is
+  op_numbers (line.MemPoke mem index value) o is = mem_alone mem (λ i. op.MemPoke i index value) o (λ n h. h) is
+  op_numbers (line.Reset kind) o is = by_number (kind_named m.chip kind) (λ k. op.Reset k) o Fine (λ n a. kind_in m.chip kind n a) is
+  op_numbers _ o is = absurd (cc)
+
+-- ---- the operations of a plan
+
+abbrev pub HasPlanNumbers : ChipData → (maps : ℕ) → Plan → Type 0
+HasPlanNumbers c maps stop = Unit {0}
+HasPlanNumbers c maps (step op p) = HasNumbers c maps op × HasPlanNumbers c maps p
+HasPlanNumbers c maps (look f) = (m : ModelData) → HasPlanNumbers c maps (f m)
+
+module _ (c : ChipData) (l : LayoutData) (chip : IsSound c) (layout : IsLayout l) where
+  abbrev Good : Plan → Type 0
+  Good p = HasPlanNumbers c (length l.maps) p
+
+  then_on : (p q : Plan) → Good p → Good q → Good (followed_by p q)
+  then_on stop q h g = g
+  then_on (step op p) q h g = (h.0, then_on p q h.1 g)
+  then_on (look f) q h g = λ m. then_on (f m) q (h m) g
+
+  where_chosen : (b : Bool) (p : Plan) → Good p → Good (only_if b p)
+  where_chosen true p h = h
+  where_chosen false p h = tt
+
+  below : (n : ℕ) (f : ℕ → Plan) → ((i : ℕ) → i < n → Good (f i)) → Good (each_below n f)
+  below zero f h = tt
+  below (suc n) f h = then_on (each_below n f) (f n) (below n f (λ i low. h i (omega arith))) (h n (omega arith))
+
+  map_low : (place : ℕ) → place < length l.places → (place_at l place).map < length l.maps
+  map_low place low = (layout.each_place place low).map
+
+  check_there : (reg place : ℕ) → reg < length c.regs → place < length l.places → Good (check_at_place l reg place)
+  check_there reg place lr lp = where_chosen _ (step (op.Check reg (Some (place_at l place).map)) stop) ((lr, map_low place lp), tt)
+
+  hw_reset_numbers : (block : Option ℕ) → Good (hw_reset_plan c l block)
+  hw_reset_numbers block =
+      let kind : 0 < length c.kinds = let two = chip.two_kinds in omega arith in
+      (kind, below (length c.regs) (check_reg c l block) (λ reg lr. where_chosen _ (each_below (length l.places) (check_at_place l reg)) (below (length l.places) (check_at_place l reg) (λ place lp. check_there reg place lr lp))))
+
+  bashed : (reg map bit : ℕ) → reg < length c.regs → map < length l.maps → Good (bash_bit c reg map bit)
+  bashed reg map bit lr lm =
+      let once : Good (bash_once reg map bit) = λ m. ((lr, lm), ((lr, lm), tt)) in
+      where_chosen _ (followed_by (bash_once reg map bit) (bash_once reg map bit)) (then_on (bash_once reg map bit) (bash_once reg map bit) once once)
+
+  bit_bash_numbers : (block : Option ℕ) → Good (bit_bash_plan c l block)
+  bit_bash_numbers block =
+      below (length c.regs) (bash_reg c l block) (λ reg lr. where_chosen _ (each_below (length l.places) (bash_place c l reg))
+      (below (length l.places) (bash_place c l reg) (λ place lp. where_chosen (is_place l place (Reg reg) true true) (each_below (8 * size_of c reg) (bash_bit c reg (place_at l place).map))
+      (below (8 * size_of c reg) (bash_bit c reg (place_at l place).map) (λ bit lb. bashed reg (place_at l place).map bit lr (map_low place lp))))))
+
+  accessed : (reg map : ℕ) → reg < length c.regs → map < length l.maps → Good (access_at c reg map)
+  accessed reg map lr lm = λ m. ((lr, lm), (lr, (lr, ((lr, lm), tt))))
+
+  access_numbers : (block : Option ℕ) → Good (access_test_plan c l block)
+  access_numbers block =
+      below (length c.regs) (access_reg c l block) (λ reg lr. where_chosen _ (each_below (length l.places) (access_place c l reg))
+      (below (length l.places) (access_place c l reg) (λ place lp. where_chosen _ (access_at c reg (place_at l place).map) (accessed reg (place_at l place).map lr (map_low place lp)))))
+
+  shared_numbers : (block : Option ℕ) → Good (shared_access_plan c l block)
+  shared_numbers block =
+      below (length c.regs) (share_reg c l block) (λ reg lr. where_chosen _ (each_below (length l.places) (share_place c l reg))
+      (below (length l.places) (share_place c l reg) (λ place lp. where_chosen _ (share_at c l reg place)
+      (λ m. ((lr, map_low place lp), below (length l.places) (check_other l reg place) (λ other lo. where_chosen _ (check_at_place l reg other) (check_there reg other lr lo)))))))
+
+  walked : (mem map k : ℕ) → mem < length c.mems → map < length l.maps → Good (walk_location c mem map k)
+  walked mem map k li lm =
+      let wrote : Good (write_turned c mem map k) = ((li, lm), tt) in
+      let checked : Good (check_turned c mem map k) = ((li, lm), tt) in
+      then_on (write_turned c mem map k) (followed_by (turn_before c mem map k) (check_last c mem map k)) wrote
+      (then_on (turn_before c mem map k) (check_last c mem map k) (before k) (where_chosen _ (check_turned c mem map k) checked))
+    where
+      before : (n : ℕ) → Good (turn_before c mem map n)
+      before zero = tt
+      before (suc n) = ((li, lm), ((li, lm), tt))
+
+  mem_walk_numbers : (block : Option ℕ) → Good (mem_walk_plan c l block)
+  mem_walk_numbers block =
+      below (length c.mems) (walk_mem c l block) (λ mem li. where_chosen _ (each_below (length l.places) (walk_place c l mem))
+      (below (length l.places) (walk_place c l mem) (λ place lp. where_chosen (is_place l place (Mem mem) true true) (each_below (memory_size c mem) (walk_location c mem (place_at l place).map))
+      (below (memory_size c mem) (walk_location c mem (place_at l place).map) (λ k lk. walked mem (place_at l place).map k li (map_low place lp))))))
+
+  pub plan_numbers : (which : Sequence) (m : ModelData) (block : Option ℕ) → m.chip ≡ c → m.layout ≡ l → HasPlanNumbers c (length l.maps) (plan_of which m block)
+  plan_numbers HwReset m block e f = subst Good (ap (λ x. hw_reset_plan x l block) (sym e) ∙ ap (λ y. hw_reset_plan m.chip y block) (sym f)) (hw_reset_numbers block)
+  plan_numbers BitBash m block e f = subst Good (ap (λ x. bit_bash_plan x l block) (sym e) ∙ ap (λ y. bit_bash_plan m.chip y block) (sym f)) (bit_bash_numbers block)
+  plan_numbers Access m block e f = subst Good (ap (λ x. access_test_plan x l block) (sym e) ∙ ap (λ y. access_test_plan m.chip y block) (sym f)) (access_numbers block)
+  plan_numbers Shared m block e f = subst Good (ap (λ x. shared_access_plan x l block) (sym e) ∙ ap (λ y. shared_access_plan m.chip y block) (sym f)) (shared_numbers block)
+  plan_numbers MemWalk m block e f = subst Good (ap (λ x. mem_walk_plan x l block) (sym e) ∙ ap (λ y. mem_walk_plan m.chip y block) (sym f)) (mem_walk_numbers block)

@@ -1,0 +1,13 @@
+pub mod BufferLemmas
+pub mod Courses
+pub mod DoneLemmas
+pub mod EndingLemmas
+pub mod EntryLemmas
+pub mod FaultLemmas
+pub mod NamedLemmas
+pub mod PlayLemmas
+pub mod ReadyLemmas
+pub mod Recorded
+pub mod SequenceLemmas
+pub mod Traces
+pub mod WrittenLemmas

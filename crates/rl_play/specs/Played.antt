@@ -1,0 +1,191 @@
+-- What was written and done of a line, and of a script, against what they come to.
+use Rattle.std.specs.Prelude.{◌≡◌, ℕ, ◌+◌, List, ◌++◌, true, false, Option, Some, None, IfSome, Result, Ok, Err}
+use Rattle.std.specs.Io.KnownBytes.{Appends, Keeps}
+use Rattle.rl_access.specs.Model.{ModelData}
+use Rattle.rl_bus.specs.declared.device.Failed.{Failed}
+use Rattle.rl_bus.specs.Standing.{Standing}
+use Rattle.rl_bus.specs.State.{State}
+use Rattle.rl_report.specs.Lines.{lines_of, whole_lines}
+use Rattle.rl_report.specs.Pieces.{AppendsFront}
+use Rattle.rl_script.specs.declared.line.Line.{Line}
+use Rattle.rl_log.specs.declared.counts.Counts.{Counts}
+use Rattle.rl_play.specs.declared.playing.Turn.{Turn}
+use Rattle.rl_play.specs.declared.playing.Turn.TheVariants.{Next, Stop}
+use Rattle.rl_log.specs.declared.status.Status.{Status}
+use Rattle.rl_log.specs.declared.refusal.LineRefusal.{LineRefusal}
+use Rattle.rl_log.specs.declared.refusal.LineRefusal.TheVariants.{NoSuchName}
+use Rattle.rl_log.specs.Endings.{added}
+use Rattle.rl_log.specs.Entry.{Entry}
+use Rattle.rl_log.specs.Log.{Ending, script_from, lines_text, after_text, comes_of, stops}
+use Rattle.rl_play.specs.Moment.{Moment, FromWorld}
+use Rattle.rl_play.specs.Recording.{IsDone}
+use Rattle.rl_log.specs.Recording.{no_counts, with_events}
+use Rattle.rl_log.specs.Statuses.{is_complete}
+use Rattle.rl_log.specs.Telling.{Tells}
+use Rattle.rl_log.specs.World.{World, world, IsAt}
+
+-- ---- how a script ends
+
+-- it came to its last line, with its status and counts, and led here
+pub record IsOver (e : Ending) (status : Status) (old new : Option (List ℕ)) (counts : Counts)
+    (model : ModelData) (adapters : List Standing) (device : Option State) : Type 0 where
+  pub status_is : status ≡ e.status
+  pub text : Appends old new e.text
+  pub counts_are : counts ≡ e.counts
+  pub after : IsAt model adapters device e.world
+
+-- its status and counts, and where it led
+pub record IsPlayed (e : Ending) (status : Status) (counts : Counts)
+    (model : ModelData) (adapters : List Standing) (device : Option State) : Type 0 where
+  pub status_is : status ≡ e.status
+  pub counts_are : counts ≡ e.counts
+  pub after : IsAt model adapters device e.world
+
+-- the text was written, or a front of it, and the counts rose
+pub record IsWrittenOut (e : Ending) (status : Status) (old new : Option (List ℕ)) (counts now : Counts)
+    (model : ModelData) (adapters : List Standing) (device : Option State) : Type 0 where
+  pub tells : Tells status e.status old new e.text
+  pub counted : is_complete status ≡ true → now ≡ added counts e.counts
+  pub after : is_complete status ≡ true → IsAt model adapters device e.world
+
+-- it is over where it came to its last line, and else a front of its text was written
+pub record EndsAs (e : Ending) (status : Status) (old new : Option (List ℕ)) (counts : Counts)
+    (model : ModelData) (adapters : List Standing) (device : Option State) : Type 0 where
+  pub whole : is_complete status ≡ true → IsOver e status old new counts model adapters device
+  pub part : AppendsFront old new e.text
+
+-- ---- a line
+
+-- its text was written and its events are counted, and it led here
+pub record Ran (given : Option Entry) (old new : Option (List ℕ)) (counts now : Counts)
+    (model : ModelData) (adapters : List Standing) (device : Option State) : Type 0 where
+  pub entry : Entry
+  pub is : given ≡ Some entry
+  pub text : Appends old new entry.text
+  pub counted : now ≡ with_events counts entry.course.told
+  pub after : IsAt model adapters device entry.course.world
+
+-- a name isn't there, and nothing was done
+pub record IsUnknown (given : Option Entry) (why : LineRefusal) (old new : Option (List ℕ)) (counts now : Counts)
+    (w : World) (model : ModelData) (adapters : List Standing) (device : Option State) : Type 0 where
+  pub none : given ≡ None
+  pub why_is : why ≡ NoSuchName
+  pub text : Keeps old new
+  pub counted : now ≡ counts
+  pub after : IsAt model adapters device w
+
+-- a front of its text was written before the sink failed, and the first of its events were done
+pub record BrokeOff (given : Option Entry) (w : World) (old new : Option (List ℕ)) (counts now : Counts)
+    (model : ModelData) (adapters : List Standing) (device : Option State) : Type 0 where
+  pub entry : Entry
+  pub is : given ≡ Some entry
+  pub text : AppendsFront old new entry.text
+  pub done : IsDone entry.course.steps w counts now model adapters device
+
+abbrev pub IsLineRun : Option Entry → World → (old new : Option (List ℕ)) → (counts now : Counts)
+    → ModelData → List Standing → Option State → Result (Option LineRefusal) Failed → Type 0
+IsLineRun given w old new counts now model adapters device (Ok None) = Ran given old new counts now model adapters device
+IsLineRun given w old new counts now model adapters device (Ok (Some why)) =
+    IsUnknown given why old new counts now w model adapters device
+IsLineRun given w old new counts now model adapters device (Err failed) =
+    BrokeOff given w old new counts now model adapters device
+
+-- what comes of a line at one moment was written, counted and done at the other, or a name of it isn't there
+abbrev pub RunsLine : (World → Option Entry) → (before after : Moment) → Result (Option LineRefusal) Failed → Type 0
+RunsLine entry before after r = FromWorld before (λ w.
+    IsLineRun (entry w) w before.text after.text before.counts after.counts after.model after.adapters after.device r)
+
+-- ---- a turn: what a line comes to, as it was written and done
+
+-- it was run
+pub record RanOn (comes : Result Entry LineRefusal) (old new : Option (List ℕ)) (counts now : Counts)
+    (model : ModelData) (adapters : List Standing) (device : Option State) : Type 0 where
+  pub entry : Entry
+  pub is : comes ≡ Ok entry
+  pub text : Appends old new entry.text
+  pub counted : now ≡ with_events counts entry.course.told
+  pub after : IsAt model adapters device entry.course.world
+
+-- the script ended at it
+pub record Stopped (number : ℕ) (comes : Result Entry LineRefusal) (status : Status) (old new : Option (List ℕ))
+    (counts now : Counts) (w : World) (model : ModelData) (adapters : List Standing) (device : Option State) : Type 0 where
+  pub refused : (why : LineRefusal) → comes ≡ Err why
+      → EndsAs (stops number why counts w) status old new now model adapters device
+  pub broken : (entry : Entry) → comes ≡ Ok entry → (is_complete status ≡ false) × AppendsFront old new entry.text
+  pub stays : (why : LineRefusal) → comes ≡ Err why → (now ≡ counts) × IsAt model adapters device w
+  pub done : (entry : Entry) → comes ≡ Ok entry → IsDone entry.course.steps w counts now model adapters device
+
+abbrev pub IsTurn : (number : ℕ) → Result Entry LineRefusal → (old new : Option (List ℕ)) → (counts now : Counts)
+    → World → ModelData → List Standing → Option State → Turn → Type 0
+IsTurn number comes old new counts now w model adapters device Next = RanOn comes old new counts now model adapters device
+IsTurn number comes old new counts now w model adapters device (Stop status) =
+    Stopped number comes status old new counts now w model adapters device
+
+-- the line of that number, which says this, was run at one moment and led to the other, or the script ended at it
+abbrev pub TakesTurn : (number : ℕ) → (says : Result Line LineRefusal) → (before after : Moment) → Turn → Type 0
+TakesTurn number says before after turn = FromWorld before (λ w.
+    IsTurn number (comes_of w says) before.text after.text before.counts after.counts
+    w after.model after.adapters after.device turn)
+
+-- ---- a script
+
+-- what the lines of an input come to, from that number on, where the device tells its state and the source its bytes
+abbrev pub coming : (number : ℕ) → Counts → ModelData → List Standing → Option State → Option (List ℕ) → Option Ending
+coming number counts model adapters (Some device) (Some bytes) =
+    Some (script_from number counts (world model adapters device) (lines_of bytes))
+coming number counts model adapters (Some device) None = None
+coming number counts model adapters None input = None
+
+-- of what is left of a script at a moment, and counted on from there
+abbrev pub to_come : (number : ℕ) → Moment → (input : Option (List ℕ)) → Option Ending
+to_come number before input = coming number before.counts before.model before.adapters before.device input
+
+-- a text was written, and then this is still to come
+pub record PassesTo (e : Ending) (next : Option Ending) (old new : Option (List ℕ)) : Type 0 where
+  pub text : List ℕ
+  pub others : Ending
+  pub is : next ≡ Some others
+  pub whole : e ≡ after_text text others
+  pub written : Appends old new text
+
+-- one line of a script was run and written, and the script is the rest
+abbrev pub GoesOn : (number : ℕ) (before : Moment) (input : Option (List ℕ)) (after : Moment) (rest : Option (List ℕ)) → Type 0
+GoesOn number before input after rest =
+    IfSome (to_come number before input) (λ e. PassesTo e (to_come (number + 1) after rest) before.text after.text)
+
+-- the script ended, with its whole log, or with a front of it
+abbrev pub Ends : (number : ℕ) → (before : Moment) → (input : Option (List ℕ)) → (after : Moment) → Status → Type 0
+Ends number before input after status = IfSome (to_come number before input) (λ e.
+    EndsAs e status before.text after.text after.counts after.model after.adapters after.device)
+
+-- the same of a whole script, whose counts were added to those before
+abbrev pub PlaysScript : (before : Moment) → (input : Option (List ℕ)) → (after : Moment) → Status → Type 0
+PlaysScript before input after status = IfSome (coming 1 no_counts before.model before.adapters before.device input) (λ e.
+    IsWrittenOut e status before.text after.text before.counts after.counts after.model after.adapters after.device)
+
+-- ---- a script whose source failed
+
+-- Bytes were taken from the front of an input, and exactly the log of the lines whose 10 is among them was written.
+pub record BreaksAfter (number : ℕ) (w : World) (bytes : List ℕ) (left old new : Option (List ℕ)) : Type 0 where
+  pub taken : List ℕ
+  pub others : List ℕ
+  pub split : taken ++ others ≡ bytes
+  pub is_left : left ≡ Some others
+  pub text : Appends old new (lines_text number w (whole_lines taken))
+
+-- where the device tells its state and the source its bytes
+abbrev pub Breaks : (number : ℕ) → ModelData → List Standing → Option State → (input left old new : Option (List ℕ))
+    → Type 0
+Breaks number model adapters device input left old new =
+    IfSome device (λ d. IfSome input (λ bytes. BreaksAfter number (world model adapters d) bytes left old new))
+
+-- from a moment on: this is left of the input, and this is what was written in the end
+abbrev pub BreaksFrom : (number : ℕ) → (before : Moment) → (input left last : Option (List ℕ)) → Type 0
+BreaksFrom number before input left last =
+    Breaks number before.model before.adapters before.device input left before.text last
+
+-- a script breaks off as what is left of it behind a line does
+abbrev pub BreaksAsRest : (number : ℕ) (before : Moment) (input : Option (List ℕ)) (after : Moment) (rest : Option (List ℕ))
+    → Type 0
+BreaksAsRest number before input after rest =
+    (left last : Option (List ℕ)) → BreaksFrom (number + 1) after rest left last → BreaksFrom number before input left last

@@ -1,0 +1,483 @@
+// The lines of a script, one after another.
+ghost use Rattle.std.specs.Prelude.{◌≡◌, ◌≢◌, ◌≤◌, map, true, false, Ok, Err, MatchResult, IfOk, IfErr, IfSome, OnOk};
+ghost use Rattle.std.specs.Io.KnownBytes.{Keeps};
+ghost use Rattle.rl_bus.specs.Causes.{Rose};
+ghost use Rattle.rl_access.specs.Model.{IsReady, IsSameChip};
+ghost use Rattle.rl_log.specs.Causes.{IsCaused, NoneFailed};
+ghost use Rattle.rl_play.specs.Done.{DoesFrom, DoesFirstEvents, DoesWithRest};
+ghost use Rattle.rl_play.specs.Earlier.{KeepsEarlier};
+ghost use Rattle.rl_log.specs.Endings.{end_status, IsCounted, PlayEnds};
+ghost use Rattle.rl_log.specs.Log.{said_by};
+ghost use Rattle.rl_play.specs.Moment.{moment_of};
+ghost use Rattle.rl_play.specs.Played.{BreaksAsRest, BreaksFrom, Ends, GoesOn, TakesTurn, PlaysScript};
+ghost use Rattle.rl_play.specs.Heard.{heard};
+ghost use Rattle.rl_log.specs.Statuses.{is_complete};
+ghost use Rattle.rl_log.specs.Telling.{Tells};
+ghost use Rattle.rl_log.specs.Texts.{refused_text, end_text};
+ghost use Rattle.rl_play.specs.Told.{told};
+ghost use Rattle.rl_report.specs.Got.{Hands};
+ghost use Rattle.rl_script.specs.Reading.{read_of};
+ghost use Rattle.rl_script.specs.Said.{line_said};
+ghost use Rattle.rl_report.specs.Lines.{first_line};
+ghost use Rattle.rl_report.specs.Reading.{input_of, HoldsLine};
+
+use crate::buffered::{Buffered, Earlier};
+use crate::line::run_line;
+use crate::log::Log;
+use crate::texts::{put_end, put_line_refused, refusal_of};
+use rl_access::Model;
+use rl_bus::{Adapter, Adapters, Device};
+use rl_log::{Counts, LineRefusal, Status};
+use rl_report::{Failed, Got, LineReader, Sink, Source};
+use rl_script::{LineFault, LineRef, read_line_ref};
+use std::alloc::Global;
+use std::marker::Brand;
+
+const MOST_LINES: u64 = 1_000_000;
+
+// What comes of a line.
+#[derive(Clone, Copy)]
+enum Turn {
+    Next,
+    Stop(Status),
+}
+
+// Takes the next line. What was written before is out before the source is read.
+fn take_line<S: Source, L: Log>(
+    lines: &mut LineReader,
+    source: &mut S,
+    out: &mut L,
+) -> Result<Got, Status>
+    requires found { lines.old.found ≡ true }
+    requires going { lines.old.refused ≡ false }
+    ensures found { lines.new.found ≡ true }
+    ensures going { IfOk result (λ got. got ≢ Got.TooLong → lines.new.refused ≡ false) }
+    ensures handed { IfOk result (λ got. IfSome (input_of lines.old (S.left source.old))
+        (λ bytes. Hands bytes got lines.new (S.left source.new))) }
+    ensures ended { lines.old.ended ≡ true → lines.new.ended ≡ true }
+    ensures told { Keeps (L.written out.old) (L.written out.new) }
+    ensures broken { IfErr result (λ status. is_complete status ≡ false) }
+
+    // A source that fails loses no byte, and nothing is kept back of what was written.
+    ensures none_lost { result ≡ Err Status.SourceFault
+        → Keeps (input_of lines.old (S.left source.old)) (input_of lines.new (S.left source.new)) }
+    ensures none_whole { result ≡ Err Status.SourceFault
+        → (first_line lines.new.pending ≡ lines.new.pending) × (lines.new.ended ≡ false) }
+    ensures flushed { result ≡ Err Status.SourceFault → L.is_out out.new }
+    ensures again { result ≡ Err Status.SourceFault → lines.new.refused ≡ false }
+
+    // Where no whole line was here, nothing is kept back of what was written before, and nothing is written since.
+    ensures out_first { OnOk result ((HoldsLine lines.old → ⊥) → L.is_out out.new) }
+
+    ensures source_later { S.faults source.old ≤ S.faults source.new }
+    ensures sink_later { L.faults out.old ≤ L.faults out.new }
+    ensures cause { IfErr result (λ status.
+        IsCaused status (S.faults source.old) (S.faults source.new) (L.faults out.old) (L.faults out.new)) }
+    ensures ends_kept { L.ends out.new ≡ L.ends out.old }
+    ensures same_target { L.target out.new ≡ L.target out.old }
+{
+    if !lines.holds_line() && out.flush().is_err() {
+        return Err(Status::SinkFault);
+    }
+    match lines.next_line(source) {
+        Ok(got) => Ok(got),
+        Err(Failed) => Err(Status::SourceFault),
+    }
+}
+
+// The status at the end of a script.
+fn status_at_end(counts: &Counts) -> Status
+    ensures { result ≡ end_status counts.now }
+{
+    if counts.differences == 0 && counts.errors == 0 {
+        Status::Passed
+    } else {
+        Status::Found
+    }
+}
+
+// Ends a script whose lines were all run.
+fn end<L: Log>(counts: &Counts, out: &mut L) -> Status
+    ensures tells { Tells result (end_status counts.now) (L.written out.old) (L.written out.new) (end_text counts.now) }
+    ensures counted { IsCounted result counts.now }
+    ensures sink_later { L.faults out.old ≤ L.faults out.new }
+    ensures cause { IsCaused result 0 0 (L.faults out.old) (L.faults out.new) }
+    ensures ends_kept { L.ends out.new ≡ L.ends out.old }
+    ensures same_target { L.target out.new ≡ L.target out.old }
+{
+    match put_end(out, counts) {
+        Ok(()) => status_at_end(counts),
+        Err(Failed) => Status::SinkFault,
+    }
+}
+
+// Ends a script at a line that is refused.
+fn refuse<L: Log>(number: u64, refusal: LineRefusal, out: &mut L) -> Status
+    ensures tells { Tells result Status.Refused (L.written out.old) (L.written out.new) (refused_text number refusal) }
+    ensures counted { (result ≢ Status.Passed) × (result ≢ Status.Found) }
+    ensures sink_later { L.faults out.old ≤ L.faults out.new }
+    ensures cause { IsCaused result 0 0 (L.faults out.old) (L.faults out.new) }
+    ensures ends_kept { L.ends out.new ≡ L.ends out.old }
+    ensures same_target { L.target out.new ≡ L.target out.old }
+{
+    match put_line_refused(out, number, refusal) {
+        Ok(()) => Status::Refused,
+        Err(Failed) => Status::SinkFault,
+    }
+}
+
+// Runs a line that was read, and writes its log, or ends the script at it.
+fn run_read<D: Device, L: Log>(
+    number: u64,
+    line: &[u8],
+    read: &Result<LineRef<'_>, LineFault>,
+    model: &mut Model,
+    device: &mut D,
+    adapters: &mut Adapters,
+    out: &mut L,
+    counts: &mut Counts,
+) -> Turn
+    requires ready { IsReady model.old (map standing adapters.old.items) (D.state device.old) }
+    requires read { MatchResult read.now
+        (λ l. read_of line.now ≡ Ok (line_said l))
+        (λ fault. fault ≢ LineFault.Memory → read_of line.now ≡ Err fault) }
+    ensures ready { IsReady model.new (map standing adapters.new.items) (D.state device.new) }
+    ensures parts { IsSameChip model.old model.new }
+    ensures turn { TakesTurn number (said_by (read_of line.now))
+        (moment_of standing D.state L.written model.old adapters.old.items device.old out.old counts.old)
+        (moment_of standing D.state L.written model.new adapters.new.items device.new out.new counts.new) result }
+    ensures counted { (status : Status) → result ≡ Turn.Stop status → (status ≢ Status.Passed) × (status ≢ Status.Found) }
+    ensures sink_later { L.faults out.old ≤ L.faults out.new }
+    ensures cause { (status : Status) → result ≡ Turn.Stop status
+        → IsCaused status 0 0 (L.faults out.old) (L.faults out.new) }
+    ensures ends_kept { L.ends out.new ≡ L.ends out.old }
+    ensures same_target { L.target out.new ≡ L.target out.old }
+{
+    match read {
+        Ok(line) => match run_line(model, device, adapters, line, out, counts) {
+            Ok(None) => Turn::Next,
+            Ok(Some(refusal)) => Turn::Stop(refuse(number, refusal, out)),
+            Err(Failed) => Turn::Stop(Status::SinkFault),
+        },
+        Err(fault) => match refusal_of(*fault) {
+            Some(refusal) => Turn::Stop(refuse(number, refusal, out)),
+            None => Turn::Stop(Status::Memory),
+        },
+    }
+}
+
+// Runs a line that was taken, and writes its log, or ends the script at it.
+fn run_taken<D: Device, L: Log>(
+    alloc: Global,
+    number: u64,
+    got: Got,
+    line: &[u8],
+    model: &mut Model,
+    device: &mut D,
+    adapters: &mut Adapters,
+    out: &mut L,
+    counts: &mut Counts,
+) -> Turn
+    requires ready { IsReady model.old (map standing adapters.old.items) (D.state device.old) }
+    ensures ready { IsReady model.new (map standing adapters.new.items) (D.state device.new) }
+    ensures parts { IsSameChip model.old model.new }
+    ensures short { result ≡ Turn.Next → got ≢ Got.TooLong }
+    ensures last { result ≡ Turn.Next → number ≤ 1000000 }
+    ensures turn { TakesTurn number (heard number got line.now)
+        (moment_of standing D.state L.written model.old adapters.old.items device.old out.old counts.old)
+        (moment_of standing D.state L.written model.new adapters.new.items device.new out.new counts.new) result }
+    ensures counted { (status : Status) → result ≡ Turn.Stop status → (status ≢ Status.Passed) × (status ≢ Status.Found) }
+    ensures sink_later { L.faults out.old ≤ L.faults out.new }
+    ensures cause { (status : Status) → result ≡ Turn.Stop status
+        → IsCaused status 0 0 (L.faults out.old) (L.faults out.new) }
+    ensures ends_kept { L.ends out.new ≡ L.ends out.old }
+    ensures same_target { L.target out.new ≡ L.target out.old }
+{
+    if number > MOST_LINES {
+        return Turn::Stop(refuse(number, LineRefusal::TooManyLines, out));
+    }
+    if is_too_long(got) {
+        return Turn::Stop(refuse(number, LineRefusal::TooLong, out));
+    }
+    // An empty line says nothing, and scripts have many.
+    if line.is_empty() {
+        return Turn::Next;
+    }
+    let read = read_line_ref(alloc, line);
+    run_read(number, line, &read, model, device, adapters, out, counts)
+}
+
+fn is_too_long(got: Got) -> bool
+    ensures long { result ≡ true → got ≡ Got.TooLong }
+    ensures short { result ≡ false → got ≢ Got.TooLong }
+{
+    matches!(got, Got::TooLong)
+}
+
+fn is_end(got: Got) -> bool
+    ensures end { result ≡ true → got ≡ Got.End }
+    ensures more { result ≡ false → got ≢ Got.End }
+{
+    matches!(got, Got::End)
+}
+
+// Reads the next line, runs it and writes its log.
+fn play_line<S: Source, D: Device, L: Log>(
+    alloc: Global,
+    number: u64,
+    model: &mut Model,
+    device: &mut D,
+    adapters: &mut Adapters,
+    lines: &mut LineReader,
+    source: &mut S,
+    out: &mut L,
+    counts: &mut Counts,
+) -> Turn
+    requires ready { IsReady model.old (map standing adapters.old.items) (D.state device.old) }
+    requires found { lines.old.found ≡ true }
+    requires going { lines.old.refused ≡ false }
+    ensures ready { IsReady model.new (map standing adapters.new.items) (D.state device.new) }
+    ensures parts { IsSameChip model.old model.new }
+    ensures found { lines.new.found ≡ true }
+    ensures going { result ≡ Turn.Next → lines.new.refused ≡ false }
+    ensures again { result ≡ Turn.Stop Status.SourceFault → lines.new.refused ≡ false }
+    ensures last { result ≡ Turn.Next → number ≤ 1000000 }
+    ensures next { result ≡ Turn.Next → GoesOn number
+        (moment_of standing D.state L.written model.old adapters.old.items device.old out.old counts.old)
+        (input_of lines.old (S.left source.old))
+        (moment_of standing D.state L.written model.new adapters.new.items device.new out.new counts.new)
+        (input_of lines.new (S.left source.new)) }
+    ensures stop { (status : Status) → result ≡ Turn.Stop status → Ends number
+        (moment_of standing D.state L.written model.old adapters.old.items device.old out.old counts.old)
+        (input_of lines.old (S.left source.old))
+        (moment_of standing D.state L.written model.new adapters.new.items device.new out.new counts.new) status }
+    ensures ended { lines.old.ended ≡ true → lines.new.ended ≡ true }
+    ensures unended { result ≡ Turn.Stop Status.SourceFault → lines.old.ended ≡ false }
+    ensures at_fault { result ≡ Turn.Stop Status.SourceFault → BreaksFrom number
+        (moment_of standing D.state L.written model.old adapters.old.items device.old out.old counts.old)
+        (input_of lines.old (S.left source.old)) (S.left source.new) (L.written out.new) }
+    ensures later_fault { result ≡ Turn.Next → lines.new.ended ≡ false → BreaksAsRest number
+        (moment_of standing D.state L.written model.old adapters.old.items device.old out.old counts.old)
+        (input_of lines.old (S.left source.old))
+        (moment_of standing D.state L.written model.new adapters.new.items device.new out.new counts.new)
+        (input_of lines.new (S.left source.new)) }
+    ensures done_next { result ≡ Turn.Next → DoesWithRest number
+        (moment_of standing D.state L.written model.old adapters.old.items device.old out.old counts.old)
+        (input_of lines.old (S.left source.old))
+        (moment_of standing D.state L.written model.new adapters.new.items device.new out.new counts.new)
+        (input_of lines.new (S.left source.new)) }
+    ensures done_stop { (status : Status) → result ≡ Turn.Stop status → DoesFrom number
+        (moment_of standing D.state L.written model.old adapters.old.items device.old out.old counts.old)
+        (input_of lines.old (S.left source.old))
+        (moment_of standing D.state L.written model.new adapters.new.items device.new out.new counts.new) }
+    ensures flushed { result ≡ Turn.Stop Status.SourceFault → L.is_out out.new }
+    ensures counted { (status : Status) → result ≡ Turn.Stop status → IsCounted status counts.new }
+    ensures source_later { S.faults source.old ≤ S.faults source.new }
+    ensures sink_later { L.faults out.old ≤ L.faults out.new }
+    ensures cause { (status : Status) → result ≡ Turn.Stop status
+        → IsCaused status (S.faults source.old) (S.faults source.new) (L.faults out.old) (L.faults out.new) }
+    ensures ends_kept { L.ends out.new ≡ L.ends out.old }
+    ensures same_target { L.target out.new ≡ L.target out.old }
+{
+    let got = match take_line(lines, source, out) {
+        Ok(got) => got,
+        Err(status) => return Turn::Stop(status),
+    };
+    if is_end(got) {
+        return Turn::Stop(end(counts, out));
+    }
+    run_taken(
+        alloc,
+        number,
+        got,
+        lines.line(),
+        model,
+        device,
+        adapters,
+        out,
+        counts,
+    )
+}
+
+/// Runs the lines that are left, and writes the log of each and the last line to a sink that may keep bytes back.
+pub fn play_lines<S: Source, D: Device, L: Log>(
+    alloc: Global,
+    model: &mut Model,
+    device: &mut D,
+    adapters: &mut Adapters,
+    lines: &mut LineReader,
+    source: &mut S,
+    out: &mut L,
+    counts: &mut Counts,
+) -> Status
+    requires ready { IsReady model.old (map standing adapters.old.items) (D.state device.old) }
+    requires found { lines.old.found ≡ true }
+    requires going { lines.old.refused ≡ false }
+    ensures ready { IsReady model.new (map standing adapters.new.items) (D.state device.new) }
+    ensures parts { IsSameChip model.old model.new }
+    ensures log { Ends 1
+        (moment_of standing D.state L.written model.old adapters.old.items device.old out.old counts.old)
+        (input_of lines.old (S.left source.old))
+        (moment_of standing D.state L.written model.new adapters.new.items device.new out.new counts.new) result }
+    ensures at_fault { result ≡ Status.SourceFault → BreaksFrom 1
+        (moment_of standing D.state L.written model.old adapters.old.items device.old out.old counts.old)
+        (input_of lines.old (S.left source.old)) (S.left source.new) (L.written out.new) }
+    ensures found { lines.new.found ≡ true }
+    ensures again { result ≡ Status.SourceFault → lines.new.refused ≡ false }
+    ensures unended { result ≡ Status.SourceFault → lines.old.ended ≡ false }
+    ensures done { DoesFrom 1
+        (moment_of standing D.state L.written model.old adapters.old.items device.old out.old counts.old)
+        (input_of lines.old (S.left source.old))
+        (moment_of standing D.state L.written model.new adapters.new.items device.new out.new counts.new) }
+    ensures flushed { result ≡ Status.SourceFault → L.is_out out.new }
+    ensures counted { IsCounted result counts.new }
+    ensures source_later { S.faults source.old ≤ S.faults source.new }
+    ensures sink_later { L.faults out.old ≤ L.faults out.new }
+    ensures cause { IsCaused result (S.faults source.old) (S.faults source.new) (L.faults out.old) (L.faults out.new) }
+    ensures ends_kept { L.ends out.new ≡ L.ends out.old }
+    ensures same_target { L.target out.new ≡ L.target out.old }
+{
+    let mut number = 1u64;
+    loop {
+        match play_line(
+            alloc, number, model, device, adapters, lines, source, out, counts,
+        ) {
+            Turn::Next => number += 1,
+            Turn::Stop(status) => return status,
+        }
+    }
+}
+
+// Writes what is kept back of a run that is over.
+fn settle<K: Sink, E: Earlier>(status: Status, out: &mut Buffered<'_, K, E>) -> Status
+    requires { status ≢ Status.Words }
+    ensures sink_later { K.faults out.old.sink.now ≤ K.faults out.new.sink.now }
+    ensures kept { result ≢ Status.SinkFault → result ≡ status }
+    ensures cause { result ≡ Status.SinkFault → status ≢ Status.SinkFault
+        → Rose (K.faults out.old.sink.now) (K.faults out.new.sink.now) }
+    ensures told { Keeps (told K.written out.old) (told K.written out.new) }
+    ensures whole { is_complete result ≡ true → Keeps (told K.written out.old) (K.written out.new.sink.now) }
+    ensures at_fault { status ≡ Status.SourceFault → out.old.end ≡ 0
+        → Keeps (told K.written out.old) (K.written out.new.sink.now) }
+    ensures at_memory { result ≡ Status.Memory → NoneFailed (K.faults out.old.sink.now) (K.faults out.new.sink.now)
+        → Keeps (told K.written out.old) (K.written out.new.sink.now) }
+    ensures ends_kept { K.ends out.new.sink.now ≡ K.ends out.old.sink.now }
+    ensures same_sink { out.new.sink.ghost_name ≡ out.old.sink.ghost_name }
+{
+    if status == Status::SinkFault {
+        return status;
+    }
+    match out.flush() {
+        Err(Failed) if status.is_complete() => Status::SinkFault,
+        _ => status,
+    }
+}
+
+// Runs the lines that are left through a buffer. Whatever the answer, the sink keeps the bytes that it had before.
+fn play_through<S: Source, K: Sink, D: Device, E: Earlier>(
+    alloc: Global,
+    model: &mut Model,
+    device: &mut D,
+    adapters: &mut Adapters,
+    lines: &mut LineReader,
+    source: &mut S,
+    sink: &mut K,
+    counts: &mut Counts,
+) -> Status
+    requires ready { IsReady model.old (map standing adapters.old.items) (D.state device.old) }
+    requires found { lines.old.found ≡ true }
+    requires going { lines.old.refused ≡ false }
+    requires earlier { K.written sink.old ≡ E.bytes }
+    ensures ready { IsReady model.new (map standing adapters.new.items) (D.state device.new) }
+    ensures parts { IsSameChip model.old model.new }
+    ensures log { Ends 1
+        (moment_of standing D.state K.written model.old adapters.old.items device.old sink.old counts.old)
+        (input_of lines.old (S.left source.old))
+        (moment_of standing D.state K.written model.new adapters.new.items device.new sink.new counts.new) result }
+    ensures at_fault { result ≡ Status.SourceFault → BreaksFrom 1
+        (moment_of standing D.state K.written model.old adapters.old.items device.old sink.old counts.old)
+        (input_of lines.old (S.left source.old)) (S.left source.new) (K.written sink.new) }
+    ensures found { lines.new.found ≡ true }
+    ensures again { result ≡ Status.SourceFault → lines.new.refused ≡ false }
+    ensures keeps_earlier { KeepsEarlier (K.written sink.old) (K.written sink.new) }
+    ensures done { DoesFrom 1
+        (moment_of standing D.state K.written model.old adapters.old.items device.old sink.old counts.old)
+        (input_of lines.old (S.left source.old))
+        (moment_of standing D.state K.written model.new adapters.new.items device.new sink.new counts.new) }
+    ensures counted { IsCounted result counts.new }
+    ensures source_later { S.faults source.old ≤ S.faults source.new }
+    ensures sink_later { K.faults sink.old ≤ K.faults sink.new }
+    ensures cause { IsCaused result (S.faults source.old) (S.faults source.new) (K.faults sink.old) (K.faults sink.new) }
+    ensures ends_kept { K.ends sink.new ≡ K.ends sink.old }
+{
+    let mut out = Buffered::<K, E>::new(sink);
+    let status = play_lines(
+        alloc, model, device, adapters, lines, source, &mut out, counts,
+    );
+    settle(status, &mut out)
+}
+
+/// Runs the lines that are left on a device, and writes the log of each and the last line.
+///
+/// Lines are numbered from the first that is read here, and the last line and the status are by the lines of this
+/// call alone. The counts rise by what happened. The output isn't finished.
+pub fn play<S: Source, K: Sink, D: Device>(
+    alloc: Global,
+    model: &mut Model,
+    device: &mut D,
+    adapters: &mut Adapters,
+    lines: &mut LineReader,
+    source: &mut S,
+    sink: &mut K,
+    counts: &mut Counts,
+) -> Status
+    requires ready { IsReady model.old (map standing adapters.old.items) (D.state device.old) }
+    requires found { lines.old.found ≡ true }
+    requires going { lines.old.refused ≡ false }
+    ensures ready { IsReady model.new (map standing adapters.new.items) (D.state device.new) }
+    ensures parts { IsSameChip model.old model.new }
+
+    // Where the device tells its state and the source its bytes: what is written is the log of the lines that are
+    // left, from the device and the model as they are, with its status, and the counts rise by what it counts.
+    // After any fault, and where memory ran out, it is a front of that log.
+    ensures log { PlaysScript
+        (moment_of standing D.state K.written model.old adapters.old.items device.old sink.old counts.old)
+        (input_of lines.old (S.left source.old))
+        (moment_of standing D.state K.written model.new adapters.new.items device.new sink.new counts.new) result }
+
+    // After a source that failed, the sink has exactly the log of the lines that were taken whole.
+    ensures at_fault { result ≡ Status.SourceFault → BreaksFrom 1
+        (moment_of standing D.state K.written model.old adapters.old.items device.old sink.old counts.old)
+        (input_of lines.old (S.left source.old)) (S.left source.new) (K.written sink.new) }
+
+    // The reader can then be handed to the next call, which goes on with the line that was cut.
+    ensures found { lines.new.found ≡ true }
+    ensures again { result ≡ Status.SourceFault → lines.new.refused ≡ false }
+
+    // However it ends, the sink keeps the bytes that it had before.
+    ensures keeps_earlier { KeepsEarlier (K.written sink.old) (K.written sink.new) }
+
+    // However it ends: model, adapters and device are as after the first events of the script, as many as the count
+    // of events rose by, and the counts rose by what these count.
+    ensures done { DoesFirstEvents
+        (moment_of standing D.state K.written model.old adapters.old.items device.old sink.old counts.old)
+        (input_of lines.old (S.left source.old))
+        (moment_of standing D.state K.written model.new adapters.new.items device.new sink.new counts.new) }
+
+    // In any case the status goes by what happened in this call, and the counts rise by it.
+    ensures ends { PlayEnds result counts.old counts.new }
+
+    // No fault is made up.
+    ensures source_later { S.faults source.old ≤ S.faults source.new }
+    ensures sink_later { K.faults sink.old ≤ K.faults sink.new }
+    ensures cause { IsCaused result (S.faults source.old) (S.faults source.new) (K.faults sink.old) (K.faults sink.new) }
+
+    ensures ends_kept { K.ends sink.new ≡ K.ends sink.old }
+{
+    let mut own = Counts::new();
+    let status = play_through::<S, K, D, Brand>(
+        alloc, model, device, adapters, lines, source, sink, &mut own,
+    );
+    counts.add(&own);
+    status
+}

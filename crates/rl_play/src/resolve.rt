@@ -1,0 +1,305 @@
+// The names in a line, as numbers of the model.
+ghost use Rattle.std.specs.Prelude.{◌≡◌, ◌<◌, true, false, length, IfSome};
+ghost use Rattle.rl_access.specs.Operation.{IsMapIn, HasNumbers};
+ghost use Rattle.rl_script.specs.Said.{item_said, line_said};
+ghost use Rattle.rl_access.specs.Operation.{is_single};
+ghost use Rattle.rl_log.specs.Named.{map_asked, reg_named, field_named, mem_named, block_named, block_asked, kind_named, op_named};
+ghost use Rattle.rl_play.specs.Commands.{is_on_bus, is_on_field, is_on_memory, is_memory_by_backdoor, is_off_bus};
+
+use rl_access::{Model, Op};
+use rl_script::{IdentRef, Item, ItemLine, LineRef, PathRef};
+
+// The map that is asked for, if one is. None where it isn't there.
+pub(crate) fn map_asked(model: &Model, name: &Option<IdentRef<'_>>) -> Option<Option<u32>>
+    ensures named { result ≡ map_asked model.now.layout name.now }
+    ensures in_range { IfSome result (IsMapIn (length model.now.layout.maps)) }
+{
+    match name {
+        None => Some(None),
+        Some(name) => match model.layout().map_by_name(name.text()) {
+            Some(number) => Some(Some(number)),
+            None => None,
+        },
+    }
+}
+
+fn reg_at(model: &Model, path: &PathRef<'_>) -> Option<u32>
+    ensures named { result ≡ reg_named model.now.chip path.now }
+    ensures in_range { IfSome result (λ n. n < length model.now.chip.regs) }
+{
+    model.chip().reg_by_path(path.text())
+}
+
+fn field_at(model: &Model, path: &PathRef<'_>) -> Option<u32>
+    ensures named { result ≡ field_named model.now.chip path.now }
+    ensures in_range { IfSome result (λ n. n < length model.now.chip.fields) }
+{
+    model.chip().field_by_path(path.text())
+}
+
+pub(crate) fn mem_at(model: &Model, path: &PathRef<'_>) -> Option<u32>
+    ensures named { result ≡ mem_named model.now.chip path.now }
+    ensures in_range { IfSome result (λ n. n < length model.now.chip.mems) }
+{
+    model.chip().mem_by_path(path.text())
+}
+
+fn block_at(model: &Model, path: &PathRef<'_>) -> Option<u32>
+    ensures named { result ≡ block_named model.now.chip path.now }
+    ensures in_range { IfSome result (λ n. n < model.now.chip.blocks) }
+{
+    model.chip().block_by_path(path.text())
+}
+
+fn kind_named(model: &Model, name: &IdentRef<'_>) -> Option<u32>
+    ensures named { result ≡ kind_named model.now.chip name.now }
+    ensures in_range { IfSome result (λ n. n < length model.now.chip.kinds) }
+{
+    model.chip().kind_by_name(name.text())
+}
+
+// The operation of a line on a register by another driver.
+fn other_op(model: &Model, line: &ItemLine<'_>) -> Option<Op>
+    ensures named { is_on_bus line.now.item ≡ false → is_on_field line.now.item ≡ false → is_on_memory line.now.item ≡ false
+        → is_memory_by_backdoor line.now.item ≡ false → is_off_bus line.now.item ≡ false
+        → result ≡ op_named model.now (item_said line.now) }
+    ensures numbers { IfSome result (HasNumbers model.now.chip (length model.now.layout.maps)) }
+    ensures single { IfSome result (λ op. is_single op ≡ true) }
+{
+    match line.item {
+        Item::OtherWrite => {
+            let reg = reg_at(model, &line.path)?;
+            let map = map_asked(model, &line.map)?;
+            Some(Op::OtherWrite {
+                reg,
+                map,
+                value: line.first,
+            })
+        }
+        Item::OtherRead => {
+            let reg = reg_at(model, &line.path)?;
+            let map = map_asked(model, &line.map)?;
+            Some(Op::OtherRead { reg, map })
+        }
+        _ => None,
+    }
+}
+
+// The operation of a line on a register by the backdoor or on the model alone.
+fn back_op(model: &Model, line: &ItemLine<'_>) -> Option<Op>
+    ensures named { is_on_bus line.now.item ≡ false → is_on_field line.now.item ≡ false → is_on_memory line.now.item ≡ false
+        → is_memory_by_backdoor line.now.item ≡ false → result ≡ op_named model.now (item_said line.now) }
+    ensures numbers { IfSome result (HasNumbers model.now.chip (length model.now.layout.maps)) }
+    ensures single { IfSome result (λ op. is_single op ≡ true) }
+{
+    match line.item {
+        Item::Show => {
+            let reg = reg_at(model, &line.path)?;
+            Some(Op::Show { reg })
+        }
+        Item::BackRead => {
+            let reg = reg_at(model, &line.path)?;
+            Some(Op::BackRead { reg })
+        }
+        Item::BackCheck => {
+            let reg = reg_at(model, &line.path)?;
+            Some(Op::BackCheck { reg })
+        }
+        Item::Peek => {
+            let reg = reg_at(model, &line.path)?;
+            Some(Op::Peek { reg })
+        }
+        Item::BackWrite => {
+            let reg = reg_at(model, &line.path)?;
+            Some(Op::BackWrite {
+                reg,
+                value: line.first,
+            })
+        }
+        Item::Poke => {
+            let reg = reg_at(model, &line.path)?;
+            Some(Op::Poke {
+                reg,
+                value: line.first,
+            })
+        }
+        _ => other_op(model, line),
+    }
+}
+
+// The operation of a line on a memory by the backdoor.
+fn mem_back_op(model: &Model, line: &ItemLine<'_>) -> Option<Op>
+    ensures named { is_on_bus line.now.item ≡ false → is_on_field line.now.item ≡ false → is_on_memory line.now.item ≡ false
+        → result ≡ op_named model.now (item_said line.now) }
+    ensures numbers { IfSome result (HasNumbers model.now.chip (length model.now.layout.maps)) }
+    ensures single { IfSome result (λ op. is_single op ≡ true) }
+{
+    match line.item {
+        Item::MemPeek => {
+            let mem = mem_at(model, &line.path)?;
+            Some(Op::MemPeek {
+                mem,
+                index: line.first,
+            })
+        }
+        Item::MemPoke => {
+            let mem = mem_at(model, &line.path)?;
+            Some(Op::MemPoke {
+                mem,
+                index: line.first,
+                value: line.second,
+            })
+        }
+        _ => back_op(model, line),
+    }
+}
+
+// The operation of a line on a memory over the bus.
+fn mem_op(model: &Model, line: &ItemLine<'_>) -> Option<Op>
+    ensures named { is_on_bus line.now.item ≡ false → is_on_field line.now.item ≡ false
+        → result ≡ op_named model.now (item_said line.now) }
+    ensures numbers { IfSome result (HasNumbers model.now.chip (length model.now.layout.maps)) }
+    ensures single { IfSome result (λ op. is_single op ≡ true) }
+{
+    match line.item {
+        Item::MemWrite => {
+            let mem = mem_at(model, &line.path)?;
+            let map = map_asked(model, &line.map)?;
+            Some(Op::MemWrite {
+                mem,
+                map,
+                index: line.first,
+                value: line.second,
+            })
+        }
+        Item::MemCheck => {
+            let mem = mem_at(model, &line.path)?;
+            let map = map_asked(model, &line.map)?;
+            Some(Op::MemCheck {
+                mem,
+                map,
+                index: line.first,
+                value: line.second,
+            })
+        }
+        Item::MemRead => {
+            let mem = mem_at(model, &line.path)?;
+            let map = map_asked(model, &line.map)?;
+            Some(Op::MemRead {
+                mem,
+                map,
+                index: line.first,
+            })
+        }
+        _ => mem_back_op(model, line),
+    }
+}
+
+// The operation of a line on a field.
+fn field_op(model: &Model, line: &ItemLine<'_>) -> Option<Op>
+    ensures named { is_on_bus line.now.item ≡ false → result ≡ op_named model.now (item_said line.now) }
+    ensures numbers { IfSome result (HasNumbers model.now.chip (length model.now.layout.maps)) }
+    ensures single { IfSome result (λ op. is_single op ≡ true) }
+{
+    match line.item {
+        Item::FieldWrite => {
+            let field = field_at(model, &line.path)?;
+            let map = map_asked(model, &line.map)?;
+            Some(Op::FieldWrite {
+                field,
+                map,
+                value: line.first,
+            })
+        }
+        Item::FieldRead => {
+            let field = field_at(model, &line.path)?;
+            let map = map_asked(model, &line.map)?;
+            Some(Op::FieldRead { field, map })
+        }
+        Item::Set => {
+            let field = field_at(model, &line.path)?;
+            Some(Op::Set {
+                field,
+                value: line.first,
+            })
+        }
+        Item::Hw => {
+            let field = field_at(model, &line.path)?;
+            Some(Op::Hw {
+                field,
+                value: line.first,
+            })
+        }
+        _ => mem_op(model, line),
+    }
+}
+
+// The operation of a line on an item, if its names are there. Those on a register over the bus come first, as the most
+// frequent.
+fn item_op(model: &Model, line: &ItemLine<'_>) -> Option<Op>
+    ensures named { result ≡ op_named model.now (item_said line.now) }
+    ensures numbers { IfSome result (HasNumbers model.now.chip (length model.now.layout.maps)) }
+    ensures single { IfSome result (λ op. is_single op ≡ true) }
+{
+    match line.item {
+        Item::Write => {
+            let reg = reg_at(model, &line.path)?;
+            let map = map_asked(model, &line.map)?;
+            Some(Op::Write {
+                reg,
+                map,
+                value: line.first,
+            })
+        }
+        Item::Read => {
+            let reg = reg_at(model, &line.path)?;
+            let map = map_asked(model, &line.map)?;
+            Some(Op::Read { reg, map })
+        }
+        Item::Mirror => {
+            let reg = reg_at(model, &line.path)?;
+            let map = map_asked(model, &line.map)?;
+            Some(Op::Mirror { reg, map })
+        }
+        Item::Check => {
+            let reg = reg_at(model, &line.path)?;
+            let map = map_asked(model, &line.map)?;
+            Some(Op::Check { reg, map })
+        }
+        Item::Update => {
+            let reg = reg_at(model, &line.path)?;
+            let map = map_asked(model, &line.map)?;
+            Some(Op::Update { reg, map })
+        }
+        _ => field_op(model, line),
+    }
+}
+
+// The operation of a line, if its names are there.
+pub(crate) fn op_of(model: &Model, line: &LineRef<'_>) -> Option<Op>
+    ensures named { result ≡ op_named model.now (line_said line.now) }
+    ensures numbers { IfSome result (HasNumbers model.now.chip (length model.now.layout.maps)) }
+    ensures single { IfSome result (λ op. is_single op ≡ true) }
+{
+    match line {
+        LineRef::OnItem(line) => item_op(model, line),
+        LineRef::Reset { kind } => Some(Op::Reset {
+            kind: kind_named(model, kind)?,
+        }),
+        _ => None,
+    }
+}
+
+// The block that a sequence goes over: none stands for the whole chip. None where it isn't there.
+pub(crate) fn block_asked(model: &Model, path: &Option<PathRef<'_>>) -> Option<Option<u32>>
+    ensures named { result ≡ block_asked model.now.chip path.now }
+    ensures in_range { IfSome result (λ block. IfSome block (λ b. b < model.now.chip.blocks)) }
+{
+    match path {
+        None => Some(None),
+        Some(path) => match block_at(model, path) {
+            Some(number) => Some(Some(number)),
+            None => None,
+        },
+    }
+}

@@ -1,0 +1,5 @@
+pub mod FirstLemmas
+pub mod HexLemmas
+pub mod LayoutLemmas
+pub mod ListingLemmas
+pub mod SessionLemmas

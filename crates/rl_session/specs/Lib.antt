@@ -1,0 +1,6 @@
+pub mod Judged
+pub mod LayoutPieces
+pub mod Opened
+pub mod Refusals
+pub mod Session
+pub mod Soak

@@ -1,0 +1,13 @@
+//! A session before it runs: its description, how that is refused, where its items stand, and the session of a number.
+#![tactic(auto)]
+
+mod digits;
+mod layout_text;
+mod opening;
+mod refusals;
+mod soak;
+
+pub use layout_text::put_layout;
+pub use opening::{described, open};
+pub use refusals::put_description_refused;
+pub use soak::{mirror_sum, put_soak_line, soak_session};

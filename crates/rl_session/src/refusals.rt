@@ -1,0 +1,202 @@
+// The last line of a session whose description is refused.
+ghost use Rattle.std.specs.Prelude.{◌≡◌, ◌≢◌, [], ◌∷◌, map, Some};
+ghost use Rattle.rl_bus.specs.Causes.{HasCause};
+ghost use Rattle.rl_report.specs.Pieces.{Puts};
+ghost use Rattle.rl_session.specs.Refusals.{array_name, field_text, where_text, bad_reason, model_reason, map_reason, refusal_text, flaw_at, description_refused_text};
+
+use crate::digits::front;
+use itoa::Buffer;
+use rl_desc::{DescCause, DescFault};
+use rl_map::MapCause;
+use rl_model::{Array, ModelCause, Spot};
+use rl_policy::spell;
+use rl_report::{Failed, Sink, put_all, put_pieces};
+
+fn array_name(array: Array) -> &'static [u8]
+    ensures { result.now ≡ array_name array }
+{
+    match array {
+        Array::Block => b"block",
+        Array::File => b"file",
+        Array::Reg => b"reg",
+        Array::Mem => b"mem",
+        Array::Map => b"map",
+        Array::Place => b"place",
+        Array::Flaw => b"flaw",
+    }
+}
+
+fn put_field<K: Sink>(sink: &mut K, field: Option<u32>) -> Result<(), Failed>
+    ensures bytes { Puts (K.written sink.old) (K.written sink.new) (field_text field) result }
+    ensures cause { HasCause (K.faults sink.old) (K.faults sink.new) result }
+    ensures ends_kept { K.ends sink.new ≡ K.ends sink.old }
+    ensures same_target { K.target sink.new ≡ K.target sink.old }
+{
+    let Some(field) = field else {
+        return put_all(sink, b"");
+    };
+    let mut number = Buffer::new();
+    let pieces: [&[u8]; 2] = [b" field ", number.format(u64::from(field) + 1).as_bytes()];
+    put_pieces(sink, &pieces)
+}
+
+fn put_spot<K: Sink>(sink: &mut K, spot: Spot) -> Result<(), Failed>
+    ensures bytes { Puts (K.written sink.old) (K.written sink.new) (where_text (Some spot)) result }
+    ensures cause { HasCause (K.faults sink.old) (K.faults sink.new) result }
+    ensures ends_kept { K.ends sink.new ≡ K.ends sink.old }
+    ensures same_target { K.target sink.new ≡ K.target sink.old }
+{
+    let mut row = Buffer::new();
+    put_all(sink, b" ")?;
+    put_all(sink, array_name(spot.array))?;
+    put_all(sink, b" ")?;
+    put_all(sink, row.format(u64::from(spot.row) + 1).as_bytes())?;
+    put_field(sink, spot.field)
+}
+
+fn put_where<K: Sink>(sink: &mut K, spot: Option<Spot>) -> Result<(), Failed>
+    ensures bytes { Puts (K.written sink.old) (K.written sink.new) (where_text spot) result }
+    ensures cause { HasCause (K.faults sink.old) (K.faults sink.new) result }
+    ensures ends_kept { K.ends sink.new ≡ K.ends sink.old }
+    ensures same_target { K.target sink.new ≡ K.target sink.old }
+{
+    match spot {
+        Some(spot) => put_spot(sink, spot),
+        None => put_all(sink, b""),
+    }
+}
+
+fn put_refusal<K: Sink>(sink: &mut K, spot: Option<Spot>, reason: &[&[u8]]) -> Result<(), Failed>
+    ensures bytes { Puts (K.written sink.old) (K.written sink.new)
+        (refusal_text spot (map (λ piece. piece.now) reason.now)) result }
+    ensures cause { HasCause (K.faults sink.old) (K.faults sink.new) result }
+    ensures ends_kept { K.ends sink.new ≡ K.ends sink.old }
+    ensures same_target { K.target sink.new ≡ K.target sink.old }
+{
+    put_all(sink, b"refused description")?;
+    put_where(sink, spot)?;
+    put_all(sink, b": ")?;
+    put_pieces(sink, reason)?;
+    put_all(sink, b"\n")
+}
+
+fn put_plain<K: Sink>(sink: &mut K, spot: Option<Spot>, reason: &[u8]) -> Result<(), Failed>
+    ensures bytes { Puts (K.written sink.old) (K.written sink.new) (refusal_text spot (reason.now ∷ [])) result }
+    ensures cause { HasCause (K.faults sink.old) (K.faults sink.new) result }
+    ensures ends_kept { K.ends sink.new ≡ K.ends sink.old }
+    ensures same_target { K.target sink.new ≡ K.target sink.old }
+{
+    let pieces: [&[u8]; 1] = [reason];
+    put_refusal(sink, spot, &pieces)
+}
+
+fn put_bad<K: Sink>(sink: &mut K, cause: DescCause, spot: Option<Spot>) -> Result<(), Failed>
+    ensures bytes { Puts (K.written sink.old) (K.written sink.new) (refusal_text spot (bad_reason cause)) result }
+    ensures cause { HasCause (K.faults sink.old) (K.faults sink.new) result }
+    ensures ends_kept { K.ends sink.new ≡ K.ends sink.old }
+    ensures same_target { K.target sink.new ≡ K.target sink.old }
+{
+    match cause {
+        DescCause::Text => put_plain(sink, spot, b"not toml"),
+        DescCause::UnknownKey => put_plain(sink, spot, b"unknown key"),
+        DescCause::MissingKey { key } => {
+            let pieces: [&[u8]; 2] = [b"missing key ", key.name().as_bytes()];
+            put_refusal(sink, spot, &pieces)
+        }
+        DescCause::WrongType { key } => {
+            let pieces: [&[u8]; 2] = [b"wrong type of ", key.name().as_bytes()];
+            put_refusal(sink, spot, &pieces)
+        }
+        DescCause::BadValue { key } => {
+            let pieces: [&[u8]; 2] = [b"bad value of ", key.name().as_bytes()];
+            put_refusal(sink, spot, &pieces)
+        }
+    }
+}
+
+fn model_reason(cause: ModelCause) -> &'static [u8]
+    ensures { result.now ≡ model_reason cause }
+{
+    match cause {
+        ModelCause::TooMany => b"too many",
+        ModelCause::NoSuchParent => b"no such parent",
+        ModelCause::BadName => b"bad name",
+        ModelCause::DuplicateName => b"duplicate name",
+        ModelCause::TooDeep => b"too deep",
+        ModelCause::BadWidth => b"bad width",
+        ModelCause::BadSize => b"bad size",
+        ModelCause::FieldOutside => b"field outside",
+        ModelCause::FieldsOverlap => b"fields overlap",
+        ModelCause::ResetTooWide => b"reset too wide",
+    }
+}
+
+fn put_shared<K: Sink>(sink: &mut K, spot: Spot, address: u64, other: u32) -> Result<(), Failed>
+    ensures bytes { Puts (K.written sink.old) (K.written sink.new)
+        (refusal_text (Some spot) (map_reason (MapCause.SharedAddress address other))) result }
+    ensures cause { HasCause (K.faults sink.old) (K.faults sink.new) result }
+    ensures ends_kept { K.ends sink.new ≡ K.ends sink.old }
+    ensures same_target { K.target sink.new ≡ K.target sink.old }
+{
+    let mut digits = [0u8; 16];
+    let len = spell(&mut digits, address);
+    let mut place = Buffer::new();
+    let pieces: [&[u8]; 4] = [
+        b"shared address 0x",
+        front(&digits, len),
+        b" with place ",
+        place.format(u64::from(other) + 1).as_bytes(),
+    ];
+    put_refusal(sink, Some(spot), &pieces)
+}
+
+fn put_map_refused<K: Sink>(sink: &mut K, cause: MapCause, spot: Spot) -> Result<(), Failed>
+    ensures bytes { Puts (K.written sink.old) (K.written sink.new) (refusal_text (Some spot) (map_reason cause)) result }
+    ensures cause { HasCause (K.faults sink.old) (K.faults sink.new) result }
+    ensures ends_kept { K.ends sink.new ≡ K.ends sink.old }
+    ensures same_target { K.target sink.new ≡ K.target sink.old }
+{
+    match cause {
+        MapCause::TooMany => put_plain(sink, Some(spot), b"too many"),
+        MapCause::BadName => put_plain(sink, Some(spot), b"bad name"),
+        MapCause::DuplicateName => put_plain(sink, Some(spot), b"duplicate name"),
+        MapCause::NoSuchMap => put_plain(sink, Some(spot), b"no such map"),
+        MapCause::TooDeep => put_plain(sink, Some(spot), b"too deep"),
+        MapCause::BadBytes => put_plain(sink, Some(spot), b"bad bytes"),
+        MapCause::NoSuchAdapter => put_plain(sink, Some(spot), b"no such adapter"),
+        MapCause::NoSuchItem => put_plain(sink, Some(spot), b"no such item"),
+        MapCause::PlacedTwice => put_plain(sink, Some(spot), b"placed twice"),
+        MapCause::MemInFifo => put_plain(sink, Some(spot), b"memory in fifo"),
+        MapCause::AddressOverflow => put_plain(sink, Some(spot), b"address overflow"),
+        MapCause::Unaligned => put_plain(sink, Some(spot), b"unaligned"),
+        MapCause::SharedAddress { address, other } => put_shared(sink, spot, address, other),
+    }
+}
+
+fn flaw_at(row: u32) -> Option<Spot>
+    ensures { result ≡ flaw_at row }
+{
+    Some(Spot {
+        array: Array::Flaw,
+        row,
+        field: None,
+    })
+}
+
+/// Writes that the description is refused. Want of memory has no line.
+pub fn put_description_refused<K: Sink>(sink: &mut K, fault: &DescFault) -> Result<(), Failed>
+    requires { fault.now ≢ DescFault.Memory }
+    ensures bytes { Puts (K.written sink.old) (K.written sink.new) (description_refused_text fault.now) result }
+    ensures cause { HasCause (K.faults sink.old) (K.faults sink.new) result }
+    ensures ends_kept { K.ends sink.new ≡ K.ends sink.old }
+    ensures same_target { K.target sink.new ≡ K.target sink.old }
+{
+    match *fault {
+        DescFault::Bad { cause, spot } => put_bad(sink, cause, spot),
+        DescFault::Model { cause, spot } => put_plain(sink, Some(spot), model_reason(cause)),
+        DescFault::Map { cause, spot } => put_map_refused(sink, cause, spot),
+        DescFault::TooManyFlaws { row } => put_plain(sink, flaw_at(row), b"too many"),
+        DescFault::Flaw { row } => put_plain(sink, flaw_at(row), b"bad flaw"),
+        DescFault::Memory => Ok(()),
+    }
+}
