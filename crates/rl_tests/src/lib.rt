@@ -20,3 +20,5 @@ mod parts;
 mod sessions;
 #[cfg(test)]
 mod watching;
+#[cfg(test)]
+mod words;
