@@ -1,5 +1,5 @@
--- A call that was refused, or that sent nothing, performed its operation.
-use Rattle.std.proofs.Common.{◌≡◌, ℕ, ◌≤◌, Bool, true, false, if◌then◌else◌, List, [], Option, None, Some, option_map, Ok, Err, MatchResult, refl, sym, ap, ◌∙◌, subst, arith}
+-- A call that sent nothing performed its operation.
+use Rattle.std.proofs.Common.{◌≡◌, ℕ, ◌≤◌, Bool, true, false, if◌then◌else◌, List, [], Option, None, Some, option_map, Ok, refl, sym, ap, ◌∙◌, subst, arith}
 use Rattle.std.proofs.lemmas.List.{set-get_or}
 use Rattle.rl_bus.specs.Standing.{Standing, standing_at, nobody}
 use Rattle.rl_bus.specs.State.{State, poked, hw_set, reset_by}
@@ -14,25 +14,16 @@ use Rattle.rl_access.specs.declared.event.End.TheVariants as end
 use Rattle.rl_access.specs.declared.event.Event.{Event}
 use Rattle.rl_access.specs.declared.event.Op.{Op}
 use Rattle.rl_access.specs.declared.event.Op.TheVariants as op
-use Rattle.rl_access.specs.declared.event.Refused.{Refused}
 use Rattle.rl_access.specs.declared.trace.TraceItem.{TraceItem}
 use Rattle.rl_access.specs.Backdoor.{IsFound, IsReadBehind}
 use Rattle.rl_access.specs.Items.{AreItemsOf, HasCauses, items_of, state_after_all, moved_on_by_all, port_for, adapter_for}
 use Rattle.rl_access.specs.Model.{ModelData}
 use Rattle.rl_access.specs.Operation.{reg_of}
-use Rattle.rl_access.specs.Rules.{Grant, quiet, taking_raw, every_field, owned_of, back_written, back_value, back_left, back_outcome, grant, named, sends, outcome, Outcome, register_event, memory_event, event_at, event_of, refused_event, IsSampled, device_after}
-use Rattle.rl_access.specs.Call.{Scene, scene, IsRefused, IsDone, Performs}
-
--- ---- refused
-
-pub refused_performs : (s : Scene) (op : Op) (why : Refused) (event : Event) → grant s.model op ≡ Err why → event ≡ refused_event s.model (named s.model op) why → Performs s s op event
-refused_performs s op why event refused e =
-    subst (λ r. MatchResult r (λ place. IsDone s s op place event) (λ w. IsRefused s s op w event)) (sym refused) (record { event_is = e; unchanged = refl })
+use Rattle.rl_access.specs.Rules.{Grant, quiet, taking_raw, every_field, owned_of, back_written, back_value, back_left, back_outcome, grant, named, sends, outcome, Outcome, register_event, memory_event, event_at, event_of, found_by, device_after}
+use Rattle.rl_access.specs.Call.{scene, Performs}
+use Rattle.rl_access.proofs.Performed.{performs_done}
 
 -- ---- done
-
-pub done_performs : (s new : Scene) (op : Op) (place : ℕ) (event : Event) → grant s.model op ≡ Ok place → IsDone s new op place event → Performs s new op event
-done_performs s new op place event granted done = subst (λ r. MatchResult r (λ p. IsDone s new op p event) (λ w. IsRefused s new op w event)) (sym granted) done
 
 trace_at : (reg : Option ℕ) (op : Op) (items : List TraceItem) (o : Outcome) → (event_at reg op items o).trace ≡ items
 trace_at None op items o = refl
@@ -53,11 +44,11 @@ no_causes before now items empty later = subst (HasCauses before now) (sym empty
 -- one that sends nothing: adapters stay as they are
 pub quiet_performs : (m new : ModelData) (errors later : ℕ) (told after : Option State) (op : Op) (place sampled : ℕ) (event : Event) → grant m op ≡ Ok place → sends m op place ≡ []
     → event ≡ event_of m (named m op) [] (outcome m op place sampled []) → new ≡ (outcome m op place sampled []).model → errors ≤ later
-    → ((d : State) → told ≡ Some d → IsSampled d op sampled) → after ≡ option_map (device_after m op sampled []) told
+    → ((d : State) → told ≡ Some d → sampled ≡ found_by d op) → after ≡ option_map (device_after m op sampled []) told
     → (adapters : List Standing) → Performs (scene m adapters errors told) (scene new adapters later after) op event
 quiet_performs m new errors later told after op place sampled event granted nothing is_event is_model causes found goes adapters =
     let empty : event.trace ≡ [] = ap (λ (e : Event). e.trace) is_event ∙ trace_at _ (named m op) [] (outcome m op place sampled []) in
-    done_performs (scene m adapters errors told) (scene new adapters later after) op place event granted (record {
+    performs_done (scene m adapters errors told) (scene new adapters later after) op place event granted (record {
       sampled = sampled;
       items = are_none (standing_at adapters (adapter_for m.layout place)) (port_for m.layout place) (sends m op place) event.trace nothing empty;
       adapters = stand_still adapters (adapter_for m.layout place) event.trace empty;
@@ -97,7 +88,7 @@ pub poke_performs : (m new : ModelData) (errors later : ℕ) (told after : Optio
 poke_performs m new errors later told after reg value place items event granted goes taken empty is_event causes =
     quiet_performs m new errors later told after (op.Poke reg value) place 0 event granted refl
     (told_event (op.Poke reg value) reg items (quiet end.Done new) (quiet end.Done (taking_raw m reg value)) event is_event empty (ended_with end.Done new (taking_raw m reg value) taken))
-    taken causes (λ d at. tt) goes
+    taken causes (λ d at. refl) goes
 
 pub peek_performs : (m new : ModelData) (errors : ℕ) (told : Option State) (reg value place : ℕ) (items : List TraceItem) (event : Event) → grant m (op.Peek reg) ≡ Ok place
     → IsFound m told reg value → new ≡ taking_raw m reg value → items ≡ [] → event ≡ register_event (op.Peek reg) reg items (quiet (end.Value value) new)
@@ -162,7 +153,7 @@ pub hw_performs : (m : ModelData) (errors later : ℕ) (told after : Option Stat
 hw_performs m errors later told after field value reg place items event granted goes is_reg empty is_event causes =
     quiet_performs m m errors later told after (op.Hw field value) place 0 event granted refl
     (told_event (op.Hw field value) (reg_of m.chip field) items (quiet end.Done m) (quiet end.Done m) event (is_event ∙ ap (λ r. register_event (op.Hw field value) r items (quiet end.Done m)) is_reg) empty refl)
-    refl causes (λ d at. tt) goes
+    refl causes (λ d at. refl) goes
 
 pub reset_performs : (m new : ModelData) (errors later : ℕ) (told after : Option State) (kind : ℕ) (items : List TraceItem) (event : Event)
     → after ≡ option_map (λ d. reset_by d kind) told → new ≡ record m { mirror = reset m.chip kind m.mirror } → items ≡ [] → event ≡ memory_event (op.Reset kind) items (quiet end.Done new) → errors ≤ later
@@ -170,4 +161,4 @@ pub reset_performs : (m new : ModelData) (errors later : ℕ) (told after : Opti
 reset_performs m new errors later told after kind items event goes taken empty is_event causes =
     quiet_performs m new errors later told after (op.Reset kind) 0 0 event refl refl
     (told_memory_event (op.Reset kind) items (quiet end.Done new) (quiet end.Done new) event is_event empty refl)
-    taken causes (λ d at. tt) goes
+    taken causes (λ d at. refl) goes

@@ -1,5 +1,6 @@
 pub mod Alone
 pub mod BackPerforms
+pub mod Beliefs
 pub mod Bytes
 pub mod Seated
 pub mod Gathers
@@ -21,3 +22,4 @@ pub mod UnderWay
 pub mod Whole
 pub mod WholeGathered
 pub mod Wished
+pub mod Worlds

@@ -15,9 +15,10 @@ use Rattle.rl_access.specs.declared.event.Op.TheVariants as op
 use Rattle.rl_access.specs.declared.trace.TraceItem.{TraceItem}
 use Rattle.rl_access.specs.Items.{AreSent, failed_at, state_after_all, port_for, adapter_for}
 use Rattle.rl_access.specs.Model.{ModelData}
-use Rattle.rl_access.specs.Rules.{Grant, Outcome, quiet, or_error, grant, named, sends, outcome, memory_event, event_of, map_of_place, map_used, location_bytes, location_value, value_differs, placed, with_right, IsSampled, device_after}
+use Rattle.rl_access.specs.Rules.{Grant, Outcome, quiet, or_error, grant, named, sends, outcome, memory_event, event_of, map_of_place, map_used, location_bytes, location_value, value_differs, placed, with_right, found_by, device_after}
 use Rattle.rl_access.specs.Call.{scene, Performs}
-use Rattle.rl_access.proofs.BackPerforms.{done_performs, quiet_performs, told_memory_event}
+use Rattle.rl_access.proofs.BackPerforms.{quiet_performs, told_memory_event}
+use Rattle.rl_access.proofs.Performed.{performs_done}
 
 -- ---- the place
 
@@ -37,10 +38,10 @@ mapped_same f g (Some d) same = ap Some (sym (same d))
 pub sent_performs : (m new : ModelData) (before now : List Standing) (errors later : ℕ) (told after : Option State) (op : Op) (place : ℕ) (event : Event) → grant m op ≡ Ok place
     → AreSent (adapter_for m.layout place) (port_for m.layout place) (sends m op place) event.trace before now errors later told after
     → event ≡ event_of m (named m op) event.trace (outcome m op place 0 event.trace) → new ≡ (outcome m op place 0 event.trace).model
-    → ((d : State) → IsSampled d op 0) → ((items : List TraceItem) (d : State) → device_after m op 0 items d ≡ state_after_all d items)
+    → ((d : State) → 0 ≡ found_by d op) → ((items : List TraceItem) (d : State) → device_after m op 0 items d ≡ state_after_all d items)
     → Performs (scene m before errors told) (scene new now later after) op event
 sent_performs m new before now errors later told after op place event granted sent is_event is_model found steps =
-    done_performs (scene m before errors told) (scene new now later after) op place event granted (record {
+    performs_done (scene m before errors told) (scene new now later after) op place event granted (record {
       sampled = 0;
       items = sent.items_are;
       adapters = sent.adapters;
@@ -91,7 +92,7 @@ module _ (m : ModelData) (before now : List Standing) (errors later : ℕ) (told
       sent_performs m m before now errors later told after (op.MemWrite mem map index value) place event granted
       (subst (WereSent place (ops_of m.layout place index (location_bytes m mem) value true)) (sym t.0) sent)
       (subst (λ x. event ≡ memory_event (op.MemWrite mem (map_used m (item.Mem mem) map) index value) event.trace (good x)) (sym t.0) t.1)
-      (stays (failed_at event.trace) m (quiet end.Done m) refl) (λ d. tt) (λ x d. refl)
+      (stays (failed_at event.trace) m (quiet end.Done m) refl) (λ d. refl) (λ x d. refl)
 
   pub mem_read_performs : (mem index place : ℕ) (map used : Option ℕ) (e : End) (items : List TraceItem) (event : Event) → grant m (op.MemRead mem map index) ≡ Ok place → used ≡ map_used m (item.Mem mem) map
       → WereSent place (ops_of m.layout place index (location_bytes m mem) 0 false) items → e ≡ (or_error (failed_at items) m (quiet (end.Value (location_value m mem place index items)) m)).end
@@ -102,7 +103,7 @@ module _ (m : ModelData) (before now : List Standing) (errors later : ℕ) (told
       sent_performs m m before now errors later told after (op.MemRead mem map index) place event granted
       (subst (WereSent place (ops_of m.layout place index (location_bytes m mem) 0 false)) (sym t.0) sent)
       (subst (λ x. event ≡ memory_event (op.MemRead mem (map_used m (item.Mem mem) map) index) event.trace (good x)) (sym t.0) t.1)
-      (stays (failed_at event.trace) m (quiet (end.Value (location_value m mem place index event.trace)) m) refl) (λ d. tt) (λ x d. refl)
+      (stays (failed_at event.trace) m (quiet (end.Value (location_value m mem place index event.trace)) m) refl) (λ d. refl) (λ x d. refl)
 
   pub mem_check_performs : (mem index value place : ℕ) (map used : Option ℕ) (e : End) (differ : ℕ) (items : List TraceItem) (event : Event) → grant m (op.MemCheck mem map index value) ≡ Ok place → used ≡ map_used m (item.Mem mem) map
       → WereSent place (ops_of m.layout place index (location_bytes m mem) 0 false) items → e ≡ (or_error (failed_at items) m (quiet (end.Value (location_value m mem place index items)) m)).end → differ ≡ value_differs e value
@@ -113,7 +114,7 @@ module _ (m : ModelData) (before now : List Standing) (errors later : ℕ) (told
       sent_performs m m before now errors later told after (op.MemCheck mem map index value) place event granted
       (subst (WereSent place (ops_of m.layout place index (location_bytes m mem) 0 false)) (sym t.0) sent)
       (subst (λ x. event ≡ memory_event (op.MemCheck mem (map_used m (item.Mem mem) map) index value) event.trace (good x)) (sym t.0) t.1)
-      (stays (failed_at event.trace) m (record { end = end.Value (location_value m mem place index event.trace); model = m; differ = if location_value m mem place index event.trace == value then 0 else 1 }) refl) (λ d. tt) (λ x d. refl)
+      (stays (failed_at event.trace) m (record { end = end.Value (location_value m mem place index event.trace); model = m; differ = if location_value m mem place index event.trace == value then 0 else 1 }) refl) (λ d. refl) (λ x d. refl)
 
 -- ---- the backdoor of a memory
 
@@ -123,4 +124,4 @@ pub mem_poke_performs : (m : ModelData) (errors later : ℕ) (told after : Optio
 mem_poke_performs m errors later told after mem index value place items event granted goes empty is_event causes =
     quiet_performs m m errors later told after (op.MemPoke mem index value) place 0 event granted refl
     (told_memory_event (op.MemPoke mem index value) items (quiet end.Done m) (quiet end.Done m) event is_event empty refl)
-    refl causes (λ d at. tt) goes
+    refl causes (λ d at. refl) goes

@@ -45,7 +45,7 @@ is_write_by m op place first entry it a good is from same =
 
 whole_write : (m : ModelData) (reg : ℕ) (map : Option ℕ) (value place : ℕ) → IsWriteOf m (op.Write reg map value) place (forgetting m place) (whole m reg place value) end.Done
 whole_write m reg map value place = record {
-  over_bus = record { sends_are = refl; outcome_is = λ items. refl; register = refl; sampled = λ d. tt; device = λ items d. refl };
+  over_bus = record { sends_are = refl; outcome_is = λ items. refl; register = refl; sampled = λ d. refl; device = λ items d. refl };
   layout_is = refl;
   place_is = refl;
 }
@@ -55,7 +55,7 @@ is_write m reg map value place entry a from same = is_write_by m (op.Write reg m
 
 other_whole_write : (m : ModelData) (reg : ℕ) (map : Option ℕ) (value place : ℕ) → IsWriteOf m (op.OtherWrite reg map value) place (forgetting m place) (whole m reg place value) end.Done
 other_whole_write m reg map value place = record {
-  over_bus = record { sends_are = refl; outcome_is = λ items. refl; register = refl; sampled = λ d. tt; device = λ items d. refl };
+  over_bus = record { sends_are = refl; outcome_is = λ items. refl; register = refl; sampled = λ d. refl; device = λ items d. refl };
   layout_is = refl;
   place_is = refl;
 }
@@ -71,28 +71,28 @@ is_read_by m op place first entry it a check is from same =
 
 whole_read : (m : ModelData) (reg : ℕ) (map : Option ℕ) (place : ℕ) → IsReadOf m (op.Read reg map) place (forgetting m place) (whole m reg place 0) false
 whole_read m reg map place = record {
-  over_bus = record { sends_are = refl; outcome_is = λ items. refl; register = refl; sampled = λ d. tt; device = λ items d. refl };
+  over_bus = record { sends_are = refl; outcome_is = λ items. refl; register = refl; sampled = λ d. refl; device = λ items d. refl };
   layout_is = refl;
   place_is = refl;
 }
 
 whole_mirror : (m : ModelData) (reg : ℕ) (map : Option ℕ) (place : ℕ) → IsReadOf m (op.Mirror reg map) place (forgetting m place) (whole m reg place 0) false
 whole_mirror m reg map place = record {
-  over_bus = record { sends_are = refl; outcome_is = λ items. refl; register = refl; sampled = λ d. tt; device = λ items d. refl };
+  over_bus = record { sends_are = refl; outcome_is = λ items. refl; register = refl; sampled = λ d. refl; device = λ items d. refl };
   layout_is = refl;
   place_is = refl;
 }
 
 whole_check : (m : ModelData) (reg : ℕ) (map : Option ℕ) (place : ℕ) → IsReadOf m (op.Check reg map) place (forgetting m place) (whole m reg place 0) true
 whole_check m reg map place = record {
-  over_bus = record { sends_are = refl; outcome_is = λ items. refl; register = refl; sampled = λ d. tt; device = λ items d. refl };
+  over_bus = record { sends_are = refl; outcome_is = λ items. refl; register = refl; sampled = λ d. refl; device = λ items d. refl };
   layout_is = refl;
   place_is = refl;
 }
 
 other_whole_read : (m : ModelData) (reg : ℕ) (map : Option ℕ) (place : ℕ) → IsReadOf m (op.OtherRead reg map) place (forgetting m place) (whole m reg place 0) false
 other_whole_read m reg map place = record {
-  over_bus = record { sends_are = refl; outcome_is = λ items. refl; register = refl; sampled = λ d. tt; device = λ items d. refl };
+  over_bus = record { sends_are = refl; outcome_is = λ items. refl; register = refl; sampled = λ d. refl; device = λ items d. refl };
   layout_is = refl;
   place_is = refl;
 }
@@ -100,11 +100,30 @@ other_whole_read m reg map place = record {
 pub is_read : (m : ModelData) (reg : ℕ) (map : Option ℕ) (place : ℕ) (entry : ModelData) (a : Access) → entry ≡ forgetting m place → a ≡ whole m reg place 0 → IsReadOf m (op.Read reg map) place entry a false
 is_read m reg map place entry a from same = is_read_by m (op.Read reg map) place (forgetting m place) entry (whole m reg place 0) a false (whole_read m reg map place) from same
 
-pub is_mirror : (m : ModelData) (reg : ℕ) (map : Option ℕ) (place : ℕ) (entry : ModelData) (a : Access) → entry ≡ forgetting m place → a ≡ whole m reg place 0 → IsReadOf m (op.Mirror reg map) place entry a false
+is_mirror : (m : ModelData) (reg : ℕ) (map : Option ℕ) (place : ℕ) (entry : ModelData) (a : Access) → entry ≡ forgetting m place → a ≡ whole m reg place 0 → IsReadOf m (op.Mirror reg map) place entry a false
 is_mirror m reg map place entry a from same = is_read_by m (op.Mirror reg map) place (forgetting m place) entry (whole m reg place 0) a false (whole_mirror m reg map place) from same
 
-pub is_check : (m : ModelData) (reg : ℕ) (map : Option ℕ) (place : ℕ) (entry : ModelData) (a : Access) → entry ≡ forgetting m place → a ≡ whole m reg place 0 → IsReadOf m (op.Check reg map) place entry a true
+is_check : (m : ModelData) (reg : ℕ) (map : Option ℕ) (place : ℕ) (entry : ModelData) (a : Access) → entry ≡ forgetting m place → a ≡ whole m reg place 0 → IsReadOf m (op.Check reg map) place entry a true
 is_check m reg map place entry a from same = is_read_by m (op.Check reg map) place (forgetting m place) entry (whole m reg place 0) a true (whole_check m reg map place) from same
+
+-- a read to learn the value, or a check
+abbrev pub mirroring : Bool → (reg : ℕ) → Option ℕ → Op
+mirroring check reg map = if check then op.Check reg map else op.Mirror reg map
+
+pub is_mirroring : (m : ModelData) (reg : ℕ) (map : Option ℕ) (place : ℕ) (entry : ModelData) (a : Access) (check : Bool)
+    → entry ≡ forgetting m place → a ≡ whole m reg place 0 → IsReadOf m (mirroring check reg map) place entry a check
+is_mirroring m reg map place entry a true from same = is_check m reg map place entry a from same
+is_mirroring m reg map place entry a false from same = is_mirror m reg map place entry a from same
+
+pub mirroring_granted : (m : ModelData) (reg : ℕ) (map : Option ℕ) (check : Bool)
+    → grant m (mirroring check reg map) ≡ way m (item.Reg reg) map false
+mirroring_granted m reg map true = refl
+mirroring_granted m reg map false = refl
+
+pub mirroring_named : (m : ModelData) (reg : ℕ) (map used : Option ℕ) (check : Bool) → used ≡ map_used m (item.Reg reg) map
+    → mirroring check reg used ≡ named m (mirroring check reg map)
+mirroring_named m reg map used true e = ap (op.Check reg) e
+mirroring_named m reg map used false e = ap (op.Mirror reg) e
 
 pub is_other_read : (m : ModelData) (reg : ℕ) (map : Option ℕ) (place : ℕ) (entry : ModelData) (a : Access) → entry ≡ forgetting m place → a ≡ whole m reg place 0 → IsReadOf m (op.OtherRead reg map) place entry a false
 is_other_read m reg map place entry a from same = is_read_by m (op.OtherRead reg map) place (forgetting m place) entry (whole m reg place 0) a false (other_whole_read m reg map place) from same
@@ -119,7 +138,7 @@ update_write m reg map place needed =
         sends_are = ap (λ b. if b then access_ops m (whole m reg place word) true else []) needed;
         outcome_is = λ items. ap (λ b. if b then write_outcome (forgetting m place) (end.Sent word) (whole m reg place word) items else quiet end.Nothing m) needed;
         register = refl;
-        sampled = λ d. tt;
+        sampled = λ d. refl;
         device = λ items d. refl;
       };
       layout_is = refl;
@@ -140,7 +159,7 @@ is_no_update m reg map place nothing =
       sends_are = ap (λ b. if b then access_ops m (whole m reg place word) true else []) nothing;
       outcome_is = ap (λ b. if b then write_outcome (forgetting m place) (end.Sent word) (whole m reg place word) [] else quiet end.Nothing m) nothing;
       register = refl;
-      sampled = λ d. tt;
+      sampled = λ d. refl;
       device = λ d. refl;
     }
 
@@ -151,12 +170,12 @@ is_set m new field value place is = record {
   sends_are = refl;
   outcome_is = ap (quiet end.Done) (sym is);
   register = refl;
-  sampled = λ d. tt;
+  sampled = λ d. refl;
   device = λ d. refl;
 }
 
 pub is_show : (m : ModelData) (reg : ℕ) → IsQuiet m (op.Show reg) 0 reg end.Done m
-is_show m reg = record { sends_are = refl; outcome_is = refl; register = refl; sampled = λ d. tt; device = λ d. refl }
+is_show m reg = record { sends_are = refl; outcome_is = refl; register = refl; sampled = λ d. refl; device = λ d. refl }
 
 -- ---- one field
 
@@ -176,7 +195,7 @@ field_write_done m field map value place =
         sends_are = refl;
         outcome_is = λ items. refl;
         register = ap Some (sym (written_reg m field place value word (is_alone m field place true)));
-        sampled = λ d. tt;
+        sampled = λ d. refl;
         device = λ items d. refl;
       };
       layout_is = refl;
@@ -206,7 +225,7 @@ field_read_outcome m new field a items e end_is model =
 
 field_read_over_bus : (m : ModelData) (field : ℕ) (map : Option ℕ) (place : ℕ) →
     IsOverBus m (op.FieldRead field map) place (reg_of m.chip field) (access_ops (forgetting_field m field place false) (field_read m field place) false) (λ items. in_field m.chip field (read_outcome (forgetting_field m field place false) false (field_read m field place) items))
-field_read_over_bus m field map place = record { sends_are = refl; outcome_is = λ items. refl; register = refl; sampled = λ d. tt; device = λ items d. refl }
+field_read_over_bus m field map place = record { sends_are = refl; outcome_is = λ items. refl; register = refl; sampled = λ d. refl; device = λ items d. refl }
 
 first_read : (m new : ModelData) (field : ℕ) (map : Option ℕ) (told : Op) (place : ℕ) (items : List TraceItem) (e : End) (event : Event) (before now : List Standing) (errors later : ℕ) (state after : Option State) →
     grant m (op.FieldRead field map) ≡ Ok place → told ≡ named m (op.FieldRead field map) →

@@ -1,21 +1,19 @@
 -- From what a call's parts promise to what the call performs.
-use Rattle.std.proofs.Common.{◌≡◌, ℕ, List, [], Bool, true, false, Option, None, Some, option_map, Ok, Err, MatchResult, refl, sym, ap, ◌∙◌, subst, arith}
+use Rattle.std.proofs.Common.{◌≡◌, ℕ, List, [], Bool, true, false, Option, None, Some, option_map, Ok, MatchResult, refl, sym, ap, ◌∙◌, subst, arith}
 use Rattle.std.proofs.lemmas.List.{set-get_or}
 use Rattle.rl_bus.specs.Standing.{Standing, nobody, standing_at}
 use Rattle.rl_bus.specs.State.{State}
 use Rattle.rl_bus.specs.declared.op.BusOp.{BusOp}
 use Rattle.rl_access.specs.declared.access.Access.{Access}
 use Rattle.rl_access.specs.declared.event.End.{End}
-use Rattle.rl_access.specs.declared.event.End.TheVariants as end
 use Rattle.rl_access.specs.declared.event.Event.{Event}
 use Rattle.rl_access.specs.declared.event.Op.{Op}
-use Rattle.rl_access.specs.declared.event.Refused.{Refused}
 use Rattle.rl_access.specs.declared.trace.TraceItem.{TraceItem}
 use Rattle.rl_access.specs.Call.{Scene, scene, IsRefused, IsDone, Performs}
 use Rattle.rl_access.specs.Items.{AreItemsOf, AreSent, HasCauses, items_of, state_after_all, port_for, adapter_for}
 use Rattle.rl_access.specs.Model.{ModelData}
 use Rattle.rl_access.specs.Operation.{register_of}
-use Rattle.rl_access.specs.Rules.{Grant, Outcome, grant, named, sends, outcome, event_at, event_of, register_event, quiet, access_ops, write_outcome, read_outcome, IsSampled, device_after}
+use Rattle.rl_access.specs.Rules.{Grant, Outcome, grant, named, sends, outcome, event_at, event_of, register_event, quiet, access_ops, write_outcome, read_outcome, found_by, device_after}
 
 -- ---- by the grant
 
@@ -23,30 +21,13 @@ pub performs_done : (s new : Scene) (op : Op) (place : ℕ) (event : Event) → 
 performs_done s new op place event granted done =
     subst (λ (g : Grant). MatchResult g (λ p. IsDone s new op p event) (λ why. IsRefused s new op why event)) (sym granted) done
 
-pub performs_refused : (s new : Scene) (op : Op) (why : Refused) (event : Event) → grant s.model op ≡ Err why → IsRefused s new op why event → Performs s new op event
-performs_refused s new op why event refused is =
-    subst (λ (g : Grant). MatchResult g (λ p. IsDone s new op p event) (λ w. IsRefused s new op w event)) (sym refused) is
-
--- an operation on a register that was refused
-pub refused_register : (m : ModelData) (op told : Op) (reg : ℕ) (why : Refused) (event : Event) (adapters : List Standing) (errors : ℕ) (device : Option State) →
-    grant m op ≡ Err why → told ≡ named m op → register_of m.chip (named m op) ≡ Some reg → event ≡ register_event told reg [] (quiet (end.Refused why) m) →
-    Performs (scene m adapters errors device) (scene m adapters errors device) op event
-refused_register m op told reg why event adapters errors device refused names register is =
-    performs_refused (scene m adapters errors device) (scene m adapters errors device) op why event refused (record {
-      event_is =
-          is
-          ∙ ap (λ o. register_event o reg [] (quiet (end.Refused why) m)) names
-          ∙ ap (λ r. event_at r (named m op) [] (quiet (end.Refused why) m)) (sym register);
-      unchanged = refl;
-    })
-
 -- ---- what an operation over the bus sends, and what becomes of it
 
 pub record IsOverBus (m : ModelData) (op : Op) (place : ℕ) (reg : ℕ) (ops : List BusOp) (o : List TraceItem → Outcome) : Type 0 where
   pub sends_are : sends m op place ≡ ops
   pub outcome_is : (items : List TraceItem) → outcome m op place 0 items ≡ o items
   pub register : register_of m.chip (named m op) ≡ Some reg
-  pub sampled : (d : State) → IsSampled d op 0
+  pub sampled : (d : State) → 0 ≡ found_by d op
   pub device : (items : List TraceItem) (d : State) → device_after m op 0 items d ≡ state_after_all d items
 
 goes_on : (f g : State → State) → ((d : State) → f d ≡ g d) → (state : Option State) → option_map f state ≡ option_map g state
@@ -117,7 +98,7 @@ pub record IsQuiet (m : ModelData) (op : Op) (place reg : ℕ) (e : End) (new : 
   pub sends_are : sends m op place ≡ []
   pub outcome_is : outcome m op place 0 [] ≡ quiet e new
   pub register : register_of m.chip (named m op) ≡ Some reg
-  pub sampled : (d : State) → IsSampled d op 0
+  pub sampled : (d : State) → 0 ≡ found_by d op
   pub device : (d : State) → device_after m op 0 [] d ≡ d
 
 no_items : (s : Standing) (port : ℕ) (ops : List BusOp) → ops ≡ [] → AreItemsOf s port ops []

@@ -89,8 +89,3 @@ items_fit l port kind s (op ∷ ops) [] h inside bytes fits small = absurd h
 pub ops_have_bytes : (l : LayoutData) (place index chosen value : ℕ) (write : Bool) → HasBytes (bus_bytes_of l place) (ops_of l place index chosen value write)
 unfolding ops_of
 ops_have_bytes l place index chosen value write = All-map (λ o. o.bytes ≡ bus_bytes_of l place) (op_of l place chosen value write) (sent_of l place index chosen) (λ k d low. refl)
-
--- a read's operations don't depend on a value
-pub read_ops_same : (l : LayoutData) (place index chosen value : ℕ) → ops_of l place index chosen value false ≡ ops_of l place index chosen 0 false
-unfolding ops_of
-read_ops_same l place index chosen value = refl

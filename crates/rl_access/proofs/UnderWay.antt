@@ -2,7 +2,7 @@
 use Rattle.std.proofs.Common.{slice_get, All, ◌≡◌, ℕ, ◌+◌, ◌<◌, ◌≤◌, List, [], ◌∷◌, ◌++◌, length, map, set, get_or, drop, Bool, true, false, cond, ◌||◌, Option, None, Some, option_map, refl, sym, ap, ◌∙◌, subst, arith, append_assoc, append-nil}
 use Rattle.std.proofs.lemmas.List.Elements.{All-push}
 use Rattle.std.proofs.lemmas.Option.{get_or_from_slice_get, slice_get_within}
-use Rattle.std.proofs.lemmas.List.{set-set, set-get_or, get_or-set_same, length-set, length_push, drop_more, at_drop_all}
+use Rattle.std.proofs.lemmas.List.{set-set, set-get_or, get_or-set_same, length_push, drop_more, at_drop_all}
 use Rattle.std.specs.Bool.{MatchBool}
 use Rattle.rl_bus.specs.Causes.{Rose, AnswerHasCause}
 use Rattle.rl_bus.specs.Device.{IsStep, IsPortOf}
@@ -276,12 +276,6 @@ next_of f first now new {which} {port} {ops} {i} {op} {item} {errors} {errors_af
       cause = cause;
       step = subst (λ o. IsStep state after port o item.answer) is step;
     }
-
--- the adapter is still there
-pub still_within : {first now : List Standing} {which port : ℕ} {ops : List BusOp} {i : ℕ} {items : List TraceItem} {errors_before errors : ℕ} {before state : Option State} →
-    IsUnderWay first now which port ops i items errors_before errors before state → which < length first → which < length now
-still_within {first} {which = which} {items = items} u within =
-    rw (u.adapters, length-set first which (took_all (standing_at first which) items)) within
 
 -- the port is still one of the device
 pub still_port : {first now : List Standing} {which port : ℕ} {ops : List BusOp} {i : ℕ} {items : List TraceItem} {errors_before errors : ℕ} {before state : Option State} →

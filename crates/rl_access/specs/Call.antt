@@ -7,7 +7,7 @@ use Rattle.rl_access.specs.declared.event.Op.{Op}
 use Rattle.rl_access.specs.declared.event.Refused.{Refused}
 use Rattle.rl_access.specs.Items.{AreItemsOf, HasCauses, items_of, moved_on_by_all, port_for, adapter_for}
 use Rattle.rl_access.specs.Model.{ModelData}
-use Rattle.rl_access.specs.Rules.{grant, named, sends, outcome, event_of, refused_event, IsSampled, device_after}
+use Rattle.rl_access.specs.Rules.{grant, named, sends, outcome, event_of, refused_event, found_by, device_after}
 
 -- what a call meets and leaves
 pub record Scene : Type 0 where
@@ -40,7 +40,7 @@ pub record IsDone (s new : Scene) (op : Op) (place : ℕ) (event : Event) : Type
   pub event_is : event ≡ event_of s.model (named s.model op) event.trace (outcome s.model op place sampled event.trace)
   pub model : new.model ≡ (outcome s.model op place sampled event.trace).model
   -- the device, where it tells its state
-  pub found : (d : State) → s.device ≡ Some d → IsSampled d op sampled
+  pub found : (d : State) → s.device ≡ Some d → sampled ≡ found_by d op
   pub answers : (d : State) → s.device ≡ Some d → event.trace ≡ items_of (standing_at s.adapters (adapter_for s.model.layout place)) d (port_for s.model.layout place) (sends s.model op place)
   pub goes : new.device ≡ option_map (device_after s.model op sampled event.trace) s.device
 

@@ -8,7 +8,10 @@ pub mod Items
 pub mod Access
 pub mod Rules
 pub mod Call
+pub mod World
+pub mod Word
 pub mod Backdoor
 pub mod Observed
 pub mod Tally
 pub mod Wishes
+pub mod Laws

@@ -1,5 +1,5 @@
 -- The rules of events: which operation is refused and why, what any other one sends, and what it makes of the items.
-use Rattle.std.specs.Prelude.{◌≡◌, ℕ, ◌-◌, ◌*◌, ◌^◌, nat_lt, nat_le, ◌+◌, ◌==◌, Bool, true, false, if◌then◌else◌, List, [], slice_get, slice_set, Option, None, Some, unwrap_or, Result, Ok, Err}
+use Rattle.std.specs.Prelude.{ℕ, ◌-◌, ◌*◌, ◌^◌, nat_lt, nat_le, ◌+◌, ◌==◌, Bool, true, false, if◌then◌else◌, List, [], slice_get, slice_set, Option, None, Some, unwrap_or, Result, Ok, Err}
 use Rattle.std.specs.Option.{option_map_or}
 use Rattle.rl_policy.specs.Bits.{bit, from_bits, put_bit}
 use Rattle.rl_bus.specs.declared.op.BusOp.{BusOp}
@@ -384,14 +384,14 @@ refused_event m op why = event_of m op [] (quiet (end.Refused why) m)
 
 -- ---- the device, where it tells its state
 
--- what it was found to have
-abbrev pub IsSampled : State → Op → ℕ → Type 0
-IsSampled d (op.BackWrite reg value) sampled = sampled ≡ peeked d (cell.Reg reg)
-IsSampled d (op.BackRead reg) sampled = sampled ≡ peeked d (cell.Reg reg)
-IsSampled d (op.BackCheck reg) sampled = sampled ≡ peeked d (cell.Reg reg)
-IsSampled d (op.Peek reg) sampled = sampled ≡ peeked d (cell.Reg reg)
-IsSampled d (op.MemPeek mem index) sampled = sampled ≡ peeked d (cell.Loc mem index)
-IsSampled d _ sampled = Unit {0}
+-- the bits that it is found to have, where the backdoor reads them
+abbrev pub found_by : State → Op → ℕ
+found_by d (op.BackWrite reg value) = peeked d (cell.Reg reg)
+found_by d (op.BackRead reg) = peeked d (cell.Reg reg)
+found_by d (op.BackCheck reg) = peeked d (cell.Reg reg)
+found_by d (op.Peek reg) = peeked d (cell.Reg reg)
+found_by d (op.MemPeek mem index) = peeked d (cell.Loc mem index)
+found_by d _ = 0
 
 abbrev pub device_after : ModelData → Op → (sampled : ℕ) → List TraceItem → State → State
 device_after m (op.BackWrite reg value) sampled items d = poked d (cell.Reg reg) (back_written m reg value sampled)

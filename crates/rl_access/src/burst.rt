@@ -22,19 +22,19 @@ use rl_model::Item;
 
 /// Hands an event to the recorder and counts it.
 fn hand_over<R: Recorder>(
-    m: &Model,
+    model: &Model,
     event: &Event,
     rec: &mut R,
     tally: &mut Tally,
 ) -> Result<(), Failed>
-    requires fits { EventFits m.now event.now }
-    ensures taken { OnOk result (R.takes rec.old m.now event.now rec.new) }
+    requires fits { EventFits model.now event.now }
+    ensures taken { OnOk result (R.takes rec.old model.now event.now rec.new) }
     ensures counted { OnOk result (tally.new ≡ counted tally.old event.now) }
-    ensures broken { OnErr result (R.breaks rec.old m.now event.now rec.new) }
+    ensures broken { OnErr result (R.breaks rec.old model.now event.now rec.new) }
     ensures cause { HasCause (R.faults rec.old) (R.faults rec.new) result }
     ensures steady { R.steady rec.new ≡ R.steady rec.old }
 {
-    rec.step(m, event)?;
+    rec.step(model, event)?;
     tally.count(event);
     Ok(())
 }
@@ -46,105 +46,112 @@ fn is_bus_error(end: End) -> bool
 }
 
 // A refused burst hands over one event of the burst.
-fn refuse_burst<R: Recorder>(m: &Model, op: Op, why: Refused, rec: &mut R) -> Result<Tally, Failed>
-    requires numbers { HasNumbers m.now.chip (length m.now.layout.maps) op }
-    requires register { register_of m.now.chip op ≡ None }
+fn refuse_burst<R: Recorder>(
+    model: &Model,
+    op: Op,
+    why: Refused,
+    rec: &mut R,
+) -> Result<Tally, Failed>
+    requires numbers { HasNumbers model.now.chip (length model.now.layout.maps) op }
+    requires register { register_of model.now.chip op ≡ None }
     requires ends { has_end op (end.Refused why) ≡ true }
     ensures handed { HandsOver R.takes R.breaks rec.old
-        (record { model = m.now; event = memory_event op [] (quiet (end.Refused why) m.now) } ∷ []) rec.new result }
+        (record { model = model.now; event = memory_event op [] (quiet (end.Refused why) model.now) } ∷ [])
+        rec.new result }
     ensures tally { IfOk result (λ tally.
-        tally ≡ counted no_tally (memory_event op [] (quiet (end.Refused why) m.now))) }
+        tally ≡ counted no_tally (memory_event op [] (quiet (end.Refused why) model.now))) }
     ensures cause { HasCause (R.faults rec.old) (R.faults rec.new) result }
     ensures steady { R.steady rec.new ≡ R.steady rec.old }
 {
     let mut tally = Tally::new();
-    let event = m.refuse_memory(op, why);
-    hand_over(m, &event, rec, &mut tally)?;
+    let event = model.refuse_memory(op, why);
+    hand_over(model, &event, rec, &mut tally)?;
     Ok(tally)
 }
 
 /// Writes values to consecutive locations of a memory, in ascending order, and hands each event to the recorder.
 /// It ends after the first bus error. A burst of which any value is too wide is refused before its first location.
 pub fn burst_write<D: Device, R: Recorder>(
-    m: &mut Model,
-    d: &mut D,
-    a: &mut Adapters,
+    model: &mut Model,
+    device: &mut D,
+    adapters: &mut Adapters,
     mem: u32,
     map: Option<u32>,
     first: u64,
     values: &[u64],
     rec: &mut R,
 ) -> Result<Tally, Failed>
-    requires ready { IsReady m.old (each standing a.old.items) (D.state d.old) }
-    requires mem { mem < length m.old.chip.mems }
-    requires map { IsMapIn (length m.old.layout.maps) map }
-    ensures model { m.new ≡ m.old }
-    ensures ready { IsReady m.new (each standing a.new.items) (D.state d.new) }
+    requires ready { IsReady model.old (each standing adapters.old.items) (D.state device.old) }
+    requires mem { mem < length model.old.chip.mems }
+    requires map { IsMapIn (length model.old.layout.maps) map }
+    ensures model { model.new ≡ model.old }
+    ensures ready { IsReady model.new (each standing adapters.new.items) (D.state device.new) }
     ensures hands_over { IsBurst R.takes R.breaks rec.old rec.new
-        (scene_of standing D.errors D.state m.old a.old.items d.old)
-        (scene_of standing D.errors D.state m.new a.new.items d.new)
-        (write_grant m.old mem map first values.now) (Op.BurstWrite mem map first (length values.now))
+        (scene_of standing D.errors D.state model.old adapters.old.items device.old)
+        (scene_of standing D.errors D.state model.new adapters.new.items device.new)
+        (write_grant model.old mem map first values.now) (Op.BurstWrite mem map first (length values.now))
         (writes_of mem map first values.now) result }
     ensures cause { HasCause (R.faults rec.old) (R.faults rec.new) result }
     ensures steady { R.steady rec.new ≡ R.steady rec.old }
-    ensures refused { OnErr (write_grant m.old mem map first values.now) (d.new ≡ d.old) }
+    ensures refused { OnErr (write_grant model.old mem map first values.now) (device.new ≡ device.old) }
 {
     let count = values.len() as u64;
-    let place = m.place_of(Item::Mem(mem), map);
+    let place = model.place_of(Item::Mem(mem), map);
     let op = Op::BurstWrite {
         mem,
-        map: m.map_used(place, map),
+        map: model.map_used(place, map),
         first,
         count,
     };
-    let way = m.writable(mem, m.way(place, true));
-    let grant = m.at_locations(mem, first, count, way);
-    match all_fitting(m, mem, values, grant) {
-        Ok(_) => write_locations(m, d, a, mem, map, first, values, rec),
-        Err(why) => refuse_burst(m, op, why, rec),
+    let way = model.writable(mem, model.way(place, true));
+    let grant = model.at_locations(mem, first, count, way);
+    match all_fitting(model, mem, values, grant) {
+        Ok(_) => write_locations(model, device, adapters, mem, map, first, values, rec),
+        Err(why) => refuse_burst(model, op, why, rec),
     }
 }
 
 // Granted where the location's bytes hold each value.
-fn all_fitting(m: &Model, mem: u32, values: &[u64], grant: Grant) -> Grant
-    requires { mem < length m.now.chip.mems }
+fn all_fitting(model: &Model, mem: u32, values: &[u64], grant: Grant) -> Grant
+    requires { mem < length model.now.chip.mems }
     ensures grant { result ≡
-        only_where grant (list_all (λ v. nat_lt v (256 ^ location_size m.now.chip mem)) values.now) Refused.TooWide }
+        only_where grant (list_all (λ v. nat_lt v (256 ^ location_size model.now.chip mem)) values.now)
+        Refused.TooWide }
     ensures before { IfOk result (λ p. grant ≡ Ok p) }
 {
     let all = values
         .iter()
-        .all(|&value| m.is_fitting(Item::Mem(mem), value));
+        .all(|&value| model.is_fitting(Item::Mem(mem), value));
     only_where(grant, all, Refused::TooWide)
 }
 
 fn write_locations<D: Device, R: Recorder>(
-    m: &mut Model,
-    d: &mut D,
-    a: &mut Adapters,
+    model: &mut Model,
+    device: &mut D,
+    adapters: &mut Adapters,
     mem: u32,
     map: Option<u32>,
     first: u64,
     values: &[u64],
     rec: &mut R,
 ) -> Result<Tally, Failed>
-    requires ready { IsReady m.old (each standing a.old.items) (D.state d.old) }
-    requires mem { mem < length m.old.chip.mems }
-    requires map { IsMapIn (length m.old.layout.maps) map }
+    requires ready { IsReady model.old (each standing adapters.old.items) (D.state device.old) }
+    requires mem { mem < length model.old.chip.mems }
+    requires map { IsMapIn (length model.old.layout.maps) map }
     requires small { first + length values.now < 2 ^ 64 }
-    ensures model { m.new ≡ m.old }
-    ensures ready { IsReady m.new (each standing a.new.items) (D.state d.new) }
+    ensures model { model.new ≡ model.old }
+    ensures ready { IsReady model.new (each standing adapters.new.items) (D.state device.new) }
     ensures run { IsRun R.takes R.breaks rec.old rec.new
-        (scene_of standing D.errors D.state m.old a.old.items d.old)
-        (scene_of standing D.errors D.state m.new a.new.items d.new)
+        (scene_of standing D.errors D.state model.old adapters.old.items device.old)
+        (scene_of standing D.errors D.state model.new adapters.new.items device.new)
         (writes_of mem map first values.now) result }
     ensures cause { HasCause (R.faults rec.old) (R.faults rec.new) result }
     ensures steady { R.steady rec.new ≡ R.steady rec.old }
 {
     let mut tally = Tally::new();
     for (k, value) in values.iter().enumerate() {
-        let event = mem_write(m, d, a, mem, map, first + k as u64, *value);
-        hand_over(m, &event, rec, &mut tally)?;
+        let event = mem_write(model, device, adapters, mem, map, first + k as u64, *value);
+        hand_over(model, &event, rec, &mut tally)?;
         if is_bus_error(event.end) {
             return Ok(tally);
         }
@@ -155,69 +162,69 @@ fn write_locations<D: Device, R: Recorder>(
 /// Reads consecutive locations of a memory, in ascending order, and hands each event to the recorder. It ends
 /// after the first bus error.
 pub fn burst_read<D: Device, R: Recorder>(
-    m: &mut Model,
-    d: &mut D,
-    a: &mut Adapters,
+    model: &mut Model,
+    device: &mut D,
+    adapters: &mut Adapters,
     mem: u32,
     map: Option<u32>,
     first: u64,
     count: u64,
     rec: &mut R,
 ) -> Result<Tally, Failed>
-    requires ready { IsReady m.old (each standing a.old.items) (D.state d.old) }
-    requires mem { mem < length m.old.chip.mems }
-    requires map { IsMapIn (length m.old.layout.maps) map }
-    ensures model { m.new ≡ m.old }
-    ensures ready { IsReady m.new (each standing a.new.items) (D.state d.new) }
+    requires ready { IsReady model.old (each standing adapters.old.items) (D.state device.old) }
+    requires mem { mem < length model.old.chip.mems }
+    requires map { IsMapIn (length model.old.layout.maps) map }
+    ensures model { model.new ≡ model.old }
+    ensures ready { IsReady model.new (each standing adapters.new.items) (D.state device.new) }
     ensures hands_over { IsBurst R.takes R.breaks rec.old rec.new
-        (scene_of standing D.errors D.state m.old a.old.items d.old)
-        (scene_of standing D.errors D.state m.new a.new.items d.new)
-        (grant m.old (Op.BurstRead mem map first count)) (Op.BurstRead mem map first count)
+        (scene_of standing D.errors D.state model.old adapters.old.items device.old)
+        (scene_of standing D.errors D.state model.new adapters.new.items device.new)
+        (grant model.old (Op.BurstRead mem map first count)) (Op.BurstRead mem map first count)
         (reads_of mem map first count) result }
     ensures cause { HasCause (R.faults rec.old) (R.faults rec.new) result }
     ensures steady { R.steady rec.new ≡ R.steady rec.old }
-    ensures refused { OnErr (grant m.old (Op.BurstRead mem map first count)) (d.new ≡ d.old) }
+    ensures refused { OnErr (grant model.old (Op.BurstRead mem map first count)) (device.new ≡ device.old) }
 {
-    let place = m.place_of(Item::Mem(mem), map);
+    let place = model.place_of(Item::Mem(mem), map);
     let op = Op::BurstRead {
         mem,
-        map: m.map_used(place, map),
+        map: model.map_used(place, map),
         first,
         count,
     };
-    match m.at_locations(mem, first, count, m.way(place, false)) {
-        Ok(_) => read_locations(m, d, a, mem, map, first, count, rec),
-        Err(why) => refuse_burst(m, op, why, rec),
+    match model.at_locations(mem, first, count, model.way(place, false)) {
+        Ok(_) => read_locations(model, device, adapters, mem, map, first, count, rec),
+        Err(why) => refuse_burst(model, op, why, rec),
     }
 }
 
 fn read_locations<D: Device, R: Recorder>(
-    m: &mut Model,
-    d: &mut D,
-    a: &mut Adapters,
+    model: &mut Model,
+    device: &mut D,
+    adapters: &mut Adapters,
     mem: u32,
     map: Option<u32>,
     first: u64,
     count: u64,
     rec: &mut R,
 ) -> Result<Tally, Failed>
-    requires ready { IsReady m.old (each standing a.old.items) (D.state d.old) }
-    requires mem { mem < length m.old.chip.mems }
-    requires map { IsMapIn (length m.old.layout.maps) map }
+    requires ready { IsReady model.old (each standing adapters.old.items) (D.state device.old) }
+    requires mem { mem < length model.old.chip.mems }
+    requires map { IsMapIn (length model.old.layout.maps) map }
     requires small { first + count < 2 ^ 64 }
-    ensures model { m.new ≡ m.old }
-    ensures ready { IsReady m.new (each standing a.new.items) (D.state d.new) }
+    ensures model { model.new ≡ model.old }
+    ensures ready { IsReady model.new (each standing adapters.new.items) (D.state device.new) }
     ensures run { IsRun R.takes R.breaks rec.old rec.new
-        (scene_of standing D.errors D.state m.old a.old.items d.old)
-        (scene_of standing D.errors D.state m.new a.new.items d.new)
+        (scene_of standing D.errors D.state model.old adapters.old.items device.old)
+        (scene_of standing D.errors D.state model.new adapters.new.items device.new)
         (reads_of mem map first count) result }
     ensures cause { HasCause (R.faults rec.old) (R.faults rec.new) result }
     ensures steady { R.steady rec.new ≡ R.steady rec.old }
 {
     let mut tally = Tally::new();
     for index in first..first + count {
-        let event = mem_read(m, d, a, mem, map, index);
-        hand_over(m, &event, rec, &mut tally)?;
+        let event = mem_read(model, device, adapters, mem, map, index);
+        hand_over(model, &event, rec, &mut tally)?;
         if is_bus_error(event.end) {
             return Ok(tally);
         }

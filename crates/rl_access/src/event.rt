@@ -11,8 +11,11 @@ pub enum Refused {
     NotObserved,
     /// The place lacks the right of the direction.
     NoRight,
+    /// The register or the memory has no backdoor.
     NoBackdoor,
+    /// The hardware changes volatile fields alone.
     NotVolatile,
+    /// The memory is read-only.
     NotWritable,
     /// A location at or past the memory's size.
     OutOfRange,
@@ -23,6 +26,7 @@ pub enum Refused {
 /// How an operation ended.
 #[derive(Clone, Copy, Debug, PartialEq, Eq)]
 pub enum End {
+    /// It was done, and there is nothing to tell.
     Done,
     /// The value that was read: of a field access the field's.
     Value { value: u64 },
@@ -32,118 +36,147 @@ pub enum End {
     Nothing,
     /// The number of the failed item in this access, counted from 0.
     BusError { word: u32 },
+    /// It was refused, for this cause.
     Refused { why: Refused },
 }
 
-/// An operation. `map` is the map of the place that was used, or the one that was asked for where there
-/// is no such place.
+/// An operation. Registers, fields, memories, maps and kinds are the numbers that the chip and the layout give
+/// them; `index` and `first` are locations of a memory.
+///
+/// `map` in an event is the map of the place that was used, or the one that was asked for where there is no such
+/// place.
 #[derive(Clone, Copy, Debug, PartialEq, Eq)]
 pub enum Op {
+    /// Writes a register over the bus.
     Write {
         reg: u32,
         map: Option<u32>,
         value: u64,
     },
+    /// Reads a register over the bus.
     Read {
         reg: u32,
         map: Option<u32>,
     },
+    /// Reads a register over the bus to learn its value.
     Mirror {
         reg: u32,
         map: Option<u32>,
     },
+    /// The same, and compares what was read with what was mirrored.
     Check {
         reg: u32,
         map: Option<u32>,
     },
+    /// Writes a field over the bus.
     FieldWrite {
         field: u32,
         map: Option<u32>,
         value: u64,
     },
+    /// Reads a field over the bus.
     FieldRead {
         field: u32,
         map: Option<u32>,
     },
+    /// Gives a field a desired value.
     Set {
         field: u32,
         value: u64,
     },
+    /// Tells the mirrored and the desired value of a register.
     Show {
         reg: u32,
     },
+    /// Brings a register to its desired value, by a write over the bus where one is needed.
     Update {
         reg: u32,
         map: Option<u32>,
     },
+    /// Writes a register by the backdoor, with each field's write effect.
     BackWrite {
         reg: u32,
         value: u64,
     },
+    /// Reads a register by the backdoor, with each field's read effect.
     BackRead {
         reg: u32,
     },
+    /// The same, and compares what was read with what was mirrored.
     BackCheck {
         reg: u32,
     },
+    /// Samples the bits of a register.
     Peek {
         reg: u32,
     },
+    /// Deposits bits in a register.
     Poke {
         reg: u32,
         value: u64,
     },
+    /// Writes a location of a memory over the bus.
     MemWrite {
         mem: u32,
         map: Option<u32>,
         index: u64,
         value: u64,
     },
+    /// Reads a location of a memory over the bus.
     MemRead {
         mem: u32,
         map: Option<u32>,
         index: u64,
     },
+    /// The same, and compares what was read with the value.
     MemCheck {
         mem: u32,
         map: Option<u32>,
         index: u64,
         value: u64,
     },
+    /// Writes `count` locations from `first` on. As an event it is one that was refused as a whole.
     BurstWrite {
         mem: u32,
         map: Option<u32>,
         first: u64,
         count: u64,
     },
+    /// Reads `count` locations from `first` on. As an event it is one that was refused as a whole.
     BurstRead {
         mem: u32,
         map: Option<u32>,
         first: u64,
         count: u64,
     },
+    /// Samples a location of a memory.
     MemPeek {
         mem: u32,
         index: u64,
     },
+    /// Deposits a value in a location of a memory.
     MemPoke {
         mem: u32,
         index: u64,
         value: u64,
     },
+    /// Another master writes a register over the bus.
     OtherWrite {
         reg: u32,
         map: Option<u32>,
         value: u64,
     },
+    /// Another master reads a register over the bus.
     OtherRead {
         reg: u32,
         map: Option<u32>,
     },
+    /// The hardware changes a volatile field.
     Hw {
         field: u32,
         value: u64,
     },
+    /// Resets the chip. Kind 0 is HARD, kind 1 is SOFT.
     Reset {
         kind: u32,
     },
@@ -157,11 +190,17 @@ pub enum Op {
 /// value than the given one.
 #[derive(Drop)]
 pub struct Event {
+    /// The operation, with the map that was used.
     pub op: Op,
+    /// How it ended.
     pub end: End,
+    /// The items that it sent, in order.
     pub trace: Trace,
+    /// The mirrored value of its register afterwards.
     pub mirrored: u64,
+    /// The desired value of its register afterwards.
     pub desired: u64,
+    /// The fields that a check found to differ.
     pub differ: u64,
 }
 
@@ -188,7 +227,10 @@ impl Event {
 /// Each count stays at `u64::MAX`.
 #[derive(Clone, Copy, Debug, PartialEq, Eq)]
 pub struct Tally {
+    /// The operations that were done or refused.
     pub steps: u64,
+    /// The differing fields, and the memory checks that read another value.
     pub differences: u64,
+    /// The operations that ended by a bus error.
     pub errors: u64,
 }

@@ -18,86 +18,87 @@ use rl_policy::take;
 /// with the neutral word in each other field. When an access may be narrow, and the neutral word, are this
 /// project's own.
 pub fn field_write<D: Device>(
-    m: &mut Model,
-    d: &mut D,
-    a: &mut Adapters,
+    model: &mut Model,
+    device: &mut D,
+    adapters: &mut Adapters,
     field: u32,
     map: Option<u32>,
     value: u64,
 ) -> Event
-    requires ready { IsReady m.old (each standing a.old.items) (D.state d.old) }
-    requires field { field < length m.old.chip.fields }
-    requires map { IsMapIn (length m.old.layout.maps) map }
-    ensures ready { IsReady m.new (each standing a.new.items) (D.state d.new) }
-    ensures parts { IsSameChip m.old m.new }
-    ensures fits { EventFits m.new result }
-    ensures performs { Performs (scene_of standing D.errors D.state m.old a.old.items d.old)
-        (scene_of standing D.errors D.state m.new a.new.items d.new) (op.FieldWrite field map value) result }
-    ensures refused { OnErr (grant m.old (op.FieldWrite field map value)) (d.new ≡ d.old) }
+    requires ready { IsReady model.old (each standing adapters.old.items) (D.state device.old) }
+    requires field { field < length model.old.chip.fields }
+    requires map { IsMapIn (length model.old.layout.maps) map }
+    ensures ready { IsReady model.new (each standing adapters.new.items) (D.state device.new) }
+    ensures parts { IsSameChip model.old model.new }
+    ensures fits { EventFits model.new result }
+    ensures performs { Performs (scene_of standing D.errors D.state model.old adapters.old.items device.old)
+        (scene_of standing D.errors D.state model.new adapters.new.items device.new)
+        (op.FieldWrite field map value) result }
+    ensures refused { OnErr (grant model.old (op.FieldWrite field map value)) (device.new ≡ device.old) }
 {
-    let reg = m.field(field).reg;
-    let place = m.place_of(Item::Reg(reg), map);
+    let reg = model.field(field).reg;
+    let place = model.place_of(Item::Reg(reg), map);
     let op = Op::FieldWrite {
         field,
-        map: m.map_used(place, map),
+        map: model.map_used(place, map),
         value,
     };
-    let place = match m.fitting_field(field, value, m.way(place, true)) {
+    let place = match model.fitting_field(field, value, model.way(place, true)) {
         Ok(place) => place,
-        Err(why) => return m.refuse(op, reg, why),
+        Err(why) => return model.refuse(op, reg, why),
     };
-    let access = m.field_written(field, place, value);
-    forget_around(m, field, place, true);
+    let access = model.field_written(field, place, value);
+    forget_around(model, field, place, true);
     let mut event = Event::begun(op);
-    write_as(m, d, a, &access, End::Done, &mut event);
+    write_as(model, device, adapters, &access, End::Done, &mut event);
     event
 }
 
 /// Reads a field over the bus: its own bytes alone where the access may be narrow, else the whole register.
 pub fn field_read<D: Device>(
-    m: &mut Model,
-    d: &mut D,
-    a: &mut Adapters,
+    model: &mut Model,
+    device: &mut D,
+    adapters: &mut Adapters,
     field: u32,
     map: Option<u32>,
 ) -> Event
-    requires ready { IsReady m.old (each standing a.old.items) (D.state d.old) }
-    requires field { field < length m.old.chip.fields }
-    requires map { IsMapIn (length m.old.layout.maps) map }
-    ensures ready { IsReady m.new (each standing a.new.items) (D.state d.new) }
-    ensures parts { IsSameChip m.old m.new }
-    ensures fits { EventFits m.new result }
-    ensures performs { Performs (scene_of standing D.errors D.state m.old a.old.items d.old)
-        (scene_of standing D.errors D.state m.new a.new.items d.new) (op.FieldRead field map) result }
-    ensures refused { OnErr (grant m.old (op.FieldRead field map)) (d.new ≡ d.old) }
+    requires ready { IsReady model.old (each standing adapters.old.items) (D.state device.old) }
+    requires field { field < length model.old.chip.fields }
+    requires map { IsMapIn (length model.old.layout.maps) map }
+    ensures ready { IsReady model.new (each standing adapters.new.items) (D.state device.new) }
+    ensures parts { IsSameChip model.old model.new }
+    ensures fits { EventFits model.new result }
+    ensures performs { Performs (scene_of standing D.errors D.state model.old adapters.old.items device.old)
+        (scene_of standing D.errors D.state model.new adapters.new.items device.new) (op.FieldRead field map) result }
+    ensures refused { OnErr (grant model.old (op.FieldRead field map)) (device.new ≡ device.old) }
 {
-    let shape = m.field(field);
-    let place = m.place_of(Item::Reg(shape.reg), map);
+    let shape = model.field(field);
+    let place = model.place_of(Item::Reg(shape.reg), map);
     let op = Op::FieldRead {
         field,
-        map: m.map_used(place, map),
+        map: model.map_used(place, map),
     };
-    let place = match m.way(place, false) {
+    let place = match model.way(place, false) {
         Ok(place) => place,
-        Err(why) => return m.refuse(op, shape.reg, why),
+        Err(why) => return model.refuse(op, shape.reg, why),
     };
-    let access = m.field_read(field, place);
-    forget_around(m, field, place, false);
+    let access = model.field_read(field, place);
+    forget_around(model, field, place, false);
     let mut event = Event::begun(op);
-    let (whole, _) = read(m, d, a, &access, false, &mut event.trace);
+    let (whole, _) = read(model, device, adapters, &access, false, &mut event.trace);
     let end = part_of(&shape, whole);
-    m.conclude(shape.reg, end, 0, &mut event);
+    model.conclude(shape.reg, end, 0, &mut event);
     event
 }
 
 // Forgets what was gathered of the place, unless the access reaches the field's bytes alone.
-fn forget_around(m: &mut Model, field: u32, place: u32, write: bool)
-    requires field { field < length m.old.chip.fields }
-    requires place { place < length m.old.layout.places }
-    ensures { m.new ≡ forgetting_field m.old field place write }
+fn forget_around(model: &mut Model, field: u32, place: u32, write: bool)
+    requires field { field < length model.old.chip.fields }
+    requires place { place < length model.old.layout.places }
+    ensures { model.new ≡ forgetting_field model.old field place write }
 {
-    if !m.is_narrow(field, place, write) {
-        m.forget(place);
+    if !model.is_narrow(field, place, write) {
+        model.forget(place);
     }
 }
 
@@ -120,28 +121,28 @@ fn part_of(field: &Field, end: End) -> End
 
 /// Gives a field a desired value: what a write of the value would leave of the desired one. That rule is this
 /// project's own.
-pub fn set(m: &mut Model, field: u32, value: u64) -> Event
-    requires field { field < length m.old.chip.fields }
-    ensures fits { EventFits m.new result }
-    ensures parts { IsSameChip m.old m.new }
-    ensures performs { PerformsAlone m.old m.new (op.Set field value) result }
+pub fn set(model: &mut Model, field: u32, value: u64) -> Event
+    requires field { field < length model.old.chip.fields }
+    ensures fits { EventFits model.new result }
+    ensures parts { IsSameChip model.old model.new }
+    ensures performs { PerformsAlone model.old model.new (op.Set field value) result }
 {
-    let reg = m.field(field).reg;
+    let reg = model.field(field).reg;
     let op = Op::Set { field, value };
-    match m.fitting_field(field, value, Ok(0)) {
+    match model.fitting_field(field, value, Ok(0)) {
         Ok(_) => {
-            m.set(field, value);
-            m.event(op, reg, End::Done, 0)
+            model.set(field, value);
+            model.event(op, reg, End::Done, 0)
         }
-        Err(why) => m.refuse(op, reg, why),
+        Err(why) => model.refuse(op, reg, why),
     }
 }
 
 /// Tells the mirrored and the desired value of a register.
-pub fn show(m: &Model, reg: u32) -> Event
-    requires reg { reg < length m.now.chip.regs }
-    ensures fits { EventFits m.now result }
-    ensures performs { PerformsAlone m.now m.now (op.Show reg) result }
+pub fn show(model: &Model, reg: u32) -> Event
+    requires reg { reg < length model.now.chip.regs }
+    ensures fits { EventFits model.now result }
+    ensures performs { PerformsAlone model.now model.now (op.Show reg) result }
 {
-    m.event(Op::Show { reg }, reg, End::Done, 0)
+    model.event(Op::Show { reg }, reg, End::Done, 0)
 }

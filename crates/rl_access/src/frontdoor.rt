@@ -15,105 +15,105 @@ use rl_model::Item;
 
 /// Writes a register over the bus.
 pub fn front_write<D: Device>(
-    m: &mut Model,
-    d: &mut D,
-    a: &mut Adapters,
+    model: &mut Model,
+    device: &mut D,
+    adapters: &mut Adapters,
     reg: u32,
     map: Option<u32>,
     value: u64,
 ) -> Event
-    requires ready { IsReady m.old (each standing a.old.items) (D.state d.old) }
-    requires reg { reg < length m.old.chip.regs }
-    requires map { IsMapIn (length m.old.layout.maps) map }
-    ensures ready { IsReady m.new (each standing a.new.items) (D.state d.new) }
-    ensures parts { IsSameChip m.old m.new }
-    ensures fits { EventFits m.new result }
-    ensures performs { Performs (scene_of standing D.errors D.state m.old a.old.items d.old)
-        (scene_of standing D.errors D.state m.new a.new.items d.new) (op.Write reg map value) result }
-    ensures refused { OnErr (grant m.old (op.Write reg map value)) (d.new ≡ d.old) }
+    requires ready { IsReady model.old (each standing adapters.old.items) (D.state device.old) }
+    requires reg { reg < length model.old.chip.regs }
+    requires map { IsMapIn (length model.old.layout.maps) map }
+    ensures ready { IsReady model.new (each standing adapters.new.items) (D.state device.new) }
+    ensures parts { IsSameChip model.old model.new }
+    ensures fits { EventFits model.new result }
+    ensures performs { Performs (scene_of standing D.errors D.state model.old adapters.old.items device.old)
+        (scene_of standing D.errors D.state model.new adapters.new.items device.new) (op.Write reg map value) result }
+    ensures refused { OnErr (grant model.old (op.Write reg map value)) (device.new ≡ device.old) }
 {
-    let place = m.place_of(Item::Reg(reg), map);
+    let place = model.place_of(Item::Reg(reg), map);
     let op = Op::Write {
         reg,
-        map: m.map_used(place, map),
+        map: model.map_used(place, map),
         value,
     };
-    let place = match m.fitting(Item::Reg(reg), value, m.way(place, true)) {
+    let place = match model.fitting(Item::Reg(reg), value, model.way(place, true)) {
         Ok(place) => place,
-        Err(why) => return m.refuse(op, reg, why),
+        Err(why) => return model.refuse(op, reg, why),
     };
-    let access = m.whole(reg, place, value);
-    m.forget(place);
+    let access = model.whole(reg, place, value);
+    model.forget(place);
     let mut event = Event::begun(op);
-    write_as(m, d, a, &access, End::Done, &mut event);
+    write_as(model, device, adapters, &access, End::Done, &mut event);
     event
 }
 
 /// Reads a register over the bus.
 pub fn front_read<D: Device>(
-    m: &mut Model,
-    d: &mut D,
-    a: &mut Adapters,
+    model: &mut Model,
+    device: &mut D,
+    adapters: &mut Adapters,
     reg: u32,
     map: Option<u32>,
 ) -> Event
-    requires ready { IsReady m.old (each standing a.old.items) (D.state d.old) }
-    requires reg { reg < length m.old.chip.regs }
-    requires map { IsMapIn (length m.old.layout.maps) map }
-    ensures ready { IsReady m.new (each standing a.new.items) (D.state d.new) }
-    ensures parts { IsSameChip m.old m.new }
-    ensures fits { EventFits m.new result }
-    ensures performs { Performs (scene_of standing D.errors D.state m.old a.old.items d.old)
-        (scene_of standing D.errors D.state m.new a.new.items d.new) (op.Read reg map) result }
-    ensures refused { OnErr (grant m.old (op.Read reg map)) (d.new ≡ d.old) }
+    requires ready { IsReady model.old (each standing adapters.old.items) (D.state device.old) }
+    requires reg { reg < length model.old.chip.regs }
+    requires map { IsMapIn (length model.old.layout.maps) map }
+    ensures ready { IsReady model.new (each standing adapters.new.items) (D.state device.new) }
+    ensures parts { IsSameChip model.old model.new }
+    ensures fits { EventFits model.new result }
+    ensures performs { Performs (scene_of standing D.errors D.state model.old adapters.old.items device.old)
+        (scene_of standing D.errors D.state model.new adapters.new.items device.new) (op.Read reg map) result }
+    ensures refused { OnErr (grant model.old (op.Read reg map)) (device.new ≡ device.old) }
 {
-    let place = m.place_of(Item::Reg(reg), map);
+    let place = model.place_of(Item::Reg(reg), map);
     let op = Op::Read {
         reg,
-        map: m.map_used(place, map),
+        map: model.map_used(place, map),
     };
-    let place = match m.way(place, false) {
+    let place = match model.way(place, false) {
         Ok(place) => place,
-        Err(why) => return m.refuse(op, reg, why),
+        Err(why) => return model.refuse(op, reg, why),
     };
-    let access = m.whole_read(reg, place);
-    m.forget(place);
+    let access = model.whole_read(reg, place);
+    model.forget(place);
     let mut event = Event::begun(op);
-    read_as(m, d, a, &access, false, &mut event);
+    read_as(model, device, adapters, &access, false, &mut event);
     event
 }
 
 /// Reads a register over the bus to learn its value. With `check` the event names the compared fields whose
 /// bits aren't those that were mirrored before the read.
 pub fn mirror<D: Device>(
-    m: &mut Model,
-    d: &mut D,
-    a: &mut Adapters,
+    model: &mut Model,
+    device: &mut D,
+    adapters: &mut Adapters,
     reg: u32,
     map: Option<u32>,
     check: bool,
 ) -> Event
-    requires ready { IsReady m.old (each standing a.old.items) (D.state d.old) }
-    requires reg { reg < length m.old.chip.regs }
-    requires map { IsMapIn (length m.old.layout.maps) map }
-    ensures ready { IsReady m.new (each standing a.new.items) (D.state d.new) }
-    ensures parts { IsSameChip m.old m.new }
-    ensures fits { EventFits m.new result }
-    ensures performs { Performs (scene_of standing D.errors D.state m.old a.old.items d.old)
-        (scene_of standing D.errors D.state m.new a.new.items d.new)
+    requires ready { IsReady model.old (each standing adapters.old.items) (D.state device.old) }
+    requires reg { reg < length model.old.chip.regs }
+    requires map { IsMapIn (length model.old.layout.maps) map }
+    ensures ready { IsReady model.new (each standing adapters.new.items) (D.state device.new) }
+    ensures parts { IsSameChip model.old model.new }
+    ensures fits { EventFits model.new result }
+    ensures performs { Performs (scene_of standing D.errors D.state model.old adapters.old.items device.old)
+        (scene_of standing D.errors D.state model.new adapters.new.items device.new)
         (if check then op.Check reg map else op.Mirror reg map) result }
-    ensures refused { OnErr (grant m.old (op.Mirror reg map)) (d.new ≡ d.old) }
+    ensures refused { OnErr (grant model.old (op.Mirror reg map)) (device.new ≡ device.old) }
 {
-    let place = m.place_of(Item::Reg(reg), map);
-    let op = mirroring(reg, m.map_used(place, map), check);
-    let place = match m.way(place, false) {
+    let place = model.place_of(Item::Reg(reg), map);
+    let op = mirroring(reg, model.map_used(place, map), check);
+    let place = match model.way(place, false) {
         Ok(place) => place,
-        Err(why) => return m.refuse(op, reg, why),
+        Err(why) => return model.refuse(op, reg, why),
     };
-    let access = m.whole_read(reg, place);
-    m.forget(place);
+    let access = model.whole_read(reg, place);
+    model.forget(place);
     let mut event = Event::begun(op);
-    read_as(m, d, a, &access, check, &mut event);
+    read_as(model, device, adapters, &access, check, &mut event);
     event
 }
 

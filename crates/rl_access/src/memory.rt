@@ -28,7 +28,7 @@ use rl_split::{Words, join};
 
 /// Lists the operations of an access to a location.
 fn location_words(
-    m: &Model,
+    model: &Model,
     mem: u32,
     place: u32,
     index: u32,
@@ -37,38 +37,45 @@ fn location_words(
     words: &mut Words,
 )
     requires empty { words.old ≡ [] }
-    requires mem { mem < length m.now.chip.mems }
-    requires place { IsPlaceFor m.now (item.Mem mem) place }
-    requires index { index < memory_size m.now.chip mem }
-    requires value { value < 256 ^ location_size m.now.chip mem }
+    requires mem { mem < length model.now.chip.mems }
+    requires place { IsPlaceFor model.now (item.Mem mem) place }
+    requires index { index < memory_size model.now.chip mem }
+    requires value { value < 256 ^ location_size model.now.chip mem }
     ensures ops { ops_in words.new ≡
-        ops_of m.now.layout place index (all_bytes (location_size m.now.chip mem)) value write }
+        ops_of model.now.layout place index (all_bytes (location_size model.now.chip mem)) value write }
     ensures few { length words.new ≤ 8 }
-    ensures fits { All (Fits (kind_of m.now.layout place)) (ops_in words.new) }
-    ensures bytes { HasBytes (bus_bytes_of m.now.layout place) (ops_in words.new) }
+    ensures fits { All (Fits (kind_of model.now.layout place)) (ops_in words.new) }
+    ensures bytes { HasBytes (bus_bytes_of model.now.layout place) (ops_in words.new) }
 {
-    let chosen = all_bytes(m.chip().bytes(Item::Mem(mem)));
-    operations(m, place, index, chosen, value, write, words);
+    let chosen = all_bytes(model.chip().bytes(Item::Mem(mem)));
+    operations(model, place, index, chosen, value, write, words);
 }
 
 /// The value that the items of a read of a location brought.
-fn location_value(m: &Model, mem: u32, place: u32, index: u32, words: &Words, trace: &Trace) -> u64
-    requires mem { mem < length m.now.chip.mems }
-    requires place { IsPlaceFor m.now (item.Mem mem) place }
-    requires index { index < memory_size m.now.chip mem }
+fn location_value(
+    model: &Model,
+    mem: u32,
+    place: u32,
+    index: u32,
+    words: &Words,
+    trace: &Trace,
+) -> u64
+    requires mem { mem < length model.now.chip.mems }
+    requires place { IsPlaceFor model.now (item.Mem mem) place }
+    requires index { index < memory_size model.now.chip mem }
     requires words { ops_in words.now ≡
-        ops_of m.now.layout place index (all_bytes (location_size m.now.chip mem)) 0 false }
+        ops_of model.now.layout place index (all_bytes (location_size model.now.chip mem)) 0 false }
     requires whole { length trace.now ≡ length words.now }
-    ensures value { result ≡ location_value m.now mem place index trace.now }
-    ensures digits { result < 16 ^ (2 * location_size m.now.chip mem) }
+    ensures value { result ≡ location_value model.now mem place index trace.now }
+    ensures digits { result < 16 ^ (2 * location_size model.now.chip mem) }
 {
-    let chosen = all_bytes(m.chip().bytes(Item::Mem(mem)));
+    let chosen = all_bytes(model.chip().bytes(Item::Mem(mem)));
     let answers = answers_of(trace);
-    join(m.layout(), place, index, chosen, words, &answers)
+    join(model.layout(), place, index, chosen, words, &answers)
 }
 
 fn end_of_write(trace: &Trace) -> End
-    ensures end { (m : ModelData) → result ≡ (or_error (failed_at trace.now) m (quiet end.Done m)).end }
+    ensures end { (model : ModelData) → result ≡ (or_error (failed_at trace.now) model (quiet end.Done model)).end }
     ensures ends { ends_done result ≡ true }
     ensures within { (digits : ℕ) → IsEndWithin digits result }
 {
@@ -78,31 +85,31 @@ fn end_of_write(trace: &Trace) -> End
     }
 }
 
-fn end_of_read(m: &Model, mem: u32, place: u32, index: u32, words: &Words, trace: &Trace) -> End
-    requires mem { mem < length m.now.chip.mems }
-    requires place { IsPlaceFor m.now (item.Mem mem) place }
-    requires index { index < memory_size m.now.chip mem }
+fn end_of_read(model: &Model, mem: u32, place: u32, index: u32, words: &Words, trace: &Trace) -> End
+    requires mem { mem < length model.now.chip.mems }
+    requires place { IsPlaceFor model.now (item.Mem mem) place }
+    requires index { index < memory_size model.now.chip mem }
     requires words { ops_in words.now ≡
-        ops_of m.now.layout place index (all_bytes (location_size m.now.chip mem)) 0 false }
+        ops_of model.now.layout place index (all_bytes (location_size model.now.chip mem)) 0 false }
     requires whole { IsWholeTrace (length words.now) trace.now }
     ensures end { result ≡
-        (or_error (failed_at trace.now) m.now
-        (quiet (end.Value (location_value m.now mem place index trace.now)) m.now)).end }
+        (or_error (failed_at trace.now) model.now
+        (quiet (end.Value (location_value model.now mem place index trace.now)) model.now)).end }
     ensures ends { ends_with_value result ≡ true }
-    ensures within { IsEndWithin (2 * location_size m.now.chip mem) result }
+    ensures within { IsEndWithin (2 * location_size model.now.chip mem) result }
 {
     match trace.failed_at() {
         None => End::Value {
-            value: location_value(m, mem, place, index, words, trace),
+            value: location_value(model, mem, place, index, words, trace),
         },
         Some(word) => End::BusError { word },
     }
 }
 
 fn write_location<D: Device>(
-    m: &Model,
-    d: &mut D,
-    a: &mut Adapters,
+    model: &Model,
+    device: &mut D,
+    adapters: &mut Adapters,
     mem: u32,
     place: u32,
     index: u64,
@@ -110,171 +117,186 @@ fn write_location<D: Device>(
     trace: &mut Trace,
 ) -> End
     requires empty { trace.old ≡ [] }
-    requires ready { IsReady m.now (each standing a.old.items) (D.state d.old) }
-    requires mem { mem < length m.now.chip.mems }
-    requires place { IsPlaceFor m.now (item.Mem mem) place }
-    requires index { index < memory_size m.now.chip mem }
+    requires ready { IsReady model.now (each standing adapters.old.items) (D.state device.old) }
+    requires mem { mem < length model.now.chip.mems }
+    requires place { IsPlaceFor model.now (item.Mem mem) place }
+    requires index { index < memory_size model.now.chip mem }
     requires small { index < 65536 }
-    requires value { value < 256 ^ location_size m.now.chip mem }
-    ensures ready { IsReady m.now (each standing a.new.items) (D.state d.new) }
-    ensures sent { AreSent (adapter_for m.now.layout place) (port_for m.now.layout place)
-        (ops_of m.now.layout place index (location_bytes m.now mem) value true) trace.new
-        (each standing a.old.items) (each standing a.new.items)
-        (D.errors d.old) (D.errors d.new) (D.state d.old) (D.state d.new) }
-    ensures end { result ≡ (or_error (failed_at trace.new) m.now (quiet end.Done m.now)).end }
-    ensures items { All (ItemFits m.now.layout) trace.new }
+    requires value { value < 256 ^ location_size model.now.chip mem }
+    ensures ready { IsReady model.now (each standing adapters.new.items) (D.state device.new) }
+    ensures sent { AreSent (adapter_for model.now.layout place) (port_for model.now.layout place)
+        (ops_of model.now.layout place index (location_bytes model.now mem) value true) trace.new
+        (each standing adapters.old.items) (each standing adapters.new.items)
+        (D.errors device.old) (D.errors device.new) (D.state device.old) (D.state device.new) }
+    ensures end { result ≡ (or_error (failed_at trace.new) model.now (quiet end.Done model.now)).end }
+    ensures items { All (ItemFits model.now.layout) trace.new }
     ensures ends { ends_done result ≡ true }
-    ensures within { IsEndWithin (2 * location_size m.now.chip mem) result }
+    ensures within { IsEndWithin (2 * location_size model.now.chip mem) result }
 {
     let mut words = Words::new();
-    location_words(m, mem, place, index as u32, value, true, &mut words);
-    send(m, d, a, place, &words, trace);
+    location_words(model, mem, place, index as u32, value, true, &mut words);
+    send(model, device, adapters, place, &words, trace);
     end_of_write(trace)
 }
 
 fn read_location<D: Device>(
-    m: &Model,
-    d: &mut D,
-    a: &mut Adapters,
+    model: &Model,
+    device: &mut D,
+    adapters: &mut Adapters,
     mem: u32,
     place: u32,
     index: u64,
     trace: &mut Trace,
 ) -> End
     requires empty { trace.old ≡ [] }
-    requires ready { IsReady m.now (each standing a.old.items) (D.state d.old) }
-    requires mem { mem < length m.now.chip.mems }
-    requires place { IsPlaceFor m.now (item.Mem mem) place }
-    requires index { index < memory_size m.now.chip mem }
+    requires ready { IsReady model.now (each standing adapters.old.items) (D.state device.old) }
+    requires mem { mem < length model.now.chip.mems }
+    requires place { IsPlaceFor model.now (item.Mem mem) place }
+    requires index { index < memory_size model.now.chip mem }
     requires small { index < 65536 }
-    ensures ready { IsReady m.now (each standing a.new.items) (D.state d.new) }
-    ensures sent { AreSent (adapter_for m.now.layout place) (port_for m.now.layout place)
-        (ops_of m.now.layout place index (location_bytes m.now mem) 0 false) trace.new
-        (each standing a.old.items) (each standing a.new.items)
-        (D.errors d.old) (D.errors d.new) (D.state d.old) (D.state d.new) }
+    ensures ready { IsReady model.now (each standing adapters.new.items) (D.state device.new) }
+    ensures sent { AreSent (adapter_for model.now.layout place) (port_for model.now.layout place)
+        (ops_of model.now.layout place index (location_bytes model.now mem) 0 false) trace.new
+        (each standing adapters.old.items) (each standing adapters.new.items)
+        (D.errors device.old) (D.errors device.new) (D.state device.old) (D.state device.new) }
     ensures end { result ≡
-        (or_error (failed_at trace.new) m.now
-        (quiet (end.Value (location_value m.now mem place index trace.new)) m.now)).end }
-    ensures items { All (ItemFits m.now.layout) trace.new }
+        (or_error (failed_at trace.new) model.now
+        (quiet (end.Value (location_value model.now mem place index trace.new)) model.now)).end }
+    ensures items { All (ItemFits model.now.layout) trace.new }
     ensures ends { ends_with_value result ≡ true }
-    ensures within { IsEndWithin (2 * location_size m.now.chip mem) result }
+    ensures within { IsEndWithin (2 * location_size model.now.chip mem) result }
 {
     let index = index as u32;
     let mut words = Words::new();
-    location_words(m, mem, place, index, 0, false, &mut words);
-    send(m, d, a, place, &words, trace);
-    end_of_read(m, mem, place, index, &words, trace)
+    location_words(model, mem, place, index, 0, false, &mut words);
+    send(model, device, adapters, place, &words, trace);
+    end_of_read(model, mem, place, index, &words, trace)
 }
 
 /// Writes a location of a memory over the bus.
 pub fn mem_write<D: Device>(
-    m: &mut Model,
-    d: &mut D,
-    a: &mut Adapters,
+    model: &mut Model,
+    device: &mut D,
+    adapters: &mut Adapters,
     mem: u32,
     map: Option<u32>,
     index: u64,
     value: u64,
 ) -> Event
-    requires ready { IsReady m.old (each standing a.old.items) (D.state d.old) }
-    requires mem { mem < length m.old.chip.mems }
-    requires map { IsMapIn (length m.old.layout.maps) map }
-    ensures model { m.new ≡ m.old }
-    ensures ready { IsReady m.new (each standing a.new.items) (D.state d.new) }
-    ensures fits { EventFits m.new result }
-    ensures performs { Performs (scene_of standing D.errors D.state m.old a.old.items d.old)
-        (scene_of standing D.errors D.state m.new a.new.items d.new) (Op.MemWrite mem map index value) result }
-    ensures refused { OnErr (grant m.old (Op.MemWrite mem map index value)) (d.new ≡ d.old) }
+    requires ready { IsReady model.old (each standing adapters.old.items) (D.state device.old) }
+    requires mem { mem < length model.old.chip.mems }
+    requires map { IsMapIn (length model.old.layout.maps) map }
+    ensures model { model.new ≡ model.old }
+    ensures ready { IsReady model.new (each standing adapters.new.items) (D.state device.new) }
+    ensures fits { EventFits model.new result }
+    ensures performs { Performs (scene_of standing D.errors D.state model.old adapters.old.items device.old)
+        (scene_of standing D.errors D.state model.new adapters.new.items device.new)
+        (Op.MemWrite mem map index value) result }
+    ensures refused { OnErr (grant model.old (Op.MemWrite mem map index value)) (device.new ≡ device.old) }
 {
     let item = Item::Mem(mem);
-    let place = m.place_of(item, map);
+    let place = model.place_of(item, map);
     let op = Op::MemWrite {
         mem,
-        map: m.map_used(place, map),
+        map: model.map_used(place, map),
         index,
         value,
     };
-    let way = m.writable(mem, m.way(place, true));
-    let place = match m.fitting(item, value, m.at_location(mem, index, way)) {
+    let way = model.writable(mem, model.way(place, true));
+    let place = match model.fitting(item, value, model.at_location(mem, index, way)) {
         Ok(place) => place,
-        Err(why) => return m.refuse_memory(op, why),
+        Err(why) => return model.refuse_memory(op, why),
     };
     let mut event = Event::begun(op);
-    let end = write_location(m, d, a, mem, place, index, value, &mut event.trace);
-    m.conclude_memory(end, 0, &mut event);
+    let end = write_location(
+        model,
+        device,
+        adapters,
+        mem,
+        place,
+        index,
+        value,
+        &mut event.trace,
+    );
+    model.conclude_memory(end, 0, &mut event);
     event
 }
 
 /// Reads a location of a memory over the bus.
 pub fn mem_read<D: Device>(
-    m: &mut Model,
-    d: &mut D,
-    a: &mut Adapters,
+    model: &mut Model,
+    device: &mut D,
+    adapters: &mut Adapters,
     mem: u32,
     map: Option<u32>,
     index: u64,
 ) -> Event
-    requires ready { IsReady m.old (each standing a.old.items) (D.state d.old) }
-    requires mem { mem < length m.old.chip.mems }
-    requires map { IsMapIn (length m.old.layout.maps) map }
-    ensures model { m.new ≡ m.old }
-    ensures ready { IsReady m.new (each standing a.new.items) (D.state d.new) }
-    ensures fits { EventFits m.new result }
-    ensures performs { Performs (scene_of standing D.errors D.state m.old a.old.items d.old)
-        (scene_of standing D.errors D.state m.new a.new.items d.new) (Op.MemRead mem map index) result }
-    ensures refused { OnErr (grant m.old (Op.MemRead mem map index)) (d.new ≡ d.old) }
+    requires ready { IsReady model.old (each standing adapters.old.items) (D.state device.old) }
+    requires mem { mem < length model.old.chip.mems }
+    requires map { IsMapIn (length model.old.layout.maps) map }
+    ensures model { model.new ≡ model.old }
+    ensures ready { IsReady model.new (each standing adapters.new.items) (D.state device.new) }
+    ensures fits { EventFits model.new result }
+    ensures performs { Performs (scene_of standing D.errors D.state model.old adapters.old.items device.old)
+        (scene_of standing D.errors D.state model.new adapters.new.items device.new) (Op.MemRead mem map index) result }
+    ensures refused { OnErr (grant model.old (Op.MemRead mem map index)) (device.new ≡ device.old) }
 {
-    let place = m.place_of(Item::Mem(mem), map);
+    let place = model.place_of(Item::Mem(mem), map);
     let op = Op::MemRead {
         mem,
-        map: m.map_used(place, map),
+        map: model.map_used(place, map),
         index,
     };
-    let place = match m.at_location(mem, index, m.way(place, false)) {
+    let place = match model.at_location(mem, index, model.way(place, false)) {
         Ok(place) => place,
-        Err(why) => return m.refuse_memory(op, why),
+        Err(why) => return model.refuse_memory(op, why),
     };
     let mut event = Event::begun(op);
-    let end = read_location(m, d, a, mem, place, index, &mut event.trace);
-    m.conclude_memory(end, 0, &mut event);
+    let end = read_location(model, device, adapters, mem, place, index, &mut event.trace);
+    model.conclude_memory(end, 0, &mut event);
     event
 }
 
 /// Reads a location of a memory over the bus, and compares it with a value.
 pub fn mem_check<D: Device>(
-    m: &mut Model,
-    d: &mut D,
-    a: &mut Adapters,
+    model: &mut Model,
+    device: &mut D,
+    adapters: &mut Adapters,
     mem: u32,
     map: Option<u32>,
     index: u64,
     value: u64,
 ) -> Event
-    requires ready { IsReady m.old (each standing a.old.items) (D.state d.old) }
-    requires mem { mem < length m.old.chip.mems }
-    requires map { IsMapIn (length m.old.layout.maps) map }
-    ensures model { m.new ≡ m.old }
-    ensures ready { IsReady m.new (each standing a.new.items) (D.state d.new) }
-    ensures fits { EventFits m.new result }
-    ensures performs { Performs (scene_of standing D.errors D.state m.old a.old.items d.old)
-        (scene_of standing D.errors D.state m.new a.new.items d.new) (Op.MemCheck mem map index value) result }
-    ensures refused { OnErr (grant m.old (Op.MemCheck mem map index value)) (d.new ≡ d.old) }
+    requires ready { IsReady model.old (each standing adapters.old.items) (D.state device.old) }
+    requires mem { mem < length model.old.chip.mems }
+    requires map { IsMapIn (length model.old.layout.maps) map }
+    ensures model { model.new ≡ model.old }
+    ensures ready { IsReady model.new (each standing adapters.new.items) (D.state device.new) }
+    ensures fits { EventFits model.new result }
+    ensures performs { Performs (scene_of standing D.errors D.state model.old adapters.old.items device.old)
+        (scene_of standing D.errors D.state model.new adapters.new.items device.new)
+        (Op.MemCheck mem map index value) result }
+    ensures refused { OnErr (grant model.old (Op.MemCheck mem map index value)) (device.new ≡ device.old) }
 {
     let item = Item::Mem(mem);
-    let place = m.place_of(item, map);
+    let place = model.place_of(item, map);
     let op = Op::MemCheck {
         mem,
-        map: m.map_used(place, map),
+        map: model.map_used(place, map),
         index,
         value,
     };
-    let place = match m.fitting(item, value, m.at_location(mem, index, m.way(place, false))) {
+    let place = match model.fitting(
+        item,
+        value,
+        model.at_location(mem, index, model.way(place, false)),
+    ) {
         Ok(place) => place,
-        Err(why) => return m.refuse_memory(op, why),
+        Err(why) => return model.refuse_memory(op, why),
     };
     let mut event = Event::begun(op);
-    let end = read_location(m, d, a, mem, place, index, &mut event.trace);
-    m.conclude_memory(end, differs(end, value), &mut event);
+    let end = read_location(model, device, adapters, mem, place, index, &mut event.trace);
+    model.conclude_memory(end, differs(end, value), &mut event);
     event
 }
 
@@ -290,67 +312,75 @@ fn differs(end: End, value: u64) -> u64
 }
 
 /// The bytes of a location, as the device has them.
-fn location_sampled<D: Device>(m: &Model, d: &D, mem: u32, index: u32) -> u64
-    requires device { IsDeviceOf m.now (D.state d.now) }
-    requires mem { mem < length m.now.chip.mems }
-    requires index { index < memory_size m.now.chip mem }
-    ensures found { IsFoundAt m.now (D.state d.now) mem index result }
-    ensures digits { result < 16 ^ (2 * location_size m.now.chip mem) }
+fn location_sampled<D: Device>(model: &Model, device: &D, mem: u32, index: u32) -> u64
+    requires device { IsDeviceOf model.now (D.state device.now) }
+    requires mem { mem < length model.now.chip.mems }
+    requires index { index < memory_size model.now.chip mem }
+    ensures found { IsFoundAt model.now (D.state device.now) mem index result }
+    ensures digits { result < 16 ^ (2 * location_size model.now.chip mem) }
 {
-    let bits = d.peek(Cell::Loc { mem, index });
-    take(bits, 0, 8 * m.chip().bytes(Item::Mem(mem)))
+    let bits = device.peek(Cell::Loc { mem, index });
+    take(bits, 0, 8 * model.chip().bytes(Item::Mem(mem)))
 }
 
 /// Deposits bytes in a location of the device.
-fn deposit_location<D: Device>(m: &Model, d: &mut D, mem: u32, index: u32, value: u64)
-    requires device { IsDeviceOf m.now (D.state d.old) }
-    requires mem { mem < length m.now.chip.mems }
-    requires index { index < memory_size m.now.chip mem }
-    ensures step { D.state d.new ≡ option_map (λ s. poked s (cell.Loc mem index) value) (D.state d.old) }
-    ensures device { IsDeviceOf m.now (D.state d.new) }
-    ensures later { D.errors d.old ≤ D.errors d.new }
+fn deposit_location<D: Device>(model: &Model, device: &mut D, mem: u32, index: u32, value: u64)
+    requires device { IsDeviceOf model.now (D.state device.old) }
+    requires mem { mem < length model.now.chip.mems }
+    requires index { index < memory_size model.now.chip mem }
+    ensures step { D.state device.new ≡ option_map (λ s. poked s (cell.Loc mem index) value) (D.state device.old) }
+    ensures device { IsDeviceOf model.now (D.state device.new) }
+    ensures later { D.errors device.old ≤ D.errors device.new }
 {
-    d.poke(Cell::Loc { mem, index }, value);
+    device.poke(Cell::Loc { mem, index }, value);
 }
 
 /// Samples a location of a memory by the backdoor.
-pub fn mem_peek<D: Device>(m: &mut Model, d: &mut D, mem: u32, index: u64) -> Event
-    requires device { IsDeviceOf m.old (D.state d.old) }
-    requires mem { mem < length m.old.chip.mems }
-    ensures model { m.new ≡ m.old }
-    ensures device { d.new ≡ d.old }
-    ensures fits { EventFits m.new result }
-    ensures performs { PerformsOffBus D.errors D.state m.old m.new d.old d.new (Op.MemPeek mem index) result }
+pub fn mem_peek<D: Device>(model: &mut Model, device: &mut D, mem: u32, index: u64) -> Event
+    requires device { IsDeviceOf model.old (D.state device.old) }
+    requires mem { mem < length model.old.chip.mems }
+    ensures model { model.new ≡ model.old }
+    ensures device { device.new ≡ device.old }
+    ensures fits { EventFits model.new result }
+    ensures performs { PerformsOffBus D.errors D.state model.old model.new device.old device.new
+        (Op.MemPeek mem index) result }
 {
     let op = Op::MemPeek { mem, index };
-    match m.at_location(mem, index, m.by_backdoor(Item::Mem(mem))) {
+    match model.at_location(mem, index, model.by_backdoor(Item::Mem(mem))) {
         Ok(_) => {
-            let value = location_sampled(m, d, mem, index as u32);
-            m.memory_event(op, End::Value { value })
+            let value = location_sampled(model, device, mem, index as u32);
+            model.memory_event(op, End::Value { value })
         }
-        Err(why) => m.refuse_memory(op, why),
+        Err(why) => model.refuse_memory(op, why),
     }
 }
 
 /// Deposits a value in a location of a memory by the backdoor.
-pub fn mem_poke<D: Device>(m: &mut Model, d: &mut D, mem: u32, index: u64, value: u64) -> Event
-    requires device { IsDeviceOf m.old (D.state d.old) }
-    requires mem { mem < length m.old.chip.mems }
-    ensures model { m.new ≡ m.old }
-    ensures device { IsDeviceOf m.new (D.state d.new) }
-    ensures fits { EventFits m.new result }
-    ensures later { D.errors d.old ≤ D.errors d.new }
-    ensures performs { PerformsOffBus D.errors D.state m.old m.new d.old d.new (Op.MemPoke mem index value) result }
-    ensures refused { OnErr (grant m.old (Op.MemPoke mem index value)) (d.new ≡ d.old) }
+pub fn mem_poke<D: Device>(
+    model: &mut Model,
+    device: &mut D,
+    mem: u32,
+    index: u64,
+    value: u64,
+) -> Event
+    requires device { IsDeviceOf model.old (D.state device.old) }
+    requires mem { mem < length model.old.chip.mems }
+    ensures model { model.new ≡ model.old }
+    ensures device { IsDeviceOf model.new (D.state device.new) }
+    ensures fits { EventFits model.new result }
+    ensures later { D.errors device.old ≤ D.errors device.new }
+    ensures performs { PerformsOffBus D.errors D.state model.old model.new device.old device.new
+        (Op.MemPoke mem index value) result }
+    ensures refused { OnErr (grant model.old (Op.MemPoke mem index value)) (device.new ≡ device.old) }
 {
     let op = Op::MemPoke { mem, index, value };
     let item = Item::Mem(mem);
-    let grant = m.at_location(mem, index, m.by_backdoor(item));
-    match m.fitting(item, value, grant) {
+    let grant = model.at_location(mem, index, model.by_backdoor(item));
+    match model.fitting(item, value, grant) {
         Ok(_) => {
-            deposit_location(m, d, mem, index as u32, value);
-            m.memory_event(op, End::Done)
+            deposit_location(model, device, mem, index as u32, value);
+            model.memory_event(op, End::Done)
         }
-        Err(why) => m.refuse_memory(op, why),
+        Err(why) => model.refuse_memory(op, why),
     }
 }

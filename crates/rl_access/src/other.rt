@@ -15,70 +15,71 @@ use rl_model::Item;
 
 /// Another master writes a register through an explicit root.
 pub fn other_write<D: Device>(
-    m: &mut Model,
-    d: &mut D,
-    a: &mut Adapters,
+    model: &mut Model,
+    device: &mut D,
+    adapters: &mut Adapters,
     reg: u32,
     map: Option<u32>,
     value: u64,
 ) -> Event
-    requires ready { IsReady m.old (each standing a.old.items) (D.state d.old) }
-    requires reg { reg < length m.old.chip.regs }
-    requires map { IsMapIn (length m.old.layout.maps) map }
-    ensures ready { IsReady m.new (each standing a.new.items) (D.state d.new) }
-    ensures parts { IsSameChip m.old m.new }
-    ensures fits { EventFits m.new result }
-    ensures performs { Performs (scene_of standing D.errors D.state m.old a.old.items d.old)
-        (scene_of standing D.errors D.state m.new a.new.items d.new) (op.OtherWrite reg map value) result }
-    ensures refused { OnErr (grant m.old (op.OtherWrite reg map value)) (d.new ≡ d.old) }
+    requires ready { IsReady model.old (each standing adapters.old.items) (D.state device.old) }
+    requires reg { reg < length model.old.chip.regs }
+    requires map { IsMapIn (length model.old.layout.maps) map }
+    ensures ready { IsReady model.new (each standing adapters.new.items) (D.state device.new) }
+    ensures parts { IsSameChip model.old model.new }
+    ensures fits { EventFits model.new result }
+    ensures performs { Performs (scene_of standing D.errors D.state model.old adapters.old.items device.old)
+        (scene_of standing D.errors D.state model.new adapters.new.items device.new)
+        (op.OtherWrite reg map value) result }
+    ensures refused { OnErr (grant model.old (op.OtherWrite reg map value)) (device.new ≡ device.old) }
 {
-    let place = m.place_of(Item::Reg(reg), map);
+    let place = model.place_of(Item::Reg(reg), map);
     let op = Op::OtherWrite {
         reg,
-        map: m.map_used(place, map),
+        map: model.map_used(place, map),
         value,
     };
-    let place = match m.fitting(Item::Reg(reg), value, m.watched_way(place, true)) {
+    let place = match model.fitting(Item::Reg(reg), value, model.watched_way(place, true)) {
         Ok(place) => place,
-        Err(why) => return m.refuse(op, reg, why),
+        Err(why) => return model.refuse(op, reg, why),
     };
-    let access = m.whole(reg, place, value);
-    m.forget(place);
+    let access = model.whole(reg, place, value);
+    model.forget(place);
     let mut event = Event::begun(op);
-    write_as(m, d, a, &access, End::Done, &mut event);
+    write_as(model, device, adapters, &access, End::Done, &mut event);
     event
 }
 
 /// Another master reads a register through an explicit root.
 pub fn other_read<D: Device>(
-    m: &mut Model,
-    d: &mut D,
-    a: &mut Adapters,
+    model: &mut Model,
+    device: &mut D,
+    adapters: &mut Adapters,
     reg: u32,
     map: Option<u32>,
 ) -> Event
-    requires ready { IsReady m.old (each standing a.old.items) (D.state d.old) }
-    requires reg { reg < length m.old.chip.regs }
-    requires map { IsMapIn (length m.old.layout.maps) map }
-    ensures ready { IsReady m.new (each standing a.new.items) (D.state d.new) }
-    ensures parts { IsSameChip m.old m.new }
-    ensures fits { EventFits m.new result }
-    ensures performs { Performs (scene_of standing D.errors D.state m.old a.old.items d.old)
-        (scene_of standing D.errors D.state m.new a.new.items d.new) (op.OtherRead reg map) result }
-    ensures refused { OnErr (grant m.old (op.OtherRead reg map)) (d.new ≡ d.old) }
+    requires ready { IsReady model.old (each standing adapters.old.items) (D.state device.old) }
+    requires reg { reg < length model.old.chip.regs }
+    requires map { IsMapIn (length model.old.layout.maps) map }
+    ensures ready { IsReady model.new (each standing adapters.new.items) (D.state device.new) }
+    ensures parts { IsSameChip model.old model.new }
+    ensures fits { EventFits model.new result }
+    ensures performs { Performs (scene_of standing D.errors D.state model.old adapters.old.items device.old)
+        (scene_of standing D.errors D.state model.new adapters.new.items device.new) (op.OtherRead reg map) result }
+    ensures refused { OnErr (grant model.old (op.OtherRead reg map)) (device.new ≡ device.old) }
 {
-    let place = m.place_of(Item::Reg(reg), map);
+    let place = model.place_of(Item::Reg(reg), map);
     let op = Op::OtherRead {
         reg,
-        map: m.map_used(place, map),
+        map: model.map_used(place, map),
     };
-    let place = match m.watched_way(place, false) {
+    let place = match model.watched_way(place, false) {
         Ok(place) => place,
-        Err(why) => return m.refuse(op, reg, why),
+        Err(why) => return model.refuse(op, reg, why),
     };
-    let access = m.whole_read(reg, place);
-    m.forget(place);
+    let access = model.whole_read(reg, place);
+    model.forget(place);
     let mut event = Event::begun(op);
-    read_as(m, d, a, &access, false, &mut event);
+    read_as(model, device, adapters, &access, false, &mut event);
     event
 }

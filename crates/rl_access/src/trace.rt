@@ -8,9 +8,13 @@ use std::marker::Model;
 /// the answer.
 #[derive(Clone, Copy, Debug, PartialEq, Eq)]
 pub struct TraceItem {
+    /// The port that it went to.
     pub port: u32,
+    /// What was asked.
     pub op: BusOp,
+    /// The adapter's count when it went out.
     pub tag: u64,
+    /// What came back.
     pub answer: Answer,
 }
 
@@ -33,9 +37,24 @@ impl Model for Kept {
 
     ghost Value = { TraceItem };
 
-    ghost view = { λ k. record { port = k.port; op = record { write = k.write; address = k.address; word = k.word; lanes = k.lanes; bytes = k.bytes }; tag = k.tag; answer = record { word = k.answer; failed = k.failed } } };
+    ghost view = { λ k. record {
+      port = k.port;
+      op = record { write = k.write; address = k.address; word = k.word; lanes = k.lanes; bytes = k.bytes };
+      tag = k.tag;
+      answer = record { word = k.answer; failed = k.failed };
+    } };
 
-    ghost inverse = { λ t. record { address = t.op.address; word = t.op.word; tag = t.tag; answer = t.answer.word; port = t.port; lanes = t.op.lanes; bytes = t.op.bytes; write = t.op.write; failed = t.answer.failed } };
+    ghost inverse = { λ t. record {
+      address = t.op.address;
+      word = t.op.word;
+      tag = t.tag;
+      answer = t.answer.word;
+      port = t.port;
+      lanes = t.op.lanes;
+      bytes = t.op.bytes;
+      write = t.op.write;
+      failed = t.answer.failed;
+    } };
 }
 
 impl Kept {

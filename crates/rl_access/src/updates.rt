@@ -20,50 +20,57 @@ use rl_model::Item;
 /// desired value than its mirrored one. The word that it writes, and that it looks at these values alone, are
 /// this project's own.
 pub fn update<D: Device>(
-    m: &mut Model,
-    d: &mut D,
-    a: &mut Adapters,
+    model: &mut Model,
+    device: &mut D,
+    adapters: &mut Adapters,
     reg: u32,
     map: Option<u32>,
 ) -> Event
-    requires ready { IsReady m.old (each standing a.old.items) (D.state d.old) }
-    requires reg { reg < length m.old.chip.regs }
-    requires map { IsMapIn (length m.old.layout.maps) map }
-    ensures ready { IsReady m.new (each standing a.new.items) (D.state d.new) }
-    ensures parts { IsSameChip m.old m.new }
-    ensures fits { EventFits m.new result }
-    ensures performs { Performs (scene_of standing D.errors D.state m.old a.old.items d.old)
-        (scene_of standing D.errors D.state m.new a.new.items d.new) (op.Update reg map) result }
-    ensures wishes { BringsWishes m.old m.new reg result.end }
-    ensures refused { OnErr (grant m.old (op.Update reg map)) (d.new ≡ d.old) }
+    requires ready { IsReady model.old (each standing adapters.old.items) (D.state device.old) }
+    requires reg { reg < length model.old.chip.regs }
+    requires map { IsMapIn (length model.old.layout.maps) map }
+    ensures ready { IsReady model.new (each standing adapters.new.items) (D.state device.new) }
+    ensures parts { IsSameChip model.old model.new }
+    ensures fits { EventFits model.new result }
+    ensures performs { Performs (scene_of standing D.errors D.state model.old adapters.old.items device.old)
+        (scene_of standing D.errors D.state model.new adapters.new.items device.new) (op.Update reg map) result }
+    ensures wishes { BringsWishes model.old model.new reg result.end }
+    ensures refused { OnErr (grant model.old (op.Update reg map)) (device.new ≡ device.old) }
 {
-    let place = m.place_of(Item::Reg(reg), map);
+    let place = model.place_of(Item::Reg(reg), map);
     let op = Op::Update {
         reg,
-        map: m.map_used(place, map),
+        map: model.map_used(place, map),
     };
-    let place = match m.way(place, true) {
+    let place = match model.way(place, true) {
         Ok(place) => place,
-        Err(why) => return m.refuse(op, reg, why),
+        Err(why) => return model.refuse(op, reg, why),
     };
-    if !m.needs_update(reg) {
-        return m.event(op, reg, End::Nothing, 0);
+    if !model.needs_update(reg) {
+        return model.event(op, reg, End::Nothing, 0);
     }
-    law_of_update(m);
-    let word = m.update_word_of(reg);
-    let access = m.whole(reg, place, word);
-    m.forget(place);
+    law_of_update(model);
+    let word = model.update_word_of(reg);
+    let access = model.whole(reg, place, word);
+    model.forget(place);
     let mut event = Event::begun(op);
-    write_as(m, d, a, &access, End::Sent { word }, &mut event);
+    write_as(
+        model,
+        device,
+        adapters,
+        &access,
+        End::Sent { word },
+        &mut event,
+    );
     event
 }
 
 // It does nothing; its contract is the law of update, at this model.
-fn law_of_update(m: &Model)
-    ensures known { IsModel m.now }
-    ensures law { UpdateBrings m.now.chip }
+fn law_of_update(model: &Model)
+    ensures known { IsModel model.now }
+    ensures law { UpdateBrings model.now.chip }
 {
     // The call tells that the model is sound.
-    let _ = m.chip();
+    let _ = model.chip();
     update_brings();
 }

@@ -73,7 +73,7 @@ const MIRRORED: [u64; 11] = [
     0xaa99_7788,
 ];
 
-fn plain_adapter(alloc: Global) -> Result<Adapters, Fail>
+pub(crate) fn plain_adapter(alloc: Global) -> Result<Adapters, Fail>
     ensures { IfOk result (λ adapters. length (map standing adapters.items) ≡ 1) }
 {
     let mut adapters: Adapters = Vec::new(alloc);
@@ -82,7 +82,7 @@ fn plain_adapter(alloc: Global) -> Result<Adapters, Fail>
 }
 
 // The register of the first place, where it has four bytes and a word of that number.
-fn register_at_first(model: &Model, k: u32) -> Result<u32, Fail>
+pub(crate) fn register_at_first(model: &Model, k: u32) -> Result<u32, Fail>
     ensures register { IfOk result (λ _. IsRegisterPlace model.now.layout 0) }
     ensures word { IfOk result (λ _. k < length (words_of model.now.layout 0 0)) }
     ensures bytes { IfOk result (λ _. (place_at model.now.layout 0).bytes ≡ 4) }

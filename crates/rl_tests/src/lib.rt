@@ -22,3 +22,5 @@ mod sessions;
 mod talk;
 #[cfg(test)]
 mod watching;
+#[cfg(test)]
+mod words;

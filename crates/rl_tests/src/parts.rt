@@ -58,6 +58,53 @@ fn an_adapter_is_used_by_its_name(rt: HostRuntime) -> Result<(), Fail> {
     Ok(())
 }
 
+// Two adapters of one name, which have sent items before.
+fn two_of_a_name(alloc: Global) -> Result<Adapters, Fail>
+    ensures { IfOk result (λ adapters. length (map standing adapters.items) < 2 ^ 32) }
+{
+    let first = PlainAdapter {
+        next_tag: 40,
+        trail: 0,
+    };
+    let second = PlainAdapter {
+        next_tag: 500,
+        trail: 0,
+    };
+    let mut adapters: Adapters = Vec::new(alloc);
+    adapters.push(Box::new(alloc, first)?)?;
+    adapters.push(Box::new(alloc, second)?)?;
+    Ok(adapters)
+}
+
+const WRITE: &[u8] =
+    b"[[reg]]\nname = 'a'\nbytes = 4\nfield = [{name = 'v', lsb = 0, width = 32, policy = 'RW'}]\n[[map]]\nname = 'bus'\nbytes = 2\n[[place]]\nmap = 'bus'\nitem = 'a'\n---\nwrite a 0x11223344\n";
+
+const WRITE_LOG: &[u8] =
+    b"write a 0x11223344 @bus: ok mirror 0x11223344\n  bus w 0x0 0x3344 11 #40 ok\n  bus w 0x2 0x1122 11 #41 ok\nend: 1 events, 0 differences, 0 bus errors\n";
+
+fn try_first(
+    alloc: Global,
+    words: &[String],
+    source: &mut MemSource,
+    sink: &mut MemSink,
+) -> Result<Status, Fail> {
+    let mut adapters = two_of_a_name(alloc)?;
+    Ok(regrun(alloc, words, source, sink, &mut adapters))
+}
+
+#[test]
+fn the_first_adapter_of_a_name_is_used(rt: HostRuntime) -> Result<(), Fail> {
+    let alloc = rt.alloc();
+    let mut words = Vec::new(alloc);
+    words.push(String::from_str(alloc, "run")?)?;
+    let mut source = MemSource::new(WRITE.to_vec(alloc)?, 64, Vec::new(alloc));
+    let mut sink = MemSink::new(alloc, 64, 4096, Vec::new(alloc))?;
+    let status = try_first(alloc, &words, &mut source, &mut sink)?;
+    assert_eq!(rt; status, Status::Passed);
+    assert_eq!(rt; sink.written(), WRITE_LOG);
+    Ok(())
+}
+
 const REGISTER: &[u8] =
     b"[[reg]]\nname = 'a'\nbytes = 4\nfield = [{name = 'v', lsb = 0, width = 32, policy = 'RW'}]\n[[map]]\nname = 'bus'\nbytes = 2\n[[place]]\nmap = 'bus'\nitem = 'a'\n";
 

@@ -1,14 +1,13 @@
 -- What one step of an access does, and the event that ends it.
-use Rattle.std.specs.Prelude.{◌≡◌, ℕ, if◌then◌else◌, List, [], ◌∷◌, ◌++◌, length, slice_get, Option, None, Some}
+use Rattle.std.specs.Prelude.{◌≡◌, ℕ, if◌then◌else◌, List, [], ◌∷◌, ◌++◌, length, Option, None, Some}
 use Rattle.rl_access.specs.declared.event.End.{End}
 use Rattle.rl_access.specs.declared.event.End.TheVariants.{Done, Value, BusError}
 use Rattle.rl_access.specs.declared.event.Event.{Event}
 use Rattle.rl_access.specs.declared.trace.TraceItem.{TraceItem}
 use Rattle.rl_access.specs.Call.{Scene}
-use Rattle.rl_access.specs.Items.{AreSent, port_for, adapter_for}
 use Rattle.rl_access.specs.Model.{ModelData}
-use Rattle.rl_access.specs.Observed.{word_ops, observing}
 use Rattle.rl_access.specs.Rules.{named, register_event, quiet, whole, value_of}
+use Rattle.rl_access.specs.Word.{IsWordSent}
 use Rattle.rl_weave.specs.declared.weave.Step.{Step}
 use Rattle.rl_weave.specs.declared.woven.Woven.{Woven}
 use Rattle.rl_weave.specs.Access.{op_of}
@@ -34,7 +33,5 @@ end_of m v item = if is_over v item then Some (event_with m v item) else None
 -- ---- a step: the next word of the access goes out, the predictor sees its item, and the event tells of the access that is over
 
 pub record IsStepOf (s new : Scene) (v : Woven) (step : Step) : Type 0 where
-  pub word : slice_get (word_ops s.model.layout v.place v.access.value) (length v.items) ≡ Some step.item.op
-  pub sent : AreSent (adapter_for s.model.layout v.place) (port_for s.model.layout v.place) (step.item.op ∷ []) (step.item ∷ []) s.adapters new.adapters s.errors new.errors s.device new.device
-  pub model : new.model ≡ observing s.model step.item
+  pub sent : IsWordSent s new v.place (length v.items) v.access.value step.item
   pub end : step.end ≡ end_of new.model v step.item

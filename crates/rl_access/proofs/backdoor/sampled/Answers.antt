@@ -7,7 +7,7 @@ use Rattle.rl_access.proofs.Tables.{reg_there}
 use Rattle.rl_access.proofs.backdoor.sampled.Goals as goal
 
 pub peek-bits-requires : goal.peek-bits-requires
-peek-bits-requires g c = record { cell = reg_there c.args.m.now _ c.args.reg c.requires.device c.requires.reg }
+peek-bits-requires g c = record { cell = reg_there c.args.model.now _ c.args.reg c.requires.device c.requires.reg }
 
 pub returns-clause-found : goal.returns-clause-found
 returns-clause-found g c = record {
@@ -17,4 +17,4 @@ returns-clause-found g c = record {
 }
 
 pub returns-clause-digits : goal.returns-clause-digits
-returns-clause-digits g c = below_digits (size_of c.args.m.now.chip c.args.reg) c.owned.result (subst (λ (h : ChipData). c.owned.result < 256 ^ size_of h c.args.reg) c.chip.ensures.chip c.owned.ensures.fits)
+returns-clause-digits g c = below_digits (size_of c.args.model.now.chip c.args.reg) c.owned.result (subst (λ (h : ChipData). c.owned.result < 256 ^ size_of h c.args.reg) c.chip.ensures.chip c.owned.ensures.fits)

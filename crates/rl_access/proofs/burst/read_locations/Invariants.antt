@@ -6,10 +6,10 @@ use Rattle.rl_access.proofs.burst.read_locations.Given as goal
 
 abbrev pub invariant-loop-index : goal.invariant-loop-index
 invariant-loop-index g l = record {
-  going : IsGoingBy (λ b. (goal.Adapter-dyn g (b.vtable, b.value)).standing b.value) l.fn.m l.m l.a.items (g.D.Device.state l.d)
+  going : IsGoingBy (λ b. (goal.Adapter-dyn g (b.vtable, b.value)).standing b.value) l.fn.model l.model l.adapters.items (g.D.Device.state l.device)
       (g.R.Recorder.faults l.fn.rec) (g.R.Recorder.faults l.rec) (g.R.Recorder.steady l.fn.rec) (g.R.Recorder.steady l.rec);
   running : IsRunning g.R.Recorder.takes g.R.Recorder.breaks l.fn.rec l.rec
-      (scene_by (λ b. (goal.Adapter-dyn g (b.vtable, b.value)).standing b.value) l.fn.m l.fn.a.items (g.D.Device.errors l.fn.d) (g.D.Device.state l.fn.d))
-      (scene_by (λ b. (goal.Adapter-dyn g (b.vtable, b.value)).standing b.value) l.m l.a.items (g.D.Device.errors l.d) (g.D.Device.state l.d))
+      (scene_by (λ b. (goal.Adapter-dyn g (b.vtable, b.value)).standing b.value) l.fn.model l.fn.adapters.items (g.D.Device.errors l.fn.device) (g.D.Device.state l.fn.device))
+      (scene_by (λ b. (goal.Adapter-dyn g (b.vtable, b.value)).standing b.value) l.model l.adapters.items (g.D.Device.errors l.device) (g.D.Device.state l.device))
       (reads_of l.mem l.map l.first l.count) (reads_of l.mem l.map l.index (l.first + l.count - l.index)) l.tally;
 }

@@ -10,7 +10,7 @@ use Rattle.rl_access.proofs.fields.set.Goals as goal
 
 pub returns-in-Ok-clause-performs : goal.returns-in-Ok-clause-performs
 returns-in-Ok-clause-performs c adapters errors device =
-    let m = c.args.m.now in
+    let m = c.args.model.now in
     let asked = op.Set c.args.field c.args.value in
     let granted : grant m asked ≡ Ok c.in-Ok.field-0 = sym c.fitting_field.ensures.grant ∙ c.in-Ok.is in
     quiet_performs m c.set.new.self asked asked c.in-Ok.field-0 (reg_of m.chip c.args.field) c.field-reg.result.reg end.Done [] c.event.result adapters errors device granted refl

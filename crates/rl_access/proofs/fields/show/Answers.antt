@@ -7,6 +7,6 @@ use Rattle.rl_access.proofs.fields.show.Goals as goal
 
 pub returns-clause-performs : goal.returns-clause-performs
 returns-clause-performs c adapters errors device =
-    let m = c.args.m.now in
+    let m = c.args.model.now in
     let asked = op.Show c.args.reg in
     quiet_performs m m asked asked 0 c.args.reg c.args.reg end.Done [] c.event.result adapters errors device refl refl (is_show m c.args.reg) refl refl c.event.ensures.event

@@ -8,7 +8,7 @@ use Rattle.rl_access.proofs.memory.mem_check.Goals as goal
 
 pub returns-clause-performs : goal.returns-clause-performs
 returns-clause-performs g c =
-    let m = c.args.m.now in
+    let m = c.args.model.now in
     let mem = c.args.mem in
     let way = way_is m mem c.args.map c.place_of-place.result false c.way.result c.place_of-place.ensures.place c.way.ensures.grant in
     let inside = then_only (at_location m mem c.args.index) _ _ _ _ way c.at_location.ensures.grant refl in

@@ -7,7 +7,7 @@ use Rattle.rl_access.proofs.memory.mem_poke.Goals as goal
 
 pub returns-in-Ok-clause-performs : goal.returns-in-Ok-clause-performs
 returns-in-Ok-clause-performs g c =
-    let m = c.args.m.now in
+    let m = c.args.model.now in
     let mem = c.args.mem in
     let inside = then_only (at_location m mem c.args.index) (by_backdoor m (item.Mem mem)) _ _ _ c.by_backdoor.ensures c.at_location-grant.ensures.grant refl in
     let granted = then_only (fitting m (item.Mem mem) c.args.value) _ _ _ _ (sym inside) c.fitting.ensures.grant c.in-Ok.is in

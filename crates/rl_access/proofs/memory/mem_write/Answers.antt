@@ -8,7 +8,7 @@ use Rattle.rl_access.proofs.memory.mem_write.Goals as goal
 
 pub returns-clause-performs : goal.returns-clause-performs
 returns-clause-performs g c =
-    let m = c.args.m.now in
+    let m = c.args.model.now in
     let mem = c.args.mem in
     let way = way_is m mem c.args.map c.place_of-place.result true c.way.result c.place_of-place.ensures.place c.way.ensures.grant in
     let may = then_only (writable m mem) _ _ _ _ way c.writable-way.ensures.grant refl in

@@ -4,4 +4,4 @@ use Rattle.rl_access.proofs.Bytes.{zero_fits}
 use Rattle.rl_access.proofs.memory.read_location.Goals as goal
 
 pub location_words-requires-clause-value : goal.location_words-requires-clause-value
-location_words-requires-clause-value g c = zero_fits 256 (location_size c.args.m.now.chip c.args.mem) (omega arith)
+location_words-requires-clause-value g c = zero_fits 256 (location_size c.args.model.now.chip c.args.mem) (omega arith)

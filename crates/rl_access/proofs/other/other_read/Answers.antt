@@ -9,12 +9,12 @@ use Rattle.rl_access.proofs.other.other_read.Goals as goal
 
 pub returns-clause-performs : goal.returns-clause-performs
 returns-clause-performs g c =
-    let m = c.args.m.now in
+    let m = c.args.model.now in
     let reg = item.Reg c.args.reg in
     let asked = op.OtherRead c.args.reg c.args.map in
     let way : c.watched_way.result ≡ watched_way m c.args.reg c.args.map false = watched_way_is m c.args.reg c.args.map c.place_of-place.result false c.watched_way.result c.place_of-place.ensures.place c.watched_way.ensures.grant in
     let granted : grant m asked ≡ Ok c.in-Ok.place = sym way ∙ c.in-Ok.is in
-    read_performs m c.forget.new.self c.read_as.new.m asked (op.OtherRead c.args.reg c.map_used.result) c.in-Ok.place c.whole_read-access.result false c.read_as.new.event granted
+    read_performs m c.forget.new.self c.read_as.new.model asked (op.OtherRead c.args.reg c.map_used.result) c.in-Ok.place c.whole_read-access.result false c.read_as.new.event granted
     (ap (λ u. op.OtherRead c.args.reg u) (map_is m reg c.args.map c.place_of-place.result c.map_used.result c.place_of-place.ensures.place c.map_used.ensures.map))
     (is_other_read m c.args.reg c.args.map c.in-Ok.place c.forget.new.self c.whole_read-access.result c.forget.ensures c.whole_read-access.ensures.access)
     c.read_as.ensures.sent

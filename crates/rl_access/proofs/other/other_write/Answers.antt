@@ -10,12 +10,12 @@ use Rattle.rl_access.proofs.other.other_write.Goals as goal
 
 pub returns-clause-performs : goal.returns-clause-performs
 returns-clause-performs g c =
-    let m = c.args.m.now in
+    let m = c.args.model.now in
     let reg = item.Reg c.args.reg in
     let asked = op.OtherWrite c.args.reg c.args.map c.args.value in
     let way : c.watched_way.result ≡ watched_way m c.args.reg c.args.map true = watched_way_is m c.args.reg c.args.map c.place_of-place.result true c.watched_way.result c.place_of-place.ensures.place c.watched_way.ensures.grant in
     let granted : grant m asked ≡ Ok c.in-Ok.place = sym (c.fitting.ensures.grant ∙ ap (fitting m reg c.args.value) way) ∙ c.in-Ok.is in
-    write_performs m c.forget.new.self c.write_as.new.m asked (op.OtherWrite c.args.reg c.map_used.result c.args.value) c.in-Ok.place c.whole-access.result end.Done c.write_as.new.event granted
+    write_performs m c.forget.new.self c.write_as.new.model asked (op.OtherWrite c.args.reg c.map_used.result c.args.value) c.in-Ok.place c.whole-access.result end.Done c.write_as.new.event granted
     (ap (λ u. op.OtherWrite c.args.reg u c.args.value) (map_is m reg c.args.map c.place_of-place.result c.map_used.result c.place_of-place.ensures.place c.map_used.ensures.map))
     (is_other_write m c.args.reg c.args.map c.args.value c.in-Ok.place c.forget.new.self c.whole-access.result c.forget.ensures c.whole-access.ensures.access)
     c.write_as.ensures.sent

@@ -12,13 +12,13 @@ use Rattle.rl_access.proofs.updates.update.Goals as goal
 
 pub returns-clause-performs : goal.returns-clause-performs
 returns-clause-performs g c =
-    let m = c.args.m.now in
+    let m = c.args.model.now in
     let reg = item.Reg c.args.reg in
     let asked = op.Update c.args.reg c.args.map in
     let way : c.way.result ≡ way m reg c.args.map true = way_is m reg c.args.map c.place_of-place.result true c.way.result c.place_of-place.ensures.place c.way.ensures.grant in
     let granted : grant m asked ≡ Ok c.in-Ok.place = sym way ∙ c.in-Ok.is in
     let needed : needs_update m.mirror c.args.reg ≡ true = sym c.needs_update.ensures ∙ c.if-not-needs_update.false in
-    write_performs m c.forget.new.self c.write_as.new.m asked (op.Update c.args.reg c.map_used.result) c.in-Ok.place c.whole-access.result (end.Sent c.update_word_of-word.result) c.write_as.new.event granted
+    write_performs m c.forget.new.self c.write_as.new.model asked (op.Update c.args.reg c.map_used.result) c.in-Ok.place c.whole-access.result (end.Sent c.update_word_of-word.result) c.write_as.new.event granted
     (ap (λ u. op.Update c.args.reg u) (map_is m reg c.args.map c.place_of-place.result c.map_used.result c.place_of-place.ensures.place c.map_used.ensures.map))
     (is_update m c.args.reg c.args.map c.in-Ok.place c.forget.new.self c.whole-access.result c.update_word_of-word.result needed c.forget.ensures c.update_word_of-word.ensures.word c.whole-access.ensures.access)
     c.write_as.ensures.sent
@@ -26,20 +26,20 @@ returns-clause-performs g c =
 
 pub returns-then-not-needs_update-clause-performs : goal.returns-then-not-needs_update-clause-performs
 returns-then-not-needs_update-clause-performs g c =
-    let m = c.args.m.now in
+    let m = c.args.model.now in
     let reg = item.Reg c.args.reg in
     let asked = op.Update c.args.reg c.args.map in
     let way : c.way.result ≡ way m reg c.args.map true = way_is m reg c.args.map c.place_of-place.result true c.way.result c.place_of-place.ensures.place c.way.ensures.grant in
     let granted : grant m asked ≡ Ok c.in-Ok.place = sym way ∙ c.in-Ok.is in
     let nothing : needs_update m.mirror c.args.reg ≡ false = sym c.needs_update.ensures ∙ c.if-not-needs_update.true in
     let names : op.Update c.args.reg c.map_used.result ≡ named m asked = ap (λ u. op.Update c.args.reg u) (map_is m reg c.args.map c.place_of-place.result c.map_used.result c.place_of-place.ensures.place c.map_used.ensures.map) in
-    quiet_performs m m asked (op.Update c.args.reg c.map_used.result) c.in-Ok.place c.args.reg c.args.reg end.Nothing [] c.event.result _ (g.D.Device.errors c.args.d.now) (g.D.Device.state c.args.d.now) granted names
+    quiet_performs m m asked (op.Update c.args.reg c.map_used.result) c.in-Ok.place c.args.reg c.args.reg end.Nothing [] c.event.result _ (g.D.Device.errors c.args.device.now) (g.D.Device.state c.args.device.now) granted names
     (is_no_update m c.args.reg c.args.map c.in-Ok.place nothing) refl refl c.event.ensures.event
 
 pub returns-clause-wishes : goal.returns-clause-wishes
 returns-clause-wishes g c =
-    brings_wishes c.args.m.now c.forget.new.self c.write_as.new.m c.args.reg c.in-Ok.place c.update_word_of-word.result c.whole-access.result c.write_as.new.event.trace c.write_as.new.event.end c.law_of_update.ensures.known c.law_of_update.ensures.law c.update_word_of-word.ensures.word c.forget.ensures c.whole-access.ensures.access
+    brings_wishes c.args.model.now c.forget.new.self c.write_as.new.model c.args.reg c.in-Ok.place c.update_word_of-word.result c.whole-access.result c.write_as.new.event.trace c.write_as.new.event.end c.law_of_update.ensures.known c.law_of_update.ensures.law c.update_word_of-word.ensures.word c.forget.ensures c.whole-access.ensures.access
     (ap (λ (e : Event). e.end) c.write_as.ensures.event) c.write_as.ensures.model
 
 pub returns-then-not-needs_update-clause-wishes : goal.returns-then-not-needs_update-clause-wishes
-returns-then-not-needs_update-clause-wishes g c = nothing_brought c.args.m.now c.args.m.now c.args.reg c.event.result.end (ap (λ (e : Event). e.end) c.event.ensures.event)
+returns-then-not-needs_update-clause-wishes g c = nothing_brought c.args.model.now c.args.model.now c.args.reg c.event.result.end (ap (λ (e : Event). e.end) c.event.ensures.event)

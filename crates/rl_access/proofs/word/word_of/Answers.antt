@@ -11,7 +11,7 @@ use Rattle.rl_access.proofs.word.word_of.Goals as goal
 
 pub op-requires : goal.op-requires
 op-requires c =
-    let l = c.args.m.now.layout in
+    let l = c.args.model.now.layout in
     let place = c.args.place in
     let words = c.operations.new.words in
     let chosen : c.bytes_of_place-chosen.result ≡ all_bytes (place_at l place).bytes = c.bytes_of_place-chosen.ensures.bytes ∙ ap (λ (x : LayoutData). all_bytes (place_at x place).bytes) c.layout.ensures.layout in
@@ -24,7 +24,7 @@ op-requires c =
     subst (λ n. c.args.k < n) (sym count) c.requires.word
 
 pub returns-clause-fits : goal.returns-clause-fits
-returns-clause-fits c = at_number (Fits (kind_of c.args.m.now.layout c.args.place)) (ops_in c.operations.new.words) c.args.k c.op.result c.operations.ensures.fits c.op.ensures
+returns-clause-fits c = at_number (Fits (kind_of c.args.model.now.layout c.args.place)) (ops_in c.operations.new.words) c.args.k c.op.result c.operations.ensures.fits c.op.ensures
 
 pub returns-clause-bytes : goal.returns-clause-bytes
-returns-clause-bytes c = at_number (λ (o : BusOp). o.bytes ≡ bus_bytes_of c.args.m.now.layout c.args.place) (ops_in c.operations.new.words) c.args.k c.op.result c.operations.ensures.bytes c.op.ensures
+returns-clause-bytes c = at_number (λ (o : BusOp). o.bytes ≡ bus_bytes_of c.args.model.now.layout c.args.place) (ops_in c.operations.new.words) c.args.k c.op.result c.operations.ensures.bytes c.op.ensures
