@@ -21,7 +21,7 @@ use Rattle.rl_session.specs.Judged.{taken_by, taken_text, first_world}
 use Rattle.rl_session.specs.Session.{behind, opening_of}
 use Rattle.rl_log.specs.Log.{lines_text}
 use Rattle.rl_play.specs.Played.{BreaksAfter, Breaks}
-use Rattle.rl_log.specs.World.{IsAt}
+use Rattle.rl_access.specs.World.{IsAt}
 use Rattle.rl_play.proofs.BufferLemmas.{keeps_then_appends}
 use Rattle.rl_play.proofs.EndingLemmas.{appends_keeps, keeps_nothing}
 use Rattle.rl_session.proofs.SessionLemmas.{found_head, opening_found}

@@ -23,7 +23,7 @@ use Rattle.rl_session.specs.Soak.{soak_line_text, soak_text, mirror_sum}
 use Rattle.rl_log.specs.Statuses.{is_complete}
 use Rattle.rl_log.specs.Telling.{Tells}
 use Rattle.regrun.specs.Telling.{Stops}
-use Rattle.rl_log.specs.World.{IsAt, world}
+use Rattle.rl_access.specs.World.{IsAt, world}
 use Rattle.rl_play.proofs.EndingLemmas.{tells_none, tells_front, tells_later, front_of_none, incomplete, not_sink_fault, tells_written}
 
 -- ---- what was told

@@ -5,7 +5,7 @@ use Rattle.rl_access.specs.HandsOver.{Told}
 use Rattle.rl_access.specs.Rules.{Grant}
 use Rattle.rl_access.specs.Tally.{is_bus_error}
 use Rattle.rl_seq.specs.Plan.{Plan, stop, step, look}
-use Rattle.rl_log.specs.World.{World, Step, step_of, unchanged}
+use Rattle.rl_access.specs.World.{World, Step, step_of, unchanged}
 
 pub record Course : Type 0 where
   -- each event, with the model right after it

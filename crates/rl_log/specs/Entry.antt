@@ -18,7 +18,7 @@ use Rattle.rl_report.specs.Pieces.{joined}
 use Rattle.rl_log.specs.Course.{Course, nothing_done, alone, along, burst}
 use Rattle.rl_log.specs.Named.{mem_named, map_asked, block_asked, op_named}
 use Rattle.rl_log.specs.Recording.{events_text}
-use Rattle.rl_log.specs.World.{World, step_of}
+use Rattle.rl_access.specs.World.{World, step_of}
 
 pub record Entry : Type 0 where
   pub text : List ℕ

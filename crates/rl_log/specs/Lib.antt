@@ -8,4 +8,3 @@ pub mod Recording
 pub mod Statuses
 pub mod Telling
 pub mod Texts
-pub mod World

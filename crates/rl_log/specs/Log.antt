@@ -14,7 +14,7 @@ use Rattle.rl_log.specs.Endings.{end_status}
 use Rattle.rl_log.specs.Entry.{Entry, entry_of}
 use Rattle.rl_log.specs.Recording.{with_events}
 use Rattle.rl_log.specs.Texts.{refused_text, end_text}
-use Rattle.rl_log.specs.World.{World}
+use Rattle.rl_access.specs.World.{World}
 
 -- ---- what a line says
 

@@ -5,5 +5,4 @@ pub mod PlainLaws
 pub mod PlainNames
 pub mod PlainNumbers
 pub mod PlainSession
-pub mod PlainStep
 pub mod PlainText

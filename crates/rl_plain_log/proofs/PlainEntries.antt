@@ -24,7 +24,7 @@ use Rattle.rl_log.specs.Log.{said, there, comes_of, goes_on, script_from}
 use Rattle.rl_log.specs.Named.{mem_named, map_asked, block_asked, op_named}
 use Rattle.rl_plain_log.specs.PlainLog.{PlainEntry, plain_entry, plain_framed, plain_entry_of, plain_comes_of, plain_goes_on, plain_from}
 use Rattle.rl_log.specs.Recording.{with_events}
-use Rattle.rl_log.specs.World.{World, step_of}
+use Rattle.rl_access.specs.World.{World, step_of}
 use Rattle.rl_plain_log.proofs.LogLines.{line_stays, refused_is_line, end_is_line}
 use Rattle.rl_plain_log.proofs.PlainCourse.{IsPlainWorld, one_plain, blank_plain, along_plain, write_burst_plain, read_burst_plain}
 use Rattle.rl_plain_log.proofs.PlainNumbers.{mem_in, map_in, op_numbers, plan_numbers}

@@ -16,7 +16,7 @@ use Rattle.rl_session.specs.Session.{script_of, opening_of}
 use Rattle.rl_plain_log.specs.PlainLog.{IsSteady, IsSteadyOpening, plain_by, plain_log, IsPlainLog}
 use Rattle.rl_log.specs.Recording.{no_counts}
 use Rattle.rl_plain_log.proofs.LogLines.{opening_stays}
-use Rattle.rl_log.proofs.Performing.{from_world}
+use Rattle.rl_access.specs.World.{scene_at}
 use Rattle.rl_plain_log.proofs.PlainCourse.{IsPlainWorld}
 use Rattle.rl_plain_log.proofs.PlainEntries.{script_is_plain}
 use Rattle.rl_plain_log.proofs.PlainNames.{opening_named}
@@ -33,7 +33,7 @@ first_is_plain : (desc : DescData) (adapters : List Standing) → FirstOnesArePl
 first_is_plain desc adapters first steady sound = record {
   model = first_model desc adapters;
   sound = subst IsModel (first_model desc adapters) sound;
-  machine = first (from_world (first_world desc adapters) 0) sound steady.fields refl (none_gathered (length desc.layout.places)) (ap (λ (flaws : List Flaw). Some (first_of desc.chip desc.layout flaws)) steady.flaws);
+  machine = first (scene_at (first_world desc adapters) 0) sound steady.fields refl (none_gathered (length desc.layout.places)) (ap (λ (flaws : List Flaw). Some (first_of desc.chip desc.layout flaws)) steady.flaws);
 }
 
 pub session_is_plain : (bytes : List ℕ) (adapters : List Standing) (desc : DescData) → CallIsPlain → CallKeepsModel → FirstOnesArePlain → opening_of bytes (kinds_of adapters) ≡ Ok desc

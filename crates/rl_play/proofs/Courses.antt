@@ -11,8 +11,8 @@ use Rattle.rl_log.specs.Course.{Course, told_of, alone, first_then, through, alo
 use Rattle.rl_log.specs.declared.counts.Counts.{Counts}
 use Rattle.rl_play.specs.Recording.{led_to, with_steps}
 use Rattle.rl_log.specs.Recording.{with_event, with_events}
-use Rattle.rl_log.specs.World.{World, Step, step_of}
-use Rattle.rl_log.proofs.Performing.{IsWorld, performed}
+use Rattle.rl_access.specs.World.{World, Step, step_of}
+use Rattle.rl_access.proofs.Worlds.{IsWorld, performed}
 
 -- these events, and then this scene
 pub record IsCourse (told : List Told) (new : Scene) (c : Course) : Type 0 where

@@ -11,7 +11,7 @@ use Rattle.rl_log.specs.declared.counts.Counts.{Counts}
 use Rattle.rl_log.specs.declared.refusal.LineRefusal.{LineRefusal}
 use Rattle.rl_log.specs.Entry.{Entry, entry_of, op_entry}
 use Rattle.rl_play.specs.Played.{IsLineRun}
-use Rattle.rl_log.specs.World.{World, world}
+use Rattle.rl_access.specs.World.{World, world}
 
 pub item_entry : (w : World) (i : Item) (path : List ℕ) (first second : ℕ) (map : Option (List ℕ)) → (i ≡ item.BurstRead → ⊥)
     → entry_of w (line_of i path first second map) ≡ op_entry w (line_of i path first second map)

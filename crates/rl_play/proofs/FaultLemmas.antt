@@ -21,7 +21,7 @@ use Rattle.rl_log.specs.declared.refusal.LineRefusal.{LineRefusal}
 use Rattle.rl_play.specs.Heard.{heard}
 use Rattle.rl_log.specs.Log.{comes_of, lines_text, said, text_on}
 use Rattle.rl_play.specs.Played.{BreaksAfter, Breaks, IsTurn, RanOn}
-use Rattle.rl_log.specs.World.{World, world, IsAt}
+use Rattle.rl_access.specs.World.{World, world, IsAt}
 use Rattle.rl_play.proofs.BufferLemmas.{keeps_refl, keeps_then_appends}
 use Rattle.rl_play.proofs.EndingLemmas.{appends_keeps, incomplete, keeps_nothing, keeps_when_empty, none_kept}
 use Rattle.rl_play.proofs.PlayLemmas.{heard_said}

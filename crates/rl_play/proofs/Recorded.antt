@@ -21,9 +21,9 @@ use Rattle.rl_log.specs.declared.counts.Counts.{Counts}
 use Rattle.rl_log.specs.Course.{Course, alone, along, through, burst}
 use Rattle.rl_play.specs.Recording.{IsWritten, IsBegun, IsRecorded}
 use Rattle.rl_log.specs.Recording.{with_event, with_events, told_text, events_text}
-use Rattle.rl_log.specs.World.{World, world, IsAt, Step, step_of, unchanged}
+use Rattle.rl_access.specs.World.{World, world, IsAt, Step, step_of, unchanged}
 use Rattle.rl_play.proofs.Courses.{IsCourse, IsFrontOf, runs_along, breaks_along, runs_through, runs_into}
-use Rattle.rl_log.proofs.Performing.{IsWorld, refused_alone, step_from}
+use Rattle.rl_access.proofs.Worlds.{IsWorld, refused_alone, step_from}
 
 events_append : (told more : List Told) → events_text (told ++ more) ≡ events_text told ++ events_text more
 events_append [] more = refl

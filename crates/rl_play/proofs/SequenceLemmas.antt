@@ -19,7 +19,7 @@ use Rattle.rl_log.specs.Entry.{Entry, plain, plan_of, with_both, framed, begin_t
 use Rattle.rl_play.specs.Played.{BrokeOff, IsLineRun}
 use Rattle.rl_log.specs.Recording.{events_text}
 use Rattle.rl_play.specs.Recording.{IsRecorded}
-use Rattle.rl_log.specs.World.{World, world}
+use Rattle.rl_access.specs.World.{World, world}
 use Rattle.rl_play.proofs.Traces.{done_all, done_none, trace_along}
 
 -- ---- fronts of the three parts

@@ -17,7 +17,7 @@ use Rattle.rl_log.specs.Entry.{Entry, entry_of, framed, plain, plan_of, with_bot
 use Rattle.rl_log.specs.Named.{block_asked, map_asked, mem_named, op_named}
 use Rattle.rl_play.specs.Recording.{IsDone, led_to, with_steps}
 use Rattle.rl_log.specs.Recording.{with_event, with_events}
-use Rattle.rl_log.specs.World.{World, Step, step_of, unchanged, IsAt}
+use Rattle.rl_access.specs.World.{World, Step, step_of, unchanged, IsAt}
 
 -- from this world on
 pub record IsTrace (w : World) (c : Course) : Type 0 where

@@ -12,7 +12,7 @@ use Rattle.rl_log.specs.Log.{comes_of, said}
 use Rattle.rl_play.specs.Moment.{Moment}
 use Rattle.rl_play.specs.Recording.{IsDone, led_to, with_steps}
 use Rattle.rl_log.specs.Recording.{no_counts}
-use Rattle.rl_log.specs.World.{World, world, Step, IsAt}
+use Rattle.rl_access.specs.World.{World, world, Step, IsAt}
 
 abbrev pub steps_on : Result Entry LineRefusal → (World → List Step) → List Step
 steps_on (Err why) rest = []

@@ -4,7 +4,7 @@ use Rattle.rl_access.specs.Model.{ModelData}
 use Rattle.rl_bus.specs.Standing.{Standing}
 use Rattle.rl_bus.specs.State.{State}
 use Rattle.rl_log.specs.declared.counts.Counts.{Counts}
-use Rattle.rl_log.specs.World.{World, world}
+use Rattle.rl_access.specs.World.{World, world}
 
 pub record Moment : Type 0 where
   pub model : ModelData

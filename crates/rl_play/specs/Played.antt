@@ -22,7 +22,7 @@ use Rattle.rl_play.specs.Recording.{IsDone}
 use Rattle.rl_log.specs.Recording.{no_counts, with_events}
 use Rattle.rl_log.specs.Statuses.{is_complete}
 use Rattle.rl_log.specs.Telling.{Tells}
-use Rattle.rl_log.specs.World.{World, world, IsAt}
+use Rattle.rl_access.specs.World.{World, world, IsAt}
 
 -- ---- how a script ends
 

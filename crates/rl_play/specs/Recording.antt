@@ -10,7 +10,7 @@ use Rattle.rl_report.specs.Pieces.{AppendsFront}
 use Rattle.rl_log.specs.declared.counts.Counts.{Counts}
 use Rattle.rl_log.specs.Course.{Course}
 use Rattle.rl_play.specs.Moment.{Moment, FromWorld}
-use Rattle.rl_log.specs.World.{World, Step, IsAt}
+use Rattle.rl_access.specs.World.{World, Step, IsAt}
 use Rattle.rl_log.specs.Recording.{with_event, with_events, events_text}
 
 -- ---- the recorder

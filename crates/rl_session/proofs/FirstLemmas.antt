@@ -14,7 +14,7 @@ use Rattle.rl_access.specs.Model.{ModelData, IsModel, IsDeviceOf}
 use Rattle.rl_desc.specs.Data.{DescData}
 use Rattle.rl_mirror.specs.Prediction.{fresh}
 use Rattle.rl_session.specs.Judged.{first_world}
-use Rattle.rl_log.specs.World.{IsAt}
+use Rattle.rl_access.specs.World.{IsAt}
 
 -- ---- a device that was just built
 

@@ -14,7 +14,7 @@ use Rattle.rl_access.specs.Gathering.{no_words}
 use Rattle.rl_bench.specs.Flaws.{first_of}
 use Rattle.rl_mirror.specs.Prediction.{fresh}
 use Rattle.rl_log.specs.Recording.{no_counts}
-use Rattle.rl_log.specs.World.{World}
+use Rattle.rl_access.specs.World.{World}
 
 pub record Judged : Type 0 where
   pub text : List ℕ

@@ -9,7 +9,7 @@ ghost use Rattle.rl_session.specs.Judged.{first_world};
 ghost use Rattle.rl_session.specs.Opened.{IsOpened};
 ghost use Rattle.rl_session.specs.Refusals.{description_refused_text};
 ghost use Rattle.rl_session.specs.Session.{opening_after};
-ghost use Rattle.rl_log.specs.World.{IsAt};
+ghost use Rattle.rl_access.specs.World.{IsAt};
 
 use rl_access::Model;
 use rl_bench::Bench;

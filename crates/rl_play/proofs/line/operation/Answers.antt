@@ -1,7 +1,7 @@
 use Rattle.std.proofs.Common.{map, option_map, sym, ap, ◌∙◌}
 use Rattle.rl_script.specs.Said.{line_said}
 use Rattle.rl_log.specs.Entry.{op_course, op_entry, plain}
-use Rattle.rl_log.specs.World.{world}
+use Rattle.rl_access.specs.World.{world}
 use Rattle.rl_play.proofs.SequenceLemmas.{plain_failed}
 use Rattle.rl_play.proofs.line.operation.Goals as goal
 

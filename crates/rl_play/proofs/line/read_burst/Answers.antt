@@ -1,7 +1,7 @@
 use Rattle.std.proofs.Common.{map, sym, ◌∙◌}
 use Rattle.rl_script.specs.declared.line.Line.TheVariants as say
 use Rattle.rl_log.specs.Entry.{burst_read_course, entry_of, plain}
-use Rattle.rl_log.specs.World.{world}
+use Rattle.rl_access.specs.World.{world}
 use Rattle.rl_play.proofs.SequenceLemmas.{both_are, plain_failed}
 use Rattle.rl_play.proofs.line.read_burst.Goals as goal
 

@@ -1,7 +1,7 @@
 use Rattle.std.proofs.Common.{◌≡◌}
 use Rattle.rl_script.specs.Said.{line_said}
 use Rattle.rl_log.specs.Entry.{entry_of, op_entry}
-use Rattle.rl_log.specs.World.{World}
+use Rattle.rl_access.specs.World.{World}
 use Rattle.rl_play.proofs.EntryLemmas.{item_entry, runs_as}
 use Rattle.rl_play.proofs.line.run_line.Goals as goal
 

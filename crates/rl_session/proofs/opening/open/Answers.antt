@@ -4,7 +4,7 @@ use Rattle.rl_bench.specs.Flaws.{AreFlawsOf}
 use Rattle.rl_bench.specs.State.{bench_state}
 use Rattle.rl_desc.specs.Data.{DescData}
 use Rattle.rl_session.specs.Judged.{first_world}
-use Rattle.rl_log.specs.World.{IsAt}
+use Rattle.rl_access.specs.World.{IsAt}
 use Rattle.rl_session.proofs.FirstLemmas.{device_built, first_is}
 use Rattle.rl_access.specs.Model.{IsModel}
 use Rattle.rl_session.proofs.opening.open.Goals as goal
