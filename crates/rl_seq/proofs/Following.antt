@@ -1,5 +1,5 @@
 -- Plans that are followed one after another, with all that stays.
-use Rattle.std.proofs.Common.{◌≡◌, ℕ, suc, ◌+◌, ◌<◌, ◌≤◌, Bool, true, false, Result, Ok, Err, OnOk, OnErr, refl, sym, ap, ◌∙◌, arith}
+use Rattle.std.proofs.Common.{◌≡◌, ℕ, ◌+◌, ◌<◌, true, false, Result, Ok, Err, OnOk, OnErr, refl, sym, ap, ◌∙◌, arith}
 use Rattle.std.specs.Result.{IsErr}
 use Rattle.rl_bus.specs.Causes.{HasCause}
 use Rattle.rl_access.specs.Call.{Scene, Performs}
@@ -10,7 +10,7 @@ use Rattle.rl_access.specs.declared.event.Event.{Event}
 use Rattle.rl_access.specs.declared.event.Op.{Op}
 use Rattle.rl_access.specs.declared.event.Tally.{Tally}
 use Rattle.rl_access.specs.declared.recorder.Recorder.{Ghosts as Recorder}
-use Rattle.rl_seq.specs.Plan.{Plan, stop, step, look, followed_by, only_if, each_below, Walks, IsSequence}
+use Rattle.rl_seq.specs.Plan.{Plan, stop, step, look, followed_by, each_below, IsSequence}
 use Rattle.rl_seq.specs.Stage.{Stage, Stays, Follows}
 use Rattle.rl_seq.proofs.Planned.{walks_one, walks_none, walks_then, walks_broke, walks_below, walks_look, walks_same, walks_alike, Alike, grown, sequence_done, sequence_broke}
 

@@ -1,5 +1,5 @@
 -- The parts of a turn do what the plan of the turn says, and the turns at a place what the plan of the place says.
-use Rattle.std.proofs.Common.{◌≡◌, ℕ, zero, suc, ◌+◌, Bool, true, false, not, ◌&&◌, if◌then◌else◌, length, Option, None, Some, Result, Ok, refl, sym, ap, ◌∙◌, add-one}
+use Rattle.std.proofs.Common.{◌≡◌, ℕ, zero, suc, ◌+◌, Bool, true, false, if◌then◌else◌, length, Option, None, Some, Result, Ok, refl, sym, ap, ◌∙◌, add-one}
 use Rattle.rl_map.specs.Layout.{LayoutData}
 use Rattle.rl_model.specs.Rows.{ChipData}
 use Rattle.rl_mirror.specs.Mirror.{mirrored_of}
@@ -11,7 +11,7 @@ use Rattle.rl_seq.specs.declared.sequence.Sequence.{Sequence}
 use Rattle.rl_seq.specs.declared.sequence.Sequence.TheVariants as sequence
 use Rattle.rl_seq.specs.declared.visit.Visit.{Visit}
 use Rattle.rl_seq.specs.declared.visit.Visit.TheVariants.{Check, Bash, Access, Share, Walk}
-use Rattle.rl_seq.specs.Choice.{is_bit_compared, is_of, may_read}
+use Rattle.rl_seq.specs.Choice.{is_bit_compared}
 use Rattle.rl_seq.specs.Plan.{Plan, stop, step, look, followed_by, only_if, each_below}
 use Rattle.rl_seq.specs.Sequences.{map_at, bash_once, access_with, write_turned, check_other, walk_location, at_place}
 use Rattle.rl_seq.specs.Stage.{Stage, Follows}

@@ -1,7 +1,7 @@
 -- The five sequences, each as the operations that it stands for. Each goes over the registers or the memories that it chooses,
 -- and over the places of each that have the rights it needs. It follows the description alone, and what is mirrored at each moment.
 use Rattle.std.specs.Prelude.{ℕ, zero, suc, ◌+◌, ◌*◌, ◌^◌, ◌==◌, bit_xor, not, ◌&&◌, Bool, length, Option, Some}
-use Rattle.rl_map.specs.Layout.{LayoutData, place_at, has_right}
+use Rattle.rl_map.specs.Layout.{LayoutData, place_at}
 use Rattle.rl_model.specs.Fields.{size_of}
 use Rattle.rl_model.specs.Rows.{ChipData}
 use Rattle.rl_model.specs.declared.rows.Item.{Item}

@@ -1,5 +1,5 @@
 -- A sequence at a place, as the walk goes about it: turn by turn, and part by part. A part is one operation, or none.
-use Rattle.std.specs.Prelude.{◌≡◌, ℕ, zero, suc, ◌+◌, ◌*◌, ◌^◌, ◌<◌, ◌==◌, ◌%◌, bit_xor, not, ◌&&◌, if◌then◌else◌, length, true, false, Bool, Option, None, Some}
+use Rattle.std.specs.Prelude.{◌≡◌, ℕ, zero, suc, ◌+◌, ◌*◌, ◌^◌, ◌<◌, ◌==◌, ◌%◌, bit_xor, not, ◌&&◌, if◌then◌else◌, length, true, Bool, Option, None, Some}
 use Rattle.rl_map.specs.Layout.{LayoutData}
 use Rattle.rl_model.specs.Fields.{size_of}
 use Rattle.rl_model.specs.Rows.{ChipData}

@@ -21,5 +21,5 @@ returns-else-number-size c =
     let many : memory_size c.args.chip.now c.args.mem ≡ c.size.result = mapped_or (λ m. m.size) _ 0 c.size.result c.size.ensures.value in
     let check : Op = op.MemCheck c.args.mem (Some c.args.map) c.args.number (turned_round c.args.chip.now (Mem c.args.mem) c.args.number) in
     let other = false_from_ne_true (c.args.number + 1 == memory_size c.args.chip.now c.args.mem)
-        (λ same. c.if-number-size.false (let is = eqb-true (c.args.number + 1) (memory_size c.args.chip.now c.args.mem) same in omega arith)) in
+    (λ same. c.if-number-size.false (let is = eqb-true (c.args.number + 1) (memory_size c.args.chip.now c.args.mem) same in omega arith)) in
     sym (ap (λ b. some_if b check) other)

@@ -1,8 +1,6 @@
-use Rattle.std.proofs.Common.{◌≡◌, ◌∙◌, refl, sym, arith}
-use Rattle.rl_seq.specs.Plan.{each_below}
-use Rattle.rl_seq.specs.Visits.{IsVisit, parts_of, turns_of, turn_of}
+use Rattle.std.proofs.Common.{refl, arith}
+use Rattle.rl_seq.specs.Visits.{parts_of}
 use Rattle.rl_seq.proofs.Following.{each_first, each_more, each_broke, each_all, follows_alike}
-use Rattle.rl_seq.proofs.Planned.{on_chip}
 use Rattle.rl_seq.proofs.Turning.{at_part, one_part, no_part, turn_alike}
 use Rattle.rl_seq.proofs.walk.take_turn.Goals as goal
 
@@ -42,5 +40,5 @@ pub loop-part-preserved-in_default : goal.loop-part-preserved-in_default
 loop-part-preserved-in_default g c =
     let m = c.args.model.now in
     let f = at_part m.chip m.layout c.args.visit c.args.turn in
-    each_more {E = Unit {0}} g.R.Recorder _ _ _ _ _ _ f c.loop-part.part (f c.loop-part.part) _ refl c.loop-part.invariant
+    each_more g.R.Recorder {E = Unit {0}} _ _ _ _ _ _ f c.loop-part.part (f c.loop-part.part) _ refl c.loop-part.invariant
     (no_part g.R.Recorder _ _ m c.args.visit c.args.turn c.loop-part.part c.part.result c.loop-part.invariant.stays.parts c.part.ensures.part c.in_default.is c.loop-part.invariant.stays.ready)

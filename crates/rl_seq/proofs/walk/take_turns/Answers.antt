@@ -1,4 +1,4 @@
-use Rattle.std.proofs.Common.{◌≡◌, ◌<◌, arith}
+use Rattle.std.proofs.Common.{◌<◌, arith}
 use Rattle.rl_seq.specs.Visits.{IsVisit, turns_of, turn_of}
 use Rattle.rl_seq.proofs.Following.{each_first, each_more, each_broke, each_all}
 use Rattle.rl_seq.proofs.Planned.{same_plan, on_chip}

@@ -1,9 +1,9 @@
-use Rattle.std.proofs.Common.{◌≡◌, ◌∙◌, ◌<◌, true, length, ap, sym, subst, arith}
+use Rattle.std.proofs.Common.{◌∙◌, length, ap, sym, arith}
 use Rattle.rl_map.specs.Layout.{LayoutData}
-use Rattle.rl_seq.specs.Sequences.{items_of, is_visited, visit}
+use Rattle.rl_seq.specs.Sequences.{is_visited, visit}
 use Rattle.rl_seq.specs.Visits.{turns}
 use Rattle.rl_seq.proofs.Following.{follows_same, each_first, each_more, each_skipped, each_broke, each_all}
-use Rattle.rl_seq.proofs.Planned.{same_plan, on_chip}
+use Rattle.rl_seq.proofs.Planned.{same_plan}
 use Rattle.rl_seq.proofs.Turning.{chosen_is, left_out, visited}
 use Rattle.rl_seq.proofs.walk.visit_places.Goals as goal
 
@@ -26,9 +26,9 @@ returns-in_err-take_turns g c =
       follows = each_broke g.R.Recorder _ _ _ _ _ _ _ (visit c.args.sequence m.chip m.layout c.args.number) c.loop-place.place (length m.layout.places) _ _ c.from_residual.result
           (same_plan (λ h y. visit c.args.sequence h y c.args.number c.loop-place.place) m c.loop-place.model c.loop-place.invariant.stays.parts) (let count = c.places-place-end.ensures.count ∙ ap (λ (h : LayoutData). length h.places) c.layout.ensures.layout in omega arith) c.loop-place.invariant
           (follows_same g.R.Recorder _ _ _ _ _ (visit c.args.sequence c.loop-place.model.chip c.loop-place.model.layout c.args.number c.loop-place.place) _
-    (chosen_is (is_visited c.args.sequence c.loop-place.model.layout c.args.number c.loop-place.place) _ (sym (c.visits.ensures ∙ ap (λ (y : LayoutData). is_visited c.args.sequence y c.args.number c.loop-place.place) c.layout-in-loop-place.ensures.layout) ∙ c.if-not-visits.false))
-    (visited g.R.Recorder c.args.sequence c.args.number c.loop-place.place _ _ _ _ _
-    (follows_same g.R.Recorder _ _ _ _ _ _ _ (ap (turns c.loop-place.model.chip c.loop-place.model.layout) c.of-visit.ensures.visit) c.in_err-take_turns.ensures.follows))) c.from_residual.ensures.0;
+          (chosen_is (is_visited c.args.sequence c.loop-place.model.layout c.args.number c.loop-place.place) _ (sym (c.visits.ensures ∙ ap (λ (y : LayoutData). is_visited c.args.sequence y c.args.number c.loop-place.place) c.layout-in-loop-place.ensures.layout) ∙ c.if-not-visits.false))
+          (visited g.R.Recorder c.args.sequence c.args.number c.loop-place.place _ _ _ _ _
+          (follows_same g.R.Recorder _ _ _ _ _ _ _ (ap (turns c.loop-place.model.chip c.loop-place.model.layout) c.of-visit.ensures.visit) c.in_err-take_turns.ensures.follows))) c.from_residual.ensures.0;
     }
 
 pub returns : goal.returns

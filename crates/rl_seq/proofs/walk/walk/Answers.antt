@@ -1,9 +1,9 @@
-use Rattle.std.proofs.Common.{◌≡◌, ◌∙◌, ◌<◌, true, length, ap, sym, subst, arith}
+use Rattle.std.proofs.Common.{◌∙◌, ap, sym, arith}
 use Rattle.rl_model.specs.Rows.{ChipData}
 use Rattle.rl_map.specs.Layout.{LayoutData}
 use Rattle.rl_seq.specs.Sequences.{items_of, is_chosen, visit_all}
 use Rattle.rl_seq.proofs.Following.{follows_same, each_first, each_more, each_skipped, each_broke, each_all}
-use Rattle.rl_seq.proofs.Planned.{same_plan, on_chip}
+use Rattle.rl_seq.proofs.Planned.{same_plan}
 use Rattle.rl_seq.proofs.Turning.{chosen_is, left_out}
 use Rattle.rl_seq.proofs.walk.walk.Goals as goal
 
@@ -25,8 +25,8 @@ returns-in_err-visit_places g c =
       follows = each_broke g.R.Recorder _ _ _ _ _ _ _ (visit_all c.args.sequence m.chip m.layout c.args.block) c.loop-number.number (items_of c.args.sequence m.chip) _ _ c.from_residual.result
           (same_plan (λ h y. visit_all c.args.sequence h y c.args.block c.loop-number.number) m c.loop-number.model c.loop-number.invariant.stays.parts) (let count = c.items-number-end.ensures ∙ ap (items_of c.args.sequence) c.chip.ensures.chip in omega arith) c.loop-number.invariant
           (follows_same g.R.Recorder _ _ _ _ _ (visit_all c.args.sequence c.loop-number.model.chip c.loop-number.model.layout c.args.block c.loop-number.number) _
-    (chosen_is (is_chosen c.args.sequence c.loop-number.model.chip c.loop-number.model.layout c.args.block c.loop-number.number) _ (sym (c.is_chosen.ensures ∙ ap (λ (h : ChipData). is_chosen c.args.sequence h c.layout.result.now c.args.block c.loop-number.number) c.chip-in-loop-number.ensures.chip ∙ ap (λ (y : LayoutData). is_chosen c.args.sequence c.loop-number.model.chip y c.args.block c.loop-number.number) c.layout.ensures.layout) ∙ c.if-not-is_chosen.false))
-    c.in_err-visit_places.ensures.follows) c.from_residual.ensures.0;
+          (chosen_is (is_chosen c.args.sequence c.loop-number.model.chip c.loop-number.model.layout c.args.block c.loop-number.number) _ (sym (c.is_chosen.ensures ∙ ap (λ (h : ChipData). is_chosen c.args.sequence h c.layout.result.now c.args.block c.loop-number.number) c.chip-in-loop-number.ensures.chip ∙ ap (λ (y : LayoutData). is_chosen c.args.sequence c.loop-number.model.chip y c.args.block c.loop-number.number) c.layout.ensures.layout) ∙ c.if-not-is_chosen.false))
+          c.in_err-visit_places.ensures.follows) c.from_residual.ensures.0;
     }
 
 pub returns : goal.returns
