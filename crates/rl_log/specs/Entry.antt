@@ -12,8 +12,7 @@ use Rattle.rl_script.specs.declared.line.Line.TheVariants as line
 use Rattle.rl_script.specs.declared.line.Sequence.{Sequence}
 use Rattle.rl_script.specs.declared.line.Sequence.TheVariants.{HwReset, BitBash, Access, Shared, MemWalk}
 use Rattle.rl_seq.specs.Plan.{Plan}
-use Rattle.rl_seq.specs.Steps.{hw_reset_plan, bit_bash_plan}
-use Rattle.rl_seq.specs.Tests.{access_test_plan, shared_access_plan, mem_walk_plan}
+use Rattle.rl_seq.specs.Sequences.{hw_reset_plan, bit_bash_plan, access_test_plan, shared_access_plan, mem_walk_plan}
 use Rattle.rl_report.specs.Pieces.{joined}
 use Rattle.rl_log.specs.Course.{Course, nothing_done, alone, along, burst}
 use Rattle.rl_log.specs.Named.{mem_named, map_asked, block_asked, op_named}

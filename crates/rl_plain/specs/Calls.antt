@@ -20,8 +20,7 @@ use Rattle.rl_access.specs.Operation.{location_size, IsMapIn, HasNumbers}
 use Rattle.rl_access.specs.Rules.{Grant, memory_size}
 use Rattle.rl_access.specs.Runs.{RunsThrough, writes_of, reads_of}
 use Rattle.rl_seq.specs.Plan.{Plan, stop, step, look, Runs}
-use Rattle.rl_seq.specs.Steps.{hw_reset_plan, bit_bash_plan}
-use Rattle.rl_seq.specs.Tests.{access_test_plan, shared_access_plan, mem_walk_plan}
+use Rattle.rl_seq.specs.Sequences.{hw_reset_plan, bit_bash_plan, access_test_plan, shared_access_plan, mem_walk_plan}
 use Rattle.rl_plain.specs.Agree.{HasNoVolatile, Agree}
 use Rattle.rl_plain.specs.Machine.{Machine, seen, first_machine, refused_at, machine_step}
 use Rattle.rl_plain.specs.Courses.{Course, through, along, burst}

@@ -4,11 +4,10 @@ use Rattle.std.specs.Prelude.{option_map, bytes_eq}
 use Rattle.std.proofs.lemmas.List.{length-map}
 use Rattle.std.proofs.lemmas.List.Quantifiers.{position-Some}
 use Rattle.rl_map.specs.declared.rows.MapRow.{MapRow}
-use Rattle.rl_map.specs.Layout.{LayoutData, place_at, map_named, no_map, IsSound as IsLayout}
+use Rattle.rl_map.specs.Layout.{LayoutData, map_named, no_map, IsSound as IsLayout}
 use Rattle.rl_model.specs.Chip.{IsSound, field_path}
 use Rattle.rl_model.specs.Rows.{ChipData}
 use Rattle.rl_model.specs.Fields.{size_of}
-use Rattle.rl_model.specs.declared.rows.Item.TheVariants.{Reg, Mem}
 use Rattle.rl_access.specs.declared.event.Op.{Op}
 use Rattle.rl_access.specs.declared.event.Op.TheVariants as op
 use Rattle.rl_access.specs.Model.{ModelData}
@@ -18,10 +17,10 @@ use Rattle.rl_script.specs.declared.line.Line.{Line}
 use Rattle.rl_script.specs.declared.line.Line.TheVariants as line
 use Rattle.rl_script.specs.declared.line.Sequence.{Sequence}
 use Rattle.rl_script.specs.declared.line.Sequence.TheVariants.{HwReset, BitBash, Access, Shared, MemWalk}
-use Rattle.rl_seq.specs.Choice.{is_place}
+use Rattle.rl_seq.specs.declared.sequence.Sequence.{Sequence as Walk}
+use Rattle.rl_seq.specs.declared.sequence.Sequence.TheVariants as over
 use Rattle.rl_seq.specs.Plan.{Plan, stop, step, look, followed_by, only_if, each_below}
-use Rattle.rl_seq.specs.Steps.{check_at_place, check_reg, bash_once, bash_bit, bash_place, bash_reg, hw_reset_plan, bit_bash_plan}
-use Rattle.rl_seq.specs.Tests.{access_at, access_place, access_reg, check_other, share_at, share_place, share_reg, write_turned, check_turned, turn_before, check_last, walk_location, walk_place, walk_mem, access_test_plan, shared_access_plan, mem_walk_plan}
+use Rattle.rl_seq.specs.Sequences.{map_at, bash_once, bash_bit, check_other, fill, check_filled, settle_before, check_last, walk_location, items_of, at_place, visit, visit_all, walk, hw_reset_plan, bit_bash_plan, access_test_plan, shared_access_plan, mem_walk_plan}
 use Rattle.rl_log.specs.Entry.{plan_of}
 use Rattle.rl_log.specs.Named.{number_of, reg_named, mem_named, field_named, kind_named, map_asked, with_number, with_map, op_named}
 
@@ -146,62 +145,54 @@ module _ (c : ChipData) (l : LayoutData) (chip : IsSound c) (layout : IsLayout l
   below zero f h = tt
   below (suc n) f h = then_on (each_below n f) (f n) (below n f (λ i low. h i (omega arith))) (h n (omega arith))
 
-  map_low : (place : ℕ) → place < length l.places → (place_at l place).map < length l.maps
+  map_low : (place : ℕ) → place < length l.places → map_at l place < length l.maps
   map_low place low = (layout.each_place place low).map
-
-  check_there : (reg place : ℕ) → reg < length c.regs → place < length l.places → Good (check_at_place l reg place)
-  check_there reg place lr lp = where_chosen _ (step (op.Check reg (Some (place_at l place).map)) stop) ((lr, map_low place lp), tt)
-
-  hw_reset_numbers : (block : Option ℕ) → Good (hw_reset_plan c l block)
-  hw_reset_numbers block =
-      let kind : 0 < length c.kinds = let two = chip.two_kinds in omega arith in
-      (kind, below (length c.regs) (check_reg c l block) (λ reg lr. where_chosen _ (each_below (length l.places) (check_at_place l reg)) (below (length l.places) (check_at_place l reg) (λ place lp. check_there reg place lr lp))))
 
   bashed : (reg map bit : ℕ) → reg < length c.regs → map < length l.maps → Good (bash_bit c reg map bit)
   bashed reg map bit lr lm =
       let once : Good (bash_once reg map bit) = λ m. ((lr, lm), ((lr, lm), tt)) in
-      where_chosen _ (followed_by (bash_once reg map bit) (bash_once reg map bit)) (then_on (bash_once reg map bit) (bash_once reg map bit) once once)
+      where_chosen _ (followed_by (bash_once reg map bit) (bash_once reg map bit))
+      (then_on (bash_once reg map bit) (bash_once reg map bit) once once)
 
-  bit_bash_numbers : (block : Option ℕ) → Good (bit_bash_plan c l block)
-  bit_bash_numbers block =
-      below (length c.regs) (bash_reg c l block) (λ reg lr. where_chosen _ (each_below (length l.places) (bash_place c l reg))
-      (below (length l.places) (bash_place c l reg) (λ place lp. where_chosen (is_place l place (Reg reg) true true) (each_below (8 * size_of c reg) (bash_bit c reg (place_at l place).map))
-      (below (8 * size_of c reg) (bash_bit c reg (place_at l place).map) (λ bit lb. bashed reg (place_at l place).map bit lr (map_low place lp))))))
-
-  accessed : (reg map : ℕ) → reg < length c.regs → map < length l.maps → Good (access_at c reg map)
-  accessed reg map lr lm = λ m. ((lr, lm), (lr, (lr, ((lr, lm), tt))))
-
-  access_numbers : (block : Option ℕ) → Good (access_test_plan c l block)
-  access_numbers block =
-      below (length c.regs) (access_reg c l block) (λ reg lr. where_chosen _ (each_below (length l.places) (access_place c l reg))
-      (below (length l.places) (access_place c l reg) (λ place lp. where_chosen _ (access_at c reg (place_at l place).map) (accessed reg (place_at l place).map lr (map_low place lp)))))
-
-  shared_numbers : (block : Option ℕ) → Good (shared_access_plan c l block)
-  shared_numbers block =
-      below (length c.regs) (share_reg c l block) (λ reg lr. where_chosen _ (each_below (length l.places) (share_place c l reg))
-      (below (length l.places) (share_place c l reg) (λ place lp. where_chosen _ (share_at c l reg place)
-      (λ m. ((lr, map_low place lp), below (length l.places) (check_other l reg place) (λ other lo. where_chosen _ (check_at_place l reg other) (check_there reg other lr lo)))))))
+  before : (mem map k : ℕ) → mem < length c.mems → map < length l.maps → Good (settle_before c mem map k)
+  before mem map zero li lm = tt
+  before mem map (suc k) li lm = ((li, lm), ((li, lm), tt))
 
   walked : (mem map k : ℕ) → mem < length c.mems → map < length l.maps → Good (walk_location c mem map k)
   walked mem map k li lm =
-      let wrote : Good (write_turned c mem map k) = ((li, lm), tt) in
-      let checked : Good (check_turned c mem map k) = ((li, lm), tt) in
-      then_on (write_turned c mem map k) (followed_by (turn_before c mem map k) (check_last c mem map k)) wrote
-      (then_on (turn_before c mem map k) (check_last c mem map k) (before k) (where_chosen _ (check_turned c mem map k) checked))
-    where
-      before : (n : ℕ) → Good (turn_before c mem map n)
-      before zero = tt
-      before (suc n) = ((li, lm), ((li, lm), tt))
+      then_on (fill c mem map k) (followed_by (settle_before c mem map k) (check_last c mem map k)) ((li, lm), tt)
+      (then_on (settle_before c mem map k) (check_last c mem map k) (before mem map k li lm)
+      (where_chosen _ (check_filled c mem map k) ((li, lm), tt)))
 
-  mem_walk_numbers : (block : Option ℕ) → Good (mem_walk_plan c l block)
-  mem_walk_numbers block =
-      below (length c.mems) (walk_mem c l block) (λ mem li. where_chosen _ (each_below (length l.places) (walk_place c l mem))
-      (below (length l.places) (walk_place c l mem) (λ place lp. where_chosen (is_place l place (Mem mem) true true) (each_below (memory_size c mem) (walk_location c mem (place_at l place).map))
-      (below (memory_size c mem) (walk_location c mem (place_at l place).map) (λ k lk. walked mem (place_at l place).map k li (map_low place lp))))))
+  place_numbers : (which : Walk) (number place : ℕ) → number < items_of which c → place < length l.places
+      → Good (at_place which c l number place)
+  place_numbers over.HwReset reg place lr lp = ((lr, map_low place lp), tt)
+  place_numbers over.BitBash reg place lr lp =
+      below (8 * size_of c reg) (bash_bit c reg (map_at l place)) (λ bit lb. bashed reg (map_at l place) bit lr (map_low place lp))
+  place_numbers over.Access reg place lr lp = let lm = map_low place lp in λ m. ((lr, lm), (lr, (lr, ((lr, lm), tt))))
+  place_numbers over.Shared reg place lr lp =
+      λ m. (
+        (lr, map_low place lp),
+        below (length l.places) (check_other l reg place) (λ other lo. where_chosen _ _ ((lr, map_low other lo), tt)),
+      )
+  place_numbers over.MemWalk mem place li lp =
+      below (memory_size c mem) (walk_location c mem (map_at l place))
+      (λ k lk. walked mem (map_at l place) k li (map_low place lp))
+
+  walk_numbers : (which : Walk) (block : Option ℕ) → Good (walk which c l block)
+  walk_numbers which block =
+      below (items_of which c) (visit_all which c l block)
+      (λ number li. where_chosen _ (each_below (length l.places) (visit which c l number))
+      (below (length l.places) (visit which c l number)
+      (λ place lp. where_chosen _ (at_place which c l number place) (place_numbers which number place li lp))))
+
+  hw_reset_numbers : (block : Option ℕ) → Good (hw_reset_plan c l block)
+  hw_reset_numbers block =
+      let kind : 0 < length c.kinds = let two = chip.two_kinds in omega arith in (kind, walk_numbers over.HwReset block)
 
   pub plan_numbers : (which : Sequence) (m : ModelData) (block : Option ℕ) → m.chip ≡ c → m.layout ≡ l → HasPlanNumbers c (length l.maps) (plan_of which m block)
   plan_numbers HwReset m block e f = subst Good (ap (λ x. hw_reset_plan x l block) (sym e) ∙ ap (λ y. hw_reset_plan m.chip y block) (sym f)) (hw_reset_numbers block)
-  plan_numbers BitBash m block e f = subst Good (ap (λ x. bit_bash_plan x l block) (sym e) ∙ ap (λ y. bit_bash_plan m.chip y block) (sym f)) (bit_bash_numbers block)
-  plan_numbers Access m block e f = subst Good (ap (λ x. access_test_plan x l block) (sym e) ∙ ap (λ y. access_test_plan m.chip y block) (sym f)) (access_numbers block)
-  plan_numbers Shared m block e f = subst Good (ap (λ x. shared_access_plan x l block) (sym e) ∙ ap (λ y. shared_access_plan m.chip y block) (sym f)) (shared_numbers block)
-  plan_numbers MemWalk m block e f = subst Good (ap (λ x. mem_walk_plan x l block) (sym e) ∙ ap (λ y. mem_walk_plan m.chip y block) (sym f)) (mem_walk_numbers block)
+  plan_numbers BitBash m block e f = subst Good (ap (λ x. bit_bash_plan x l block) (sym e) ∙ ap (λ y. bit_bash_plan m.chip y block) (sym f)) (walk_numbers over.BitBash block)
+  plan_numbers Access m block e f = subst Good (ap (λ x. access_test_plan x l block) (sym e) ∙ ap (λ y. access_test_plan m.chip y block) (sym f)) (walk_numbers over.Access block)
+  plan_numbers Shared m block e f = subst Good (ap (λ x. shared_access_plan x l block) (sym e) ∙ ap (λ y. shared_access_plan m.chip y block) (sym f)) (walk_numbers over.Shared block)
+  plan_numbers MemWalk m block e f = subst Good (ap (λ x. mem_walk_plan x l block) (sym e) ∙ ap (λ y. mem_walk_plan m.chip y block) (sym f)) (walk_numbers over.MemWalk block)

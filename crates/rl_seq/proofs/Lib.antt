@@ -1,4 +1,4 @@
-pub mod Bashed
-pub mod Going
+pub mod Choosing
+pub mod Following
 pub mod Planned
-pub mod Walked
+pub mod Turning

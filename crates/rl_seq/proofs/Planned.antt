@@ -1,5 +1,5 @@
 -- Plans that are followed one after another.
-use Rattle.std.proofs.Common.{◌≡◌, ℕ, zero, suc, ◌+◌, ◌<◌, Bool, true, false, List, [], ◌∷◌, ◌++◌, Result, Ok, Err, OnOk, OnErr, refl, sym, ap, ◌∙◌, subst, nat_lt, add-one, arith}
+use Rattle.std.proofs.Common.{◌≡◌, ℕ, zero, suc, ◌+◌, ◌<◌, true, false, List, [], ◌∷◌, ◌++◌, Result, Ok, Err, OnOk, OnErr, refl, sym, ap, ◌∙◌, subst, nat_lt, add-one, arith}
 use Rattle.std.specs.Result.{IsErr}
 use borrow.Author.Tests.{ltb-true, ltb-false}
 use Rattle.rl_model.specs.Rows.{ChipData}
@@ -12,7 +12,7 @@ use Rattle.rl_access.specs.HandsOver.{Told, TakesAll, BreaksAtLast}
 use Rattle.rl_access.specs.Model.{ModelData, IsSameChip}
 use Rattle.rl_access.specs.Runs.{IsOneStep, no_tally, counted_all}
 use Rattle.rl_access.specs.Tally.{counted}
-use Rattle.rl_seq.specs.Plan.{Plan, stop, step, look, followed_by, only_if, each_below, Runs, Breaks, Walks, IsSequence}
+use Rattle.rl_seq.specs.Plan.{Plan, stop, step, look, followed_by, each_below, Runs, Breaks, Walks, IsSequence}
 
 runs_then : (p q : Plan) (s mid new : Scene) (first more : List Told) → Runs p s first mid → Runs q mid more new → Runs (followed_by p q) s (first ++ more) new
 runs_then stop q s mid new [] more h k = subst (λ x. Runs q x more new) h k
@@ -83,7 +83,7 @@ module _ {R : Type 0} (takes breaks : R → ModelData → Event → R → Type 0
   walks_none rec s tally x = record { told = []; handed = record { all = refl; part = tt }; counts = refl; run = refl }
 
   -- one plan after another
-  pub walks_then : {T U E : Type 0} (old mid rec : R) (s m new : Scene) (t0 t1 t2 : Tally) (p q : Plan) (x : T) (r : Result U E) → Walks {E = E} takes breaks old mid s m t0 t1 p (Ok x) → Walks takes breaks mid rec m new t1 t2 q r → Walks takes breaks old rec s new t0 t2 (followed_by p q) r
+  pub walks_then : {T U E F : Type 0} (old mid rec : R) (s m new : Scene) (t0 t1 t2 : Tally) (p q : Plan) (x : T) (r : Result U E) → Walks {E = F} takes breaks old mid s m t0 t1 p (Ok x) → Walks takes breaks mid rec m new t1 t2 q r → Walks takes breaks old rec s new t0 t2 (followed_by p q) r
   walks_then old mid rec s m new t0 t1 t2 p q x (Ok y) a b = record {
     told = a.told ++ b.told;
     handed = record { all = takes_then old mid rec a.told b.told a.handed.all b.handed.all; part = tt };
@@ -111,10 +111,6 @@ module _ {R : Type 0} (takes breaks : R → ModelData → Event → R → Type 0
   pub walks_same : {T E : Type 0} (old rec : R) (s new : Scene) (t0 t1 : Tally) (p q : Plan) (r : Result T E) → p ≡ q → Walks takes breaks old rec s new t0 t1 p r → Walks takes breaks old rec s new t0 t1 q r
   walks_same old rec s new t0 t1 p q r e a = subst (λ x. Walks takes breaks old rec s new t0 t1 x r) e a
 
-  -- what isn't chosen is left out
-  pub walks_skipped : {T E : Type 0} (rec : R) (s : Scene) (tally : Tally) (b : Bool) (p : Plan) (x : T) → b ≡ false → Walks {E = E} takes breaks rec rec s s tally tally (only_if b p) (Ok x)
-  walks_skipped {E} rec s tally b p x skipped = subst (λ c. Walks {E = E} takes breaks rec rec s s tally tally (only_if c p) (Ok x)) (sym skipped) (walks_none rec s tally x)
-
   pub sequence_done : {T E : Type 0} (old rec : R) (s new : Scene) (before after : Tally) (p : Plan) (x : T) → Walks {E = E} takes breaks old rec s new before after p (Ok x) → before ≡ no_tally → IsSequence {E = E} takes breaks old rec s new p (Ok after)
   sequence_done old rec s new before after p x a none = record { told = a.told; handed = record { all = a.handed.all; part = tt }; counts = a.counts ∙ ap (λ t. counted_all t a.told) none; run = a.run }
 
@@ -124,17 +120,7 @@ module _ {R : Type 0} (takes breaks : R → ModelData → Event → R → Type 0
 
 -- ---- for each number below a count
 
--- a plan was followed to its end
-pub record Walked {R : Type 0} (takes : R → ModelData → Event → R → Type 0) (old rec : R) (s new : Scene) (before after : Tally) (p : Plan) : Type 0 where
-  pub told : List Told
-  pub taken : TakesAll takes old told rec
-  pub counts : after ≡ counted_all before told
-  pub run : Runs p s told new
-
-pub walked_first : {R : Type 0} (takes : R → ModelData → Event → R → Type 0) (rec : R) (s : Scene) (tally : Tally) → Walked takes rec rec s s tally tally stop
-walked_first takes rec s tally = record { told = []; taken = refl; counts = refl; run = refl }
-
-grown : (i : ℕ) (f : ℕ → Plan) → followed_by (each_below i f) (f i) ≡ each_below (i + 1) f
+pub grown : (i : ℕ) (f : ℕ → Plan) → followed_by (each_below i f) (f i) ≡ each_below (i + 1) f
 grown i f = sym (ap (λ n. each_below n f) (add-one i))
 
 -- what broke off below a number broke off below any larger one
@@ -147,27 +133,48 @@ broke_below f i (suc n) s new told low h =
     ] refl
 
 module _ {R : Type 0} (takes breaks : R → ModelData → Event → R → Type 0) where
-  pub walked_more : {T E : Type 0} (old mid rec : R) (s m new : Scene) (t0 t1 t2 : Tally) (f : ℕ → Plan) (i : ℕ) (q : Plan) (x : T) → q ≡ f i → Walked takes old mid s m t0 t1 (each_below i f) → Walks {E = E} takes breaks mid rec m new t1 t2 q (Ok x) → Walked takes old rec s new t0 t2 (each_below (i + 1) f)
-  walked_more old mid rec s m new t0 t1 t2 f i q x same a b = record {
-    told = a.told ++ b.told;
-    taken = takes_then takes breaks old mid rec a.told b.told a.taken b.handed.all;
-    counts = b.counts ∙ ap (λ t. counted_all t b.told) a.counts ∙ sym (counted_more t0 a.told b.told);
-    run = subst (λ p. Runs p s (a.told ++ b.told) new) (grown i f) (runs_then (each_below i f) (f i) s m new a.told b.told a.run (subst (λ p. Runs p m b.told new) same b.run));
-  }
-
-  pub walked_broke : {T U E : Type 0} (old mid rec : R) (s m new : Scene) (t0 t1 t2 t3 : Tally) (f : ℕ → Plan) (i n : ℕ) (q : Plan) (e : E) (r : Result U E) → q ≡ f i → i < n → Walked takes old mid s m t0 t1 (each_below i f) → Walks {T = T} takes breaks mid rec m new t1 t2 q (Err e) → IsErr r
-      → Walks takes breaks old rec s new t0 t3 (each_below n f) r
-  walked_broke old mid rec s m new t0 t1 t2 t3 f i n q e (Ok y) same low a b is = absurd (let no : false ≡ true = is in cc)
-  walked_broke old mid rec s m new t0 t1 t2 t3 f i n q e (Err z) same low a b is = record {
-    told = a.told ++ b.told;
-    handed = record { all = tt; part = breaks_then takes breaks old mid rec a.told b.told a.taken b.handed.part };
-    counts = tt;
-    run = broke_below f i n s new (a.told ++ b.told) low (breaks_after (each_below i f) (f i) s m new a.told b.told a.run (subst (λ p. Breaks p m b.told new) same b.run));
-  }
-
-  pub walked_all : {T E : Type 0} (old rec : R) (s new : Scene) (t0 t1 : Tally) (p q : Plan) (x : T) → p ≡ q → Walked takes old rec s new t0 t1 p → Walks {E = E} takes breaks old rec s new t0 t1 q (Ok x)
-  walked_all old rec s new t0 t1 p q x same a = record { told = a.told; handed = record { all = a.taken; part = tt }; counts = a.counts; run = subst (λ z. Runs z s a.told new) same a.run }
+  pub walks_below : {T U E : Type 0} (old rec : R) (s new : Scene) (t0 t1 t2 : Tally) (f : ℕ → Plan) (i n : ℕ) (e : E) (r : Result U E) → i < n → Walks {T = T} takes breaks old rec s new t0 t1 (followed_by (each_below i f) (f i)) (Err e) → IsErr r → Walks takes breaks old rec s new t0 t2 (each_below n f) r
+  walks_below old rec s new t0 t1 t2 f i n e (Ok y) low a is = absurd (let no : false ≡ true = is in cc)
+  walks_below old rec s new t0 t1 t2 f i n e (Err z) low a is = record { told = a.told; handed = record { all = tt; part = a.handed.part }; counts = tt; run = broke_below f i n s new a.told low a.run }
 
 -- the chip and the layout are the same, and so is a plan for them
 pub same_plan : (f : ChipData → LayoutData → Plan) (m n : ModelData) → IsSameChip m n → f n.chip n.layout ≡ f m.chip m.layout
 same_plan f m n parts = ap (λ c. f c n.layout) parts.chip ∙ ap (λ l. f m.chip l) parts.layout
+
+-- what holds of a chip and a layout holds of those of any later model
+pub on_chip : (P : ChipData → LayoutData → Type 0) (m n : ModelData) → IsSameChip m n → P m.chip m.layout → P n.chip n.layout
+on_chip P m n parts h = subst (λ l. P n.chip l) (sym parts.layout) (subst (λ c. P c m.layout) (sym parts.chip) h)
+
+-- ---- plans that do the same
+
+-- what follows the one follows the other
+pub record Alike (p q : Plan) : Type 0 where
+  pub runs : (s new : Scene) (told : List Told) → Runs p s told new → Runs q s told new
+  pub breaks : (s new : Scene) (told : List Told) → Breaks p s told new → Breaks q s told new
+
+pub alike_same : (p : Plan) → Alike p p
+alike_same p = record { runs = λ s new told h. h; breaks = λ s new told h. h }
+
+runs_step : (op : Op) (p q : Plan) (s new : Scene) (told : List Told) → Alike p q → Runs (step op p) s told new → Runs (step op q) s told new
+runs_step op p q s new [] a h = h
+runs_step op p q s new (t ∷ told) a h = (h.0, h.1, a.runs h.0 new told h.2)
+
+breaks_step : (op : Op) (p q : Plan) (s new : Scene) (told : List Told) → Alike p q → Breaks (step op p) s told new → Breaks (step op q) s told new
+breaks_step op p q s new [] a h = h
+breaks_step op p q s new (t ∷ []) a h = h
+breaks_step op p q s new (t ∷ u ∷ told) a h = (h.0, h.1, a.breaks h.0 new (u ∷ told) h.2)
+
+pub alike_step : (op : Op) (p q : Plan) → Alike p q → Alike (step op p) (step op q)
+alike_step op p q a = record { runs = λ s new told h. runs_step op p q s new told a h; breaks = λ s new told h. breaks_step op p q s new told a h }
+
+pub alike_look : (f g : ModelData → Plan) → ((m : ModelData) → Alike (f m) (g m)) → Alike (look f) (look g)
+alike_look f g a = record { runs = λ s new told h. (a s.model).runs s new told h; breaks = λ s new told h. (a s.model).breaks s new told h }
+
+-- a look that nothing depends on
+pub alike_looked : (f : ModelData → Plan) (q : Plan) → ((m : ModelData) → Alike (f m) q) → Alike (look f) q
+alike_looked f q a = record { runs = λ s new told h. (a s.model).runs s new told h; breaks = λ s new told h. (a s.model).breaks s new told h }
+
+module _ {R : Type 0} (takes breaks : R → ModelData → Event → R → Type 0) where
+  pub walks_alike : {T E : Type 0} (old rec : R) (s new : Scene) (t0 t1 : Tally) (p q : Plan) (r : Result T E) → Alike p q → Walks takes breaks old rec s new t0 t1 p r → Walks takes breaks old rec s new t0 t1 q r
+  walks_alike old rec s new t0 t1 p q (Ok x) e a = record { told = a.told; handed = a.handed; counts = a.counts; run = e.runs s new a.told a.run }
+  walks_alike old rec s new t0 t1 p q (Err x) e a = record { told = a.told; handed = a.handed; counts = a.counts; run = e.breaks s new a.told a.run }

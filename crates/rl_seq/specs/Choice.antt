@@ -1,7 +1,7 @@
 -- Which registers, memories, places and bits a sequence goes over.
 use Rattle.std.specs.Prelude.{ℕ, zero, suc, ◌+◌, ◌-◌, ◌*◌, ◌^◌, ◌%◌, ◌==◌, nat_le, bit_and, Bool, true, false, not, if◌then◌else◌, ◌&&◌, ◌||◌, length, unwrap_or, Option, None, Some}
 use Rattle.std.specs.Option.{option_map_or}
-use Rattle.rl_map.specs.Layout.{LayoutData, place_at, has_right}
+use Rattle.rl_map.specs.Layout.{LayoutData, place_at, has_right, same_item}
 use Rattle.rl_model.specs.Chip.{backdoor_of, skip_of, is_inside, path_at, path_of_item}
 use Rattle.rl_model.specs.Rows.{ChipData}
 use Rattle.rl_model.specs.declared.rows.Item.{Item}
@@ -36,19 +36,18 @@ abbrev pub is_tested : ChipData → Item → Option ℕ → ℕ → Bool
 is_tested c item block skip = is_in_block c item block && not (is_excluded c item skip)
 
 abbrev pub is_reg_tested : ChipData → ℕ → Option ℕ → ℕ → Bool
-is_reg_tested c reg block skip = is_tested c (Reg reg) block skip && is_tested c (Reg reg) block no_reg_tests
+is_reg_tested c reg block skip =
+    is_tested c (Reg reg) block skip && is_tested c (Reg reg) block no_reg_tests
 
-abbrev pub is_same : Item → Item → Bool
-is_same (Reg a) (Reg b) = a == b
-is_same (Mem a) (Mem b) = a == b
-is_same (Reg a) (Mem b) = false
-is_same (Mem a) (Reg b) = false
+-- the place is the item's
+abbrev pub is_of : LayoutData → ℕ → Item → Bool
+is_of l place item = same_item (place_at l place).item item
 
--- the place is the item's, and has these rights
-abbrev pub is_place : LayoutData → ℕ → Item → (reads writes : Bool) → Bool
-is_place l place item reads writes =
-    let rights = (place_at l place).rights in
-    (is_same (place_at l place).item item && (not reads || has_right rights false)) && (not writes || has_right rights true)
+abbrev pub may_read : LayoutData → ℕ → Bool
+may_read l place = has_right (place_at l place).rights false
+
+abbrev pub may_write : LayoutData → ℕ → Bool
+may_write l place = has_right (place_at l place).rights true
 
 -- for some number below the count
 abbrev pub any_below : ℕ → (ℕ → Bool) → Bool
@@ -86,10 +85,12 @@ is_read_only _ = false
 
 -- a field of the register isn't RO
 abbrev pub has_writable_field : ChipData → ℕ → Bool
-has_writable_field c reg = any_below (count_of c reg) (λ k. not (is_read_only (field_of c (first_of c reg + k)).shape.policy))
+has_writable_field c reg =
+    any_below (count_of c reg) (λ k. not (is_read_only (field_of c (first_of c reg + k)).shape.policy))
 
 abbrev pub is_accessed : ChipData → ℕ → Option ℕ → Bool
-is_accessed c reg block = (is_reg_tested c reg block no_reg_access_test && unwrap_or (backdoor_of c (Reg reg)) false) && has_writable_field c reg
+is_accessed c reg block =
+    (is_reg_tested c reg block no_reg_access_test && unwrap_or (backdoor_of c (Reg reg)) false) && has_writable_field c reg
 
 -- how many numbers below the count
 abbrev pub count_below : ℕ → (ℕ → Bool) → ℕ
@@ -97,10 +98,11 @@ count_below zero p = 0
 count_below (suc n) p = count_below n p + (if p n then 1 else 0)
 
 abbrev pub places_of : LayoutData → Item → ℕ
-places_of l item = count_below (length l.places) (λ k. is_same (place_at l k).item item)
+places_of l item = count_below (length l.places) (λ k. is_of l k item)
 
 abbrev pub is_shared : ChipData → LayoutData → ℕ → Option ℕ → Bool
-is_shared c l reg block = is_reg_tested c reg block no_reg_shared_access_test && nat_le 2 (places_of l (Reg reg))
+is_shared c l reg block =
+    is_reg_tested c reg block no_reg_shared_access_test && nat_le 2 (places_of l (Reg reg))
 
 abbrev pub is_walked : ChipData → ℕ → Option ℕ → Bool
 is_walked c mem block = is_tested c (Mem mem) block no_mem_walk_test && is_writable c mem

@@ -1,4 +1,5 @@
 pub mod Choice
 pub mod Plan
-pub mod Steps
-pub mod Tests
+pub mod Sequences
+pub mod Stage
+pub mod Visits

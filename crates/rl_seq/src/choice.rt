@@ -1,10 +1,9 @@
 //! Which registers, memories, places and bits a sequence goes over.
-ghost use Rattle.std.specs.Prelude.{◌≡◌, ◌<◌, ◌||◌, ◌&&◌, not, length, IfSome};
+ghost use Rattle.std.specs.Prelude.{◌≡◌, ◌<◌, ◌&&◌, length, IfSome};
 ghost use Rattle.rl_model.specs.Chip.{HasItem};
-ghost use Rattle.rl_map.specs.Layout.{place_at, has_right};
 ghost use Rattle.rl_mirror.specs.Compared.{is_compared};
 ghost use Rattle.rl_policy.specs.Bits.{is_within};
-ghost use Rattle.rl_seq.specs.Choice.{is_tested, is_reg_tested, is_place, is_same, is_bit_compared, places_of, has_writable_field, is_read_only, turned_round};
+ghost use Rattle.rl_seq.specs.Choice.{is_tested, is_reg_tested, is_of, may_read, may_write, is_bit_compared, places_of, has_writable_field, is_read_only, low_bits, turned_round, is_accessed, is_shared, is_walked};
 
 use bitflags::Flags;
 use rl_map::Layout;
@@ -34,21 +33,40 @@ pub(crate) fn is_reg_tested(chip: &Chip, reg: u32, block: Option<u32>, skip: Ski
     is_tested(chip, item, block, skip) && is_tested(chip, item, block, Skip::NO_REG_TESTS)
 }
 
-/// Whether the place is the item's, and has the right to read where `reads`, to write where `writes`.
-pub(crate) fn is_place(layout: &Layout, place: u32, item: Item, reads: bool, writes: bool) -> bool
-    requires { place < length layout.now.places }
-    ensures { result ≡ is_place layout.now place item reads writes }
+/// Whether the access test goes over the register: one with a backdoor, and a field that isn't RO.
+pub(crate) fn is_accessed(chip: &Chip, reg: u32, block: Option<u32>) -> bool
+    requires reg { reg < length chip.now.regs }
+    requires block { IfSome block (λ b. b < chip.now.blocks) }
+    ensures { result ≡ is_accessed chip.now reg block }
 {
-    let rights = layout.rights(place);
-    let of_item = is_of(layout, place, item);
-    let may_read = is_allowed(rights, reads, false);
-    let may_write = is_allowed(rights, writes, true);
-    of_item && may_read && may_write
+    is_reg_tested(chip, reg, block, Skip::NO_REG_ACCESS_TEST)
+        && chip.backdoor(Item::Reg(reg))
+        && has_writable_field(chip, reg)
 }
 
-fn is_of(layout: &Layout, place: u32, item: Item) -> bool
+/// Whether the shared access goes over the register: one with at least two places.
+pub(crate) fn is_shared(chip: &Chip, layout: &Layout, reg: u32, block: Option<u32>) -> bool
+    requires reg { reg < length chip.now.regs }
+    requires block { IfSome block (λ b. b < chip.now.blocks) }
+    ensures { result ≡ is_shared chip.now layout.now reg block }
+{
+    is_reg_tested(chip, reg, block, Skip::NO_REG_SHARED_ACCESS_TEST)
+        && 2 <= places_of(layout, Item::Reg(reg))
+}
+
+/// Whether the memory walk goes over the memory: one that the bus may write.
+pub(crate) fn is_walked(chip: &Chip, mem: u32, block: Option<u32>) -> bool
+    requires mem { mem < length chip.now.mems }
+    requires block { IfSome block (λ b. b < chip.now.blocks) }
+    ensures { result ≡ is_walked chip.now mem block }
+{
+    is_tested(chip, Item::Mem(mem), block, Skip::NO_MEM_WALK_TEST) && chip.writable(mem)
+}
+
+/// Whether the place is the item's.
+pub(crate) fn is_of(layout: &Layout, place: u32, item: Item) -> bool
     requires { place < length layout.now.places }
-    ensures { result ≡ is_same (place_at layout.now place).item item }
+    ensures { result ≡ is_of layout.now place item }
 {
     match (layout.item(place), item) {
         (Item::Reg(a), Item::Reg(b)) => a == b,
@@ -57,25 +75,24 @@ fn is_of(layout: &Layout, place: u32, item: Item) -> bool
     }
 }
 
-// The right of a direction is there, or isn't asked for.
-fn is_allowed(rights: Rights, asked: bool, write: bool) -> bool
-    ensures { result ≡ (not asked || has_right rights write) }
+/// Whether the place has the right to read.
+pub(crate) fn may_read(layout: &Layout, place: u32) -> bool
+    requires { place < length layout.now.places }
+    ensures { result ≡ may_read layout.now place }
 {
-    !asked || has_right(rights, write)
+    layout.rights(place).contains(Rights::READ)
 }
 
-fn has_right(rights: Rights, write: bool) -> bool
-    ensures { result ≡ has_right rights write }
+/// Whether the place has the right to write.
+pub(crate) fn may_write(layout: &Layout, place: u32) -> bool
+    requires { place < length layout.now.places }
+    ensures { result ≡ may_write layout.now place }
 {
-    if write {
-        rights.contains(Rights::WRITE)
-    } else {
-        rights.contains(Rights::READ)
-    }
+    layout.rights(place).contains(Rights::WRITE)
 }
 
 /// How many places the item has.
-pub(crate) fn places_of(layout: &Layout, item: Item) -> u32
+fn places_of(layout: &Layout, item: Item) -> u32
     ensures { result ≡ places_of layout.now item }
 {
     let mut count = 0;
@@ -115,7 +132,7 @@ fn covers(field: &Field, bit: u32) -> bool
 }
 
 /// Whether the register has a field that isn't RO.
-pub(crate) fn has_writable_field(chip: &Chip, reg: u32) -> bool
+fn has_writable_field(chip: &Chip, reg: u32) -> bool
     requires { reg < length chip.now.regs }
     ensures { result ≡ has_writable_field chip.now reg }
 {
@@ -134,8 +151,16 @@ fn is_read_only(policy: Policy) -> bool
     matches!(policy, Policy::Ro)
 }
 
+/// The value's bits that the item's bytes hold.
+pub(crate) fn low_bits(chip: &Chip, item: Item, value: u64) -> u64
+    requires { HasItem chip.now item }
+    ensures { result ≡ low_bits chip.now item value }
+{
+    value & mask(8 * chip.bytes(item))
+}
+
 /// The value with all bits of the item's bytes turned round.
-pub(crate) fn inverted(chip: &Chip, item: Item, value: u64) -> u64
+pub(crate) fn turned_round(chip: &Chip, item: Item, value: u64) -> u64
     requires { HasItem chip.now item }
     ensures { result ≡ turned_round chip.now item value }
 {

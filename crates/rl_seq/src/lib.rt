@@ -7,16 +7,11 @@
 //! hands each event to a recorder. A sequence goes on after a bus error.
 #![tactic(auto)]
 
-mod accessing;
-mod bashing;
 mod choice;
-mod resetting;
-mod sharing;
-mod steps;
-mod walking;
+mod sequence;
+mod sequences;
+mod step;
+mod visit;
+mod walk;
 
-pub use accessing::access_test;
-pub use bashing::bit_bash;
-pub use resetting::hw_reset;
-pub use sharing::shared_access;
-pub use walking::mem_walk;
+pub use sequences::{access_test, bit_bash, hw_reset, mem_walk, shared_access};

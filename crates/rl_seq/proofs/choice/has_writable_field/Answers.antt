@@ -1,7 +1,7 @@
 use Rattle.std.proofs.Common.{◌≡◌, ◌+◌, not, sym, ap, ◌∙◌, arith}
 use Rattle.rl_model.specs.Fields.{field_of, first_of, count_of}
 use Rattle.rl_seq.specs.Choice.{is_read_only}
-use Rattle.rl_seq.proofs.Walked.{mapped_or, any_found, any_more, writable_at}
+use Rattle.rl_seq.proofs.Choosing.{mapped_or, any_found, any_more, writable_at}
 use Rattle.rl_seq.proofs.choice.has_writable_field.Goals as goal
 
 pub returns-then-not-is_read_only : goal.returns-then-not-is_read_only

@@ -1,7 +1,7 @@
 use Rattle.std.proofs.Common.{◌≡◌, ◌+◌, ◌<◌, length, sym, ◌∙◌, arith}
 use Rattle.rl_model.specs.Fields.{field_of, first_of, count_of}
 use Rattle.rl_mirror.proofs.FieldLemmas.{row_answer, fields_within, field_answer}
-use Rattle.rl_seq.proofs.Bashed.{is_compared_at, any_more, any_found, compared_in}
+use Rattle.rl_seq.proofs.Choosing.{is_compared_at, any_more, any_found, compared_in}
 use Rattle.rl_seq.proofs.choice.is_bit_compared.Goals as goal
 
 pub returns-then-is_compared_in : goal.returns-then-is_compared_in
@@ -13,7 +13,7 @@ returns-then-is_compared_in c =
     let within : c.first_field-first.result + c.loop-k.k < length chip.fields = omega (arith, c.loop-k-test.true) in
     let is : c.field.result ≡ (field_of chip (c.first_field-first.result + c.loop-k.k)).shape = field_answer chip (c.first_field-first.result + c.loop-k.k) c.field.result within c.field.ensures.value in
     let low : c.loop-k.k < count_of chip c.args.reg = omega (arith, c.loop-k-test.true) in
-    sym (any_found (is_compared_at chip c.args.reg c.args.bit) c.loop-k.k (count_of chip c.args.reg) low
+    sym (any_found (is_compared_at chip c.args.reg c.args.bit) (count_of chip c.args.reg) c.loop-k.k low
     (sym (compared_in chip c.args.reg c.args.bit c.first_field-first.result c.loop-k.k c.field.result first is) ∙ sym c.is_compared_in.ensures ∙ c.if-is_compared_in.true))
 
 pub loop-k-preserved : goal.loop-k-preserved
