@@ -7,6 +7,3 @@ mod pins;
 
 pub use adapter::ApbAdapter;
 pub use pins::{Pins, cycles};
-
-#[cfg(test)]
-mod tests;

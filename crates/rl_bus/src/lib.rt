@@ -33,6 +33,3 @@ pub use transfer::{
     ApbResponse, ApbTransfer, PlainResponse, PlainTransfer, Response, Transfer, carried,
     response_to,
 };
-
-#[cfg(test)]
-mod tests;

@@ -18,6 +18,3 @@ mod words;
 pub use desc::{Desc, read_description};
 pub use fault::{DescCause, DescFault};
 pub use key::Key;
-
-#[cfg(test)]
-mod tests;

@@ -11,6 +11,3 @@ mod through;
 
 pub use mam::Mam;
 pub use region::{MamFault, Region, RegionFault};
-
-#[cfg(test)]
-mod tests;

@@ -12,8 +12,6 @@ mod fields;
 pub mod law;
 mod mirror;
 mod resets;
-#[cfg(test)]
-mod tests;
 
 pub use fields::{left_by_read, owned, shown};
 pub use mirror::Mirror;

@@ -19,8 +19,6 @@ mod parts;
 mod paths;
 mod rows;
 mod sets;
-#[cfg(test)]
-mod tests;
 mod text;
 
 pub use chip::Chip;

@@ -9,8 +9,6 @@
 pub mod law;
 pub mod number;
 pub mod policy;
-#[cfg(test)]
-mod tests;
 pub mod word;
 
 pub use number::{NumberText, hex_text, read_number, spell};

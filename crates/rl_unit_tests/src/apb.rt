@@ -1,7 +1,7 @@
 ghost use Rattle.std.specs.Prelude.{Option, None};
 ghost use Rattle.rl_bus.specs.Device.{IsPortOf};
 
-use super::*;
+use rl_apb::*;
 use rl_bus::{
     Adapter, Adapters, Answer, ApbResponse, ApbTransfer, BusOp, Cell, Device, Exchanged,
     PlainAdapter, Response, Transfer, exchange, kind_of, response_to,

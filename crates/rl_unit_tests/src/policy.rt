@@ -1,5 +1,5 @@
 //! The policy table, and numbers at their edges.
-use crate::*;
+use rl_policy::*;
 use std::test::Fail;
 
 /// For each policy its name and, for the stored bits 1100 and the written bits 1010: the bits after a

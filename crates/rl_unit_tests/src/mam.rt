@@ -1,5 +1,5 @@
-use crate::{Mam, MamFault, Region};
 use bitflags::Flags;
+use rl_mam::{Mam, MamFault, Region};
 use rl_model::{Chip, MemPart, Name, Parts, Skip};
 use std::alloc::Global;
 use std::test::Fail;

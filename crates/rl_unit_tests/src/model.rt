@@ -1,13 +1,13 @@
-use crate::Array::{Block, File, Mem, Reg};
-use crate::ModelCause::{
+use bitflags::Flags;
+use rl_model::Array::{Block, File, Mem, Reg};
+use rl_model::ModelCause::{
     BadName, BadSize, BadWidth, DuplicateName, FieldOutside, FieldsOverlap, NoSuchParent,
     ResetTooWide, TooDeep, TooMany,
 };
-use crate::{
+use rl_model::{
     Array, Chip, FieldPart, Item, MemPart, ModelCause, ModelFault, Name, Parts, RegPart, ResetPart,
     ScopePart, Skip, Spot,
 };
-use bitflags::Flags;
 use rl_policy::Policy;
 use std::alloc::{AllocError, AllocGlobal, Global};
 use std::process::Abort;

@@ -1,4 +1,4 @@
-use super::*;
+use rl_bus::*;
 use std::test::Fail;
 
 // A write or a read of four bytes.

@@ -1,6 +1,6 @@
-use crate::read_description;
 use rl_bench::Flaw;
 use rl_bus::{AdapterKind, ShortName};
+use rl_desc::read_description;
 use rl_model::Item;
 use std::alloc::Global;
 use std::process::Abort;

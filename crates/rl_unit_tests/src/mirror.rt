@@ -1,5 +1,5 @@
 //! Fields of a register of two bytes, through writes, reads and resets.
-use crate::Mirror;
+use rl_mirror::Mirror;
 use rl_model::{Chip, FieldPart, Name, Parts, RegPart, ResetPart, Skip};
 use rl_policy::Policy;
 use std::alloc::{AllocError, AllocGlobal, Global};

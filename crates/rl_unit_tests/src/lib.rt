@@ -1,0 +1,19 @@
+//! Tests of the crates up to the accesses, a module each: worked numbers and texts that no clause has.
+//!
+//! They stand apart from the crates that they test, since a crate with tests is proved twice.
+#![tactic(auto)]
+
+#[cfg(test)]
+mod apb;
+#[cfg(test)]
+mod bus;
+#[cfg(test)]
+mod desc;
+#[cfg(test)]
+mod mam;
+#[cfg(test)]
+mod mirror;
+#[cfg(test)]
+mod model;
+#[cfg(test)]
+mod policy;
