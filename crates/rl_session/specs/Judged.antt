@@ -16,6 +16,31 @@ use Rattle.rl_mirror.specs.Prediction.{fresh}
 use Rattle.rl_log.specs.Recording.{no_counts}
 use Rattle.rl_access.specs.World.{World}
 
+-- ---- the first state, and a script from it on
+
+-- a model that was just built, and a device after a hard reset, with exactly the flaws that are declared
+abbrev pub first_world : DescData → List Standing → World
+first_world desc adapters = record {
+  model = record {
+    chip = desc.chip;
+    layout = desc.layout;
+    mirror = fresh desc.chip;
+    gathered = replicate (length desc.layout.places) no_words;
+  };
+  adapters = adapters;
+  device = first_of desc.chip desc.layout desc.flaws;
+}
+
+-- a script, from the first world of a description on
+abbrev pub first_ending : DescData → (script : List ℕ) → List Standing → Ending
+first_ending desc script adapters = script_from 1 no_counts (first_world desc adapters) (lines_of script)
+
+-- the script of a session that opens with this description
+abbrev pub script_ending : DescData → List ℕ → List Standing → Ending
+script_ending desc bytes adapters = script_from 1 no_counts (first_world desc adapters) (script_of bytes)
+
+-- ---- what is judged
+
 pub record Judged : Type 0 where
   pub text : List ℕ
   pub status : Status
@@ -80,26 +105,3 @@ taken_by (Err line) taken adapters = []
 
 abbrev pub taken_text : (taken : List ℕ) → List Standing → List ℕ
 taken_text taken adapters = taken_by (opening_of taken (kinds_of adapters)) taken adapters
-
--- ---- a session
-
--- a model that was just built, and a device after a hard reset, with exactly the flaws that are declared
-abbrev pub first_world : DescData → List Standing → World
-first_world desc adapters = record {
-  model = record {
-    chip = desc.chip;
-    layout = desc.layout;
-    mirror = fresh desc.chip;
-    gathered = replicate (length desc.layout.places) no_words;
-  };
-  adapters = adapters;
-  device = first_of desc.chip desc.layout desc.flaws;
-}
-
--- a script, from the first world of a description on
-abbrev pub first_ending : DescData → (script : List ℕ) → List Standing → Ending
-first_ending desc script adapters = script_from 1 no_counts (first_world desc adapters) (lines_of script)
-
--- the script of a session that opens with this description
-abbrev pub script_ending : DescData → List ℕ → List Standing → Ending
-script_ending desc bytes adapters = script_from 1 no_counts (first_world desc adapters) (script_of bytes)
