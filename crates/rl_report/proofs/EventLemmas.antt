@@ -1,13 +1,12 @@
 -- The lines of an event: its own begins by a word and reads back, and those of its items are indented.
-use Rattle.std.proofs.Common.{◌≡◌, ℕ, ◌^◌, ◌<◌, ◌≤◌, true, false, IsTrue, List, [], ◌∷◌, ◌++◌, length, codes, flat_map, Option, Some, None, option_map, unwrap_or, Ok, refl, sym, ap, ◌∙◌, subst, append_assoc, append-nil}
+use Rattle.std.proofs.Common.{◌≡◌, ℕ, ◌^◌, ◌<◌, true, false, List, [], ◌∷◌, ◌++◌, length, codes, flat_map, Option, Some, None, option_map, unwrap_or, refl, sym, ap, ◌∙◌, subst, append_assoc, append-nil}
 use Rattle.std.specs.Prelude.{IfSome}
-use Rattle.rl_model.specs.Rows.{ChipData}
 use Rattle.rl_model.specs.Chip.{IsSound}
 use Rattle.rl_access.specs.declared.event.Event.{Event}
 use Rattle.rl_access.specs.declared.event.Op.{Op}
 use Rattle.rl_access.specs.declared.event.Op.TheVariants as op
 use Rattle.rl_access.specs.declared.trace.TraceItem.{TraceItem}
-use Rattle.rl_access.specs.Model.{ModelData, IsModel}
+use Rattle.rl_access.specs.Model.{ModelData}
 use Rattle.rl_access.specs.Operation.{HasNumbers}
 use Rattle.rl_script.specs.declared.line.Line.{Line}
 use Rattle.rl_script.specs.Commands.{may_count}
@@ -19,7 +18,7 @@ use Rattle.rl_script.proofs.ShortLemmas.{is_short}
 use Rattle.rl_report.specs.declared.operation.Spoken.{Spoken}
 use Rattle.rl_report.specs.Event.{event_line, event_text}
 use Rattle.rl_report.specs.Item.{item_line}
-use Rattle.rl_report.specs.Operation.{spoken_of, spoken_line, subject_path, map_name, kind_text, line_of, burst_text, op_text, IsSpokenIn, FitsWords}
+use Rattle.rl_report.specs.Operation.{spoken_of, spoken_line, subject_path, map_name, line_of, burst_text, op_text, IsSpokenIn, FitsWords}
 use Rattle.rl_report.specs.Outcome.{result_text}
 use Rattle.rl_report.specs.Pieces.{joined}
 use Rattle.rl_report.specs.ReadBack.{before_colon, OperationsReadBack}

@@ -1,5 +1,5 @@
 -- The line of a bus item: its word fits its digits, it is one line, and it is indented.
-use Rattle.std.proofs.Common.{◌≡◌, ℕ, ◌*◌, ◌^◌, ◌<◌, Bool, true, false, if◌then◌else◌, List, [], ◌∷◌, codes, decimal, refl, subst}
+use Rattle.std.proofs.Common.{◌≡◌, ℕ, ◌*◌, ◌^◌, ◌<◌, Bool, true, false, if◌then◌else◌, List, [], ◌∷◌, codes, refl, subst}
 use Rattle.rl_policy.specs.Numbers.{hex_digits}
 use Rattle.rl_map.specs.Layout.{LayoutData, map_at, port_at}
 use Rattle.rl_access.specs.declared.trace.TraceItem.{TraceItem}

@@ -4,8 +4,8 @@ use Rattle.std.specs.Prelude.{IfSome}
 use Rattle.std.proofs.lemmas.Bool.{true≢false}
 use Rattle.rl_policy.specs.Numbers.{hex_digits, spelled}
 use Rattle.rl_model.specs.declared.rows.Item.TheVariants as item
-use Rattle.rl_model.specs.Rows.{FieldSeen, ChipData}
-use Rattle.rl_model.specs.Chip.{IsSound, path_at, path_of_item, field_path}
+use Rattle.rl_model.specs.Rows.{ChipData}
+use Rattle.rl_model.specs.Chip.{IsSound, path_of_item, field_path}
 use Rattle.rl_model.specs.Fields.{field_of}
 use Rattle.rl_access.specs.declared.event.Op.{Op}
 use Rattle.rl_access.specs.declared.event.Op.TheVariants as op
@@ -127,9 +127,9 @@ spoken_in m (op.OtherRead reg map) h = record { subject = h.0; through = h.1; on
 spoken_in m (op.Hw field value) h = record { subject = h; through = tt; on_bus = λ e. refl }
 spoken_in m (op.Reset kind) h = tt
 
-pub spoken_text : (m : ModelData) (o : Op) (s : Spoken) → spoken_of o ≡ Some s → op_text m o ≡ spelling (spoken_line m s)
-spoken_text m (op.Reset kind) s e = absurd (cc)
-spoken_text m o s e = ap (λ (q : Option Spoken). unwrap_or (option_map spelling (option_map (spoken_line m) q)) (burst_text m o)) e
+pub text_is_spoken : (m : ModelData) (o : Op) (s : Spoken) → spoken_of o ≡ Some s → op_text m o ≡ spelling (spoken_line m s)
+text_is_spoken m (op.Reset kind) s e = absurd (cc)
+text_is_spoken m o s e = ap (λ (q : Option Spoken). unwrap_or (option_map spelling (option_map (spoken_line m) q)) (burst_text m o)) e
 
 -- ---- its bytes
 
@@ -193,9 +193,13 @@ module _ (m : ModelData) (chip : IsSound m.chip) (names : HasNames m.chip m.layo
 
   unbroken-counted_text : (name : List ℕ) (mem first count : ℕ) (through : Option ℕ) → IsUnbroken name → IsUnbroken (counted_text m name mem first count through)
   unbroken-counted_text name mem first count through p =
-      unbroken-append name _ p (unbroken-spaced _ _ (unbroken-spelling _ (spelling-path_of_item m.chip chip (item.Mem mem)))
-      (unbroken-spaced _ _ (unbroken-spelling _ (spelling-spelled first)) (unbroken-spaced (codes "count") _ (unbroken-fixed _ refl)
-      (unbroken-spaced _ _ (unbroken-decimal count) (unbroken-spelling _ (spelling-map_words through))))))
+      let map = map_words (map_name m.layout through) in
+      let path = path_of_item m.chip (item.Mem mem) in
+      unbroken-append name (spaced (path ∷ spelled first ∷ codes "count" ∷ decimal count ∷ map)) p
+      (unbroken-spaced path (spelled first ∷ codes "count" ∷ decimal count ∷ map) (unbroken-spelling path (spelling-path_of_item m.chip chip (item.Mem mem)))
+      (unbroken-spaced (spelled first) (codes "count" ∷ decimal count ∷ map) (unbroken-spelling (spelled first) (spelling-spelled first))
+      (unbroken-spaced (codes "count") (decimal count ∷ map) (unbroken-fixed _ refl)
+      (unbroken-spaced (decimal count) map (unbroken-decimal count) (unbroken-spelling (spaced map) (spelling-map_words through))))))
 
   unbroken-some : (o : Option Line) (other : List ℕ) → IfSome o (λ l. IsSpelling (spelling l)) → IsUnbroken other → IsUnbroken (unwrap_or (option_map spelling o) other)
   unbroken-some None other h u = u

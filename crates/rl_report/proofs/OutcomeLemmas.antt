@@ -1,5 +1,5 @@
 -- The text of what came of an operation ends no line, and begins by a colon.
-use Rattle.std.proofs.Common.{◌≡◌, ℕ, ◌*◌, ◌&&◌, List, [], ◌∷◌, ◌++◌, codes, decimal, Option, Some, None, refl}
+use Rattle.std.proofs.Common.{◌≡◌, ℕ, ◌*◌, ◌&&◌, List, [], ◌∷◌, ◌++◌, codes, Option, Some, None, refl, ap}
 use Rattle.std.specs.List.{range_with_len}
 use Rattle.rl_policy.specs.Bits.{bit}
 use Rattle.rl_model.specs.Rows.{ChipData}

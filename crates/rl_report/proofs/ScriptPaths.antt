@@ -1,20 +1,20 @@
 -- The names and paths of a chip are names and paths of a script.
-use Rattle.std.proofs.Common.{◌≡◌, ℕ, zero, suc, ◌+◌, ◌<◌, ◌≤◌, ◌==◌, ◌&&◌, ◌||◌, nat_le, nat_lt, Bool, true, false, IsTrue, List, [], ◌∷◌, ◌++◌, length, get_or, All, Option, Some, None, unwrap_or, inl, inr, refl, sym, ap, ◌∙◌, subst, length-append, arith}
-use Rattle.std.specs.Prelude.{IfSome, count_by}
+use Rattle.std.proofs.Common.{◌≡◌, ℕ, zero, suc, ◌+◌, ◌<◌, ◌≤◌, ◌&&◌, ◌||◌, nat_le, nat_lt, Bool, true, false, IsTrue, List, [], ◌∷◌, ◌++◌, length, Option, Some, None, inl, inr, refl, sym, ap, ◌∙◌, subst, length-append, arith}
+use Rattle.std.specs.Prelude.{IfSome}
 use Rattle.std.specs.List.{list_all, slice_split, onto_first}
 use Rattle.std.proofs.lemmas.Bool.{cases_Bool, true≢false, le-leb}
 use Rattle.std.proofs.lemmas.Bool.Decides.{nat_tests}
 use Rattle.std.proofs.lemmas.List.Folds.{list_all-append}
 use Rattle.std.proofs.lemmas.List.Splits.{length-slice_split}
 use Rattle.std.proofs.lemmas.Option.{slice_get-get_or, unwrap_or-slice_get}
-use Rattle.rl_model.specs.Rules.{is_letter, is_name_byte, is_name, names_in}
+use Rattle.rl_model.specs.Rules.{is_letter, is_name_byte, is_name}
 use Rattle.rl_model.specs.Rows.{ChipData}
 use Rattle.rl_model.specs.Chip.{IsSound, path_at}
 use Rattle.rl_model.specs.Fields.{no_field, field_of}
 use Rattle.rl_map.specs.Layout.{no_map, map_at}
 use Rattle.rl_mirror.proofs.FieldLemmas.{seated}
 use Rattle.rl_access.specs.Model.{ModelData}
-use Rattle.rl_access.specs.Operation.{IsMapIn, reg_of}
+use Rattle.rl_access.specs.Operation.{IsMapIn}
 use Rattle.rl_script.specs.Names as script
 use Rattle.rl_script.specs.Names.{begins_name, is_in_name, is_dot}
 use Rattle.rl_script.proofs.AgainLemmas.{and_parts}

@@ -1,5 +1,5 @@
 -- The text of an operation: the canonical spelling of the line of a script that asks for it.
-use Rattle.std.specs.Prelude.{◌≡◌, ℕ, ◌^◌, ◌<◌, List, [], ◌∷◌, codes, decimal, slice_get, length, unwrap_or, Bool, true, false, IfSome, Option, Some, None, option_map}
+use Rattle.std.specs.Prelude.{◌≡◌, ℕ, ◌^◌, ◌<◌, List, [], ◌∷◌, codes, decimal, map, take, slice_get, length, unwrap_or, Bool, true, false, IfSome, Option, Some, None, option_map}
 use Rattle.rl_model.specs.declared.rows.Item.TheVariants as item
 use Rattle.rl_model.specs.Rows.{ChipData}
 use Rattle.rl_model.specs.Chip.{path_of_item, field_path}
@@ -15,7 +15,7 @@ use Rattle.rl_script.specs.declared.command.Item.TheVariants as verb
 use Rattle.rl_script.specs.declared.line.Line.{Line}
 use Rattle.rl_script.specs.declared.line.Line.TheVariants as line
 use Rattle.rl_script.specs.Commands.{row_of, line_of as line_with, command_name, item_name}
-use Rattle.rl_script.specs.Spelling.{joined as in_words, map_words, spelling}
+use Rattle.rl_script.specs.Spelling.{joined as in_words, spaced, map_words, spelling}
 use Rattle.rl_policy.specs.Numbers.{spelled}
 use Rattle.rl_report.specs.declared.operation.Spoken.{Spoken}
 use Rattle.rl_report.specs.declared.operation.Subject.{Subject}
@@ -70,8 +70,25 @@ kind_text c kind = unwrap_or (slice_get c.kinds kind) []
 
 -- ---- its line and its text
 
+-- a number behind a space
+abbrev pub number_text : ℕ → List ℕ
+number_text n = spaced (spelled n ∷ [])
+
+-- as many of two numbers as a command has, each behind a space
+abbrev pub numbers_text : (count first second : ℕ) → List ℕ
+numbers_text count first second = spaced (map spelled (take count (first ∷ second ∷ [])))
+
+abbrev pub map_text : LayoutData → Option ℕ → List ℕ
+map_text l map = spaced (map_words (map_name l map))
+
 abbrev pub spoken_line : ModelData → Spoken → Line
 spoken_line m s = line_with s.command (subject_path m.chip s.subject) s.first s.second (map_name m.layout s.map)
+
+abbrev pub spoken_text : ModelData → Spoken → List ℕ
+spoken_text m s = spelling (spoken_line m s)
+
+abbrev pub reset_text : ChipData → ℕ → List ℕ
+reset_text c kind = spelling (line.Reset (kind_text c kind))
 
 -- the line of a script that asks for an operation: none for a burst, since its values aren't in it
 abbrev pub line_of : ModelData → Op → Option Line
@@ -125,3 +142,8 @@ is_on_location (op.MemCheck mem map index value) = true
 is_on_location (op.MemPeek mem index) = true
 is_on_location (op.MemPoke mem index value) = true
 is_on_location _ = false
+
+abbrev pub is_burst : Op → Bool
+is_burst (op.BurstWrite mem map first count) = true
+is_burst (op.BurstRead mem map first count) = true
+is_burst _ = false

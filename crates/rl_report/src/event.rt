@@ -3,7 +3,7 @@ ghost use Rattle.std.specs.Prelude.{◌≡◌};
 ghost use Rattle.rl_bus.specs.Causes.{HasCause};
 ghost use Rattle.rl_access.specs.Event.{EventFits};
 ghost use Rattle.rl_report.specs.Event.{event_line, event_text};
-ghost use Rattle.rl_report.specs.Pieces.{Puts, Gathers};
+ghost use Rattle.rl_report.specs.Pieces.{Puts, GathersTo, SinkStays};
 
 use crate::item::put_items;
 use crate::operation::put_op;
@@ -21,10 +21,8 @@ fn put_line<K: Sink>(
     event: &Event,
 ) -> Result<(), Failed>
     requires { EventFits model.now event.now }
-    ensures bytes { Gathers (K.written sink.old) (K.written sink.new) text.old text.new (event_line model.now event.now) result }
-    ensures cause { HasCause (K.faults sink.old) (K.faults sink.new) result }
-    ensures ends_kept { K.ends sink.new ≡ K.ends sink.old }
-    ensures same_target { K.target sink.new ≡ K.target sink.old }
+    ensures bytes { GathersTo K.Sink sink.old sink.new text.old text.new (event_line model.now event.now) result }
+    ensures stays { SinkStays K.Sink sink.old sink.new result }
 {
     put_op(sink, text, model, event.op)?;
     put_result(sink, text, model, event)?;
@@ -52,10 +50,8 @@ fn put_event<K: Sink>(
     event: &Event,
 ) -> Result<(), Failed>
     requires { EventFits model.now event.now }
-    ensures bytes { Gathers (K.written sink.old) (K.written sink.new) text.old text.new (event_text model.now event.now) result }
-    ensures cause { HasCause (K.faults sink.old) (K.faults sink.new) result }
-    ensures ends_kept { K.ends sink.new ≡ K.ends sink.old }
-    ensures same_target { K.target sink.new ≡ K.target sink.old }
+    ensures bytes { GathersTo K.Sink sink.old sink.new text.old text.new (event_text model.now event.now) result }
+    ensures stays { SinkStays K.Sink sink.old sink.new result }
 {
     put_line(sink, text, model, event)?;
     put_items(sink, text, model, event)

@@ -4,7 +4,7 @@ ghost use Rattle.rl_bus.specs.Causes.{HasCause};
 ghost use Rattle.rl_map.specs.Layout.{port_at};
 ghost use Rattle.rl_access.specs.Event.{EventFits, ItemFits};
 ghost use Rattle.rl_report.specs.Item.{way_text, answer_text, word_of, transfer_text, item_line};
-ghost use Rattle.rl_report.specs.Pieces.{Puts, Gathers, joined};
+ghost use Rattle.rl_report.specs.Pieces.{Puts, GathersTo, SinkStays, joined};
 
 use crate::pieces::gather;
 use crate::text::Text;
@@ -55,7 +55,10 @@ fn word_of(item: &TraceItem) -> u64
 fn push_transfer(text: &mut Text, model: &Model, item: &TraceItem)
     requires fits { ItemFits model.now.layout item.now }
     requires room { length text.old + 128 ≤ 512 }
-    ensures { text.new ≡ text.old ++ joined (way_text item.now.op.write ∷ transfer_text (port_at model.now.layout item.now.port).bytes item.now ∷ answer_text item.now.answer.failed ∷ []) }
+    ensures { text.new ≡ text.old ++
+        joined (way_text item.now.op.write
+        ∷ transfer_text (port_at model.now.layout item.now.port).bytes item.now
+        ∷ answer_text item.now.answer.failed ∷ []) }
 {
     let bytes = model.layout().port_bytes(item.port);
     let mut tag = Buffer::new();
@@ -79,10 +82,8 @@ fn put_item<K: Sink>(
     item: &TraceItem,
 ) -> Result<(), Failed>
     requires { ItemFits model.now.layout item.now }
-    ensures bytes { Gathers (K.written sink.old) (K.written sink.new) text.old text.new (item_line model.now.layout item.now) result }
-    ensures cause { HasCause (K.faults sink.old) (K.faults sink.new) result }
-    ensures ends_kept { K.ends sink.new ≡ K.ends sink.old }
-    ensures same_target { K.target sink.new ≡ K.target sink.old }
+    ensures bytes { GathersTo K.Sink sink.old sink.new text.old text.new (item_line model.now.layout item.now) result }
+    ensures stays { SinkStays K.Sink sink.old sink.new result }
 {
     let layout = model.layout();
     gather(sink, text, b"  ")?;
@@ -113,10 +114,9 @@ pub(crate) fn put_items<K: Sink>(
     event: &Event,
 ) -> Result<(), Failed>
     requires { EventFits model.now event.now }
-    ensures bytes { Gathers (K.written sink.old) (K.written sink.new) text.old text.new (flat_map (item_line model.now.layout) event.now.trace) result }
-    ensures cause { HasCause (K.faults sink.old) (K.faults sink.new) result }
-    ensures ends_kept { K.ends sink.new ≡ K.ends sink.old }
-    ensures same_target { K.target sink.new ≡ K.target sink.old }
+    ensures bytes { GathersTo K.Sink sink.old sink.new text.old text.new
+        (flat_map (item_line model.now.layout) event.now.trace) result }
+    ensures stays { SinkStays K.Sink sink.old sink.new result }
 {
     for k in 0..event.trace.len() {
         put_item(sink, text, model, &event.trace.item(k))?;

@@ -1,5 +1,7 @@
 // Lines over a source, however it is cut into reads.
-ghost use Rattle.std.specs.Prelude.{◌≡◌, ◌≢◌, ℕ, ◌+◌, ◌-◌, ◌<◌, ◌≤◌, List, [], ◌++◌, Bool, true, false, length, take, drop, slice_range, Option, Some, IfSome, IfNone, IfOk, OnOk, OnErr, Ok, MatchOption, MatchBool, Err, IsTrue, ◌↔◌, if◌then◌else◌};
+ghost use Rattle.std.specs.Prelude.{◌≡◌, ◌≢◌, ℕ, ◌+◌, ◌-◌, ◌<◌, ◌≤◌, List, [], ◌++◌, Bool, true, false, length, take};
+ghost use Rattle.std.specs.Prelude.{drop, slice_range, Option, Some, IfSome, IfNone, IfOk, OnOk, OnErr, Ok};
+ghost use Rattle.std.specs.Prelude.{MatchOption, MatchBool, Err, IsTrue, ◌↔◌, if◌then◌else◌};
 ghost use Rattle.std.specs.Io.KnownBytes.{Consumes, IsAtEnd, Keeps};
 ghost use Rattle.std.specs.Io.BufRead.{strip_last};
 ghost use Rattle.rl_bus.specs.Causes.{HasCause, Rose};

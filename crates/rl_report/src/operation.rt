@@ -1,15 +1,13 @@
 // The text of an operation, in canonical spelling.
-ghost use Rattle.std.specs.Prelude.{◌≡◌, ◌+◌, ◌<◌, ◌≤◌, [], ◌∷◌, ◌++◌, length, map, take, true, Some, None, OnOk};
-ghost use Rattle.rl_bus.specs.Causes.{HasCause};
-ghost use Rattle.rl_policy.specs.Numbers.{spelled};
+ghost use Rattle.std.specs.Prelude.{◌≡◌, ◌+◌, ◌<◌, ◌≤◌, ◌++◌, length, true, Some, None, OnOk};
 ghost use Rattle.rl_model.specs.Chip.{HasItem, path_of_item, field_path};
 ghost use Rattle.rl_model.specs.Fields.{field_of};
 ghost use Rattle.rl_access.specs.Operation.{HasNumbers, IsMapIn, reg_of};
-ghost use Rattle.rl_script.specs.Spelling.{spaced, map_words, spelling};
-ghost use Rattle.rl_script.specs.declared.line.Line.TheVariants as line;
 ghost use Rattle.rl_report.specs.declared.operation.Subject.TheVariants.{Reg, Field, Mem};
-ghost use Rattle.rl_report.specs.Operation.{spoken, spoken_of, is_on_field, is_on_location, spoken_line, subject_path, map_name, kind_text, counted_text, op_text, IsSubjectIn, IsSpokenIn};
-ghost use Rattle.rl_report.specs.Pieces.{Gathers};
+ghost use Rattle.rl_report.specs.Operation.{spoken, spoken_of, is_on_field, is_on_location, is_burst};
+ghost use Rattle.rl_report.specs.Operation.{subject_path, kind_text, number_text, numbers_text, map_text, spoken_text};
+ghost use Rattle.rl_report.specs.Operation.{reset_text, counted_text, op_text, IsSubjectIn, IsSpokenIn};
+ghost use Rattle.rl_report.specs.Pieces.{GathersTo, SinkStays};
 
 use crate::pieces::gather;
 use crate::text::Text;
@@ -190,7 +188,7 @@ pub(crate) fn register_with(model: &Model, field: u32) -> u32
 #[inline]
 fn push_number(text: &mut Text, n: u64)
     requires room { length text.old + 19 ≤ 512 }
-    ensures text { text.new ≡ text.old ++ spaced (spelled n ∷ []) }
+    ensures text { text.new ≡ text.old ++ number_text n }
     ensures len { length text.new ≤ length text.old + 19 }
 {
     text.push(b" 0x");
@@ -201,7 +199,7 @@ fn push_number(text: &mut Text, n: u64)
 #[inline]
 fn push_numbers(text: &mut Text, count: usize, first: u64, second: u64)
     requires room { length text.old + 38 ≤ 512 }
-    ensures text { text.new ≡ text.old ++ spaced (map spelled (take count (first ∷ second ∷ []))) }
+    ensures text { text.new ≡ text.old ++ numbers_text count first second }
     ensures len { length text.new ≤ length text.old + 38 }
 {
     match count {
@@ -224,10 +222,8 @@ fn put_map<K: Sink>(
 ) -> Result<(), Failed>
     requires room { length text.old + 2 ≤ 512 }
     requires through { IsMapIn (length model.now.layout.maps) through }
-    ensures bytes { Gathers (K.written sink.old) (K.written sink.new) text.old text.new (spaced (map_words (map_name model.now.layout through))) result }
-    ensures cause { HasCause (K.faults sink.old) (K.faults sink.new) result }
-    ensures ends_kept { K.ends sink.new ≡ K.ends sink.old }
-    ensures same_target { K.target sink.new ≡ K.target sink.old }
+    ensures bytes { GathersTo K.Sink sink.old sink.new text.old text.new (map_text model.now.layout through) result }
+    ensures stays { SinkStays K.Sink sink.old sink.new result }
 {
     let Some(number) = through else {
         return Ok(());
@@ -244,11 +240,10 @@ fn put_field<K: Sink>(
     field: u32,
 ) -> Result<(), Failed>
     requires { field < length model.now.chip.fields }
-    ensures bytes { Gathers (K.written sink.old) (K.written sink.new) text.old text.new (field_path model.now.chip (field_of model.now.chip field)) result }
+    ensures bytes { GathersTo K.Sink sink.old sink.new text.old text.new
+        (field_path model.now.chip (field_of model.now.chip field)) result }
     ensures room { OnOk result (length text.new ≤ 384) }
-    ensures cause { HasCause (K.faults sink.old) (K.faults sink.new) result }
-    ensures ends_kept { K.ends sink.new ≡ K.ends sink.old }
-    ensures same_target { K.target sink.new ≡ K.target sink.old }
+    ensures stays { SinkStays K.Sink sink.old sink.new result }
 {
     let reg = register_with(model, field);
     gather(sink, text, path_of(model, Item::Reg(reg)))?;
@@ -264,11 +259,9 @@ fn put_subject<K: Sink>(
     subject: Subject,
 ) -> Result<(), Failed>
     requires { IsSubjectIn model.now.chip subject }
-    ensures bytes { Gathers (K.written sink.old) (K.written sink.new) text.old text.new (subject_path model.now.chip subject) result }
+    ensures bytes { GathersTo K.Sink sink.old sink.new text.old text.new (subject_path model.now.chip subject) result }
     ensures room { OnOk result (length text.new ≤ 384) }
-    ensures cause { HasCause (K.faults sink.old) (K.faults sink.new) result }
-    ensures ends_kept { K.ends sink.new ≡ K.ends sink.old }
-    ensures same_target { K.target sink.new ≡ K.target sink.old }
+    ensures stays { SinkStays K.Sink sink.old sink.new result }
 {
     match subject {
         Subject::Reg(reg) => gather(sink, text, path_of(model, Item::Reg(reg))),
@@ -285,10 +278,8 @@ fn put_spoken<K: Sink>(
     spoken: &Spoken,
 ) -> Result<(), Failed>
     requires { IsSpokenIn model.now spoken.now }
-    ensures bytes { Gathers (K.written sink.old) (K.written sink.new) text.old text.new (spelling (spoken_line model.now spoken.now)) result }
-    ensures cause { HasCause (K.faults sink.old) (K.faults sink.new) result }
-    ensures ends_kept { K.ends sink.new ≡ K.ends sink.old }
-    ensures same_target { K.target sink.new ≡ K.target sink.old }
+    ensures bytes { GathersTo K.Sink sink.old sink.new text.old text.new (spoken_text model.now spoken.now) result }
+    ensures stays { SinkStays K.Sink sink.old sink.new result }
 {
     let row = spoken.command.row();
     gather(sink, text, spoken.command.name())?;
@@ -311,10 +302,9 @@ fn put_burst<K: Sink>(
 ) -> Result<(), Failed>
     requires mem { mem < length model.now.chip.mems }
     requires through { IsMapIn (length model.now.layout.maps) through }
-    ensures bytes { Gathers (K.written sink.old) (K.written sink.new) text.old text.new (counted_text model.now name.now mem first count through) result }
-    ensures cause { HasCause (K.faults sink.old) (K.faults sink.new) result }
-    ensures ends_kept { K.ends sink.new ≡ K.ends sink.old }
-    ensures same_target { K.target sink.new ≡ K.target sink.old }
+    ensures bytes { GathersTo K.Sink sink.old sink.new text.old text.new
+        (counted_text model.now name.now mem first count through) result }
+    ensures stays { SinkStays K.Sink sink.old sink.new result }
 {
     let mut buffer = Buffer::new();
     gather(sink, text, name)?;
@@ -329,24 +319,20 @@ fn put_burst<K: Sink>(
 // Gathers a reset.
 fn put_reset<K: Sink>(sink: &mut K, text: &mut Text, model: &Model, kind: u32) -> Result<(), Failed>
     requires { kind < length model.now.chip.kinds }
-    ensures bytes { Gathers (K.written sink.old) (K.written sink.new) text.old text.new (spelling (line.Reset (kind_text model.now.chip kind))) result }
-    ensures cause { HasCause (K.faults sink.old) (K.faults sink.new) result }
-    ensures ends_kept { K.ends sink.new ≡ K.ends sink.old }
-    ensures same_target { K.target sink.new ≡ K.target sink.old }
+    ensures bytes { GathersTo K.Sink sink.old sink.new text.old text.new (reset_text model.now.chip kind) result }
+    ensures stays { SinkStays K.Sink sink.old sink.new result }
 {
     gather(sink, text, Command::Reset.name())?;
     text.push(b" ");
     gather(sink, text, kind_name(model, kind))
 }
 
-// Gathers a burst or a reset.
-fn put_other<K: Sink>(sink: &mut K, text: &mut Text, model: &Model, op: Op) -> Result<(), Failed>
+// Gathers a refused burst.
+fn put_burst_op<K: Sink>(sink: &mut K, text: &mut Text, model: &Model, op: Op) -> Result<(), Failed>
     requires numbers { HasNumbers model.now.chip (length model.now.layout.maps) op }
-    requires other { spoken_of op ≡ None }
-    ensures bytes { Gathers (K.written sink.old) (K.written sink.new) text.old text.new (op_text model.now op) result }
-    ensures cause { HasCause (K.faults sink.old) (K.faults sink.new) result }
-    ensures ends_kept { K.ends sink.new ≡ K.ends sink.old }
-    ensures same_target { K.target sink.new ≡ K.target sink.old }
+    requires burst { is_burst op ≡ true }
+    ensures bytes { GathersTo K.Sink sink.old sink.new text.old text.new (op_text model.now op) result }
+    ensures stays { SinkStays K.Sink sink.old sink.new result }
 {
     match op {
         Op::BurstWrite {
@@ -355,16 +341,8 @@ fn put_other<K: Sink>(sink: &mut K, text: &mut Text, model: &Model, op: Op) -> R
             first,
             count,
         } => {
-            put_burst(
-                sink,
-                text,
-                model,
-                Command::BurstWrite.name(),
-                mem,
-                first,
-                count,
-                map,
-            )
+            let name = Command::BurstWrite.name();
+            put_burst(sink, text, model, name, mem, first, count, map)
         }
         Op::BurstRead {
             mem,
@@ -372,17 +350,22 @@ fn put_other<K: Sink>(sink: &mut K, text: &mut Text, model: &Model, op: Op) -> R
             first,
             count,
         } => {
-            put_burst(
-                sink,
-                text,
-                model,
-                Verb::BurstRead.name(),
-                mem,
-                first,
-                count,
-                map,
-            )
+            let name = Verb::BurstRead.name();
+            put_burst(sink, text, model, name, mem, first, count, map)
         }
+        _ => unreachable!(),
+    }
+}
+
+// Gathers a burst or a reset.
+fn put_other<K: Sink>(sink: &mut K, text: &mut Text, model: &Model, op: Op) -> Result<(), Failed>
+    requires numbers { HasNumbers model.now.chip (length model.now.layout.maps) op }
+    requires other { spoken_of op ≡ None }
+    ensures bytes { GathersTo K.Sink sink.old sink.new text.old text.new (op_text model.now op) result }
+    ensures stays { SinkStays K.Sink sink.old sink.new result }
+{
+    match op {
+        Op::BurstWrite { .. } | Op::BurstRead { .. } => put_burst_op(sink, text, model, op),
         Op::Reset { kind } => put_reset(sink, text, model, kind),
         _ => unreachable!(),
     }
@@ -396,10 +379,8 @@ pub(crate) fn put_op<K: Sink>(
     op: Op,
 ) -> Result<(), Failed>
     requires { HasNumbers model.now.chip (length model.now.layout.maps) op }
-    ensures bytes { Gathers (K.written sink.old) (K.written sink.new) text.old text.new (op_text model.now op) result }
-    ensures cause { HasCause (K.faults sink.old) (K.faults sink.new) result }
-    ensures ends_kept { K.ends sink.new ≡ K.ends sink.old }
-    ensures same_target { K.target sink.new ≡ K.target sink.old }
+    ensures bytes { GathersTo K.Sink sink.old sink.new text.old text.new (op_text model.now op) result }
+    ensures stays { SinkStays K.Sink sink.old sink.new result }
 {
     match Spoken::of(op) {
         Some(spoken) => put_spoken(sink, text, model, &spoken),

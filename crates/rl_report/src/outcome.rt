@@ -1,14 +1,13 @@
 // The text of what came of an operation.
 ghost use Rattle.std.specs.Prelude.{◌≡◌, ◌+◌, ◌*◌, ◌^◌, ◌<◌, ◌≤◌, [], ◌∷◌, ◌++◌, false, length, ◌&&◌, IfSome};
-ghost use Rattle.rl_bus.specs.Causes.{HasCause};
 ghost use Rattle.rl_policy.specs.Bits.{bit};
 ghost use Rattle.rl_model.specs.Chip.{IsSound};
 ghost use Rattle.rl_model.specs.Fields.{field_of, first_of, count_of, size_of};
 ghost use Rattle.rl_access.specs.Event.{EventFits};
 ghost use Rattle.rl_access.specs.Operation.{HasNumbers, register_of, location_size, field_digits, digits_of};
-ghost use Rattle.rl_report.specs.Outcome.{why_text, end_text, name_text, names_text, is_show, is_done, is_check, has_differ, desired_text, differ_text, after_text, is_refused, rest_text, result_text, is_reset};
+ghost use Rattle.rl_report.specs.Outcome as spec;
 ghost use Rattle.rl_report.specs.Numbers.{padded};
-ghost use Rattle.rl_report.specs.Pieces.{Gathers, joined};
+ghost use Rattle.rl_report.specs.Pieces.{GathersTo, SinkStays, joined};
 
 use crate::operation::{name_of, register_with};
 use crate::pieces::{gather, make_room};
@@ -19,7 +18,7 @@ use rl_access::{End, Event, Model, Op, Refused};
 use rl_model::Item;
 
 fn why_text(why: Refused) -> &'static [u8]
-    ensures value { result.now ≡ why_text why }
+    ensures value { result.now ≡ spec.why_text why }
     ensures short { length result.now ≤ 16 }
 {
     match why {
@@ -95,7 +94,7 @@ fn field_digits(model: &Model, field: u32) -> u32
 // The digits of a value that an operation reads or sends.
 fn digits_of(model: &Model, op: Op) -> u32
     requires numbers { HasNumbers model.now.chip (length model.now.layout.maps) op }
-    requires ends { is_reset op ≡ false }
+    requires ends { spec.is_reset op ≡ false }
     ensures value { result ≡ digits_of model.now.chip op }
     ensures some { 1 ≤ result }
     ensures few { result ≤ 16 }
@@ -149,7 +148,7 @@ fn push_value(text: &mut Text, before: &[u8], value: u64, count: u32)
 fn push_end(text: &mut Text, model: &Model, event: &Event)
     requires fits { EventFits model.now event.now }
     requires room { length text.old + 40 ≤ 512 }
-    ensures text { text.new ≡ text.old ++ end_text (digits_of model.now.chip event.now.op) event.now.end }
+    ensures text { text.new ≡ text.old ++ spec.end_text (digits_of model.now.chip event.now.op) event.now.end }
     ensures len { length text.new ≤ length text.old + 40 }
 {
     match event.end {
@@ -171,14 +170,14 @@ fn push_end(text: &mut Text, model: &Model, event: &Event)
 
 // The desired value is told.
 fn shows_desired(op: Op, end: End) -> bool
-    ensures { result ≡ (is_show op && is_done end) }
+    ensures { result ≡ (spec.is_show op && spec.is_done end) }
 {
     matches!(op, Op::Set { .. } | Op::Show { .. }) && matches!(end, End::Done)
 }
 
 // The operation compares.
 fn is_check(op: Op) -> bool
-    ensures { result ≡ is_check op }
+    ensures { result ≡ spec.is_check op }
 {
     matches!(
         op,
@@ -188,7 +187,7 @@ fn is_check(op: Op) -> bool
 
 // A comparison found something.
 fn has_differ(event: &Event) -> bool
-    ensures { result ≡ has_differ event.now }
+    ensures { result ≡ spec.has_differ event.now }
 {
     is_check(event.op) && event.differ != 0
 }
@@ -212,10 +211,9 @@ fn put_name<K: Sink>(
 ) -> Result<(), Failed>
     requires reg { reg < length model.now.chip.regs }
     requires place { place < count_of model.now.chip reg }
-    ensures bytes { Gathers (K.written sink.old) (K.written sink.new) text.old text.new (name_text model.now.chip reg differ place) result }
-    ensures cause { HasCause (K.faults sink.old) (K.faults sink.new) result }
-    ensures ends_kept { K.ends sink.new ≡ K.ends sink.old }
-    ensures same_target { K.target sink.new ≡ K.target sink.old }
+    ensures bytes { GathersTo K.Sink sink.old sink.new text.old text.new
+        (spec.name_text model.now.chip reg differ place) result }
+    ensures stays { SinkStays K.Sink sink.old sink.new result }
 {
     let (first, _) = fields_with(model, reg);
     if !has_mark(differ, place) {
@@ -234,10 +232,9 @@ fn put_names<K: Sink>(
     differ: u64,
 ) -> Result<(), Failed>
     requires reg { reg < length model.now.chip.regs }
-    ensures bytes { Gathers (K.written sink.old) (K.written sink.new) text.old text.new (names_text model.now.chip reg differ) result }
-    ensures cause { HasCause (K.faults sink.old) (K.faults sink.new) result }
-    ensures ends_kept { K.ends sink.new ≡ K.ends sink.old }
-    ensures same_target { K.target sink.new ≡ K.target sink.old }
+    ensures bytes { GathersTo K.Sink sink.old sink.new text.old text.new
+        (spec.names_text model.now.chip reg differ) result }
+    ensures stays { SinkStays K.Sink sink.old sink.new result }
 {
     let (_, count) = fields_with(model, reg);
     for place in 0..count {
@@ -255,10 +252,9 @@ fn put_differ<K: Sink>(
     reg: u32,
 ) -> Result<(), Failed>
     requires reg { reg < length model.now.chip.regs }
-    ensures bytes { Gathers (K.written sink.old) (K.written sink.new) text.old text.new (differ_text model.now.chip event.now reg) result }
-    ensures cause { HasCause (K.faults sink.old) (K.faults sink.new) result }
-    ensures ends_kept { K.ends sink.new ≡ K.ends sink.old }
-    ensures same_target { K.target sink.new ≡ K.target sink.old }
+    ensures bytes { GathersTo K.Sink sink.old sink.new text.old text.new
+        (spec.differ_text model.now.chip event.now reg) result }
+    ensures stays { SinkStays K.Sink sink.old sink.new result }
 {
     if !has_differ(event) {
         return Ok(());
@@ -286,7 +282,7 @@ fn push_desired(text: &mut Text, model: &Model, event: &Event, reg: u32)
     requires reg { reg < length model.now.chip.regs }
     requires desired { event.now.desired < 16 ^ (2 * size_of model.now.chip reg) }
     requires room { length text.old + 32 ≤ 512 }
-    ensures text { text.new ≡ text.old ++ desired_text model.now.chip event.now reg }
+    ensures text { text.new ≡ text.old ++ spec.desired_text model.now.chip event.now reg }
     ensures len { length text.new ≤ length text.old + 32 }
 {
     if !shows_desired(event.op, event.end) {
@@ -308,10 +304,9 @@ fn put_register<K: Sink>(
     requires room { length text.old + 64 ≤ 512 }
     requires mirrored { event.now.mirrored < 16 ^ (2 * size_of model.now.chip reg) }
     requires desired { event.now.desired < 16 ^ (2 * size_of model.now.chip reg) }
-    ensures bytes { Gathers (K.written sink.old) (K.written sink.new) text.old text.new (after_text model.now.chip event.now (Some reg)) result }
-    ensures cause { HasCause (K.faults sink.old) (K.faults sink.new) result }
-    ensures ends_kept { K.ends sink.new ≡ K.ends sink.old }
-    ensures same_target { K.target sink.new ≡ K.target sink.old }
+    ensures bytes { GathersTo K.Sink sink.old sink.new text.old text.new
+        (spec.after_text model.now.chip event.now (Some reg)) result }
+    ensures stays { SinkStays K.Sink sink.old sink.new result }
 {
     let digits = register_digits(model, reg);
     push_desired(text, model, event, reg);
@@ -328,10 +323,9 @@ fn put_after<K: Sink>(
 ) -> Result<(), Failed>
     requires room { length text.old + 64 ≤ 512 }
     requires fits { EventFits model.now event.now }
-    ensures bytes { Gathers (K.written sink.old) (K.written sink.new) text.old text.new (after_text model.now.chip event.now (register_of model.now.chip event.now.op)) result }
-    ensures cause { HasCause (K.faults sink.old) (K.faults sink.new) result }
-    ensures ends_kept { K.ends sink.new ≡ K.ends sink.old }
-    ensures same_target { K.target sink.new ≡ K.target sink.old }
+    ensures bytes { GathersTo K.Sink sink.old sink.new text.old text.new
+        (spec.after_text model.now.chip event.now (register_of model.now.chip event.now.op)) result }
+    ensures stays { SinkStays K.Sink sink.old sink.new result }
 {
     match register_of(model, event.op) {
         Some(reg) => put_register(sink, text, model, event, reg),
@@ -341,7 +335,7 @@ fn put_after<K: Sink>(
 }
 
 fn is_refused(end: End) -> bool
-    ensures { result ≡ is_refused end }
+    ensures { result ≡ spec.is_refused end }
 {
     matches!(end, End::Refused { .. })
 }
@@ -355,10 +349,9 @@ fn put_rest<K: Sink>(
 ) -> Result<(), Failed>
     requires room { length text.old + 64 ≤ 512 }
     requires fits { EventFits model.now event.now }
-    ensures bytes { Gathers (K.written sink.old) (K.written sink.new) text.old text.new (rest_text model.now.chip event.now) result }
-    ensures cause { HasCause (K.faults sink.old) (K.faults sink.new) result }
-    ensures ends_kept { K.ends sink.new ≡ K.ends sink.old }
-    ensures same_target { K.target sink.new ≡ K.target sink.old }
+    ensures bytes { GathersTo K.Sink sink.old sink.new text.old text.new
+        (spec.rest_text model.now.chip event.now) result }
+    ensures stays { SinkStays K.Sink sink.old sink.new result }
 {
     if is_refused(event.end) {
         return Ok(());
@@ -374,10 +367,9 @@ pub(crate) fn put_result<K: Sink>(
     event: &Event,
 ) -> Result<(), Failed>
     requires { EventFits model.now event.now }
-    ensures bytes { Gathers (K.written sink.old) (K.written sink.new) text.old text.new (result_text model.now.chip event.now) result }
-    ensures cause { HasCause (K.faults sink.old) (K.faults sink.new) result }
-    ensures ends_kept { K.ends sink.new ≡ K.ends sink.old }
-    ensures same_target { K.target sink.new ≡ K.target sink.old }
+    ensures bytes { GathersTo K.Sink sink.old sink.new text.old text.new
+        (spec.result_text model.now.chip event.now) result }
+    ensures stays { SinkStays K.Sink sink.old sink.new result }
 {
     make_room(sink, text)?;
     push_end(text, model, event);

@@ -2,7 +2,10 @@
 ghost use Rattle.std.specs.Prelude.{◌≡◌, find, ℕ};
 ghost use Rattle.std.specs.Str.{bytes_eq};
 ghost use Rattle.rl_script.specs.declared.command.Kind.TheVariants as Kind;
-ghost use Rattle.rl_script.specs.Commands.{row_of, kind_of, line_of, may_count, item_name, command_name, command_named, items, register_items, other_items, field_items, backdoor_items, memory_items, other_commands, sequence_name, sequence_named};
+ghost use Rattle.rl_script.specs.Commands.{row_of, kind_of, line_of, may_count, item_name, command_name};
+ghost use Rattle.rl_script.specs.Commands.{command_named, items, register_items, other_items, field_items};
+ghost use Rattle.rl_script.specs.Commands.{backdoor_items, memory_items, other_commands, sequence_name};
+ghost use Rattle.rl_script.specs.Commands.{sequence_named};
 
 use self::Command::OnItem;
 use crate::line::{Line, Sequence};

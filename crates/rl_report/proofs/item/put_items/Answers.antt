@@ -10,9 +10,9 @@ loop-k-preserved g c =
     let e = c.in_ok-put_item.ensures in
     record {
       put = less_over _ _ _ _ _ _ _ _ _ _ i.put (next_item (item_line c.args.model.now.layout) c.args.event.now.trace c.loop-k.k _ c.item.ensures) e.bytes.whole;
-      later = omega (arith, e.cause.later);
-      ends_kept = e.ends_kept ∙ i.ends_kept;
-      same_target = e.same_target ∙ i.same_target;
+      later = omega (arith, e.stays.cause.later);
+      ends_kept = e.stays.ends ∙ i.ends_kept;
+      same_target = e.stays.target ∙ i.same_target;
     }
 
 pub returns-in_err-put_item-clause-bytes : goal.returns-in_err-put_item-clause-bytes

@@ -12,9 +12,9 @@ loop-place-preserved g c =
     let e = c.in_ok-put_name.ensures in
     record {
       put = less_over _ _ _ _ _ _ _ _ _ _ i.put (next_number (name_text chip c.args.reg c.args.differ) c.loop-place.place (count_of chip c.args.reg) (omega arith)) e.bytes.whole;
-      later = omega (arith, e.cause.later);
-      ends_kept = e.ends_kept ∙ i.ends_kept;
-      same_target = e.same_target ∙ i.same_target;
+      later = omega (arith, e.stays.cause.later);
+      ends_kept = e.stays.ends ∙ i.ends_kept;
+      same_target = e.stays.target ∙ i.same_target;
     }
 
 pub returns-in_err-put_name-clause-bytes : goal.returns-in_err-put_name-clause-bytes
