@@ -42,7 +42,8 @@ module _ (c : ChipData) (chip : IsSound c) (e : Event) where
 
   unbroken-desired_text : (reg : ℕ) → IsUnbroken (desired_text c e reg)
   unbroken-desired_text reg =
-      unbroken-if (is_show e.op && is_done e.end) _ [] (unbroken-joined (codes " desired 0x") _ (unbroken-fixed _ refl) (unbroken-last _ (unbroken-padded (2 * size_of c reg) e.desired))) (unbroken-fixed _ refl)
+      unbroken-if (is_show e.op && is_done e.end) _ []
+      (unbroken-joined (codes " desired 0x") _ (unbroken-fixed _ refl) (unbroken-last _ (unbroken-padded (2 * size_of c reg) e.desired))) (unbroken-fixed _ refl)
 
   unbroken-differ_text : (reg : ℕ) → IsUnbroken (differ_text c e reg)
   unbroken-differ_text reg =

@@ -17,7 +17,8 @@ loop-k-preserved g c =
 
 pub returns-in_err-put_item-clause-bytes : goal.returns-in_err-put_item-clause-bytes
 returns-in_err-put_item-clause-bytes g c =
-    over_stopped _ _ _ _ _ _ _ _ _ _ _ c.loop-k.invariant.put (next_item (item_line c.args.model.now.layout) c.args.event.now.trace c.loop-k.k _ c.item.ensures) c.from_residual.ensures.0 c.in_err-put_item.ensures.bytes.part
+    over_stopped _ _ _ _ _ _ _ _ _ _ _ c.loop-k.invariant.put
+    (next_item (item_line c.args.model.now.layout) c.args.event.now.trace c.loop-k.k _ c.item.ensures) c.from_residual.ensures.0 c.in_err-put_item.ensures.bytes.part
 
 pub returns-clause-bytes : goal.returns-clause-bytes
 returns-clause-bytes g c =

@@ -20,5 +20,6 @@ returns-clause-bytes g c =
     same_text _ _ _ _ _ _ _ (burst_pieces a.model.now a.name.now a.mem a.first a.count a.through)
     (gathers_more _ _ _ _ _ _ _ _ _ c.in_ok-gather.ensures.bytes.whole (gathers_more _ _ _ _ _ _ _ _ _ (pushed _ _ _ _ c.push.ensures.text)
     (gathers_more _ _ _ _ _ _ _ _ _ (rw (c.path_of.ensures) at c.in_ok-gather-2.ensures.bytes.whole) (gathers_more _ _ _ _ _ _ _ _ _ (pushed _ _ _ _ c.push_number.ensures.text)
-    (gathers_more _ _ _ _ _ _ _ _ _ (pushed _ _ _ _ c.push-2.ensures.text) (gathers_more _ _ _ _ _ _ _ _ _ (pushed _ _ _ _ (rw (c.as_bytes.ensures.value, c.format.ensures.text) at c.push-3.ensures.text))
+    (gathers_more _ _ _ _ _ _ _ _ _ (pushed _ _ _ _ c.push-2.ensures.text)
+    (gathers_more _ _ _ _ _ _ _ _ _ (pushed _ _ _ _ (rw (c.as_bytes.ensures.value, c.format.ensures.text) at c.push-3.ensures.text))
     (gathers_last _ _ _ _ _ _ c.put_map.ensures.bytes)))))))

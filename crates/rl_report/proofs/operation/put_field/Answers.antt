@@ -4,7 +4,8 @@ use Rattle.rl_report.proofs.operation.put_field.Goals as goal
 
 pub returns-in_err-gather-clause-bytes : goal.returns-in_err-gather-clause-bytes
 returns-in_err-gather-clause-bytes g c =
-    same_text _ _ _ _ _ _ _ (field_pieces c.args.model.now.chip c.args.field) (gathers_failed _ _ _ _ _ _ _ c.from_residual.ensures.0 (rw (c.path_of.ensures, c.register_with-reg.ensures.value) at c.in_err-gather.ensures.bytes.part))
+    same_text _ _ _ _ _ _ _ (field_pieces c.args.model.now.chip c.args.field)
+    (gathers_failed _ _ _ _ _ _ _ c.from_residual.ensures.0 (rw (c.path_of.ensures, c.register_with-reg.ensures.value) at c.in_err-gather.ensures.bytes.part))
 
 pub returns-clause-bytes : goal.returns-clause-bytes
 returns-clause-bytes g c =

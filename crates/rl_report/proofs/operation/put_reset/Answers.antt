@@ -5,7 +5,8 @@ use Rattle.rl_report.proofs.operation.put_reset.Goals as goal
 
 pub returns-in_err-gather-clause-bytes : goal.returns-in_err-gather-clause-bytes
 returns-in_err-gather-clause-bytes g c =
-    same_text _ _ _ _ _ _ _ (reset_pieces (kind_text c.args.model.now.chip c.args.kind)) (gathers_failed _ _ _ _ _ _ _ c.from_residual.ensures.0 (rw (c.name.ensures) at c.in_err-gather.ensures.bytes.part))
+    same_text _ _ _ _ _ _ _ (reset_pieces (kind_text c.args.model.now.chip c.args.kind))
+    (gathers_failed _ _ _ _ _ _ _ c.from_residual.ensures.0 (rw (c.name.ensures) at c.in_err-gather.ensures.bytes.part))
 
 pub returns-clause-bytes : goal.returns-clause-bytes
 returns-clause-bytes g c =

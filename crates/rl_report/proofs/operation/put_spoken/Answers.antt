@@ -4,7 +4,8 @@ use Rattle.rl_report.proofs.operation.put_spoken.Goals as goal
 
 pub returns-in_err-gather-clause-bytes : goal.returns-in_err-gather-clause-bytes
 returns-in_err-gather-clause-bytes g c =
-    same_text _ _ _ _ _ _ _ (spoken_pieces c.args.model.now c.args.spoken.now c.requires) (gathers_failed _ _ _ _ _ _ _ c.from_residual.ensures.0 (rw (c.name.ensures) at c.in_err-gather.ensures.bytes.part))
+    same_text _ _ _ _ _ _ _ (spoken_pieces c.args.model.now c.args.spoken.now c.requires)
+    (gathers_failed _ _ _ _ _ _ _ c.from_residual.ensures.0 (rw (c.name.ensures) at c.in_err-gather.ensures.bytes.part))
 
 pub returns-in_err-put_subject-clause-bytes : goal.returns-in_err-put_subject-clause-bytes
 returns-in_err-put_subject-clause-bytes g c =

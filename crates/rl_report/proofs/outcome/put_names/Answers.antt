@@ -20,7 +20,8 @@ loop-place-preserved g c =
 pub returns-in_err-put_name-clause-bytes : goal.returns-in_err-put_name-clause-bytes
 returns-in_err-put_name-clause-bytes g c =
     let chip = c.args.model.now.chip in
-    over_stopped _ _ _ _ _ _ _ _ _ _ _ c.loop-place.invariant.put (next_number (name_text chip c.args.reg c.args.differ) c.loop-place.place (count_of chip c.args.reg) (omega arith)) c.from_residual.ensures.0 c.in_err-put_name.ensures.bytes.part
+    over_stopped _ _ _ _ _ _ _ _ _ _ _ c.loop-place.invariant.put
+    (next_number (name_text chip c.args.reg c.args.differ) c.loop-place.place (count_of chip c.args.reg) (omega arith)) c.from_residual.ensures.0 c.in_err-put_name.ensures.bytes.part
 
 pub returns-clause-bytes : goal.returns-clause-bytes
 returns-clause-bytes g c =
