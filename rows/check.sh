@@ -1,6 +1,6 @@
 #!/usr/bin/env bash
 # rows/check.sh BIN: runs a built regrun on every session of this folder, on the large ones made here, and on each
-# example, and compares the whole output and the status. The last line is 'N passed, M failed'.
+# example and its log as a script, and compares the whole output and the status. The last line is 'N passed, M failed'.
 #
 # NAME.session is standard input and NAME.log the output that it must give; NAME.status has the exit status (absent: 0)
 # and NAME.words the command's words, one a line (absent: run). An example's log stands beside it as NAME.log.
@@ -41,6 +41,18 @@ for session in "$here"/*.session "$here"/../examples/*.regrun; do
     status=0
     [ -e "$name.status" ] && status=$(cat "$name.status")
     check "$(basename "$name")" "$session" "$name.log" "$status" "${words[@]}"
+done
+
+# The log of an example, run again as a script: without the lines of sequences and refused bursts it is the same log.
+for session in "$here"/../examples/*.regrun; do
+    name=${session%.*}
+    sed -f "$here/../examples/replay.sed" "$name.log" > "$tmp/script"
+    { sed '/^---$/q' "$session"; cat "$tmp/script"; } > "$tmp/in"
+    count=$(wc -l < "$tmp/script")
+    sed "/^seq /d; /^burst-/d; s/^end: [0-9]* events/end: $count events/" "$name.log" > "$tmp/want"
+    status=0
+    [ -e "$name.status" ] && status=$(cat "$name.status")
+    check "$(basename "$name") again" "$tmp/in" "$tmp/want" "$status" run
 done
 
 # The limits of a session, met and passed by one.

@@ -3,7 +3,7 @@ use Rattle.std.specs.Prelude.{ℕ, List, [], ◌∷◌, ◌++◌, count_ones, if
 use Rattle.rl_access.specs.declared.event.Event.{Event}
 use Rattle.rl_access.specs.HandsOver.{Told}
 use Rattle.rl_access.specs.Tally.{more, is_bus_error}
-use Rattle.rl_report.specs.EventText.{event_text}
+use Rattle.rl_report.specs.Event.{event_text}
 use Rattle.rl_log.specs.declared.counts.Counts.{Counts}
 
 -- ---- counts

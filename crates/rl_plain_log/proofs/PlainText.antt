@@ -16,10 +16,12 @@ use Rattle.rl_access.specs.Runs.{no_tally, counted_all}
 use Rattle.rl_access.specs.Tally.{counted}
 use Rattle.rl_plain.specs.Machine.{Machine, seen}
 use Rattle.rl_plain.specs.Courses as plain
-use Rattle.rl_report.specs.EventText.{op_text, result_text, event_line, event_text}
+use Rattle.rl_report.specs.Event.{event_line, event_text}
+use Rattle.rl_report.specs.Operation.{op_text}
+use Rattle.rl_report.specs.Outcome.{result_text}
 use Rattle.rl_report.specs.Pieces.{joined}
 use Rattle.rl_report.specs.WithoutItems.{plain_part, HasNames}
-use Rattle.rl_report.proofs.EventLines.{plain_part-event_text, event_text-without_items}
+use Rattle.rl_report.proofs.EventLemmas.{plain_part-event_text, event_text-without_items}
 use Rattle.rl_report.proofs.NameTexts.{unbroken-path}
 use Rattle.rl_report.proofs.PlainPart.{plain_part-line}
 use Rattle.rl_report.proofs.Unbroken.{IsUnbroken, unbroken-fixed}

@@ -14,7 +14,7 @@ use Rattle.rl_access.specs.Model.{ModelData}
 use Rattle.rl_access.specs.Rules.{Grant}
 use Rattle.rl_access.specs.Runs.{IsBurst, IsRun, IsRefusedRun, no_tally, counted_all}
 use Rattle.rl_seq.specs.Plan.{Plan, IsSequence}
-use Rattle.rl_report.specs.EventText.{event_text}
+use Rattle.rl_report.specs.Event.{event_text}
 use Rattle.rl_report.specs.Pieces.{AppendsFront}
 use Rattle.rl_report.proofs.PieceLemmas.{front_after, front_before}
 use Rattle.rl_log.specs.declared.counts.Counts.{Counts}

@@ -5,7 +5,7 @@ use Rattle.rl_access.specs.declared.event.Event.{Event}
 use Rattle.rl_access.specs.Model.{ModelData}
 use Rattle.rl_bus.specs.Standing.{Standing}
 use Rattle.rl_bus.specs.State.{State}
-use Rattle.rl_report.specs.EventText.{event_text}
+use Rattle.rl_report.specs.Event.{event_text}
 use Rattle.rl_report.specs.Pieces.{AppendsFront}
 use Rattle.rl_log.specs.declared.counts.Counts.{Counts}
 use Rattle.rl_log.specs.Course.{Course}

@@ -3,7 +3,7 @@ ghost use Rattle.std.specs.Prelude.{◌≡◌, OnOk};
 ghost use Rattle.std.specs.Io.KnownBytes.{Keeps};
 ghost use Rattle.rl_bus.specs.Causes.{HasCause};
 ghost use Rattle.rl_access.specs.Event.{EventFits};
-ghost use Rattle.rl_report.specs.EventText.{event_text};
+ghost use Rattle.rl_report.specs.Event.{event_text};
 ghost use Rattle.rl_report.specs.Pieces.{Puts};
 
 use rl_access::{Event, Model};

@@ -54,7 +54,8 @@ names-kinds_with kinds (r ∷ rs) names each =
     let both = and_parts (is_name r.kind) (list_all (λ r. is_name r.kind) rs) each in
     names-kinds_with (with_text kinds r.kind) rs (names-with_text kinds r.kind names both.0) both.1
 
-field_is_named : (spot : Spot) (bytes : ℕ) (earlier : List FieldData) (f : FieldData) → first_of spot (field_checks bytes earlier f) ≡ None → (is_name f.name && list_all (λ r. is_name r.kind) f.resets) ≡ true
+field_is_named : (spot : Spot) (bytes : ℕ) (earlier : List FieldData) (f : FieldData) → first_of spot (field_checks bytes earlier f) ≡ None
+    → (is_name f.name && list_all (λ r. is_name r.kind) f.resets) ≡ true
 field_is_named spot bytes earlier f h =
     passed (is_name f.name && list_all (λ r. is_name r.kind) f.resets)
     (is_first (λ cause. model_fault.Bad cause spot) (not (is_name f.name && list_all (λ r. is_name r.kind) f.resets)) BadName

@@ -2,7 +2,8 @@
 use Rattle.std.proofs.Common.{◌≡◌, ℕ, ◌+◌, ◌-◌, ◌≤◌, List, ◌++◌, length, take, drop, sym, ap, ◌∙◌, arith, append_assoc, length-take-le, length-drop, take-add, take-take, take_at, drop_at, take_all, take-append-drop}
 
 -- of a front that was copied, a shorter one
-front_copied : (old new piece : List ℕ) (end count rest stop : ℕ) → end ≤ length old → rest ≤ count → stop ≡ end + count → take stop new ≡ take end old ++ take count piece → take (end + rest) new ≡ take end old ++ take rest piece
+front_copied : (old new piece : List ℕ) (end count rest stop : ℕ) → end ≤ length old → rest ≤ count → stop ≡ end + count
+    → take stop new ≡ take end old ++ take count piece → take (end + rest) new ≡ take end old ++ take rest piece
 front_copied old new piece end count rest stop within few is copied =
     let size = length-take-le end old within in
     let front = take end old in
@@ -14,7 +15,8 @@ front_copied old new piece end count rest stop within few is copied =
     ∙ ap (λ l. front ++ l) (take-take rest count piece few)
 
 -- the first and the last bytes of a piece, which may overlap, are the piece
-pub ends_copied : (old mid new piece : List ℕ) (end count rest stop last : ℕ) → end ≤ length old → rest ≡ length piece - count → count ≤ length piece → length piece ≤ count + count → stop ≡ end + count
+pub ends_copied : (old mid new piece : List ℕ) (end count rest stop last : ℕ) → end ≤ length old → rest ≡ length piece - count → count ≤ length piece
+    → length piece ≤ count + count → stop ≡ end + count
     → take stop mid ≡ take end old ++ take count piece → take last new ≡ take (end + rest) mid ++ take count (drop rest piece) → take last new ≡ take end old ++ piece
 ends_copied old mid new piece end count rest stop last within is enough whole stops first second =
     let size : length (drop rest piece) ≡ length piece - rest = length-drop rest piece in

@@ -41,7 +41,8 @@ two_more (suc (suc k)) rest old new h e =
     ∙ ap (λ d. todo ++ hex_digit_ascii d ∷ hex_digit_ascii (rest % 256 % 16) ∷ drop (suc (suc k) - 2 + 2) old) high
     ∙ ap (λ d. todo ++ hex_digit_ascii (rest / 16 % 16) ∷ hex_digit_ascii d ∷ drop (suc (suc k) - 2 + 2) old) low
     ∙ ap (λ n. todo ++ hex_digit_ascii (rest / 16 % 16) ∷ hex_digit_ascii (rest % 16) ∷ drop n old) behind
-    ∙ sym (append_assoc (todo ++ hex_digit_ascii (rest / 16 % 16) ∷ []) (hex_digit_ascii (rest % 16) ∷ []) done ∙ append_assoc todo (hex_digit_ascii (rest / 16 % 16) ∷ []) (hex_digit_ascii (rest % 16) ∷ done))
+    ∙ sym (append_assoc (todo ++ hex_digit_ascii (rest / 16 % 16) ∷ []) (hex_digit_ascii (rest % 16) ∷ []) done ∙ append_assoc todo
+    (hex_digit_ascii (rest / 16 % 16) ∷ []) (hex_digit_ascii (rest % 16) ∷ done))
 
 pub len_digits : (k n : ℕ) → length (last_digits 16 k n) ≡ k
 len_digits zero n = refl

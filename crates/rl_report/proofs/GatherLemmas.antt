@@ -49,7 +49,8 @@ gathers_stopped a b t v x (Ok z) e q = absurd (true≢false (sym e))
 gathers_stopped a b t v x (Err z) e q = record { whole = tt; part = q }
 
 -- a piece, and then the others
-pub gathers_more : {T E : Type 0} (a b c : Option (List ℕ)) (t u v x : List ℕ) (xs : List (List ℕ)) (r : Result T E) → Gathered a b t u x → Gathers b c u v (joined xs) r → Gathers a c t v (joined (x ∷ xs)) r
+pub gathers_more : {T E : Type 0} (a b c : Option (List ℕ)) (t u v x : List ℕ) (xs : List (List ℕ)) (r : Result T E) → Gathered a b t u x
+    → Gathers b c u v (joined xs) r → Gathers a c t v (joined (x ∷ xs)) r
 unfolding joined
 gathers_more a b c t u v x xs r p q = gathers_after a b c t u v x (joined xs) r p q
 
@@ -68,7 +69,8 @@ one_of_two : (x y : List ℕ) (xs : List (List ℕ)) → joined (x ∷ y ∷ [])
 unfolding joined
 one_of_two x y xs = append_assoc x (y ++ []) (joined xs) ∙ ap (λ l. x ++ (l ++ joined xs)) (append-nil y)
 
-pub gathers_two : {T E : Type 0} (a b c : Option (List ℕ)) (t u v x y : List ℕ) (xs : List (List ℕ)) (r : Result T E) → Gathered a b t u (joined (x ∷ y ∷ [])) → Gathers b c u v (joined xs) r → Gathers a c t v (joined (x ∷ y ∷ xs)) r
+pub gathers_two : {T E : Type 0} (a b c : Option (List ℕ)) (t u v x y : List ℕ) (xs : List (List ℕ)) (r : Result T E) → Gathered a b t u (joined (x ∷ y ∷ []))
+    → Gathers b c u v (joined xs) r → Gathers a c t v (joined (x ∷ y ∷ xs)) r
 gathers_two a b c t u v x y xs r p q = subst (λ l. Gathers a c t v l r) (one_of_two x y xs) (gathers_after a b c t u v (joined (x ∷ y ∷ [])) (joined xs) r p q)
 
 -- a piece, and then the others, that were gathered
@@ -107,13 +109,15 @@ pub record IsLeftOver (first now : Option (List ℕ)) (start text all rest : Lis
 pub all_over : (now : Option (List ℕ)) (text all : List ℕ) → IsLeftOver now now text text all all
 all_over now text all = record { whole = λ new after h. h; part = λ new h. h }
 
-pub less_over : (first now next : Option (List ℕ)) (start text further all rest x others : List ℕ) → IsLeftOver first now start text all rest → rest ≡ x ++ others → Gathered now next text further x → IsLeftOver first next start further all others
+pub less_over : (first now next : Option (List ℕ)) (start text further all rest x others : List ℕ) → IsLeftOver first now start text all rest
+    → rest ≡ x ++ others → Gathered now next text further x → IsLeftOver first next start further all others
 less_over first now next start text further all rest x others left split put = record {
   whole = λ new after h. left.whole new after (subst (Gathered now new text after) (sym split) (both now next new text further after x others put h));
   part = λ new h. left.part new (subst (λ l. AppendsFront now new (text ++ l)) (sym split) (behind now next new text further x others put h));
 }
 
-pub over_stopped : {T E : Type 0} (first now next : Option (List ℕ)) (start text after all rest x others : List ℕ) (r : Result T E) → IsLeftOver first now start text all rest → rest ≡ x ++ others → IsErr r → AppendsFront now next (text ++ x) → Gathers first next start after all r
+pub over_stopped : {T E : Type 0} (first now next : Option (List ℕ)) (start text after all rest x others : List ℕ) (r : Result T E)
+    → IsLeftOver first now start text all rest → rest ≡ x ++ others → IsErr r → AppendsFront now next (text ++ x) → Gathers first next start after all r
 over_stopped first now next start text after all rest x others r left split e put =
     gathers_stopped first next start after all r e (left.part next (subst (λ l. AppendsFront now next (text ++ l)) (sym split) (before now next text x others put)))
 

@@ -51,7 +51,8 @@ longer (b ∷ bs) more = longer_by b bs more (eqb b 10) (longer bs more)
 
 -- a reader with a whole line hands it out
 hands_by : (e : Bool) (p : List ℕ) (a f r k : Bool) (left : Option (List ℕ)) → length (first_line p) < length p → length (first_line p) ≤ 4096
-    → IfSome (cond e (Some p) (prepend_known p left)) (λ bytes. HandsLine bytes (record { pending = after_line p; line = strip_last 13 (first_line p); asked = a; found = f; refused = r; ended = e; closed = k }) left)
+    → IfSome (cond e (Some p) (prepend_known p left))
+    (λ bytes. HandsLine bytes (record { pending = after_line p; line = strip_last 13 (first_line p); asked = a; found = f; refused = r; ended = e; closed = k }) left)
 hands_by true p a f r k left h short = record { some = omega arith; short = short; line = refl; rest = refl; whole = λ _. ends_whole p h }
 hands_by false p a f r k None h short = tt
 hands_by false p a f r k (Some more) h short =
@@ -62,7 +63,8 @@ hands_by false p a f r k (Some more) h short =
       short = omega (arith, ap length first);
       line = ap (strip_last 13) (sym first);
       rest = ap Some (sym after);
-      whole = λ _. ap (λ l. l ++ more) (ends_whole p h) ∙ append_assoc (first_line p) (10 ∷ after_line p) more ∙ sym (ap (λ l. l ++ 10 ∷ after_line (p ++ more)) first ∙ ap (λ l. first_line p ++ 10 ∷ l) after);
+      whole = λ _. ap (λ l. l ++ more) (ends_whole p h) ∙ append_assoc (first_line p) (10 ∷ after_line p) more ∙ sym
+          (ap (λ l. l ++ 10 ∷ after_line (p ++ more)) first ∙ ap (λ l. first_line p ++ 10 ∷ l) after);
     }
 
 pub hands_whole : (old : Reading) (left : Option (List ℕ)) → length (first_line old.pending) < length old.pending → length (first_line old.pending) ≤ 4096
@@ -180,12 +182,14 @@ searched p None none = sym (missed p none)
 searched p (Some k) h = sym (found p k h.0.high h.0.before h.1)
 
 -- the first line of what grew by some bytes
-pub grown_line : (old more whole : List ℕ) (size n : ℕ) → whole ≡ old ++ more → first_line old ≡ old → size ≡ length (first_line old) → n ≡ length (first_line more) → size + n ≡ length (first_line whole)
+pub grown_line : (old more whole : List ℕ) (size n : ℕ) → whole ≡ old ++ more → first_line old ≡ old → size ≡ length (first_line old)
+    → n ≡ length (first_line more) → size + n ≡ length (first_line whole)
 grown_line old more whole size n grown none size_is n_is = omega (arith, ap length none, ap (λ l. length (first_line l)) grown, goes_on old more none)
 
 -- a reader at its end hands out a last line that has no 10
 last_by : (e : Bool) (p : List ℕ) (a f r k : Bool) (left : Option (List ℕ)) (size : ℕ) → e ≡ true → size ≡ length (first_line p) → length p ≤ size → 0 < length p → size ≤ 4096
-    → IfSome (cond e (Some p) (prepend_known p left)) (λ bytes. HandsLine bytes (record { pending = drop size p; line = strip_last 13 (take size p); asked = a; found = f; refused = r; ended = e; closed = k }) left)
+    → IfSome (cond e (Some p) (prepend_known p left))
+    (λ bytes. HandsLine bytes (record { pending = drop size p; line = strip_last 13 (take size p); asked = a; found = f; refused = r; ended = e; closed = k }) left)
 last_by true p a f r k left size at_end size_is all some short =
     record {
       some = some;

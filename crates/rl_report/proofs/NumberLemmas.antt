@@ -67,7 +67,8 @@ moved_lanes (suc n) k (suc t) lanes e =
     lane_and (lanes * 2 ^ k / 2 ^ t % 2) (lanes / 2 ^ n % 2) _ _ (ap (λ d. d % 2) same) (moved_lanes n k t lanes place)
 
 -- a text to which eight digits were appended, and the last dropped
-pub lanes_pushed : (old mid high new : List ℕ) (bytes lanes : ℕ) → bytes ≤ 8 → mid ≡ old ++ lanes_text 4 (lanes * 2 ^ (8 - bytes) / 16 % 16) → high ≡ mid ++ lanes_text 4 (lanes * 2 ^ (8 - bytes) % 16) → new ≡ take (length high - (8 - bytes)) high
+pub lanes_pushed : (old mid high new : List ℕ) (bytes lanes : ℕ) → bytes ≤ 8 → mid ≡ old ++ lanes_text 4 (lanes * 2 ^ (8 - bytes) / 16 % 16)
+    → high ≡ mid ++ lanes_text 4 (lanes * 2 ^ (8 - bytes) % 16) → new ≡ take (length high - (8 - bytes)) high
     → new ≡ old ++ lanes_text bytes lanes
 lanes_pushed old mid high new bytes lanes few d e f =
     let m = lanes * 2 ^ (8 - bytes) in

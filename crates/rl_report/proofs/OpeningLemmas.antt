@@ -152,7 +152,14 @@ module _ (held : List ℕ) (starts ended : Bool) (size : ℕ) (r : Bool) (part :
       let same : first_line held ≡ held = sym line ∙ take_all size held all in
       by_answer r (IsPart held starts ended part)
       (λ e. let f = found_here e in subst (IsPart held starts ended) (sym (on_true e))
-      (record { at_start = f.0; line = f.1; rest = drop_all size held all ∙ sym (drop_all (size + 1) held (omega arith)) ∙ rest; within = within; whole = λ going. absurd (true≢false (sym at_end ∙ going)) }))
+      (record {
+        at_start = f.0;
+        line = f.1;
+        rest = drop_all size held all ∙ sym (drop_all (size + 1) held (omega arith))
+            ∙ rest;
+        within = within;
+        whole = λ going. absurd (true≢false (sym at_end ∙ going));
+      }))
       (λ e. subst (IsPart held starts ended) (sym (on_false e))
       (record { at_end = at_end; none = λ at. none_in_last at starts held same (ap (λ l. starts && is_separator l) (sym same) ∙ sym is' ∙ e) }))
 

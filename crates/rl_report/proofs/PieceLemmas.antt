@@ -50,10 +50,14 @@ text_of_three : (t x a b c d e f g y : List ℕ) → ((((((((t ++ x) ++ a) ++ b)
 unfolding joined
 text_of_three t x a b c d e f g y = simp (append_assoc, append-nil)
 
-pub appended_nine : (t t1 t2 t3 t4 t5 t6 t7 t8 t9 x a b c d e f g y : List ℕ) → t1 ≡ t ++ x → t2 ≡ t1 ++ a → t3 ≡ t2 ++ b → t4 ≡ t3 ++ c → t5 ≡ t4 ++ d → t6 ≡ t5 ++ e → t7 ≡ t6 ++ f → t8 ≡ t7 ++ g → t9 ≡ t8 ++ y
+pub appended_nine : (t t1 t2 t3 t4 t5 t6 t7 t8 t9 x a b c d e f g y : List ℕ) → t1 ≡ t ++ x → t2 ≡ t1 ++ a → t3 ≡ t2 ++ b → t4 ≡ t3 ++ c → t5 ≡ t4 ++ d
+    → t6 ≡ t5 ++ e → t7 ≡ t6 ++ f → t8 ≡ t7 ++ g → t9 ≡ t8 ++ y
     → t9 ≡ t ++ joined (x ∷ joined (a ∷ b ∷ c ∷ d ∷ e ∷ f ∷ g ∷ []) ∷ y ∷ [])
 appended_nine t t1 t2 t3 t4 t5 t6 t7 t8 t9 x a b c d e f g y h1 h2 h3 h4 h5 h6 h7 h8 h9 =
-    h9 ∙ ap (λ l. l ++ y) (h8 ∙ ap (λ l. l ++ g) (h7 ∙ ap (λ l. l ++ f) (h6 ∙ ap (λ l. l ++ e) (h5 ∙ ap (λ l. l ++ d) (h4 ∙ ap (λ l. l ++ c) (h3 ∙ ap (λ l. l ++ b) (h2 ∙ ap (λ l. l ++ a) h1))))))) ∙ text_of_three t x a b c d e f g y
+    h9 ∙ ap (λ l. l ++ y)
+    (h8 ∙ ap (λ l. l ++ g)
+    (h7 ∙ ap (λ l. l ++ f) (h6 ∙ ap (λ l. l ++ e) (h5 ∙ ap (λ l. l ++ d) (h4 ∙ ap (λ l. l ++ c) (h3 ∙ ap (λ l. l ++ b) (h2 ∙ ap (λ l. l ++ a) h1)))))))
+    ∙ text_of_three t x a b c d e f g y
 
 -- the next of a list of pieces, and the others
 pub next_piece : {A : Type 0} (text : A → List ℕ) (pieces : List A) (i : ℕ) (d : A) → i < length pieces

@@ -57,7 +57,8 @@ moved_fits width bits count n is few fits =
     subst (λ p. n * p < 16 ^ width) (sym (places width bits count is few)) (subst (λ p. n * 16 ^ (width - count) < p) all less)
 
 -- a text behind which digits were written, and of which so many count
-pub digits_pushed : (old new : List ℕ) (end width bits count n : ℕ) → bits ≡ 4 * width → count ≤ width → take end new ≡ take end old → slice_range new end (end + width) ≡ padded width (n * 2 ^ (bits - 4 * count))
+pub digits_pushed : (old new : List ℕ) (end width bits count n : ℕ) → bits ≡ 4 * width → count ≤ width → take end new ≡ take end old
+    → slice_range new end (end + width) ≡ padded width (n * 2 ^ (bits - 4 * count))
     → take (end + count) new ≡ take end old ++ padded count n
 digits_pushed old new end width bits count n is few front digits =
     let size : end + width - end ≡ width = omega arith in

@@ -63,7 +63,8 @@ finds head p more starts ended a r k l size left short s passes is rest whole =
     }
 
 finds_by : (head p : List ℕ) (starts ended a r k : Bool) (l : List ℕ) (size : ℕ) (left : Option (List ℕ)) → length head ≤ 1048576 → Passes head starts → BeginsWithSeparator p starts ended size
-    → IfSome (cond ended (Some p) (prepend_known p left)) (λ rest. FindsHead (head ++ rest) head (record { pending = drop size p; line = l; asked = a; found = true; refused = r; ended = ended; closed = k }) left)
+    → IfSome (cond ended (Some p) (prepend_known p left))
+    (λ rest. FindsHead (head ++ rest) head (record { pending = drop size p; line = l; asked = a; found = true; refused = r; ended = ended; closed = k }) left)
 finds_by head p starts true a r k l size left short passes h =
     subst (λ q. FindsHead (head ++ q) head (record { pending = drop size p; line = l; asked = a; found = true; refused = r; ended = true; closed = k }) left) (append-nil p)
     (finds head p [] starts true a r k l size left short h.at_start passes (ap (λ q. is_separator (first_line q)) (append-nil p) ∙ h.line)
@@ -85,7 +86,8 @@ none_in : (head p : List ℕ) (starts : Bool) → Passes head starts → separat
 unfolding Passes
 none_in head p starts passes none = λ at e. let f : None ≡ Some at = sym none ∙ (sym (passes p) ∙ e) in absurd (cc)
 
-last_by : (ended : Bool) (p head : List ℕ) (left : Option (List ℕ)) (P : List ℕ → Type 0) → ended ≡ true → P (head ++ p) → IfSome (cond ended (Some p) (prepend_known p left)) (λ rest. P (head ++ rest))
+last_by : (ended : Bool) (p head : List ℕ) (left : Option (List ℕ)) (P : List ℕ → Type 0) → ended ≡ true → P (head ++ p)
+    → IfSome (cond ended (Some p) (prepend_known p left)) (λ rest. P (head ++ rest))
 last_by true p head left P e h = h
 last_by false p head left P e h = absurd (true≢false (sym e))
 
@@ -93,7 +95,8 @@ pub takes_end : (old : Reading) (head : List ℕ) (starts : Bool) → old.ended 
     → Passes head starts → (left : Option (List ℕ)) (P : List ℕ → Type 0) → (HasNoHead (head ++ old.pending) → P (head ++ old.pending)) → IfSome (input_of old left) (λ rest. P (head ++ rest))
 takes_end old head starts e none passes left P h = last_by old.ended old.pending head left P e (h (none_in head old.pending starts passes (none (length head))))
 
-far : (head p more : List ℕ) (starts ends : Bool) (size : ℕ) → Passes head starts → BeginsWithText p starts size ends → 1048576 < length head + size → HasNoHead (head ++ (p ++ more)) × (1048576 < length (head ++ (p ++ more)))
+far : (head p more : List ℕ) (starts ends : Bool) (size : ℕ) → Passes head starts → BeginsWithText p starts size ends → 1048576 < length head + size
+    → HasNoHead (head ++ (p ++ more)) × (1048576 < length (head ++ (p ++ more)))
 unfolding Passes
 far head p more starts ends size passes t many =
     let split : p ++ more ≡ take size p ++ (drop size p ++ more) = ap (λ q. q ++ more) (sym (take-append-drop size p)) ∙ append_assoc (take size p) (drop size p) more in (
@@ -122,7 +125,8 @@ moved_by : (ended : Bool) (head p : List ℕ) (size : ℕ) (left : Option (List 
 moved_by true head p size left = ap Some (ap (λ q. head ++ q) (sym (take-append-drop size p)) ∙ sym (append_assoc head (take size p) (drop size p)))
 moved_by false head p size None = refl
 moved_by false head p size (Some more) =
-    ap Some (ap (λ q. head ++ (q ++ more)) (sym (take-append-drop size p)) ∙ ap (λ q. head ++ q) (append_assoc (take size p) (drop size p) more) ∙ sym (append_assoc head (take size p) (drop size p ++ more)))
+    ap Some (ap (λ q. head ++ (q ++ more)) (sym (take-append-drop size p)) ∙ ap (λ q. head ++ q) (append_assoc (take size p) (drop size p) more) ∙ sym
+    (append_assoc head (take size p) (drop size p ++ more)))
 
 passes_on : (head p : List ℕ) (starts ends : Bool) (size : ℕ) → BeginsWithText p starts size ends → Passes head starts → Passes (head ++ take size p) ends
 unfolding Passes
@@ -146,7 +150,8 @@ takes_text old head starts ends size t fits =
 pub same_text : (old : Reading) (head : List ℕ) (starts ends : Bool) (size : ℕ) (new : Reading) (new_head : List ℕ) → BeginsWithText old.pending starts size ends → length head + size ≤ 1048576
     → new ≡ record old { pending = drop size old.pending } → new_head ≡ head ++ take size old.pending → TakesText old head starts new new_head ends
 same_text old head starts ends size new new_head t fits e h =
-    subst (λ n. TakesText old head starts n new_head ends) (sym e) (subst (λ l. TakesText old head starts (record old { pending = drop size old.pending }) l ends) (sym h) (takes_text old head starts ends size t fits))
+    subst (λ n. TakesText old head starts n new_head ends) (sym e)
+    (subst (λ l. TakesText old head starts (record old { pending = drop size old.pending }) l ends) (sym h) (takes_text old head starts ends size t fits))
 
 -- ---- the end
 
@@ -231,7 +236,8 @@ pub from_err : {T E P : Type 0} (r : Result T E) → is_err r ≡ true → OnErr
 from_err (Ok x) e p = absurd (true≢false (sym e))
 from_err (Err x) e p = p
 
-pub head_fault_after : (old mid new : Reading) (head new_head : List ℕ) (starts : Bool) (a left new_left : Option (List ℕ)) → TakesNothing old head mid new_head → Keeps a (prepend_known head (input_of old left)) → Passes head starts
+pub head_fault_after : (old mid new : Reading) (head new_head : List ℕ) (starts : Bool) (a left new_left : Option (List ℕ)) → TakesNothing old head mid new_head
+    → Keeps a (prepend_known head (input_of old left)) → Passes head starts
     → Keeps (input_of mid left) (input_of new new_left) → new.pending ≡ mid.pending → new.ended ≡ false → IfSome a (λ bytes. TakesNoHead bytes new_left)
 head_fault_after old mid new head new_head starts a left new_left t k passes m same e =
     let none : first_line new.pending ≡ new.pending = subst (λ p. first_line p ≡ p) (sym (same ∙ ap (λ r. r.pending) t.same)) t.none_whole in

@@ -103,7 +103,8 @@ unbroken-hex_digits n =
 
 unbroken-last_digits : (count n : ℕ) → IsUnbroken (last_digits 16 count n)
 unbroken-last_digits zero n = record { each = refl }
-unbroken-last_digits (suc k) n = unbroken-append (last_digits 16 k (n / 16)) (hex_digit_ascii (n % 16) ∷ []) (unbroken-last_digits k (n / 16)) (unbroken-one (hex_digit_ascii (n % 16)) (hex_within (n % 16)))
+unbroken-last_digits (suc k) n =
+    unbroken-append (last_digits 16 k (n / 16)) (hex_digit_ascii (n % 16) ∷ []) (unbroken-last_digits k (n / 16)) (unbroken-one (hex_digit_ascii (n % 16)) (hex_within (n % 16)))
 
 pub unbroken-padded : (count n : ℕ) → IsUnbroken (padded count n)
 unfolding padded

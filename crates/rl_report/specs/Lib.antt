@@ -1,10 +1,14 @@
-pub mod EventText
+pub mod Event
 pub mod Got
-pub mod Opening
+pub mod Item
 pub mod Lines
 pub mod Memory
 pub mod Numbers
+pub mod Opening
+pub mod Operation
+pub mod Outcome
 pub mod Pieces
+pub mod ReadBack
 pub mod Reading
 pub mod Taken
 pub mod WithoutItems

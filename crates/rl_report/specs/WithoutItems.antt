@@ -13,7 +13,7 @@ use Rattle.rl_map.specs.Maps.{layout_of}
 use Rattle.rl_map.specs.Faults.{layout_fault}
 use Rattle.rl_access.specs.declared.event.Event.{Event}
 use Rattle.rl_access.specs.Model.{ModelData, IsModel}
-use Rattle.rl_report.specs.EventText.{event_text}
+use Rattle.rl_report.specs.Event.{event_text}
 use Rattle.rl_report.specs.Lines.{onto_first}
 
 -- the lines of a text, each with the 10 that ends it. The last one may lack it.

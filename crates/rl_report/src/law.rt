@@ -1,4 +1,5 @@
 //! What holds of the text of events. Each function does nothing; its contract is the law.
+ghost use Rattle.rl_report.specs.ReadBack.{OperationsReadBack};
 ghost use Rattle.rl_report.specs.WithoutItems.{BuiltOnesHaveNames, ItemsAreIndented};
 
 /// The lines of an event's items begin with two spaces, and the event's own line doesn't: the text of an
@@ -13,4 +14,14 @@ pub fn items_are_indented()
 /// refused.
 pub fn built_ones_have_names()
     ensures { BuiltOnesHaveNames }
+{}
+
+/// An operation line of a log reads back as the operation that it reports, so a log can be run again: what stands
+/// before its first colon is a line of a script with the same command, item, numbers and map.
+///
+/// So it is of every event but that of a burst, which stands in a log only where it was refused and doesn't tell its
+/// values: also of a refused operation, and of each step of a sequence and each location of a burst. Reset kinds and
+/// maps have names, as `built_ones_have_names` says, and numbers fit 64 bits, as those of an `Op` do.
+pub fn operations_read_back()
+    ensures { OperationsReadBack }
 {}

@@ -2,18 +2,22 @@
 #![tactic(auto)]
 
 mod event;
+mod item;
 pub mod law;
 mod lines;
 mod memory;
 mod numbers;
 mod opening;
+mod operation;
+mod outcome;
 mod pieces;
 mod sink;
 mod source;
 mod standard;
 mod text;
 
-pub use event::{write_event, write_event_line, write_item};
+pub use event::{write_event, write_event_line};
+pub use item::write_item;
 pub use lines::{Got, LineReader};
 pub use memory::{MemSink, MemSource};
 pub use opening::{Head, HeadFault};

@@ -1,9 +1,11 @@
 // Lines over a source, however it is cut into reads.
-ghost use Rattle.std.specs.Prelude.{◌≡◌, ◌≢◌, ℕ, ◌+◌, ◌-◌, ◌<◌, ◌≤◌, List, [], ◌++◌, Bool, true, false, length, take, drop, slice_range, Option, Some, IfSome, IfNone, IfOk, OnOk, OnErr, Ok, MatchOption, MatchBool, Err, IsTrue, ◌↔◌, if◌then◌else◌};
+ghost use Rattle.std.specs.Prelude.{◌≡◌, ◌≢◌, ℕ, ◌+◌, ◌-◌, ◌<◌, ◌≤◌, List, [], ◌++◌, true, false, length, take, drop};
+ghost use Rattle.std.specs.Prelude.{slice_range, Option, Some, IfSome, IfNone, IfOk, OnOk, OnErr, Ok, Err, IsTrue, ◌↔◌};
+ghost use Rattle.std.specs.Prelude.{if◌then◌else◌};
 ghost use Rattle.std.specs.Io.KnownBytes.{Consumes, IsAtEnd, Keeps};
 ghost use Rattle.std.specs.Io.BufRead.{strip_last};
 ghost use Rattle.rl_bus.specs.Causes.{HasCause, Rose};
-ghost use Rattle.rl_report.specs.Lines.{first_line, after_line};
+ghost use Rattle.rl_report.specs.Lines.{first_line};
 ghost use Rattle.rl_report.specs.Reading.{input_of, HoldsLine, IsLaterPhase, SamePhase};
 ghost use Rattle.rl_report.specs.Got.{Hands};
 ghost use Rattle.rl_report.specs.Opening.{HeadIs, TakesNoHead};
@@ -69,12 +71,24 @@ impl Model for LineReader {
 
     ghost Value = { Reading };
 
-    ghost view = { λ r. record { pending = slice_range r.buffer.items r.start r.end; line = (if r.copied then take r.line_len r.line.items else slice_range r.buffer.items r.line_start (r.line_start + r.line_len)); asked = r.asked; found = r.found; refused = r.refused; ended = r.ended; closed = r.closed } };
+    ghost view = { λ r. record {
+      pending = slice_range r.buffer.items r.start r.end;
+      line = (if r.copied then take r.line_len r.line.items
+          else slice_range r.buffer.items r.line_start (r.line_start + r.line_len));
+      asked = r.asked;
+      found = r.found;
+      refused = r.refused;
+      ended = r.ended;
+      closed = r.closed;
+    } };
 
-    ghost invariant = { λ r. (r.start ≤ r.end) × (r.end ≤ 8192) × (vec_len r.buffer ≡ 8192) × (vec_len r.line ≡ 4096) × (r.line_len ≤ 4096) × (r.line_start + r.line_len ≤ 8192) × (r.size ≡ length (first_line (slice_range r.buffer.items r.start r.end))) };
+    ghost invariant = { λ r. (r.start ≤ r.end) × (r.end ≤ 8192) × (vec_len r.buffer ≡ 8192)
+        × (vec_len r.line ≡ 4096) × (r.line_len ≤ 4096) × (r.line_start + r.line_len ≤ 8192)
+        × (r.size ≡ length (first_line (slice_range r.buffer.items r.start r.end))) };
 }
 
-// What is answered at the end of an input with no separator, where so many bytes are left and there is room for so many.
+// What is answered at the end of an input with no separator, where so many bytes are left and there is room for
+// so many.
 fn missing(left: usize, room: usize) -> Head
     ensures missing { left ≤ room → result ≡ Head.Missing }
     ensures too_long { room < left → result ≡ Head.TooLong }
@@ -120,7 +134,8 @@ fn keep_line(line: &mut [u8], copied: &mut bool, buffer: &[u8], start: usize, le
     requires fits { len ≤ length line.old }
     requires within { start + len ≤ length buffer.now }
     ensures copied { copied.new ≡ true }
-    ensures line { take len line.new ≡ (if copied.old then take len line.old else slice_range buffer.now start (start + len)) }
+    ensures line { take len line.new ≡ (if copied.old then take len line.old
+        else slice_range buffer.now start (start + len)) }
 {
     if !*copied {
         line[..len].copy_from_slice(&buffer[start..start + len]);
@@ -133,7 +148,8 @@ fn read_behind<S: Source>(buffer: &mut [u8], end: usize, source: &mut S) -> Resu
     requires { end < length buffer.old }
     ensures room { IfOk result (λ count. count ≤ length buffer.old - end) }
     ensures before { take end buffer.new ≡ take end buffer.old }
-    ensures bytes { IfOk result (λ count. Consumes (S.left source.old) (S.left source.new) (slice_range buffer.new end (end + count))) }
+    ensures bytes { IfOk result (λ count. Consumes (S.left source.old) (S.left source.new)
+        (slice_range buffer.new end (end + count))) }
     ensures end { IfOk result (λ count. count ≡ 0 → IsAtEnd (S.left source.new)) }
     ensures kept { OnErr result (Keeps (S.left source.old) (S.left source.new)) }
     ensures cause { HasCause (S.faults source.old) (S.faults source.new) result }
@@ -144,7 +160,15 @@ fn read_behind<S: Source>(buffer: &mut [u8], end: usize, source: &mut S) -> Resu
 impl LineReader {
     /// A reader that has read nothing.
     pub fn build(alloc: Global) -> Result<LineReader, AllocError>
-        ensures { IfOk result (λ r. r ≡ record { pending = []; line = []; asked = false; found = false; refused = false; ended = false; closed = false }) }
+        ensures { IfOk result (λ r. r ≡ record {
+          pending = [];
+          line = [];
+          asked = false;
+          found = false;
+          refused = false;
+          ended = false;
+          closed = false;
+        }) }
     {
         Ok(LineReader {
             buffer: vec![in alloc; 0; BUFFER]?,
@@ -171,14 +195,16 @@ impl LineReader {
         // However the source is cut into reads.
         ensures got { IfOk result (λ got. IfSome (input_of self.old (S.left source.old))
             (λ bytes. Hands bytes got self.new (S.left source.new))) }
-        ensures none_lost { OnErr result (Keeps (input_of self.old (S.left source.old)) (input_of self.new (S.left source.new))) }
+        ensures none_lost { OnErr result (Keeps (input_of self.old (S.left source.old))
+            (input_of self.new (S.left source.new))) }
         ensures line { result ≢ Ok Got.Line → self.new.line ≡ self.old.line }
 
         // It reads only where it holds no whole line, and never again after the end.
         ensures unread { HoldsLine self.old → source.new ≡ source.old }
         ensures unread_at_end { self.old.ended ≡ true → source.new ≡ source.old }
         ensures asks { OnErr result (HoldsLine self.old → ⊥) }
-        ensures none_whole { OnErr result ((first_line self.new.pending ≡ self.new.pending) × (self.new.ended ≡ false)) }
+        ensures none_whole { OnErr result ((first_line self.new.pending ≡ self.new.pending)
+            × (self.new.ended ≡ false)) }
         ensures held { length self.new.pending ≤ 8192 }
 
         // After the end it answers the end again.
@@ -214,14 +240,12 @@ impl LineReader {
     ) -> Result<Head, HeadFault>
         requires empty { head.old.items ≡ [] }
         requires first { self.old.asked ≡ false }
-
         // However the source is cut into reads.
         ensures head { IfOk result (λ answer. IfSome (input_of self.old (S.left source.old))
             (λ bytes. HeadIs bytes answer head.new.items self.new (S.left source.new))) }
         ensures at_fault { result ≡ Err HeadFault.Source → IfSome (input_of self.old (S.left source.old))
             (λ bytes. TakesNoHead bytes (S.left source.new)) }
         ensures held { result ≡ Ok Head.Found → length self.new.pending ≤ 8192 }
-
         ensures asked { self.new.asked ≡ true }
         ensures found { (self.new.found ≡ true) ↔ (result ≡ Ok Head.Found) }
         ensures refused { self.new.refused ≡ self.old.refused }
@@ -254,7 +278,8 @@ impl LineReader {
         requires { length head.old.items ≤ 1048576 }
         ensures took { IfOk result (λ taken. Takes self.old head.old.items starts taken self.new head.new.items) }
         ensures phase { SamePhase self.old self.new }
-        ensures found { (result ≡ Ok (Taken.Last Head.Found) → self.new.found ≡ true) × (result ≢ Ok (Taken.Last Head.Found) → self.new.found ≡ self.old.found) }
+        ensures found { (result ≡ Ok (Taken.Last Head.Found) → self.new.found ≡ true)
+            × (result ≢ Ok (Taken.Last Head.Found) → self.new.found ≡ self.old.found) }
         ensures line { self.new.line ≡ self.old.line }
         ensures held { length self.new.pending ≤ 8192 }
     {
@@ -365,7 +390,10 @@ impl LineReader {
         requires short { size ≤ 4096 }
         requires ordered { size ≤ taken }
         requires within { taken ≤ length self.old.pending }
-        ensures { self.new ≡ record self.old { pending = drop taken self.old.pending; line = strip_last 13 (take size self.old.pending) } }
+        ensures { self.new ≡ record self.old {
+          pending = drop taken self.old.pending;
+          line = strip_last 13 (take size self.old.pending);
+        } }
     {
         let line = without_return(&self.buffer[self.start..self.start + size]);
         self.line_len = line.len();
@@ -428,7 +456,8 @@ fn refill<S: Source>(
     requires ordered { start.old ≤ end.old }
     requires within { end.old ≤ length buffer.old }
     requires apart { end.old ≡ length buffer.old → (0 < start.old) × (end.old - start.old ≤ start.old) }
-    requires none_whole { first_line (slice_range buffer.old start.old end.old) ≡ slice_range buffer.old start.old end.old }
+    requires none_whole { first_line (slice_range buffer.old start.old end.old)
+        ≡ slice_range buffer.old start.old end.old }
     requires size { size.old ≡ length (first_line (slice_range buffer.old start.old end.old)) }
     ensures ordered { start.new ≤ end.new }
     ensures within { end.new ≤ length buffer.new }

@@ -1,7 +1,7 @@
 // The bytes before the separator, piece by piece.
-ghost use Rattle.std.specs.Prelude.{◌≡◌, ◌+◌, ◌-◌, ◌<◌, ◌≤◌, ◌&&◌, ℕ, true, false, length, take, drop};
+ghost use Rattle.std.specs.Prelude.{◌≡◌, ◌+◌, ◌-◌, ◌<◌, ◌≤◌, ◌&&◌, true, false, length};
 ghost use Rattle.rl_report.specs.Opening.{is_separator, IsPart};
-ghost use Rattle.rl_report.specs.Lines.{first_line, after_line};
+ghost use Rattle.rl_report.specs.Lines.{first_line};
 
 use crate::lines::without_return;
 

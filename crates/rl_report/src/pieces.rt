@@ -1,7 +1,7 @@
 // Pieces of text into a sink.
 ghost use Rattle.std.specs.Prelude.{◌≡◌, ◌≤◌, [], length, map, OnOk};
 ghost use Rattle.rl_bus.specs.Causes.{HasCause};
-ghost use Rattle.rl_report.specs.Pieces.{Puts, Gathers, joined};
+ghost use Rattle.rl_report.specs.Pieces.{Puts, GathersTo, SinkStays, joined};
 
 use crate::text::Text;
 use crate::{Failed, Sink};
@@ -26,7 +26,8 @@ pub fn put_all<K: Sink>(sink: &mut K, piece: &[u8]) -> Result<(), Failed>
 
 /// Writes these pieces, one after another. After a fault a front of them was written.
 pub fn put_pieces<K: Sink>(sink: &mut K, pieces: &[&[u8]]) -> Result<(), Failed>
-    ensures bytes { Puts (K.written sink.old) (K.written sink.new) (joined (map (λ piece. piece.now) pieces.now)) result }
+    ensures bytes { Puts (K.written sink.old) (K.written sink.new)
+        (joined (map (λ piece. piece.now) pieces.now)) result }
     ensures cause { HasCause (K.faults sink.old) (K.faults sink.new) result }
     ensures ends_kept { K.ends sink.new ≡ K.ends sink.old }
     ensures same_target { K.target sink.new ≡ K.target sink.old }
@@ -40,11 +41,9 @@ pub fn put_pieces<K: Sink>(sink: &mut K, pieces: &[&[u8]]) -> Result<(), Failed>
 // Writes what the text has, and empties it.
 #[cold]
 fn write_out<K: Sink>(sink: &mut K, text: &mut Text) -> Result<(), Failed>
-    ensures bytes { Gathers (K.written sink.old) (K.written sink.new) text.old text.new [] result }
+    ensures bytes { GathersTo K.Sink sink.old sink.new text.old text.new [] result }
     ensures empty { OnOk result (text.new ≡ []) }
-    ensures cause { HasCause (K.faults sink.old) (K.faults sink.new) result }
-    ensures ends_kept { K.ends sink.new ≡ K.ends sink.old }
-    ensures same_target { K.target sink.new ≡ K.target sink.old }
+    ensures stays { SinkStays K.Sink sink.old sink.new result }
 {
     put_all(sink, text.as_bytes())?;
     text.clear();
@@ -54,11 +53,9 @@ fn write_out<K: Sink>(sink: &mut K, text: &mut Text) -> Result<(), Failed>
 // Makes room behind the text, where it has too little.
 #[inline]
 pub(crate) fn make_room<K: Sink>(sink: &mut K, text: &mut Text) -> Result<(), Failed>
-    ensures bytes { Gathers (K.written sink.old) (K.written sink.new) text.old text.new [] result }
+    ensures bytes { GathersTo K.Sink sink.old sink.new text.old text.new [] result }
     ensures room { OnOk result (length text.new ≤ 384) }
-    ensures cause { HasCause (K.faults sink.old) (K.faults sink.new) result }
-    ensures ends_kept { K.ends sink.new ≡ K.ends sink.old }
-    ensures same_target { K.target sink.new ≡ K.target sink.old }
+    ensures stays { SinkStays K.Sink sink.old sink.new result }
 {
     if text.len() > FULL {
         return write_out(sink, text);
@@ -69,11 +66,9 @@ pub(crate) fn make_room<K: Sink>(sink: &mut K, text: &mut Text) -> Result<(), Fa
 // Writes a piece that the text has no room for, behind what the text has.
 #[cold]
 fn write_through<K: Sink>(sink: &mut K, text: &mut Text, piece: &[u8]) -> Result<(), Failed>
-    ensures bytes { Gathers (K.written sink.old) (K.written sink.new) text.old text.new piece.now result }
+    ensures bytes { GathersTo K.Sink sink.old sink.new text.old text.new piece.now result }
     ensures empty { OnOk result (text.new ≡ []) }
-    ensures cause { HasCause (K.faults sink.old) (K.faults sink.new) result }
-    ensures ends_kept { K.ends sink.new ≡ K.ends sink.old }
-    ensures same_target { K.target sink.new ≡ K.target sink.old }
+    ensures stays { SinkStays K.Sink sink.old sink.new result }
 {
     write_out(sink, text)?;
     put_all(sink, piece)
@@ -82,11 +77,9 @@ fn write_through<K: Sink>(sink: &mut K, text: &mut Text, piece: &[u8]) -> Result
 // Appends a piece to a text that is written later.
 #[inline(always)]
 pub(crate) fn gather<K: Sink>(sink: &mut K, text: &mut Text, piece: &[u8]) -> Result<(), Failed>
-    ensures bytes { Gathers (K.written sink.old) (K.written sink.new) text.old text.new piece.now result }
+    ensures bytes { GathersTo K.Sink sink.old sink.new text.old text.new piece.now result }
     ensures room { OnOk result (length text.new ≤ 384) }
-    ensures cause { HasCause (K.faults sink.old) (K.faults sink.new) result }
-    ensures ends_kept { K.ends sink.new ≡ K.ends sink.old }
-    ensures same_target { K.target sink.new ≡ K.target sink.old }
+    ensures stays { SinkStays K.Sink sink.old sink.new result }
 {
     if text.len() + piece.len() > FULL {
         return write_through(sink, text, piece);

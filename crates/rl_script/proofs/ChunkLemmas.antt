@@ -43,7 +43,8 @@ last_fails xs k h = in_two k xs ∙ ap (λ (b : Bool). list_all is_ascii (take k
 
 -- ---- the first byte that passes, in a text that is cut in two
 
-place_in_two : (p : ℕ → Bool) (k : ℕ) (xs : List ℕ) → position_or_len p xs ≡ cond (eqb (position_or_len p (take k xs)) (length (take k xs))) (length (take k xs) + position_or_len p (drop k xs)) (position_or_len p (take k xs))
+place_in_two : (p : ℕ → Bool) (k : ℕ) (xs : List ℕ)
+    → position_or_len p xs ≡ cond (eqb (position_or_len p (take k xs)) (length (take k xs))) (length (take k xs) + position_or_len p (drop k xs)) (position_or_len p (take k xs))
 place_in_two p k xs =
     ap (position_or_len p) (sym (take-append-drop k xs)) ∙ prefix_len-append (λ x. not (p x)) (take k xs) (drop k xs)
 
@@ -56,14 +57,16 @@ pub place_behind : (p : ℕ → Bool) (k : ℕ) (xs : List ℕ) → position_or_
 place_behind p k xs e = place_in_two p k xs ∙ cond-true _ _ _ (eq-eqb _ _ e)
 
 -- so many bytes of what is left come before the first that passes, and it stands in the chunk
-pub reached : (p : ℕ → Bool) (k len clear : ℕ) (chunk rest xs : List ℕ) → clear ≡ position_or_len p chunk → chunk ≡ take k rest → k ≤ length rest → clear < k → len + position_or_len p rest ≡ position_or_len p xs → len + clear ≡ position_or_len p xs
+pub reached : (p : ℕ → Bool) (k len clear : ℕ) (chunk rest xs : List ℕ) → clear ≡ position_or_len p chunk → chunk ≡ take k rest → k ≤ length rest → clear < k
+    → len + position_or_len p rest ≡ position_or_len p xs → len + clear ≡ position_or_len p xs
 reached p k len clear chunk rest xs counted is room short so_far =
     let found : clear ≡ position_or_len p (take k rest) = counted ∙ ap (position_or_len p) is in
     let first = place_in_front p k rest (omega (arith, found, length-take-le k rest room)) in
     ap (λ n. len + n) (found ∙ sym first) ∙ so_far
 
 -- no byte of the chunk passes
-pub passed : (p : ℕ → Bool) (k len clear : ℕ) (chunk rest xs : List ℕ) → clear ≡ position_or_len p chunk → chunk ≡ take k rest → k ≤ length rest → k ≤ clear → len + position_or_len p rest ≡ position_or_len p xs → (len + k) + position_or_len p (drop k rest) ≡ position_or_len p xs
+pub passed : (p : ℕ → Bool) (k len clear : ℕ) (chunk rest xs : List ℕ) → clear ≡ position_or_len p chunk → chunk ≡ take k rest → k ≤ length rest → k ≤ clear
+    → len + position_or_len p rest ≡ position_or_len p xs → (len + k) + position_or_len p (drop k rest) ≡ position_or_len p xs
 passed p k len clear chunk rest xs counted is room whole so_far =
     let found : clear ≡ position_or_len p (take k rest) = counted ∙ ap (position_or_len p) is in
     let long = length-take-le k rest room in

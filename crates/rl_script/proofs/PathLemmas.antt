@@ -231,25 +231,29 @@ past_place : (names first len : ℕ) (behind text : List ℕ) → begins_name fi
 past_place names first len behind text may_begin left =
     ap (λ (l : List ℕ). goes_on names (suc len) l) (from_place len behind) ∙ past_name names first len behind text may_begin left
 
-pub ends_path : (names first len : ℕ) (behind text : List ℕ) → begins_name first ≡ true → Left names first len behind text → len < 32 → names ≤ 9 → length (behind_name len behind) < 1 → true ≡ is_path text
+pub ends_path : (names first len : ℕ) (behind text : List ℕ) → begins_name first ≡ true → Left names first len behind text → len < 32 → names ≤ 9
+    → length (behind_name len behind) < 1 → true ≡ is_path text
 ends_path names first len behind text may_begin left short few none =
     sym (with_name names (suc len) few (omega arith) (omega arith))
     ∙ sym (ap (λ (l : List ℕ). goes_on names (suc len) l) (empty _ none))
     ∙ past_place names first len behind text may_begin left
 
 -- and goes on there with a byte
-with_byte : (names first len : ℕ) (behind text after : List ℕ) → begins_name first ≡ true → Left names first len behind text → after ≡ behind_name len behind → 1 ≤ length after → goes_on names (suc len) (get_or after 0 0 ∷ behind_first after) ≡ is_path text
+with_byte : (names first len : ℕ) (behind text after : List ℕ) → begins_name first ≡ true → Left names first len behind text → after ≡ behind_name len behind
+    → 1 ≤ length after → goes_on names (suc len) (get_or after 0 0 ∷ behind_first after) ≡ is_path text
 with_byte names first len behind text after may_begin left is some =
     sym (ap (λ (l : List ℕ). goes_on names (suc len) l) (first_and_behind after some))
     ∙ ap (λ (l : List ℕ). goes_on names (suc len) l) is
     ∙ past_place names first len behind text may_begin left
 
-pub next_begins : (names first len : ℕ) (behind text after : List ℕ) → begins_name first ≡ true → Left names first len behind text → len < 32 → after ≡ behind_name len behind → 1 ≤ length after → get_or after 0 0 ≡ 46 → goes_on (names + 1) 0 (behind_first after) ≡ is_path text
+pub next_begins : (names first len : ℕ) (behind text after : List ℕ) → begins_name first ≡ true → Left names first len behind text → len < 32
+    → after ≡ behind_name len behind → 1 ≤ length after → get_or after 0 0 ≡ 46 → goes_on (names + 1) 0 (behind_first after) ≡ is_path text
 next_begins names first len behind text after may_begin left short is some dot =
     sym (next_name names (suc len) (get_or after 0 0) (behind_first after) (byte_is_dot _ dot) (omega arith) (omega arith))
     ∙ with_byte names first len behind text after may_begin left is some
 
-pub refused_tenth : (names first len : ℕ) (behind text after : List ℕ) → begins_name first ≡ true → Left names first len behind text → names ≡ 9 → after ≡ behind_name len behind → 1 ≤ length after → get_or after 0 0 ≡ 46 → false ≡ is_path text
+pub refused_tenth : (names first len : ℕ) (behind text after : List ℕ) → begins_name first ≡ true → Left names first len behind text → names ≡ 9
+    → after ≡ behind_name len behind → 1 ≤ length after → get_or after 0 0 ≡ 46 → false ≡ is_path text
 refused_tenth names first len behind text after may_begin left full is some dot =
     sym (too_many_names (suc len) (get_or after 0 0) (behind_first after) (byte_is_dot _ dot))
     ∙ sym (ap (λ (n : ℕ). goes_on n (suc len) (get_or after 0 0 ∷ behind_first after)) full)
@@ -259,7 +263,8 @@ not_true : (b : Bool) → not b ≡ true → b ≡ false
 not_true true h = cc
 not_true false h = refl
 
-pub refused_byte : (names first len : ℕ) (behind text after : List ℕ) → begins_name first ≡ true → Left names first len behind text → (get_or after 0 0 ≡ 46 → ⊥) → after ≡ behind_name len behind → 1 ≤ length after → false ≡ is_path text
+pub refused_byte : (names first len : ℕ) (behind text after : List ℕ) → begins_name first ≡ true → Left names first len behind text
+    → (get_or after 0 0 ≡ 46 → ⊥) → after ≡ behind_name len behind → 1 ≤ length after → false ≡ is_path text
 refused_byte names first len behind text after may_begin left plain is some =
     let place : after ≡ drop (front behind) behind = is ∙ from_place len behind ∙ ap (λ (n : ℕ). drop n behind) left.1 in
     let outside : is_in_name (get_or after 0 0) ≡ false = not_true _ (sym (ap stops (first_and_behind after some)) ∙ ap stops place ∙ front_stops behind) in

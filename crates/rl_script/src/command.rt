@@ -2,7 +2,10 @@
 ghost use Rattle.std.specs.Prelude.{◌≡◌, find, ℕ};
 ghost use Rattle.std.specs.Str.{bytes_eq};
 ghost use Rattle.rl_script.specs.declared.command.Kind.TheVariants as Kind;
-ghost use Rattle.rl_script.specs.Commands.{row_of, kind_of, line_of, may_count, item_name, command_name, command_named, items, register_items, other_items, field_items, backdoor_items, memory_items, other_commands, sequence_name, sequence_named};
+ghost use Rattle.rl_script.specs.Commands.{row_of, kind_of, line_of, may_count, item_name, command_name};
+ghost use Rattle.rl_script.specs.Commands.{command_named, items, register_items, other_items, field_items};
+ghost use Rattle.rl_script.specs.Commands.{backdoor_items, memory_items, other_commands, sequence_name};
+ghost use Rattle.rl_script.specs.Commands.{sequence_named};
 
 use self::Command::OnItem;
 use crate::line::{Line, Sequence};
@@ -10,10 +13,14 @@ use crate::names::{Ident, Path};
 
 /// A command by its first word.
 #[derive(Clone, Copy, Debug, PartialEq, Eq)]
-pub(crate) enum Command {
+pub enum Command {
+    /// A command on one register, field or memory.
     OnItem(Item),
+    /// `burst-write`: writes locations of a memory, one for each value.
     BurstWrite,
+    /// `reset`: resets model and device.
     Reset,
+    /// `seq`: a sequence of checks.
     Seq,
 }
 
@@ -76,15 +83,18 @@ pub(crate) enum Kind {
     Memory,
 }
 
-/// What follows the path: so many numbers, and a map where the command takes one.
+/// What follows the path of a command on one item.
 #[derive(Clone, Copy, Debug, PartialEq, Eq)]
-pub(crate) struct Row {
-    pub(crate) numbers: usize,
-    pub(crate) map: bool,
+pub struct Row {
+    /// How many numbers, at most two.
+    pub numbers: usize,
+    /// Whether a map may come last.
+    pub map: bool,
 }
 
 impl Command {
-    pub(crate) fn name(self) -> &'static [u8]
+    /// The first word of its lines.
+    pub fn name(self) -> &'static [u8]
         ensures { result.now ≡ command_name self }
     {
         match self {
@@ -201,7 +211,8 @@ impl Item {
         memory_item(word)
     }
 
-    pub(crate) fn name(self) -> &'static [u8]
+    /// The first word of its lines.
+    pub fn name(self) -> &'static [u8]
         ensures { result.now ≡ item_name self }
     {
         match self {
@@ -231,7 +242,8 @@ impl Item {
         }
     }
 
-    pub(crate) fn row(self) -> Row
+    /// The command's operands behind the path.
+    pub fn row(self) -> Row
         ensures { result ≡ row_of self }
     {
         let (numbers, map) = match self {

@@ -17,9 +17,9 @@ mod values;
 mod words;
 mod write;
 
-pub use command::Item;
+pub use command::{Command, Item, Row};
 pub use fault::LineFault;
-pub use law::spelling_reads;
+pub use law::{spelling_is_short, spelling_reads};
 pub use line::{Line, Sequence};
 pub use line_ref::{ItemLine, LineRef};
 pub use names::{Ident, IdentRef, Path, PathRef};

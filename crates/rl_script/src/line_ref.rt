@@ -13,7 +13,9 @@ use std::alloc::{AllocError, Global};
 /// A number that the command lacks is 0, and a map that it lacks or that isn't named is none.
 #[derive(Debug, Drop)]
 pub struct ItemLine<'a> {
+    /// The command.
     pub item: Item,
+    /// The register, field or memory.
     pub path: PathRef<'a>,
     /// The value, or for a memory the index of the location.
     pub first: u64,

@@ -3,7 +3,8 @@ ghost use Rattle.std.specs.Prelude.{◌≡◌, ◌∷◌, [], ◌++◌, map, IfO
 ghost use Rattle.rl_policy.specs.Numbers.{spelled};
 ghost use Rattle.rl_script.specs.Commands.{command_name, line_kind, sequence_name};
 ghost use Rattle.rl_script.specs.declared.command.Kind.TheVariants as Kind;
-ghost use Rattle.rl_script.specs.Spelling.{spaced, joined, map_words, item_words, burst_words, block_word, words_of_line, spelling, MayBeWritten};
+ghost use Rattle.rl_script.specs.Spelling.{spaced, joined, map_words, item_words, burst_words, block_word};
+ghost use Rattle.rl_script.specs.Spelling.{words_of_line, spelling, MayBeWritten};
 
 use crate::command::{Command, Item};
 use crate::line::{Line, Sequence};
@@ -212,7 +213,8 @@ fn put_burst(
 }
 
 fn put_sequence(out: &mut Vec<u8>, which: Sequence, block: &Option<Path>) -> Result<(), AllocError>
-    ensures { OnOk result (out.new.items ≡ out.old.items ++ joined (command_name Command.Seq ∷ sequence_name which ∷ block_word block.now ∷ [])) }
+    ensures { OnOk result (out.new.items ≡ out.old.items
+        ++ joined (command_name Command.Seq ∷ sequence_name which ∷ block_word block.now ∷ [])) }
 {
     put_words(out, Command::Seq.name(), which.name())?;
     match block {

@@ -1,4 +1,4 @@
-use Rattle.rl_report.specs.EventText.{event_text}
+use Rattle.rl_report.specs.Event.{event_text}
 use Rattle.rl_report.proofs.GatherLemmas.{gathers_more, gathers_last, gathers_failed}
 use Rattle.rl_report.proofs.event.put_event.Goals as goal
 

@@ -16,7 +16,8 @@ overflow_add-size g c =
     let old = slice_range c.args.buffer.now c.args.start.now c.args.end.now in
     let more = slice_range new to (to + n) in
     let whole = slice_range new from (to + n) in
-    let sum = grown_line old more whole c.args.size.now c.line_len.result (spliced _ new from to n m.ordered e.before ∙ ap (λ l. l ++ more) m.same) c.requires.none_whole c.requires.size c.line_len.ensures in
+    let sum = grown_line old more whole c.args.size.now c.line_len.result
+    (spliced _ new from to n m.ordered e.before ∙ ap (λ l. l ++ more) m.same) c.requires.none_whole c.requires.size c.line_len.ensures in
     let part = length_part new from (to + n) (omega arith) (omega arith) in
     omega (arith, sum, first_within whole, part)
 

@@ -24,17 +24,21 @@ pub returns-then-size-held : goal.returns-then-size-held
 returns-then-size-held c =
     let held = c.args.held.now in
     let size = c.args.size in
-    part_of_whole _ _ _ size c.is_separator-separator.result _ (line_front held size c.requires) (line_within held size c.requires) c.is_separator-separator.ensures (omega arith) (line_behind held size c.requires) c.whole_line.ensures.separator c.whole_line.ensures.text
+    part_of_whole _ _ _ size c.is_separator-separator.result _ (line_front held size c.requires)
+    (line_within held size c.requires) c.is_separator-separator.ensures (omega arith) (line_behind held size c.requires) c.whole_line.ensures.separator c.whole_line.ensures.text
 
 pub returns-then-ended : goal.returns-then-ended
 returns-then-ended c =
     let held = c.args.held.now in
     let size = c.args.size in
-    part_of_last _ _ _ size c.is_separator-separator.result _ (line_front held size c.requires) (line_within held size c.requires) c.is_separator-separator.ensures (omega arith) c.if-ended.true (line_behind held size c.requires) c.last_line.ensures.separator c.last_line.ensures.end
+    part_of_last _ _ _ size c.is_separator-separator.result _ (line_front held size c.requires)
+    (line_within held size c.requires) c.is_separator-separator.ensures (omega arith) c.if-ended.true
+    (line_behind held size c.requires) c.last_line.ensures.separator c.last_line.ensures.end
 
 pub returns : goal.returns
 returns c =
     let held = c.args.held.now in
     let size = c.args.size in
     let f = c.is_too_few.ensures in
-    part_of_text _ _ c.args.ended size c.is_separator-separator.result End (line_front held size c.requires) (line_within held size c.requires) c.is_separator-separator.ensures (omega arith) (f.some c.if-is_too_few.false) (f.many c.if-is_too_few.false)
+    part_of_text _ _ c.args.ended size c.is_separator-separator.result End (line_front held size c.requires)
+    (line_within held size c.requires) c.is_separator-separator.ensures (omega arith) (f.some c.if-is_too_few.false) (f.many c.if-is_too_few.false)

@@ -20,5 +20,6 @@ returns c =
     let few : n ≤ c.args.size = omega (arith, s, size) in
     c.pass.ensures ∙ same_reading _ _ _ _ _ _ _ _ _ _ _ _ _ _
     (ap (drop c.args.taken) pending)
-    (range_front i.buffer.items i.start (i.start + c.args.size) n (omega arith) ∙ f ∙ w ∙ ap (strip_last 13) (range_front i.buffer.items i.start i.end c.args.size (omega arith) ∙ ap (take c.args.size) pending))
+    (range_front i.buffer.items i.start (i.start + c.args.size) n (omega arith) ∙ f ∙ w ∙ ap (strip_last 13)
+    (range_front i.buffer.items i.start i.end c.args.size (omega arith) ∙ ap (take c.args.size) pending))
     (ap (λ r. r.asked) c.self.view_is) (ap (λ r. r.found) c.self.view_is) (ap (λ r. r.refused) c.self.view_is) (ap (λ r. r.ended) c.self.view_is) (ap (λ r. r.closed) c.self.view_is)

@@ -11,4 +11,5 @@ returns c =
     let fits : c.args.size ≤ i.end - i.start = omega (arith, ap length pending, c.requires) in
     same_reading _ _ _ _ _ _ _ _ _ _ _ _ _ _
     (range_less i.buffer.items i.start i.end c.args.size (omega arith) ∙ ap (drop c.args.size) pending)
-    (ap (λ r. r.line) c.self.view_is) (ap (λ r. r.asked) c.self.view_is) (ap (λ r. r.found) c.self.view_is) (ap (λ r. r.refused) c.self.view_is) (ap (λ r. r.ended) c.self.view_is) (ap (λ r. r.closed) c.self.view_is)
+    (ap (λ r. r.line) c.self.view_is) (ap (λ r. r.asked) c.self.view_is) (ap (λ r. r.found) c.self.view_is) (ap (λ r. r.refused) c.self.view_is)
+    (ap (λ r. r.ended) c.self.view_is) (ap (λ r. r.closed) c.self.view_is)

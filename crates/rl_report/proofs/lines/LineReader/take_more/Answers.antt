@@ -25,5 +25,13 @@ invariant_of-self-2 g c =
     let i = c.self.inside in
     let new = c.refill.new in
     let len = c.refill.auto.buffer in
-    let whole = take_at new.buffer (drop (length new.buffer) i.buffer.items) i.buffer.len (omega (arith, len, c.deref_mut-2.ensures.len)) in
-    (c.refill.ensures.ordered, omega (arith, len, c.deref_mut-2.ensures.len), omega arith, omega arith, omega arith, omega arith, c.refill.ensures.size ∙ ap (λ l. length (first_line (slice_range l new.start new.end))) (sym whole))
+    let whole = take_at new.buffer (drop (length new.buffer) i.buffer.items) i.buffer.len (omega (arith, len, c.deref_mut-2.ensures.len)) in (
+      c.refill.ensures.ordered,
+      omega (arith, len, c.deref_mut-2.ensures.len),
+      omega arith,
+      omega arith,
+      omega arith,
+      omega arith,
+      c.refill.ensures.size ∙ ap
+          (λ l. length (first_line (slice_range l new.start new.end))) (sym whole),
+    )

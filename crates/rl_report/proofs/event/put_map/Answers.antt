@@ -1,6 +1,0 @@
-use Rattle.rl_report.proofs.GatherLemmas.{gathers_more, gathers_last, pushed}
-use Rattle.rl_report.proofs.event.put_map.Goals as goal
-
-pub returns-clause-bytes : goal.returns-clause-bytes
-returns-clause-bytes g c =
-    rw c.in-Some.is (gathers_more _ _ _ _ _ _ _ _ _ (pushed _ _ _ _ c.push.ensures.text) (gathers_last _ _ _ _ _ _ (rw (c.map_name.ensures, c.layout.ensures.layout) at c.gather.ensures.bytes)))

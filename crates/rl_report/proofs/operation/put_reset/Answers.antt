@@ -1,0 +1,15 @@
+use Rattle.rl_report.specs.Operation.{kind_text}
+use Rattle.rl_report.proofs.GatherLemmas.{gathers_more, gathers_last, gathers_failed, pushed}
+use Rattle.rl_report.proofs.OperationLemmas.{same_text, reset_pieces}
+use Rattle.rl_report.proofs.operation.put_reset.Goals as goal
+
+pub returns-in_err-gather-clause-bytes : goal.returns-in_err-gather-clause-bytes
+returns-in_err-gather-clause-bytes g c =
+    same_text _ _ _ _ _ _ _ (reset_pieces (kind_text c.args.model.now.chip c.args.kind))
+    (gathers_failed _ _ _ _ _ _ _ c.from_residual.ensures.0 (rw (c.name.ensures) at c.in_err-gather.ensures.bytes.part))
+
+pub returns-clause-bytes : goal.returns-clause-bytes
+returns-clause-bytes g c =
+    same_text _ _ _ _ _ _ _ (reset_pieces (kind_text c.args.model.now.chip c.args.kind))
+    (gathers_more _ _ _ _ _ _ _ _ _ (rw (c.name.ensures) at c.in_ok-gather.ensures.bytes.whole) (gathers_more _ _ _ _ _ _ _ _ _ (pushed _ _ _ _ c.push.ensures.text)
+    (gathers_last _ _ _ _ _ _ (rw (c.kind_name.ensures) at c.gather-2.ensures.bytes))))
