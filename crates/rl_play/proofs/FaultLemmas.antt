@@ -31,7 +31,7 @@ still_going old new later going = incomplete old (λ e. true≢false (sym (later
 
 -- ---- a fault
 
-nothing_from : (number : ℕ) (w : World) (lines : List (List ℕ)) → lines ≡ [] → lines_text number w lines ≡ []
+pub nothing_from : (number : ℕ) (w : World) (lines : List (List ℕ)) → lines ≡ [] → lines_text number w lines ≡ []
 unfolding lines_text
 nothing_from number w lines none = ap (lines_text number w) none
 
@@ -72,7 +72,7 @@ first_text number w bytes taken s is =
     ∙ ap (λ s. text_on (comes_of w s) (λ w. lines_text (number + 1) w (whole_lines taken))) (sym is)
 
 -- where these are the world's
-breaks_at : (number : ℕ) (m : ModelData) (a : List Standing) (st : Option State) (w : World)
+pub breaks_at : (number : ℕ) (m : ModelData) (a : List Standing) (st : Option State) (w : World)
     (input left old new : Option (List ℕ)) (bytes : List ℕ) → IsAt m a st w → input ≡ Some bytes
     → Breaks number m a st input left old new
     → BreaksAfter number w bytes left old new
