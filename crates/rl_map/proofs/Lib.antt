@@ -33,3 +33,4 @@ pub mod Keeping
 pub mod EvenTests
 pub mod Linking
 pub mod Owner
+pub mod Counting
