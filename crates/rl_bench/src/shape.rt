@@ -11,8 +11,11 @@ use rl_policy::word::replaced;
 /// What accesses do to the bits of a register, and which bits are stuck at which values.
 #[derive(Debug, Clone, Copy)]
 pub struct Shape {
+    /// The bits by what accesses do to them.
     pub effects: Effects,
+    /// The bits that are stuck.
     pub stuck: u64,
+    /// The values of the stuck bits, and 0 elsewhere.
     pub values: u64,
 }
 

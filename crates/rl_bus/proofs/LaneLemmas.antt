@@ -1,5 +1,5 @@
 -- The lanes of a bus word.
-use Rattle.std.proofs.Common.{◌≡◌, ℕ, ◌+◌, ◌-◌, ◌*◌, ◌/◌, ◌%◌, ◌<◌, Bool, true, false, ◌&&◌, ◌||◌, cond, eqb, ltb, Option, Some, None, is_some, refl, ap, ◌∙◌, arith, add-one}
+use Rattle.std.proofs.Common.{◌≡◌, ℕ, zero, suc, ◌+◌, ◌-◌, ◌*◌, ◌/◌, ◌%◌, ◌<◌, Bool, true, false, ◌&&◌, ◌||◌, cond, eqb, ltb, Option, Some, None, is_some, refl, ap, ◌∙◌, subst, arith, add-one, eqb-true}
 use Rattle.std.specs.Prelude.{slice_index}
 use Rattle.std.proofs.lemmas.Bool.Decides.{nat_tests}
 use Rattle.rl_policy.specs.Bits.{bit, is_within, put_bit, from_bits}
@@ -14,6 +14,17 @@ lane_below-none s j = refl
 pub lane_below-more : (l : ℕ) (s : Lanes) (j : ℕ) → lane_below (l + 1) s j ≡ cond (bit s.enabled l && eqb (slice_index s.bytes l) j) (Some l) (lane_below l s j)
 unfolding lane_below
 lane_below-more l s j = rw add-one refl
+
+-- the lane that carries a byte is enabled and names it
+pub found_lane : (n : ℕ) (s : Lanes) (j l : ℕ) → lane_below n s j ≡ Some l → (l < n) × ((bit s.enabled l ≡ true) × (slice_index s.bytes l ≡ j))
+unfolding lane_below
+found_lane zero s j l e = absurd cc
+found_lane (suc k) s j l e = by (bit s.enabled k) (eqb (slice_index s.bytes k) j) refl refl e (found_lane k s j l)
+  where
+    by : (a t : Bool) → bit s.enabled k ≡ a → eqb (slice_index s.bytes k) j ≡ t → cond (a && t) (Some k) (lane_below k s j) ≡ Some l → (lane_below k s j ≡ Some l → (l < k) × ((bit s.enabled l ≡ true) × (slice_index s.bytes l ≡ j))) → (l < suc k) × ((bit s.enabled l ≡ true) × (slice_index s.bytes l ≡ j))
+    by true true p q e more = let same : k ≡ l = cc in (omega arith, (subst (λ l. bit s.enabled l ≡ true) same p, subst (λ l. slice_index s.bytes l ≡ j) same (eqb-true _ j q)))
+    by true false p q e more = let h = more e in (omega (arith, h.0), (h.1.0, h.1.1))
+    by false t p q e more = let h = more e in (omega (arith, h.0), (h.1.0, h.1.1))
 
 -- bit b lies in byte j
 pub byte_within : (j b : ℕ) → is_within (8 * j) 8 b ≡ eqb j (b / 8)

@@ -43,7 +43,8 @@ quotient n a some = by (cases_lt (a % n + 1) n)
 by_words : (access : Access) (level : Level) → access.word ≡ true → (address : ℕ)
     → address * div_ceil access.bytes level.bytes * stride_of level ≡ units_before access level address
 by_words access level e zero = let none : 0 * div_ceil access.bytes level.bytes * stride_of level ≡ 0 = omega arith in none
-by_words access level e (suc a) = rw e (one_more a (div_ceil access.bytes level.bytes) (stride_of level) ∙ ap (λ x. x + div_ceil access.bytes level.bytes * stride_of level) (by_words access level e a))
+by_words access level e (suc a) =
+    rw e (one_more a (div_ceil access.bytes level.bytes) (stride_of level) ∙ ap (λ x. x + div_ceil access.bytes level.bytes * stride_of level) (by_words access level e a))
   where
     one_more : (x c s : ℕ) → suc x * c * s ≡ x * c * s + c * s
     one_more x c s = omega arith

@@ -1,3 +1,4 @@
+pub mod Tests
 pub mod Chunks
 pub mod Climb
 pub mod Apart

@@ -1,6 +1,7 @@
 //! What holds of every path of maps and every item. These functions do nothing; their contracts are the
 //! laws, which are this project's own.
-ghost use Rattle.rl_map.specs.Laws.{EverySeatApart, EveryAddressApart, EveryItemPartitioned, ByteAddressedAlike, EveryAddressCounted};
+ghost use Rattle.rl_map.specs.Laws.{EverySeatApart, EveryAddressApart};
+ghost use Rattle.rl_map.specs.Laws.{EveryItemPartitioned, ByteAddressedAlike, EveryAddressCounted};
 
 /// No two bytes of an item have one lane of one word; the bytes of one word have one address.
 pub fn seats_stand_apart()

@@ -2,7 +2,7 @@ use Rattle.std.proofs.Common.{sym, ap, ◌∙◌}
 use Rattle.std.specs.Prelude.{option_map}
 use Rattle.rl_model.specs.declared.rows.Item.TheVariants as item
 use Rattle.rl_map.proofs.Accepting.{item_reg, item_other}
-use Rattle.rl_map.proofs.places.item_at.Goals as goal
+use Rattle.rl_map.proofs.checks.item_at.Goals as goal
 
 pub returns-in-Some : goal.returns-in-Some
 returns-in-Some c = record {
@@ -17,4 +17,5 @@ returns-in-Some-mem_by_path c = record {
 }
 
 pub returns-in-None-mem_by_path-clause-exact : goal.returns-in-None-mem_by_path-clause-exact
-returns-in-None-mem_by_path-clause-exact c = ap (λ o. option_map (λ n. item.Mem n) o) (sym c.in-None-mem_by_path.is) ∙ item_other c.args.chip.now c.args.path.now _ _ c.reg_by_path.ensures c.in-None.is c.mem_by_path.ensures
+returns-in-None-mem_by_path-clause-exact c = ap (λ o. option_map (λ n. item.Mem n) o) (sym c.in-None-mem_by_path.is)
+    ∙ item_other c.args.chip.now c.args.path.now _ _ c.reg_by_path.ensures c.in-None.is c.mem_by_path.ensures

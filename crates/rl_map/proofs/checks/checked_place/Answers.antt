@@ -4,7 +4,7 @@ use Rattle.rl_map.proofs.Placing.{room_is}
 use Rattle.std.proofs.lemmas.Result.{err_from_is_err_and}
 use Rattle.rl_map.specs.Building.{placed_at, placed_in}
 use Rattle.rl_map.proofs.Accepting.{own_lined, own_words, seat_is, told}
-use Rattle.rl_map.proofs.places.checked_place.Goals as goal
+use Rattle.rl_map.proofs.checks.checked_place.Goals as goal
 
 pub returns-clause-room : goal.returns-clause-room
 returns-clause-room c =
