@@ -1,12 +1,11 @@
 -- The cases of one item.
-use Rattle.std.proofs.Common.{◌≡◌, ℕ, ◌<◌, ◌^◌, ◌*◌, ◌≤◌, ◌/◌, zero, suc, Bool, true, false, cond, ◌&&◌, List, [], ◌∷◌, length, get_or, refl, sym, ap, ◌∙◌, arith, Option, Some, None, subst, ⊎_elim}
+use Rattle.std.proofs.Common.{◌≡◌, ℕ, ◌<◌, ◌^◌, ◌*◌, ◌≤◌, ◌/◌, zero, suc, Bool, true, false, cond, ◌&&◌, List, [], ◌∷◌, length, get_or, refl, sym, ap, ◌∙◌, arith, Some, None, subst, ⊎_elim}
 use Rattle.std.specs.Prelude.{slice_get, filter, position, is_some}
 use mathlib.Core.Path.{fun_ext}
 use Rattle.rl_bus.specs.declared.op.BusOp.{BusOp}
 use Rattle.rl_bus.specs.declared.table.WordRow.{WordRow}
 use Rattle.rl_bus.specs.Setup.{Setup, stands_for, stands_at, words_at}
 use Rattle.rl_bus.specs.State.{State, counted, word_at, word_shown, shown_bit, is_faulty, after_word, after_touch, answer_at, beats_back, beats_on, state_after, answer_of}
-use Rattle.rl_bench.specs.Beats.{beats_of}
 use Rattle.rl_bench.specs.Board.{IsSetup, IsWordIn}
 use Rattle.rl_bench.proofs.BeatLemmas.{position_found}
 use Rattle.rl_bus.specs.Lanes.{IsWidth, all_lanes}

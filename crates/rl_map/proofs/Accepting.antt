@@ -32,7 +32,7 @@ use Rattle.rl_map.proofs.Lookups.{read_is}
 use Rattle.rl_map.proofs.Growing.{rows_more}
 use Rattle.rl_map.proofs.Placing.{length-rows_of}
 use Rattle.rl_map.proofs.Refusing.{first_append}
-use Rattle.rl_map.proofs.Tests.{lt_true, not_true}
+use Rattle.rl_map.proofs.Bools.{lt_true, not_true}
 use Rattle.rl_map.proofs.Lists.{append_twice, dropped}
 
 -- ---- an item by its path

@@ -1,12 +1,10 @@
 -- A layout that was built is sound.
-use Rattle.std.proofs.Common.{◌≡◌, ◌≢◌, ℕ, zero, suc, ◌+◌, ◌*◌, ◌%◌, ◌^◌, ◌<◌, ◌≤◌, ◌⊎◌, inl, inr, Bool, true, false, not, ◌==◌, ◌&&◌, ◌||◌, cond, List, [], ◌∷◌, length, get_or, map, nat_lt, refl, sym, ap, ◌∙◌, subst, arith, eq-eqb, eqb-true}
+use Rattle.std.proofs.Common.{◌≡◌, ◌≢◌, ℕ, zero, suc, ◌+◌, ◌*◌, ◌%◌, ◌^◌, ◌<◌, ◌⊎◌, inl, inr, Bool, true, false, not, ◌==◌, ◌&&◌, ◌||◌, cond, List, [], ◌∷◌, length, get_or, map, nat_lt, refl, sym, ap, ◌∙◌, subst, arith, eq-eqb, eqb-true}
 use Rattle.std.specs.Prelude.{All, filter, flat_map, Contains, IsPermutation}
 use Rattle.std.specs.List.{list_any, range_with_len, AllByRecursion}
 use Rattle.std.specs.List.Sorted.{IsStableByKey}
 use Rattle.std.specs.Ordering.{nat_cmp, is_lt}
 use Rattle.std.specs.declared.cmp.Ordering.TheVariants.{Less, Equal, Greater}
-use Rattle.std.proofs.lemmas.Bool.{cases_lt}
-use Rattle.std.proofs.lemmas.Bool.Decides.{nat_tests}
 use Rattle.std.proofs.lemmas.List.Elements.{Contains-append_left, Contains-append_right, All-from_recursion}
 use Rattle.std.proofs.lemmas.List.Sorted.{Contains-permutation, length_permutation, All-permutation}
 use Rattle.rl_model.specs.Rows.{ChipData}
@@ -23,7 +21,7 @@ use Rattle.rl_map.specs.Access.{IsAligned, through}
 use Rattle.rl_map.specs.Seat.{access_of}
 use Rattle.rl_map.specs.Words.{no_word}
 use Rattle.rl_map.specs.Layout.{LayoutData, no_map, no_port, no_place, place_at, port_at, path_of, location_of, words_of, row_of, has_right, key_of, IsLocation, IsRowOf, IsAscending, IsSound}
-use Rattle.rl_map.specs.Maps.{location_rows, place_rows, all_rows, IsBuiltWith}
+use Rattle.rl_map.specs.Maps.{location_rows, place_rows, all_rows}
 use Rattle.rl_map.specs.Faults.{is_above, is_askew, is_unaligned}
 use Rattle.rl_map.specs.Locations.{AreStraight}
 use Rattle.rl_map.specs.Building.{IsPortRow, AreTables, IsPlaceRow, IsSeated, ArePlaces, path_in, placed_in, rows_of_all, rows_clash, NoRowsClash}
@@ -32,7 +30,7 @@ use Rattle.rl_map.proofs.Lookups.{default_any}
 use Rattle.rl_map.proofs.Growing.{none_of}
 use Rattle.rl_map.proofs.Sorting.{standing_by_key}
 use Rattle.rl_map.proofs.Sound.{IsTested, NoneClash, KeepsOrder, may_not, all_rows_are, sound_of}
-use Rattle.rl_map.proofs.Tests.{both, differ, ge_from, lt_false, lt_true, or_false, three, true_false}
+use Rattle.rl_map.proofs.Bools.{both, differ, ge_from, lt_false, lt_true, or_false, three, true_false}
 
 -- ---- what the tests say
 

@@ -1,5 +1,5 @@
 -- Addresses that are carried between two maps, counted unit by unit.
-use Rattle.std.proofs.Common.{◌≡◌, ℕ, zero, suc, ◌+◌, ◌*◌, ◌/◌, ◌%◌, ◌<◌, ◌≤◌, ◌≢◌, ◌==◌, ◌⊎◌, inl, inr, Bool, true, false, cond, refl, sym, ap, ◌∙◌, arith, eq-eqb, eqb-true}
+use Rattle.std.proofs.Common.{◌≡◌, ℕ, zero, suc, ◌+◌, ◌*◌, ◌/◌, ◌%◌, ◌<◌, ◌≤◌, ◌==◌, ◌⊎◌, inl, inr, Bool, true, false, cond, refl, sym, ap, ◌∙◌, arith, eq-eqb, eqb-true}
 use Rattle.std.specs.Int.{div_ceil}
 use Rattle.std.proofs.Math.Nat.{mod-lt, zero-div}
 use Rattle.std.proofs.lemmas.Bool.{cases_lt}
@@ -8,7 +8,7 @@ use Rattle.rl_map.specs.declared.path.Level.{Level}
 use Rattle.rl_map.specs.declared.seat.Access.{Access}
 use Rattle.rl_map.specs.Level.{stride_of}
 use Rattle.rl_map.specs.Access.{carried}
-use Rattle.rl_map.specs.Laws.{units_of, units_before, EveryAddressCounted}
+use Rattle.rl_map.specs.Laws.{units_before, EveryAddressCounted}
 
 unequal : (x : ℕ) → 0 < x → (x == 0) ≡ false
 unequal x some = by (x == 0) refl

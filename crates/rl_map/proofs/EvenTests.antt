@@ -18,7 +18,7 @@ use Rattle.rl_map.specs.Locations.{AreStraight}
 use Rattle.rl_map.proofs.Growing.{none_of, is_none_of}
 use Rattle.rl_map.proofs.Closing.{aligned_from, straight_from}
 use Rattle.rl_map.proofs.Even.{step_even, multiple_even, aligned_even, step_of, seat_even}
-use Rattle.rl_map.proofs.Tests.{ge_from, or_false}
+use Rattle.rl_map.proofs.Bools.{ge_from, or_false}
 
 -- ---- one byte
 

@@ -6,7 +6,6 @@ use Rattle.std.proofs.Math.Nat.{min-eq_left, min-eq_right}
 use Rattle.std.proofs.Math.ListN.{get_or-map}
 use Rattle.std.proofs.Math.Seq.{get_or-append_seam}
 use Rattle.std.proofs.lemmas.Bool.{cases_lt}
-use Rattle.std.proofs.lemmas.Bool.Decides.{nat_tests}
 use Rattle.std.proofs.lemmas.List.{get_or_append_left}
 use Rattle.std.proofs.lemmas.List.Sums.{position_or_len_is}
 use Rattle.std.proofs.lemmas.List.Quantifiers.{position-Some}
@@ -29,7 +28,7 @@ use Rattle.rl_map.proofs.Lists.{filter_none, all_flat, append_twice, mapped_leng
 use Rattle.rl_map.proofs.Sorting.{some_row}
 use Rattle.rl_map.proofs.Sound.{IsTested}
 use Rattle.rl_map.proofs.Sharing.{placed_of, may_not_both, Shares, StandsAt, word_at_byte, byte_at_word, stands_from, stands_to, shares_least, made_shares}
-use Rattle.rl_map.proofs.Tests.{and_true, at_zero, both, lt_false, lt_true, not_true, some_is}
+use Rattle.rl_map.proofs.Bools.{and_true, at_zero, both, lt_false, lt_true, not_true, some_is}
 
 -- ---- positions
 

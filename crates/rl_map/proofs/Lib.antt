@@ -1,4 +1,4 @@
-pub mod Tests
+pub mod Bools
 pub mod Chunks
 pub mod Climb
 pub mod Apart

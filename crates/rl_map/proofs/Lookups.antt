@@ -1,5 +1,5 @@
 -- What the look-ups of a layout find.
-use Rattle.std.proofs.Common.{◌≡◌, ℕ, zero, suc, ◌^◌, ◌<◌, ◌≤◌, Bool, true, false, ◌==◌, ◌&&◌, cond, List, [], ◌∷◌, length, get_or, map, Option, Some, None, refl, sym, ap, ◌∙◌, subst, arith, eqb-true}
+use Rattle.std.proofs.Common.{◌≡◌, ℕ, zero, suc, ◌<◌, ◌≤◌, Bool, true, false, ◌==◌, ◌&&◌, cond, List, [], ◌∷◌, length, get_or, map, Option, Some, None, refl, sym, ap, ◌∙◌, subst, arith, eqb-true}
 use Rattle.std.specs.Prelude.{filter, find, slice_get}
 use Rattle.std.specs.List.{AllByRecursion}
 use Rattle.std.proofs.lemmas.List.Elements.{recursion_from_All}
@@ -15,13 +15,11 @@ use Rattle.rl_map.specs.declared.rows.MapRow.{MapRow}
 use Rattle.rl_map.specs.declared.rows.PortRow.{PortRow}
 use Rattle.rl_map.specs.declared.rows.PlaceRow.{PlaceRow}
 use Rattle.rl_map.specs.declared.rows.Here.{Here}
-use Rattle.rl_map.specs.declared.seat.Seat.{Seat}
 use Rattle.rl_map.specs.Seat.{seat_of, AddressesFit}
 use Rattle.rl_map.specs.Words.{item_words, words_with, no_word}
-use Rattle.rl_map.specs.Layout.{LayoutData, no_map, no_port, no_place, map_at, port_at, place_at, location_of, words_of, seat_at, row_of, index_of, has_right, lets_through, standing, here_of, found, words_here, words_found, same_item, is_in, place_of, IsLocation, IsRowOf, IsHere, IsSound}
-use Rattle.rl_map.proofs.Fitting.{as_many}
+use Rattle.rl_map.specs.Layout.{LayoutData, no_place, map_at, port_at, place_at, location_of, words_of, seat_at, row_of, index_of, has_right, lets_through, standing, here_of, found, words_here, words_found, same_item, is_in, place_of, IsLocation, IsRowOf, IsHere, IsSound}
 use Rattle.rl_map.proofs.Lists.{filter_both, filter_find, filter_found, mapped_length}
-use Rattle.rl_map.proofs.Tests.{and_true}
+use Rattle.rl_map.proofs.Bools.{and_true}
 
 -- ---- reads
 

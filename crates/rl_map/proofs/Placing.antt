@@ -26,7 +26,7 @@ use Rattle.rl_map.proofs.Fitting.{as_many}
 use Rattle.rl_map.proofs.Lookups.{read_is}
 use Rattle.rl_map.proofs.Growing.{none_of, rows_more, flat_more}
 use Rattle.std.proofs.Common.{map as mapped}
-use Rattle.rl_map.proofs.Tests.{or_false, ge_from}
+use Rattle.rl_map.proofs.Bools.{or_false, ge_from}
 use Rattle.rl_map.proofs.Lists.{all_appended, append_twice, mapped_length}
 
 pub room_is : (maps : List MapRow) (ports : List PortRow) (words : ℕ) (p : PlaceRow) (map : MapRow) (port : PortRow) (path : List Level)

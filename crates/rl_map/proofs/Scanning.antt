@@ -1,12 +1,9 @@
 -- Rows of one address, as a scan over ascending rows meets them.
 use Rattle.std.proofs.Common.{◌≡◌, ◌≢◌, ℕ, zero, suc, ◌+◌, ◌-◌, ◌<◌, ◌≤◌, ◌⊎◌, inl, inr, Bool, true, false, ◌==◌, List, [], ◌∷◌, length, get_or, take, drop, refl, sym, ap, ◌∙◌, subst, arith, eqb-true, eq-eqb}
-use Rattle.std.specs.Prelude.{All}
 use Rattle.std.proofs.lemmas.Bool.{cases_lt}
 use Rattle.std.proofs.lemmas.List.{get_or-take, length-take-le}
 use Rattle.rl_bus.specs.declared.table.WordRow.{WordRow}
-use Rattle.rl_map.specs.declared.rows.PlaceRow.{PlaceRow}
 use Rattle.rl_map.specs.Layout.{key_of, IsAscending}
-use Rattle.rl_map.specs.Building.{rows_clash}
 use Rattle.rl_map.proofs.Lookups.{default_any}
 
 -- the rows from `start` to `k` are those of one address, and those before are of smaller ones

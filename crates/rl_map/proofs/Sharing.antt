@@ -1,9 +1,7 @@
 -- The first clash of rows is the first refusal for a shared address.
-use Rattle.std.proofs.Common.{◌≡◌, ◌≢◌, ℕ, zero, suc, ◌+◌, ◌*◌, ◌^◌, ◌<◌, ◌≤◌, inl, inr, Bool, true, false, not, ◌==◌, ◌&&◌, ◌||◌, nat_lt, List, length, get_or, Option, refl, sym, ap, ◌∙◌, subst, arith, eqb-true, eq-eqb}
+use Rattle.std.proofs.Common.{◌≡◌, ◌≢◌, ℕ, zero, suc, ◌+◌, ◌*◌, ◌^◌, ◌<◌, ◌≤◌, Bool, true, false, not, ◌==◌, ◌&&◌, ◌||◌, List, length, get_or, Option, refl, sym, ap, ◌∙◌, subst, arith, eqb-true, eq-eqb}
 use Rattle.std.specs.Prelude.{All, IsPermutation}
 use Rattle.std.specs.List.{list_any, range_with_len}
-use Rattle.std.proofs.lemmas.Bool.{cases_lt}
-use Rattle.std.proofs.lemmas.Bool.Decides.{nat_tests}
 use Rattle.std.proofs.lemmas.List.FromFn.{get_or-map-range_with_len, length-map-range_with_len}
 use Rattle.std.proofs.lemmas.List.Sorted.{Contains-permutation}
 use Rattle.rl_bus.specs.declared.table.WordRow.{WordRow}
@@ -28,7 +26,7 @@ use Rattle.rl_map.proofs.Growing.{is_some_of}
 use Rattle.rl_map.proofs.Sound.{IsTested, is_path}
 use Rattle.rl_map.proofs.Closing.{row_in}
 use Rattle.std.proofs.lemmas.Nat.{same_from_place}
-use Rattle.rl_map.proofs.Tests.{and_true, both, differ, lt_false, lt_true, three}
+use Rattle.rl_map.proofs.Bools.{and_true, both, differ, lt_false, lt_true, three}
 
 -- ---- bytes and words
 

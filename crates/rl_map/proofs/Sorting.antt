@@ -1,5 +1,5 @@
 -- Rows by port and address.
-use Rattle.std.proofs.Common.{◌≡◌, ℕ, zero, suc, ◌+◌, ◌*◌, ◌^◌, ◌<◌, ◌≤◌, ◌-◌, ◌⊎◌, inl, inr, Bool, true, false, ◌&&◌, ◌==◌, List, [], ◌∷◌, ◌++◌, length, get_or, subst, take, drop, nat_lt, nat_le, refl, sym, ap, ◌∙◌, arith, eq-eqb, eqb-true}
+use Rattle.std.proofs.Common.{◌≡◌, ℕ, zero, suc, ◌+◌, ◌*◌, ◌^◌, ◌<◌, ◌≤◌, ◌-◌, ◌⊎◌, inl, inr, Bool, true, false, ◌==◌, List, [], ◌∷◌, ◌++◌, length, get_or, subst, take, drop, nat_le, refl, sym, ap, ◌∙◌, arith, eq-eqb, eqb-true}
 use Rattle.std.specs.Prelude.{filter, All}
 use Rattle.std.specs.List.{AllByRecursion, AllWithin}
 use Rattle.std.proofs.lemmas.Bool.{cases_lt}
@@ -13,7 +13,7 @@ use Rattle.rl_bus.specs.Setup.{stands_at}
 use Rattle.rl_map.specs.Layout.{key_of}
 use Rattle.rl_map.proofs.Lists.{filter_none, filter_all, filter_same, all_below, all_from}
 use Rattle.rl_map.proofs.Lookups.{default_any}
-use Rattle.rl_map.proofs.Tests.{and_true, both}
+use Rattle.rl_map.proofs.Bools.{and_true, both}
 
 -- ---- a key tells port and address
 

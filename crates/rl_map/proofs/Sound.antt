@@ -1,6 +1,6 @@
 -- What a build has tested of a layout makes it sound.
-use Rattle.std.proofs.Common.{◌≡◌, ◌≢◌, ℕ, zero, suc, ◌+◌, ◌^◌, ◌<◌, ◌≤◌, ◌⊎◌, inl, inr, Bool, true, false, ◌==◌, ◌&&◌, cond, List, [], ◌∷◌, ◌++◌, length, get_or, map, refl, sym, ap, ◌∙◌, subst, arith, eq-eqb, eqb-true}
-use Rattle.std.specs.Prelude.{filter, flat_map, IsPermutation}
+use Rattle.std.proofs.Common.{◌≡◌, ◌≢◌, ℕ, zero, suc, ◌^◌, ◌<◌, ◌≤◌, ◌⊎◌, inl, inr, Bool, true, false, ◌==◌, ◌&&◌, cond, List, [], ◌∷◌, length, get_or, map, refl, sym, ap, ◌∙◌, subst, arith, eq-eqb, eqb-true}
+use Rattle.std.specs.Prelude.{filter, IsPermutation}
 use Rattle.std.specs.List.{AllByRecursion, range_with_len}
 use Rattle.std.proofs.lemmas.List.Elements.{recursion_from_All, All-from_recursion}
 use Rattle.std.proofs.lemmas.List.Sorted.{All-permutation}
@@ -25,7 +25,7 @@ use Rattle.rl_map.proofs.WordsApart.{words_apart}
 use Rattle.rl_map.proofs.Reaching.{parts_from, reach_from}
 use Rattle.rl_map.proofs.Fitting.{AreOn, words_fit}
 use Rattle.rl_map.proofs.Lists.{filter_both, filter_flat, filter_mapped, filter_none, filter_same, flat_nothing, flat_one, all_flat, mapped_length}
-use Rattle.rl_map.proofs.Tests.{and_true, at_zero, not_true, true_false}
+use Rattle.rl_map.proofs.Bools.{and_true, at_zero, not_true, true_false}
 
 pub record IsTested (l : LayoutData) : Type 0 where
   pub maps : length l.maps ≤ 64

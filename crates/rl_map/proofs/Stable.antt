@@ -5,13 +5,12 @@ use Rattle.std.specs.List.{AllByRecursion}
 use Rattle.std.specs.List.Sorted.{IsStableByKey}
 use Rattle.std.specs.Ordering.{nat_cmp}
 use Rattle.std.proofs.lemmas.Bool.{cases_lt}
-use Rattle.std.proofs.lemmas.Bool.Decides.{nat_tests}
 use Rattle.rl_bus.specs.declared.table.WordRow.{WordRow}
 use Rattle.rl_map.specs.Layout.{key_of, IsAscending}
 use Rattle.rl_map.specs.Maps.{row_into, by_address}
 use Rattle.rl_map.proofs.Lists.{filter_none}
 use Rattle.rl_map.proofs.Closing.{same_key}
-use Rattle.rl_map.proofs.Tests.{ge_from, lt_from}
+use Rattle.rl_map.proofs.Bools.{ge_from, lt_from}
 
 abbrev at_key : ℕ → WordRow → Bool
 at_key key r = key_of r == key

@@ -1,5 +1,5 @@
 use Rattle.std.proofs.Common.{◌≡◌, ◌/◌, sym, arith, ◌∙◌}
-use Rattle.std.specs.Prelude.{slice_index, true, false}
+use Rattle.std.specs.Prelude.{true, false}
 use Rattle.rl_policy.specs.Bits.{bit}
 use Rattle.rl_policy.proofs.BitLemmas.{bit-zero, is_from_bits, bit-or}
 use Rattle.rl_bus.specs.Spread.{lane_below}
