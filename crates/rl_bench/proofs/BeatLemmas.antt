@@ -25,7 +25,8 @@ same_address words p a q c k h g =
     one_address (get_or words k no_word) p a q c x.1 y.1
 
 -- one beat set, seen from any address
-pub set_one : (words : List WordRow) (beats : List ℕ) (port address k value p a : ℕ) → length beats ≡ length words → position (stands_at port address) words ≡ Some k → beats_of words (set beats k value) p a ≡ cond (eqb p port && (eqb a address)) value (beats_of words beats p a)
+pub set_one : (words : List WordRow) (beats : List ℕ) (port address k value p a : ℕ) → length beats ≡ length words
+    → position (stands_at port address) words ≡ Some k → beats_of words (set beats k value) p a ≡ cond (eqb p port && (eqb a address)) value (beats_of words beats p a)
 set_one words beats port address k value p a same here = by (position (stands_at p a) words) refl
   where
     within : k < length beats

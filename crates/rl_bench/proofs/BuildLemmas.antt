@@ -38,7 +38,8 @@ stuck_bit (Some j) c x = refl
 stuck_bit None true x = refl
 stuck_bit None false x = refl
 
-pub stuck_value : (o : Option StuckRow) (c : Bool) (x : StuckRow) → (or_else (value_of o) false || ((c && not (is_some (value_of o))) && x.value)) ≡ or_else (value_of (option_or o (cond c (Some x) None))) false
+pub stuck_value : (o : Option StuckRow) (c : Bool) (x : StuckRow)
+    → (or_else (value_of o) false || ((c && not (is_some (value_of o))) && x.value)) ≡ or_else (value_of (option_or o (cond c (Some x) None))) false
 stuck_value (Some j) c x = by c j.value
   where
     by : (c v : Bool) → (v || ((c && false) && x.value)) ≡ v

@@ -14,7 +14,8 @@ own_address : (w : WordRow) (p a : ℕ) → stands_at p a w ≡ true → w.addre
 own_address w p a t = grind (arith, nat_tests)
 
 -- of the address where the first word stands
-pub stretch_of_hint : (words : List WordRow) (s : Stretch) (p a : ℕ) (d : WordRow) → IsHint words s → s.first < s.end → stands_at p a (get_or words s.first d) ≡ true → IsStretch (stands_at p a) words s.first s.end
+pub stretch_of_hint : (words : List WordRow) (s : Stretch) (p a : ℕ) (d : WordRow) → IsHint words s → s.first < s.end
+    → stands_at p a (get_or words s.first d) ≡ true → IsStretch (stands_at p a) words s.first s.end
 stretch_of_hint words s p a d h some t =
     let w : WordRow = get_or words s.first d in
     let P : ℕ → Type 0 = λ q. IsStretch (stands_at q w.address) words s.first s.end in

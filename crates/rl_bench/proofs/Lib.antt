@@ -4,7 +4,6 @@ pub mod CellLemmas
 pub mod DepositLemmas
 pub mod HeldLemmas
 pub mod HintLemmas
-pub mod LaneLemmas
 pub mod ListLemmas
 pub mod MaskLemmas
 pub mod NamedLemmas

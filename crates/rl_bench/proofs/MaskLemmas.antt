@@ -11,20 +11,23 @@ use Rattle.rl_bench.specs.Masks.{owned_test, IsMaskOf, more_owned, more_owned_bi
 use Rattle.std.specs.Int.{bit_not, w64}
 
 -- the bits of a field whose effect is e join the mask of those before
-mask_more_bit : (test : Policy → Bool) (m w s : Bool) (p : Policy) (o : Option Policy) → m ≡ owned_test test o → w ≡ owned_test (λ q. true) o → (m || ((s && not w) && test p)) ≡ owned_test test (more_owned_bit o s p)
+mask_more_bit : (test : Policy → Bool) (m w s : Bool) (p : Policy) (o : Option Policy) → m ≡ owned_test test o
+    → w ≡ owned_test (λ q. true) o → (m || ((s && not w) && test p)) ≡ owned_test test (more_owned_bit o s p)
 mask_more_bit test m w true p None h k = grind arith
 mask_more_bit test m w false p None h k = grind arith
 mask_more_bit test m w true p (Some q) h k = grind arith
 mask_more_bit test m w false p (Some q) h k = grind arith
 
-pub mask_more : (test : Policy → Bool) (own : ℕ → Option Policy) (m w s e : ℕ) (p : Policy) → w < 2 ^ 64 → IsMaskOf own test m → IsMaskOf own (λ q. true) w → ((b : ℕ) → b < 64 → bit e b ≡ test p) → IsMaskOf (more_owned own (bit s) p) test (bit_or m (bit_and (bit_and s (bit_not w64 w)) e))
+pub mask_more : (test : Policy → Bool) (own : ℕ → Option Policy) (m w s e : ℕ) (p : Policy) → w < 2 ^ 64 → IsMaskOf own test m
+    → IsMaskOf own (λ q. true) w → ((b : ℕ) → b < 64 → bit e b ≡ test p) → IsMaskOf (more_owned own (bit s) p) test (bit_or m (bit_and (bit_and s (bit_not w64 w)) e))
 mask_more test own m w s e p fits before owned effect b k =
     bit-or m _ b
     ∙ ap (λ x. bit m b || x) (bit-and _ e b ∙ ap (λ x. x && bit e b) (bit-and s _ b ∙ ap (λ x. bit s b && x) (bit-not w b fits k)) ∙ ap (λ x. (bit s b && not (bit w b)) && x) (effect b k))
     ∙ mask_more_bit test (bit m b) (bit w b) (bit s b) p (own b) (before b k) (owned b k)
 
 -- any effect is that of its four cases
-four_cases : (p : Policy) (x w : Bool) → after_write p x w false ≡ cond w (cond x (after_write p true true false) (after_write p false true false)) (cond x (after_write p true false false) (after_write p false false false))
+four_cases : (p : Policy) (x w : Bool)
+    → after_write p x w false ≡ cond w (cond x (after_write p true true false) (after_write p false true false)) (cond x (after_write p true false false) (after_write p false false false))
 four_cases p true true = refl
 four_cases p true false = refl
 four_cases p false true = refl

@@ -26,7 +26,8 @@ named_back s place beats named same p a write some = rw (same p a) (by (is_of_pl
     by false = named p a write some
 
 -- and then a beat other than 0 is still that of an address where words queue
-pub quiet_back : (words : List WordRow) (old new : List ℕ) (place : ℕ) → IsQuiet words old → ((p a : ℕ) → beats_of words new p a ≡ cond (has_place words place p a) 0 (beats_of words old p a)) → IsQuiet words new
+pub quiet_back : (words : List WordRow) (old new : List ℕ) (place : ℕ) → IsQuiet words old
+    → ((p a : ℕ) → beats_of words new p a ≡ cond (has_place words place p a) 0 (beats_of words old p a)) → IsQuiet words new
 quiet_back words old new place quiet same p a few = same p a ∙ by (has_place words place p a)
   where
     by : (b : Bool) → cond b 0 (beats_of words old p a) ≡ 0
@@ -34,7 +35,9 @@ quiet_back words old new place quiet same p a few = same p a ∙ by (has_place w
     by false = quiet p a few
 
 -- any other item
-pub named_on : (s : State) (port : ℕ) (op : BusOp) (w : WordRow) (st : State) (beats : ℕ → ℕ → ℕ) → HasEvenWords s.setup → BeatsNameWords s → word_at s port op ≡ Some w → is_faulty (counted s) port op ≡ false → st ≡ after_word (counted s) op w → ((p a : ℕ) → beats p a ≡ beats_on (counted s) port op p a) → BeatsNameWords (record st { beats = beats })
+pub named_on : (s : State) (port : ℕ) (op : BusOp) (w : WordRow) (st : State) (beats : ℕ → ℕ → ℕ) → HasEvenWords s.setup → BeatsNameWords s
+    → word_at s port op ≡ Some w → is_faulty (counted s) port op ≡ false → st ≡ after_word (counted s) op w
+    → ((p a : ℕ) → beats p a ≡ beats_on (counted s) port op p a) → BeatsNameWords (record st { beats = beats })
 named_on s port op w st beats even named h f e same = subst BeatsNameWords (sym (touched_state s port op w st beats h f e same)) (keeps_beats.item s port op even named)
 
 abbrev answered : ℕ → Bool → Answer

@@ -5,7 +5,7 @@ use Rattle.std.specs.List.{list_any}
 use Rattle.std.proofs.lemmas.Bool.Decides.{nat_tests}
 use Rattle.std.proofs.lemmas.Bool.{cases_lt, cases_eq, false≢true}
 use Rattle.std.proofs.lemmas.List.Folds.{list_any_none, list_any-append, list_any_at, list_any_more}
-use Rattle.std.proofs.lemmas.List.{take_all, get_or-set_other, length-replicate}
+use Rattle.std.proofs.lemmas.List.{get_or-set_other, length-replicate}
 use Rattle.std.proofs.lemmas.List.Elements.{All-append, All-cons, All-nil}
 use Rattle.std.proofs.lemmas.List.Filters.{length-filter_more}
 use Rattle.std.proofs.lemmas.List.Quantifiers.{position-Some}
@@ -47,7 +47,8 @@ both_le : {X : Type 0} (p q : X → Bool) (xs : List X) → length (filter (λ x
 both_le p q [] = omega arith
 both_le p q (x ∷ xs) = by (p x) (q x) (both_le p q xs)
   where
-    by : (b c : Bool) → length (filter (λ x. p x && q x) xs) ≤ length (filter p xs) → length (cond (b && c) (x ∷ filter (λ x. p x && q x) xs) (filter (λ x. p x && q x) xs)) ≤ length (cond b (x ∷ filter p xs) (filter p xs))
+    by : (b c : Bool) → length (filter (λ x. p x && q x) xs) ≤ length (filter p xs)
+        → length (cond (b && c) (x ∷ filter (λ x. p x && q x) xs) (filter (λ x. p x && q x) xs)) ≤ length (cond b (x ∷ filter p xs) (filter p xs))
     by true true h = omega (arith, h)
     by true false h = omega (arith, h)
     by false c h = h
@@ -93,7 +94,8 @@ some_passes : {X : Type 0} (p : X → Bool) (xs : List X) (d : X) → 0 < length
 some_passes p [] d l = absurd (omega (arith, l))
 some_passes p (x ∷ xs) d l = by (p x) refl l (some_passes p xs d)
   where
-    by : (b : Bool) → p x ≡ b → 0 < length (cond b (x ∷ filter p xs) (filter p xs)) → (0 < length (filter p xs) → (i : ℕ) × (i < length xs) × (p (get_or xs i d) ≡ true)) → (i : ℕ) × (i < length (x ∷ xs)) × (p (get_or (x ∷ xs) i d) ≡ true)
+    by : (b : Bool) → p x ≡ b → 0 < length (cond b (x ∷ filter p xs) (filter p xs))
+        → (0 < length (filter p xs) → (i : ℕ) × (i < length xs) × (p (get_or xs i d) ≡ true)) → (i : ℕ) × (i < length (x ∷ xs)) × (p (get_or (x ∷ xs) i d) ≡ true)
     by true e m rest = (0, omega arith, e)
     by false e m rest = let r = rest m in (suc r.0, omega (arith, r.1), r.2)
 
@@ -111,7 +113,8 @@ place_of_queue words q p a k place h e t =
     (subst (λ n. has_place words q.place w.port n ≡ true) at.1 h.place))
 
 -- no queue of an address names a place without a word there
-lacks : (words : List WordRow) (queues : List Queue) (p a k place : ℕ) → AreQueuesOf words queues → position (stands_at p a) words ≡ Some k → has_place words place p a ≡ false → list_any (is_queue k place) queues ≡ false
+lacks : (words : List WordRow) (queues : List Queue) (p a k place : ℕ) → AreQueuesOf words queues → position (stands_at p a) words ≡ Some k
+    → has_place words place p a ≡ false → list_any (is_queue k place) queues ≡ false
 lacks words queues p a k place h e none = list_any_none (is_queue k place) queues (λ i d l. one (get_or queues i d) (h.each i d l))
   where
     one : (q : Queue) → IsQueueIn words q → is_queue k place q ≡ false
@@ -125,7 +128,8 @@ zero_cond : (b : Bool) → ◌≡◌ {A = ℕ} 0 (cond b 0 0)
 zero_cond true = refl
 zero_cond false = refl
 
-pub back_is : (words : List WordRow) (all : List Queue) (old new : List ℕ) (place : ℕ) → AreQueuesOf words all → IsQuiet words old → ((k : ℕ) → slice_index new k ≡ cond (list_any (is_queue k place) all) 0 (slice_index old k)) → (p a : ℕ) → beats_of words new p a ≡ cond (has_place words place p a) 0 (beats_of words old p a)
+pub back_is : (words : List WordRow) (all : List Queue) (old new : List ℕ) (place : ℕ) → AreQueuesOf words all → IsQuiet words old
+    → ((k : ℕ) → slice_index new k ≡ cond (list_any (is_queue k place) all) 0 (slice_index old k)) → (p a : ℕ) → beats_of words new p a ≡ cond (has_place words place p a) 0 (beats_of words old p a)
 back_is words all old new place h quiet done p a = by (position (stands_at p a) words) refl
   where
     at : (k : ℕ) → position (stands_at p a) words ≡ Some k → (b : Bool) → has_place words place p a ≡ b → cond (list_any (is_queue k place) all) 0 (slice_index old k) ≡ cond b 0 (slice_index old k)
@@ -146,15 +150,8 @@ back_is words all old new place h quiet done p a = by (position (stands_at p a) 
 
 -- what stays quiet
 
-pub quiet_back : (words : List WordRow) (old new : List ℕ) (place : ℕ) → IsQuiet words old → ((p a : ℕ) → beats_of words new p a ≡ cond (has_place words place p a) 0 (beats_of words old p a)) → IsQuiet words new
-quiet_back words old new place quiet done p a few = done p a ∙ ap (cond (has_place words place p a) 0) (quiet p a few) ∙ sym (zero_cond (has_place words place p a))
-
 next_zero : (beat n : ℕ) → n ≤ 1 → cond (ltb (beat + 1) n) (beat + 1) 0 ≡ 0
 next_zero beat n k = grind (arith, nat_tests)
-
-set_zero : (b : Bool) (next : ℕ) → next ≡ 0 → cond b next 0 ≡ 0
-set_zero true next h = h
-set_zero false next h = refl
 
 same_both : (p port a address : ℕ) (c : Bool) → (eqb p port && eqb a address && c) ≡ true → (p ≡ port) × (a ≡ address)
 same_both p port a address true h = grind (arith, nat_tests)
@@ -164,7 +161,9 @@ same_both p port a address false h = let bad : ⊥ = none (eqb p port && eqb a a
     none true h = cc
     none false h = cc
 
-pub quiet_set : (words : List WordRow) (old new : List ℕ) (port address beat : ℕ) (write c : Bool) → IsQuiet words old → ((p a : ℕ) → beats_of words new p a ≡ cond (eqb p port && eqb a address && c) (cond (ltb (beat + 1) (length (filter (stands_for port address write) words))) (beat + 1) 0) (beats_of words old p a)) → IsQuiet words new
+pub quiet_set : (words : List WordRow) (old new : List ℕ) (port address beat : ℕ) (write c : Bool) → IsQuiet words old
+    → ((p a : ℕ) → beats_of words new p a ≡ cond (eqb p port && eqb a address && c)
+    (cond (ltb (beat + 1) (length (filter (stands_for port address write) words))) (beat + 1) 0) (beats_of words old p a)) → IsQuiet words new
 quiet_set words old new port address beat write c quiet done p a few =
     done p a ∙ by (eqb p port && eqb a address && c) refl
   where
@@ -200,7 +199,9 @@ keeps_zero true old h = h refl
 keeps_zero false old h = refl
 
 -- where no words queue, the list may be shorter, and the beat is 0
-set_short : (words : List WordRow) (beats : List ℕ) (port address i j p a : ℕ) → IsQuiet words beats → ((write : Bool) → count_for words port address write ≤ 1) → IsStretch (stands_at port address) words i j → beats_of words (cond (ltb i j) (slice_set beats i 0) beats) p a ≡ cond (eqb p port && eqb a address && is_some (position (stands_at port address) words)) 0 (beats_of words beats p a)
+set_short : (words : List WordRow) (beats : List ℕ) (port address i j p a : ℕ) → IsQuiet words beats
+    → ((write : Bool) → count_for words port address write ≤ 1) → IsStretch (stands_at port address) words i j
+    → beats_of words (cond (ltb i j) (slice_set beats i 0) beats) p a ≡ cond (eqb p port && eqb a address && is_some (position (stands_at port address) words)) 0 (beats_of words beats p a)
 set_short words beats port address i j p a quiet few s =
     ⊎_elim
     (λ (l : i < j).
@@ -217,7 +218,10 @@ set_short words beats port address i j p a quiet few s =
     same = keeps_zero (eqb p port && eqb a address && c) (beats_of words beats p a)
         (λ e. let at = same_both p port a address c e in rw (at.0, at.1) (quiet port address few))
 
-pub set_is : (words : List WordRow) (beats : List ℕ) (port address i j value beat p a : ℕ) (write : Bool) → HasBeats words beats → IsQuiet words beats → value ≡ cond (ltb (beat + 1) (count_for words port address write)) (beat + 1) 0 → IsStretch (stands_at port address) words i j → beats_of words (cond (ltb i j) (slice_set beats i value) beats) p a ≡ cond (eqb p port && eqb a address && is_some (position (stands_at port address) words)) value (beats_of words beats p a)
+pub set_is : (words : List WordRow) (beats : List ℕ) (port address i j value beat p a : ℕ) (write : Bool) → HasBeats words beats
+    → IsQuiet words beats → value ≡ cond (ltb (beat + 1) (count_for words port address write)) (beat + 1) 0
+    → IsStretch (stands_at port address) words i j → beats_of words (cond (ltb i j) (slice_set beats i value) beats) p a ≡ cond
+    (eqb p port && eqb a address && is_some (position (stands_at port address) words)) value (beats_of words beats p a)
 set_is words beats port address i j value beat p a write beaten quiet next s = by (queues_there words port address)
   where
     c : Bool
@@ -242,7 +246,8 @@ no_queue words p a write h m =
     let there : has_place words w.place p a ≡ true = list_any_at (λ v. stands_at p a v && eqb v.place w.place) words at.0 no_word at.1 own in
     false≢true (h.all p a w.place write m there)
 
-pub first_beaten : (words : List WordRow) (queues : List Queue) (beats : List ℕ) (n : ℕ) → AreQueuesOf words queues → n ≡ length words → beats ≡ replicate (cond (eqb (length queues) 0) 0 n) 0 → HasBeats words beats
+pub first_beaten : (words : List WordRow) (queues : List Queue) (beats : List ℕ) (n : ℕ) → AreQueuesOf words queues → n ≡ length words
+    → beats ≡ replicate (cond (eqb (length queues) 0) 0 n) 0 → HasBeats words beats
 first_beaten words [] beats n h long e p a write m = absurd (no_queue words p a write h m)
 first_beaten words (q ∷ queues) beats n h long e p a write m =
     let some : eqb (length (q ∷ queues)) 0 ≡ false = grind (arith, nat_tests) in
@@ -271,7 +276,8 @@ own_queue k place = grind (arith, nat_tests)
 -- the queues of the words so far
 pub record AreQueuesSoFar (words : List WordRow) (n : ℕ) (queues : List Queue) : Type 0 where
   pub each : (i : ℕ) (d : Queue) → i < length queues → IsQueueIn words (get_or queues i d)
-  pub all : (p a place : ℕ) (write : Bool) → 1 < count_for words p a write → has_place (take n words) place p a ≡ true → list_any (is_queue (unwrap_or (position (stands_at p a) words) 0) place) queues ≡ true
+  pub all : (p a place : ℕ) (write : Bool) → 1 < count_for words p a write → has_place (take n words) place p a ≡ true
+      → list_any (is_queue (unwrap_or (position (stands_at p a) words) 0) place) queues ≡ true
 
 pub no_queues : (words : List WordRow) → AreQueuesSoFar words 0 []
 no_queues words = record {
@@ -279,40 +285,42 @@ no_queues words = record {
   all = λ p a place write more some. let bad : ⊥ = cc in absurd bad;
 }
 
-pub all_queues : (words : List WordRow) (n : ℕ) (queues : List Queue) → length words ≤ n → AreQueuesSoFar words n queues → AreQueuesOf words queues
-all_queues words n queues l h = record {
-  each = h.each;
-  all = λ p a place write more some. h.all p a place write more (ap (λ ws. has_place ws place p a) (take_all n words l) ∙ some);
-}
-
 drop_false : (x : Bool) → (x || false) ≡ true → x ≡ true
 drop_false true h = refl
 drop_false false h = h
 
-more_place : (words : List WordRow) (n : ℕ) (w : WordRow) (p a place : ℕ) → n < length words → w ≡ get_or words n w → has_place (take (n + 1) words) place p a ≡ (has_place (take n words) place p a || (stands_at p a w && eqb w.place place))
+more_place : (words : List WordRow) (n : ℕ) (w : WordRow) (p a place : ℕ) → n < length words → w ≡ get_or words n w
+    → has_place (take (n + 1) words) place p a ≡ (has_place (take n words) place p a || (stands_at p a w && eqb w.place place))
 more_place words n w p a place l is =
     list_any_more (λ w. stands_at p a w && eqb w.place place) words n w l
     ∙ ap (λ v. has_place (take n words) place p a || (stands_at p a v && eqb v.place place)) (sym is)
 
 -- how many of a direction stand at the address of a word
-count_here : (words : List WordRow) (w : WordRow) (p a place : ℕ) (write : Bool) → (stands_at p a w && eqb w.place place) ≡ true → count_for words w.port w.address write ≤ 1 → count_for words p a write ≤ 1
+count_here : (words : List WordRow) (w : WordRow) (p a place : ℕ) (write : Bool) → (stands_at p a w && eqb w.place place) ≡ true
+    → count_for words w.port w.address write ≤ 1 → count_for words p a write ≤ 1
 count_here words w p a place write e few =
     let at = one_address w w.port w.address p a (stands_at_own w) (left (stands_at p a w) (eqb w.place place) e) in
     subst (λ n. count_for words n a write ≤ 1) at.0 (subst (λ n. count_for words w.port n write ≤ 1) at.1 few)
 
 -- no words queue at the address of the word at n
-few_all : (words : List WordRow) (n : ℕ) (queues : List Queue) (w : WordRow) (p a place : ℕ) (write : Bool) → count_for words w.port w.address write ≤ 1 → AreQueuesSoFar words n queues → 1 < count_for words p a write → (b : Bool) → (stands_at p a w && eqb w.place place) ≡ b → (has_place (take n words) place p a || b) ≡ true → list_any (is_queue (unwrap_or (position (stands_at p a) words) 0) place) queues ≡ true
+few_all : (words : List WordRow) (n : ℕ) (queues : List Queue) (w : WordRow) (p a place : ℕ) (write : Bool)
+    → count_for words w.port w.address write ≤ 1 → AreQueuesSoFar words n queues → 1 < count_for words p a write → (b : Bool)
+    → (stands_at p a w && eqb w.place place) ≡ b → (has_place (take n words) place p a || b) ≡ true → list_any (is_queue (unwrap_or (position (stands_at p a) words) 0) place) queues ≡ true
 few_all words n queues w p a place write few h more true e some = absurd (omega (arith, more, count_here words w p a place write e few))
 few_all words n queues w p a place write few h more false e some = h.all p a place write more (drop_false (has_place (take n words) place p a) some)
 
-pub few_more : (words : List WordRow) (n : ℕ) (queues : List Queue) (w : WordRow) → n < length words → w ≡ get_or words n w → ((write : Bool) → count_for words w.port w.address write ≤ 1) → AreQueuesSoFar words n queues → AreQueuesSoFar words (n + 1) queues
+pub few_more : (words : List WordRow) (n : ℕ) (queues : List Queue) (w : WordRow) → n < length words → w ≡ get_or words n w
+    → ((write : Bool) → count_for words w.port w.address write ≤ 1) → AreQueuesSoFar words n queues → AreQueuesSoFar words (n + 1) queues
 few_more words n queues w l is few h = record {
   each = h.each;
   all = λ p a place write more some. few_all words n queues w p a place write (few write) h more (stands_at p a w && eqb w.place place) refl (sym (more_place words n w p a place l is) ∙ some);
 }
 
 -- the word at n gets a queue
-many_all : (words : List WordRow) (n : ℕ) (queues : List Queue) (w : WordRow) (i j p a place : ℕ) (write : Bool) → IsStretch (stands_at w.port w.address) words i j → i < j → AreQueuesSoFar words n queues → 1 < count_for words p a write → (b : Bool) → (stands_at p a w && eqb w.place place) ≡ b → (has_place (take n words) place p a || b) ≡ true → list_any (is_queue (unwrap_or (position (stands_at p a) words) 0) place) (queues ++ record { first = i; place = w.place } ∷ []) ≡ true
+many_all : (words : List WordRow) (n : ℕ) (queues : List Queue) (w : WordRow) (i j p a place : ℕ) (write : Bool)
+    → IsStretch (stands_at w.port w.address) words i j → i < j → AreQueuesSoFar words n queues → 1 < count_for words p a write → (b : Bool)
+    → (stands_at p a w && eqb w.place place) ≡ b → (has_place (take n words) place p a || b) ≡ true
+    → list_any (is_queue (unwrap_or (position (stands_at p a) words) 0) place) (queues ++ record { first = i; place = w.place } ∷ []) ≡ true
 many_all words n queues w i j p a place write s less h more true e some =
     let q : Queue = record { first = i; place = w.place } in
     let at = one_address w w.port w.address p a (stands_at_own w) (left (stands_at p a w) (eqb w.place place) e) in
@@ -332,29 +340,35 @@ many_all words n queues w i j p a place write s less h more false e some =
     ∙ or_left _ (is_queue (unwrap_or (position (stands_at p a) words) 0) place q) (h.all p a place write more (drop_false (has_place (take n words) place p a) some))
 
 -- the queue of a word names a place with a word there
-queue_in : (words : List WordRow) (n : ℕ) (w : WordRow) (i j : ℕ) → n < length words → w ≡ get_or words n w → IsStretch (stands_at w.port w.address) words i j → i < j → IsQueueIn words (record { first = i; place = w.place })
+queue_in : (words : List WordRow) (n : ℕ) (w : WordRow) (i j : ℕ) → n < length words → w ≡ get_or words n w
+    → IsStretch (stands_at w.port w.address) words i j → i < j → IsQueueIn words (record { first = i; place = w.place })
 queue_in words n w i j l is s less =
     let first = get_or words i no_word in
     let inside : i < length words = omega (arith, less, s.within) in
     let stands : stands_at w.port w.address first ≡ true = s.inside i no_word (omega arith) less in
     let at = one_address first w.port w.address first.port first.address stands (stands_at_own first) in
-    let own : (stands_at w.port w.address (get_or words n w) && eqb (get_or words n w).place w.place) ≡ true = rw (← is) (both_true (stands_at w.port w.address w) (eqb w.place w.place) (stands_at_own w) (place_own w.place)) in
+    let own : (stands_at w.port w.address (get_or words n w) && eqb (get_or words n w).place w.place) ≡ true =
+    rw (← is) (both_true (stands_at w.port w.address w) (eqb w.place w.place) (stands_at_own w) (place_own w.place)) in
     let there : has_place words w.place w.port w.address ≡ true = list_any_at (λ v. stands_at w.port w.address v && eqb v.place w.place) words n w l own in
     record {
       inside = inside;
       place = subst (λ n. has_place words w.place n first.address ≡ true) at.0 (subst (λ n. has_place words w.place w.port n ≡ true) at.1 there);
     }
 
-each_push : (words : List WordRow) (queues : List Queue) (q : Queue) → ((i : ℕ) (d : Queue) → i < length queues → IsQueueIn words (get_or queues i d)) → IsQueueIn words q → (i : ℕ) (d : Queue) → i < length (queues ++ q ∷ []) → IsQueueIn words (get_or (queues ++ q ∷ []) i d)
+each_push : (words : List WordRow) (queues : List Queue) (q : Queue)
+    → ((i : ℕ) (d : Queue) → i < length queues → IsQueueIn words (get_or queues i d)) → IsQueueIn words q → (i : ℕ) (d : Queue)
+    → i < length (queues ++ q ∷ []) → IsQueueIn words (get_or (queues ++ q ∷ []) i d)
 each_push words queues q each last i d l = All-append (IsQueueIn words) queues (q ∷ []) each (All-cons (IsQueueIn words) q [] last (All-nil (IsQueueIn words))) i d l
 
-pub many_more : (words : List WordRow) (n : ℕ) (queues : List Queue) (w : WordRow) (i j : ℕ) → n < length words → w ≡ get_or words n w → IsStretch (stands_at w.port w.address) words i j → i < j → AreQueuesSoFar words n queues → AreQueuesSoFar words (n + 1) (queues ++ record { first = i; place = w.place } ∷ [])
+pub many_more : (words : List WordRow) (n : ℕ) (queues : List Queue) (w : WordRow) (i j : ℕ) → n < length words → w ≡ get_or words n w
+    → IsStretch (stands_at w.port w.address) words i j → i < j → AreQueuesSoFar words n queues → AreQueuesSoFar words (n + 1) (queues ++ record { first = i; place = w.place } ∷ [])
 many_more words n queues w i j l is s less h = record {
   each = each_push words queues (record { first = i; place = w.place }) h.each (queue_in words n w i j l is s less);
   all = λ p a place write more some. many_all words n queues w i j p a place write s less h more (stands_at p a w && eqb w.place place) refl (sym (more_place words n w p a place l is) ∙ some);
 }
 
-pub few_at : (words : List WordRow) (n : ℕ) (queues : List Queue) (d : WordRow) → n < length words → ((write : Bool) → count_for words (get_or words n d).port (get_or words n d).address write ≤ 1) → AreQueuesSoFar words n queues → AreQueuesSoFar words (n + 1) queues
+pub few_at : (words : List WordRow) (n : ℕ) (queues : List Queue) (d : WordRow) → n < length words
+    → ((write : Bool) → count_for words (get_or words n d).port (get_or words n d).address write ≤ 1) → AreQueuesSoFar words n queues → AreQueuesSoFar words (n + 1) queues
 few_at words n queues d l few h = few_more words n queues (get_or words n d) l (any_default words n d (get_or words n d) l) few h
 
 -- a word stands in the part of its own address
@@ -370,7 +384,9 @@ own_part words n w i j l is s = ⊎_elim
     missing : stands_at w.port w.address (get_or words n w) ≡ false → ⊥
     missing h = false≢true (sym (ap (stands_at w.port w.address) is ∙ h) ∙ stands_at_own w)
 
-pub many_at : (words : List WordRow) (n : ℕ) (queues : List Queue) (d : WordRow) (i j : ℕ) → n < length words → IsStretch (stands_at (get_or words n d).port (get_or words n d).address) words i j → AreQueuesSoFar words n queues → AreQueuesSoFar words (n + 1) (queues ++ record { first = i; place = (get_or words n d).place } ∷ [])
+pub many_at : (words : List WordRow) (n : ℕ) (queues : List Queue) (d : WordRow) (i j : ℕ) → n < length words
+    → IsStretch (stands_at (get_or words n d).port (get_or words n d).address) words i j → AreQueuesSoFar words n queues
+    → AreQueuesSoFar words (n + 1) (queues ++ record { first = i; place = (get_or words n d).place } ∷ [])
 many_at words n queues d i j l s h =
     let w = get_or words n d in
     let is : w ≡ get_or words n w = any_default words n d w l in
@@ -403,7 +419,9 @@ zero_set [] k = refl
 zero_set (x ∷ beats) zero = refl
 zero_set (x ∷ beats) (suc k) = zero_set beats k
 
-pub set_step : (queues : List Queue) (beats old : List ℕ) (place i k : ℕ) (d : Queue) → i < length queues → (get_or queues i d).place ≡ place → slice_index beats k ≡ cond (list_any (is_queue k place) (take i queues)) 0 (slice_index old k) → slice_index (set beats (get_or queues i d).first 0) k ≡ cond (list_any (is_queue k place) (take (i + 1) queues)) 0 (slice_index old k)
+pub set_step : (queues : List Queue) (beats old : List ℕ) (place i k : ℕ) (d : Queue) → i < length queues
+    → (get_or queues i d).place ≡ place → slice_index beats k ≡ cond (list_any (is_queue k place) (take i queues)) 0 (slice_index old k)
+    → slice_index (set beats (get_or queues i d).first 0) k ≡ cond (list_any (is_queue k place) (take (i + 1) queues)) 0 (slice_index old k)
 set_step queues beats old place i k d l same h =
     let q = get_or queues i d in
     let more = list_any_more (is_queue k place) queues i d l in
@@ -413,11 +431,15 @@ set_step queues beats old place i k d l same h =
     ap (slice_index (set beats q.first 0)) here ∙ zero_set beats q.first
     ∙ sym (ap (λ b. cond b 0 (slice_index old k)) any))
     (λ (other : k ≡ q.first → ⊥).
-    let none : list_any (is_queue k place) (take (i + 1) queues) ≡ list_any (is_queue k place) (take i queues) = more ∙ or_no (list_any (is_queue k place) (take i queues)) (is_queue k place q) (other_first q k place other) in
+    let none : list_any (is_queue k place) (take (i + 1) queues) ≡ list_any (is_queue k place) (take i queues) =
+    more ∙ or_no (list_any (is_queue k place) (take i queues)) (is_queue k place q) (other_first q k place other) in
     get_or-set_other beats q.first k 0 0 other ∙ h ∙ sym (ap (λ b. cond b 0 (slice_index old k)) none))
     (cases_eq k q.first)
 
-pub skip_step : (queues : List Queue) (beats old : List ℕ) (place i k : ℕ) (d : Queue) → i < length queues → ((get_or queues i d).place ≡ place → ⊥) → slice_index beats k ≡ cond (list_any (is_queue k place) (take i queues)) 0 (slice_index old k) → slice_index beats k ≡ cond (list_any (is_queue k place) (take (i + 1) queues)) 0 (slice_index old k)
+pub skip_step : (queues : List Queue) (beats old : List ℕ) (place i k : ℕ) (d : Queue) → i < length queues
+    → ((get_or queues i d).place ≡ place → ⊥) → slice_index beats k ≡ cond (list_any (is_queue k place) (take i queues)) 0
+    (slice_index old k) → slice_index beats k ≡ cond (list_any (is_queue k place) (take (i + 1) queues)) 0 (slice_index old k)
 skip_step queues beats old place i k d l other h =
-    let none : list_any (is_queue k place) (take (i + 1) queues) ≡ list_any (is_queue k place) (take i queues) = list_any_more (is_queue k place) queues i d l ∙ or_no (list_any (is_queue k place) (take i queues)) (is_queue k place (get_or queues i d)) (other_place (get_or queues i d) k place other) in
+    let none : list_any (is_queue k place) (take (i + 1) queues) ≡ list_any (is_queue k place) (take i queues) =
+    list_any_more (is_queue k place) queues i d l ∙ or_no (list_any (is_queue k place) (take i queues)) (is_queue k place (get_or queues i d)) (other_place (get_or queues i d) k place other) in
     h ∙ sym (ap (λ b. cond b 0 (slice_index old k)) none)

@@ -14,7 +14,8 @@ taken_bit (Some j) c k = refl
 taken_bit None true k = refl
 taken_bit None false k = refl
 
-pub word_bit : (t : Setup) (kind k b lsb : ℕ) (x w c : Bool) (o v : Option ℕ) → w ≡ reset_bit t kind o b x → v ≡ reset_of t k kind → lsb ≡ (field_of t k).lsb → cond (c && not (is_some o)) (value_bit v (b - lsb) w) w ≡ reset_bit t kind (option_or o (cond c (Some k) None)) b x
+pub word_bit : (t : Setup) (kind k b lsb : ℕ) (x w c : Bool) (o v : Option ℕ) → w ≡ reset_bit t kind o b x → v ≡ reset_of t k kind
+    → lsb ≡ (field_of t k).lsb → cond (c && not (is_some o)) (value_bit v (b - lsb) w) w ≡ reset_bit t kind (option_or o (cond c (Some k) None)) b x
 word_bit t kind k b lsb x w true (Some j) v h e f = h
 word_bit t kind k b lsb x w false (Some j) v h e f = h
 word_bit t kind k b lsb x w false None v h e f = h

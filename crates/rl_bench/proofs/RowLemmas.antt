@@ -36,7 +36,8 @@ pub option_then : {X Y Z : Type 0} (f : X → Y) (g : Y → Z) (o : Option X) (y
 option_then f g None y h = ap (option_map g) h
 option_then f g (Some x) y h = ap (option_map g) h
 
-resets_suc : (n : ℕ) (fs : List FieldSeen) (k : ℕ) (rs : List Reset) → option_map (λ f. f.resets) (slice_get fs k) ≡ Some rs → reset_rows n (take k fs) ++ map (reset_of (n + k)) rs ≡ reset_rows n (take (suc k) fs)
+resets_suc : (n : ℕ) (fs : List FieldSeen) (k : ℕ) (rs : List Reset) → option_map (λ f. f.resets) (slice_get fs k) ≡ Some rs
+    → reset_rows n (take k fs) ++ map (reset_of (n + k)) rs ≡ reset_rows n (take (suc k) fs)
 resets_suc n [] k rs h = cc
 resets_suc n (f ∷ fs) zero rs h =
     let same : f.resets ≡ rs = some_same h in
@@ -47,7 +48,8 @@ resets_suc n (f ∷ fs) (suc k) rs h =
     ∙ ap (λ j. map (reset_of n) f.resets ++ (reset_rows (n + 1) (take k fs) ++ map (reset_of j) rs)) e
     ∙ ap (λ zs. map (reset_of n) f.resets ++ zs) (resets_suc (n + 1) fs k rs h)
 
-pub resets_more : (fs : List FieldSeen) (k : ℕ) (rs : List Reset) → option_map (λ f. f.resets) (slice_get fs k) ≡ Some rs → reset_rows 0 (take k fs) ++ map (reset_of k) rs ≡ reset_rows 0 (take (k + 1) fs)
+pub resets_more : (fs : List FieldSeen) (k : ℕ) (rs : List Reset) → option_map (λ f. f.resets) (slice_get fs k) ≡ Some rs
+    → reset_rows 0 (take k fs) ++ map (reset_of k) rs ≡ reset_rows 0 (take (k + 1) fs)
 resets_more fs k rs h =
     let e : k ≡ 0 + k = omega arith in
     let f : suc k ≡ k + 1 = omega arith in
@@ -66,13 +68,16 @@ mems_suc n (x ∷ xs) (suc k) m h =
     let e : n + sum_by (λ m. m.size) (x ∷ take k xs) ≡ (n + x.size) + sum_by (λ m. m.size) (take k xs) = omega (arith, more) in
     ap (λ rs. mem_row n x ∷ rs) (ap (λ j. mem_rows (n + x.size) (take k xs) ++ mem_row j m ∷ []) e ∙ mems_suc (n + x.size) xs k m h)
 
-pub mems_more : (ms : List Mem) (k : ℕ) (m : Mem) (first : ℕ) → slice_get ms k ≡ Some m → first ≡ sum_by (λ m. m.size) (take k ms) → mem_rows 0 (take k ms) ++ mem_row first m ∷ [] ≡ mem_rows 0 (take (k + 1) ms)
+pub mems_more : (ms : List Mem) (k : ℕ) (m : Mem) (first : ℕ) → slice_get ms k ≡ Some m → first ≡ sum_by (λ m. m.size) (take k ms)
+    → mem_rows 0 (take k ms) ++ mem_row first m ∷ [] ≡ mem_rows 0 (take (k + 1) ms)
 mems_more ms k m first h at =
     let e : first ≡ 0 + sum_by (λ m. m.size) (take k ms) = omega arith in
     let f : suc k ≡ k + 1 = omega arith in
     ap (λ j. mem_rows 0 (take k ms) ++ mem_row j m ∷ []) e ∙ mems_suc 0 ms k m h ∙ ap (λ j. mem_rows 0 (take j ms)) f
 
-mems_case : (ms : List Mem) (k first bytes size : ℕ) (writable : Bool) (o : Option Mem) → slice_get ms k ≡ o → option_map (λ m. m.size) o ≡ Some size → option_map (λ m. m.bytes) o ≡ Some bytes → option_map (λ m. m.writable) o ≡ Some writable → first ≡ sum_by (λ m. m.size) (take k ms) → mem_rows 0 (take k ms) ++ record { first = first; bytes = bytes; size = size; writable = writable } ∷ [] ≡ mem_rows 0 (take (k + 1) ms)
+mems_case : (ms : List Mem) (k first bytes size : ℕ) (writable : Bool) (o : Option Mem) → slice_get ms k ≡ o
+    → option_map (λ m. m.size) o ≡ Some size → option_map (λ m. m.bytes) o ≡ Some bytes → option_map (λ m. m.writable) o ≡ Some writable
+    → first ≡ sum_by (λ m. m.size) (take k ms) → mem_rows 0 (take k ms) ++ record { first = first; bytes = bytes; size = size; writable = writable } ∷ [] ≡ mem_rows 0 (take (k + 1) ms)
 mems_case ms k first bytes size writable None e s b w at = cc
 mems_case ms k first bytes size writable (Some m) e s b w at =
     ap (λ n. mem_rows 0 (take k ms) ++ record { first = first; bytes = bytes; size = n; writable = writable } ∷ []) (some_same (sym s))
@@ -80,7 +85,9 @@ mems_case ms k first bytes size writable (Some m) e s b w at =
     ∙ ap (λ n. mem_rows 0 (take k ms) ++ record { first = first; bytes = m.bytes; size = m.size; writable = n } ∷ []) (some_same (sym w))
     ∙ mems_more ms k m first e at
 
-pub mem_more : (ms : List Mem) (k first bytes size : ℕ) (writable : Bool) → option_map (λ m. m.size) (slice_get ms k) ≡ Some size → option_map (λ m. m.bytes) (slice_get ms k) ≡ Some bytes → option_map (λ m. m.writable) (slice_get ms k) ≡ Some writable → first ≡ sum_by (λ m. m.size) (take k ms) → mem_rows 0 (take k ms) ++ record { first = first; bytes = bytes; size = size; writable = writable } ∷ [] ≡ mem_rows 0 (take (k + 1) ms)
+pub mem_more : (ms : List Mem) (k first bytes size : ℕ) (writable : Bool) → option_map (λ m. m.size) (slice_get ms k) ≡ Some size
+    → option_map (λ m. m.bytes) (slice_get ms k) ≡ Some bytes → option_map (λ m. m.writable) (slice_get ms k) ≡ Some writable
+    → first ≡ sum_by (λ m. m.size) (take k ms) → mem_rows 0 (take k ms) ++ record { first = first; bytes = bytes; size = size; writable = writable } ∷ [] ≡ mem_rows 0 (take (k + 1) ms)
 mem_more ms k first bytes size writable s b w at = mems_case ms k first bytes size writable (slice_get ms k) refl s b w at
 
 summed_case : {X : Type 0} (f : X → ℕ) (xs : List X) (k y : ℕ) (o : Option X) → slice_get xs k ≡ o → option_map f o ≡ Some y → sum_by f (take k xs) + y ≡ sum_by f (take (k + 1) xs)

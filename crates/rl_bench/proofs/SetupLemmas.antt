@@ -105,7 +105,8 @@ mem_has_room c k d l =
 
 -- ---- reset values
 
-chunk_rise : (n : ℕ) (rs : List Reset) (tail : List ResetRow) → All (λ r. n ≤ r.field) tail → IsNonDecreasingBy (λ r. r.field) tail → All (λ r. n ≤ r.field) (map (reset_of n) rs ++ tail) × IsNonDecreasingBy (λ r. r.field) (map (reset_of n) rs ++ tail)
+chunk_rise : (n : ℕ) (rs : List Reset) (tail : List ResetRow) → All (λ r. n ≤ r.field) tail → IsNonDecreasingBy (λ r. r.field) tail
+    → All (λ r. n ≤ r.field) (map (reset_of n) rs ++ tail) × IsNonDecreasingBy (λ r. r.field) (map (reset_of n) rs ++ tail)
 chunk_rise n [] tail low rise = (low, rise)
 chunk_rise n (r ∷ rs) tail low rise =
     let more = chunk_rise n rs tail low rise in
@@ -158,7 +159,8 @@ made c l flaws = record {
   flaws = flaws;
 }
 
-field_fits : (c : ChipData) (l : LayoutData) (flaws : Flaws) → IsSoundChip c → (k : ℕ) (d : FieldRow) → k < length (map field_row c.fields) → IsFieldIn (made c l flaws) (get_or (map field_row c.fields) k d)
+field_fits : (c : ChipData) (l : LayoutData) (flaws : Flaws) → IsSoundChip c → (k : ℕ) (d : FieldRow) → k < length (map field_row c.fields)
+    → IsFieldIn (made c l flaws) (get_or (map field_row c.fields) k d)
 field_fits c l flaws good k d inside =
     let n = length-map c.fields field_row in
     let f = element c.fields k (subst (λ n. k < n) n inside) in
@@ -170,7 +172,8 @@ field_fits c l flaws good k d inside =
     subst (IsFieldIn (made c l flaws)) (sym (field_is c.fields k d f.0 f.1))
     (record { reg = omega (arith, long, within); some = fits.1; most = omega (arith, r.2.2, bytes.1) })
 
-cell_fits : (c : ChipData) (l : LayoutData) (flaws : Flaws) (i : Item) (index bytes size : ℕ) → bytes_of c i ≡ Some bytes → ((m : ℕ) → i ≡ item.Mem m → option_map (λ m. m.size) (slice_get c.mems m) ≡ Some size) → index < size → IsCellIn (made c l flaws) (cell_of i index)
+cell_fits : (c : ChipData) (l : LayoutData) (flaws : Flaws) (i : Item) (index bytes size : ℕ) → bytes_of c i ≡ Some bytes
+    → ((m : ℕ) → i ≡ item.Mem m → option_map (λ m. m.size) (slice_get c.mems m) ≡ Some size) → index < size → IsCellIn (made c l flaws) (cell_of i index)
 cell_fits c l flaws (item.Reg r) index bytes size b s le = record {
   reg = λ n e.
       let x = option_within (λ r. r.bytes) c.regs r bytes (slice_get c.regs r) refl b in
@@ -201,7 +204,8 @@ word_fits c l flaws good built w h =
     let cell_is : w.cell ≡ cell_of place.item index = ap (λ w. w.cell) h.row in
     let word = get_or (words_of l w.place index) h.number no_word in
     let lanes_is : w.lanes ≡ lanes_of word = ap (λ w. w.lanes) h.row in
-    let on : IsWordOn (port_at l place.port).kind (port_at l place.port).bytes word = All-get_or (IsWordOn (port_at l place.port).kind (port_at l place.port).bytes) (words_of l w.place index) h.number no_word h.number_in (good.each_location w.place index h.location).on in
+    let on : IsWordOn (port_at l place.port).kind (port_at l place.port).bytes word =
+    All-get_or (IsWordOn (port_at l place.port).kind (port_at l place.port).bytes) (words_of l w.place index) h.number no_word h.number_in (good.each_location w.place index h.location).on in
     record {
       cell = subst (IsCellIn (made c l flaws)) (sym cell_is) (cell_fits c l flaws place.item index place.bytes place.size placed.0 placed.1 h.location.index_in);
       lanes = subst AreInCell (sym lanes_is) on.bytes;
@@ -219,7 +223,8 @@ stuck_one c l flaws f b v h =
 stuck_all : (c : ChipData) (l : LayoutData) (all : Flaws) (flaws : List Flaw) → AreFlawsOf c l flaws → All (IsStuckIn (made c l all)) (filter_map stuck_row flaws)
 stuck_all c l all [] h = All-nil (IsStuckIn (made c l all))
 stuck_all c l all (Stuck f b v ∷ flaws) h =
-    All-cons (IsStuckIn (made c l all)) (record { field = f; bit = b; value = v }) (filter_map stuck_row flaws) (stuck_one c l all f b v (All-head (IsFlawOf c l) (Stuck f b v) flaws h)) (stuck_all c l all flaws (All-tail (IsFlawOf c l) (Stuck f b v) flaws h))
+    All-cons (IsStuckIn (made c l all)) (record { field = f; bit = b; value = v }) (filter_map stuck_row flaws)
+    (stuck_one c l all f b v (All-head (IsFlawOf c l) (Stuck f b v) flaws h)) (stuck_all c l all flaws (All-tail (IsFlawOf c l) (Stuck f b v) flaws h))
 stuck_all c l all (OtherPolicy f p ∷ flaws) h = stuck_all c l all flaws (All-tail (IsFlawOf c l) (OtherPolicy f p) flaws h)
 stuck_all c l all (OtherReset f k v ∷ flaws) h = stuck_all c l all flaws (All-tail (IsFlawOf c l) (OtherReset f k v) flaws h)
 stuck_all c l all (ErrorRange p a b ∷ flaws) h = stuck_all c l all flaws (All-tail (IsFlawOf c l) (ErrorRange p a b) flaws h)

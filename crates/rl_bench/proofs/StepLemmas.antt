@@ -1,12 +1,11 @@
 -- The cases of one item.
-use Rattle.std.proofs.Common.{◌≡◌, ℕ, ◌<◌, ◌^◌, ◌*◌, ◌≤◌, ◌/◌, zero, suc, Bool, true, false, cond, ◌&&◌, List, [], ◌∷◌, length, get_or, refl, sym, ap, ◌∙◌, arith, Option, Some, None, subst, ⊎_elim}
+use Rattle.std.proofs.Common.{◌≡◌, ℕ, ◌<◌, ◌^◌, ◌*◌, ◌≤◌, ◌/◌, zero, suc, Bool, true, false, cond, ◌&&◌, List, [], ◌∷◌, length, get_or, refl, sym, ap, ◌∙◌, arith, Some, None, subst, ⊎_elim}
 use Rattle.std.specs.Prelude.{slice_get, filter, position, is_some}
 use mathlib.Core.Path.{fun_ext}
 use Rattle.rl_bus.specs.declared.op.BusOp.{BusOp}
 use Rattle.rl_bus.specs.declared.table.WordRow.{WordRow}
 use Rattle.rl_bus.specs.Setup.{Setup, stands_for, stands_at, words_at}
 use Rattle.rl_bus.specs.State.{State, counted, word_at, word_shown, shown_bit, is_faulty, after_word, after_touch, answer_at, beats_back, beats_on, state_after, answer_of}
-use Rattle.rl_bench.specs.Beats.{beats_of}
 use Rattle.rl_bench.specs.Board.{IsSetup, IsWordIn}
 use Rattle.rl_bench.proofs.BeatLemmas.{position_found}
 use Rattle.rl_bus.specs.Lanes.{IsWidth, all_lanes}
@@ -34,43 +33,45 @@ with_beats s b = record s { beats = b }
 same_beats : {f g : ℕ → ℕ → ℕ} → ((p a : ℕ) → f p a ≡ g p a) → f ≡ g
 same_beats h = fun_ext (λ p. fun_ext (λ a. h p a))
 
-pub faulty_state : (s : State) (port : ℕ) (op : BusOp) (w : WordRow) (beats : ℕ → ℕ → ℕ) → word_at s port op ≡ Some w → is_faulty (counted s) port op ≡ true → ((p a : ℕ) → beats p a ≡ beats_back s w.place p a) → record (counted s) { beats = beats } ≡ state_after s port op
+pub faulty_state : (s : State) (port : ℕ) (op : BusOp) (w : WordRow) (beats : ℕ → ℕ → ℕ) → word_at s port op ≡ Some w
+    → is_faulty (counted s) port op ≡ true → ((p a : ℕ) → beats p a ≡ beats_back s w.place p a) → record (counted s) { beats = beats } ≡ state_after s port op
 unfolding state_after
 faulty_state s port op w beats h f same =
     ap (with_beats (counted s)) (same_beats same)
-    ∙ sym (ap (after_touch (counted s) port op) h ∙ ap (λ b. cond b (with_beats (counted s) (beats_back (counted s) w.place)) (with_beats (after_word (counted s) op w) (beats_on (counted s) port op))) f)
+    ∙ sym (ap (after_touch (counted s) port op) h
+    ∙ ap (λ b. cond b (with_beats (counted s) (beats_back (counted s) w.place)) (with_beats (after_word (counted s) op w) (beats_on (counted s) port op))) f)
 
 pub faulty_answer : (s : State) (port : ℕ) (op : BusOp) (w : WordRow) → word_at s port op ≡ Some w → is_faulty (counted s) port op ≡ true → record { word = 0; failed = true } ≡ answer_of s port op
 unfolding answer_of
 faulty_answer s port op w h f =
     sym (ap (answer_at (counted s) port op) h ∙ ap (λ b. cond b (record { word = 0; failed = true }) (record { word = cond op.write 0 (word_shown (counted s) op w); failed = false })) f)
 
-pub touched_state : (s : State) (port : ℕ) (op : BusOp) (w : WordRow) (st : State) (beats : ℕ → ℕ → ℕ) → word_at s port op ≡ Some w → is_faulty (counted s) port op ≡ false → st ≡ after_word (counted s) op w → ((p a : ℕ) → beats p a ≡ beats_on (counted s) port op p a) → record st { beats = beats } ≡ state_after s port op
+pub touched_state : (s : State) (port : ℕ) (op : BusOp) (w : WordRow) (st : State) (beats : ℕ → ℕ → ℕ) → word_at s port op ≡ Some w
+    → is_faulty (counted s) port op ≡ false → st ≡ after_word (counted s) op w → ((p a : ℕ) → beats p a ≡ beats_on (counted s) port op p a) → record st { beats = beats } ≡ state_after s port op
 unfolding state_after
 touched_state s port op w st beats h f e same =
     ap (with_beats st) (same_beats same) ∙ ap (λ x. with_beats x (beats_on (counted s) port op)) e
-    ∙ sym (ap (after_touch (counted s) port op) h ∙ ap (λ b. cond b (with_beats (counted s) (beats_back (counted s) w.place)) (with_beats (after_word (counted s) op w) (beats_on (counted s) port op))) f)
+    ∙ sym (ap (after_touch (counted s) port op) h
+    ∙ ap (λ b. cond b (with_beats (counted s) (beats_back (counted s) w.place)) (with_beats (after_word (counted s) op w) (beats_on (counted s) port op))) f)
 
-pub touched_answer : (s : State) (port : ℕ) (op : BusOp) (w : WordRow) (word : ℕ) → word_at s port op ≡ Some w → is_faulty (counted s) port op ≡ false → word ≡ cond op.write 0 (word_shown (counted s) op w) → record { word = word; failed = false } ≡ answer_of s port op
+pub touched_answer : (s : State) (port : ℕ) (op : BusOp) (w : WordRow) (word : ℕ) → word_at s port op ≡ Some w
+    → is_faulty (counted s) port op ≡ false → word ≡ cond op.write 0 (word_shown (counted s) op w) → record { word = word; failed = false } ≡ answer_of s port op
 unfolding answer_of
 touched_answer s port op w word h f e =
     ap (λ x. record { word = x; failed = false }) e
     ∙ sym (ap (answer_at (counted s) port op) h ∙ ap (λ b. cond b (record { word = 0; failed = true }) (record { word = cond op.write 0 (word_shown (counted s) op w); failed = false })) f)
 
--- what the look-up of the code says of the definition's
-pub looked_up : (words ws vs : List WordRow) (beats bs : List ℕ) (port address : ℕ) (write : Bool) (beat : ℕ) (o : Option WordRow) → ws ≡ words → bs ≡ beats → vs ≡ words → beat ≡ beats_of ws bs port address → o ≡ slice_get (filter (stands_for port address write) vs) beat → slice_get (filter (stands_for port address write) words) (beats_of words beats port address) ≡ o
-looked_up words ws vs beats bs port address write beat o e f g b h =
-    let p = stands_for port address write in
-    sym (h ∙ ap (λ xs. slice_get (filter p xs) beat) g ∙ ap (slice_get (filter p words)) (b ∙ ap (λ xs. beats_of xs bs port address) e ∙ ap (λ xs. beats_of words xs port address) f))
-
 -- what passes a filter stands in the list
 filtered_first : {X : Type 0} (p : X → Bool) (y : X) (xs : List X) (x : X) → p y ≡ true → Some y ≡ Some x → (i : ℕ) × (i < length (y ∷ xs)) × (x ≡ get_or (y ∷ xs) i x) × (p x ≡ true)
 filtered_first p y xs x t e = let same : y ≡ x = cc in (0, omega arith, sym same, ap p (sym same) ∙ t)
 
-filtered_later : {X : Type 0} (p : X → Bool) (y : X) (xs : List X) (x : X) → (i : ℕ) × (i < length xs) × (x ≡ get_or xs i x) × (p x ≡ true) → (i : ℕ) × (i < length (y ∷ xs)) × (x ≡ get_or (y ∷ xs) i x) × (p x ≡ true)
+filtered_later : {X : Type 0} (p : X → Bool) (y : X) (xs : List X) (x : X) → (i : ℕ) × (i < length xs) × (x ≡ get_or xs i x) × (p x ≡ true)
+    → (i : ℕ) × (i < length (y ∷ xs)) × (x ≡ get_or (y ∷ xs) i x) × (p x ≡ true)
 filtered_later p y xs x m = (suc m.0, omega (arith, m.1), m.2, m.3)
 
-filtered_case : {X : Type 0} (p : X → Bool) (y : X) (xs : List X) (x : X) (k : ℕ) (b : Bool) → p y ≡ b → ((n : ℕ) → slice_get (filter p xs) n ≡ Some x → (i : ℕ) × (i < length xs) × (x ≡ get_or xs i x) × (p x ≡ true)) → slice_get (cond b (y ∷ filter p xs) (filter p xs)) k ≡ Some x → (i : ℕ) × (i < length (y ∷ xs)) × (x ≡ get_or (y ∷ xs) i x) × (p x ≡ true)
+filtered_case : {X : Type 0} (p : X → Bool) (y : X) (xs : List X) (x : X) (k : ℕ) (b : Bool) → p y ≡ b
+    → ((n : ℕ) → slice_get (filter p xs) n ≡ Some x → (i : ℕ) × (i < length xs) × (x ≡ get_or xs i x) × (p x ≡ true))
+    → slice_get (cond b (y ∷ filter p xs) (filter p xs)) k ≡ Some x → (i : ℕ) × (i < length (y ∷ xs)) × (x ≡ get_or (y ∷ xs) i x) × (p x ≡ true)
 filtered_case p y xs x zero true t more e = filtered_first p y xs x t e
 filtered_case p y xs x (suc n) true t more e = filtered_later p y xs x (more n e)
 filtered_case p y xs x k false t more e = filtered_later p y xs x (more k e)
@@ -98,7 +99,8 @@ left_true true y h = refl
 left_true false y h = h
 
 -- and its address has a first word
-pub stands_there : (t : Setup) (port address : ℕ) (write : Bool) (k : ℕ) (w : WordRow) → slice_get (words_at t port address write) k ≡ Some w → is_some (position (stands_at port address) t.words) ≡ true
+pub stands_there : (t : Setup) (port address : ℕ) (write : Bool) (k : ℕ) (w : WordRow)
+    → slice_get (words_at t port address write) k ≡ Some w → is_some (position (stands_at port address) t.words) ≡ true
 stands_there t port address write k w h =
     let m = filtered_in (stands_for port address write) t.words k w h in
     position_found (stands_at port address) t.words m.0 w m.1 (ap (stands_at port address) (sym m.2) ∙ left_true (stands_at port address w) _ m.3)

@@ -72,7 +72,8 @@ no_place_before q xs (suc i) d l h =
     ∙ no_more (position q (take i xs)) (q (get_or xs i d)) i (h i (omega arith))
     ∙ no_place_before q xs i d (omega (arith, l)) (λ k m. h k (omega (arith, m)))
 
-no_place_within : {X : Type 0} (q : X → Bool) (xs : List X) (j n : ℕ) (d : X) → j + n ≤ length xs → ((k : ℕ) → j ≤ k → k < length xs → q (get_or xs k d) ≡ false) → position q (take (j + n) xs) ≡ position q (take j xs)
+no_place_within : {X : Type 0} (q : X → Bool) (xs : List X) (j n : ℕ) (d : X) → j + n ≤ length xs
+    → ((k : ℕ) → j ≤ k → k < length xs → q (get_or xs k d) ≡ false) → position q (take (j + n) xs) ≡ position q (take j xs)
 no_place_within q xs j zero d l h = ap (λ n. position q (take n xs)) (add-zero j)
 no_place_within q xs j (suc n) d l h =
     let e : j + suc n ≡ (j + n) + 1 = omega arith in
@@ -120,7 +121,9 @@ pub le_from : (x t : ℕ) → ltb x t ≡ false → t ≤ x
 le_from x t h = grind (arith, nat_tests)
 
 -- what lies between the first that isn't below t and the first above it
-pub between : {X : Type 0} (n : X → ℕ) (xs : List X) (t i j : ℕ) → i ≤ length xs → j ≤ length xs → AllWithin (λ y. ltb (n y) t ≡ true) xs 0 i → AllWithin (λ y. ltb (n y) t ≡ false) xs i (length xs) → AllWithin (λ y. leb (n y) t ≡ true) xs 0 j → AllWithin (λ y. leb (n y) t ≡ false) xs j (length xs) → IsStretch (λ y. eqb (n y) t) xs i j
+pub between : {X : Type 0} (n : X → ℕ) (xs : List X) (t i j : ℕ) → i ≤ length xs → j ≤ length xs
+    → AllWithin (λ y. ltb (n y) t ≡ true) xs 0 i → AllWithin (λ y. ltb (n y) t ≡ false) xs i (length xs)
+    → AllWithin (λ y. leb (n y) t ≡ true) xs 0 j → AllWithin (λ y. leb (n y) t ≡ false) xs j (length xs) → IsStretch (λ y. eqb (n y) t) xs i j
 between n xs t i j il jl lo hi low high = record {
   order = ⊎_elim
       (λ (less : j < i).
@@ -149,7 +152,10 @@ not_there w p a apart = by (stands_at p a w) refl
     by true h = absurd (apart (there w p a h))
     by false h = refl
 
-pub stretch_here : (words : List WordRow) (p a i j : ℕ) → IsNonDecreasingBy key_of words → i ≤ j → j ≤ length words → ((k : ℕ) (d : WordRow) → k < i → key_of (get_or words k d) < p * 2 ^ 64 + a) → ((k : ℕ) (d : WordRow) → i ≤ k → k < j → stands_at p a (get_or words k d) ≡ true) → ((d : WordRow) → j < length words → p * 2 ^ 64 + a < key_of (get_or words j d)) → IsStretch (stands_at p a) words i j
+pub stretch_here : (words : List WordRow) (p a i j : ℕ) → IsNonDecreasingBy key_of words → i ≤ j → j ≤ length words
+    → ((k : ℕ) (d : WordRow) → k < i → key_of (get_or words k d) < p * 2 ^ 64 + a)
+    → ((k : ℕ) (d : WordRow) → i ≤ k → k < j → stands_at p a (get_or words k d) ≡ true)
+    → ((d : WordRow) → j < length words → p * 2 ^ 64 + a < key_of (get_or words j d)) → IsStretch (stands_at p a) words i j
 stretch_here words p a i j rise order within low inside high = record {
   order = order;
   within = within;
@@ -201,7 +207,9 @@ and_no : (b : Bool) (v o : ℕ) → o ≡ cond (b && false) v o
 and_no true v o = refl
 and_no false v o = refl
 
-pub set_long : (words : List WordRow) (beats : List ℕ) (port address i j value p a : ℕ) → length beats ≡ length words → IsStretch (stands_at port address) words i j → beats_of words (cond (ltb i j) (slice_set beats i value) beats) p a ≡ cond (eqb p port && eqb a address && is_some (position (stands_at port address) words)) value (beats_of words beats p a)
+pub set_long : (words : List WordRow) (beats : List ℕ) (port address i j value p a : ℕ) → length beats ≡ length words
+    → IsStretch (stands_at port address) words i j → beats_of words (cond (ltb i j) (slice_set beats i value) beats) p a ≡ cond
+    (eqb p port && eqb a address && is_some (position (stands_at port address) words)) value (beats_of words beats p a)
 set_long words beats port address i j value p a long s =
     ⊎_elim
     (λ (l : i < j).
@@ -219,7 +227,9 @@ pub other_reg : (f : FieldRow) (reg b : ℕ) → eqb f.reg reg ≡ false → cov
 other_reg f reg b h = and_false (eqb f.reg reg) _ h
 
 -- a word whose neighbours stand at other addresses stands alone
-pub stretch_one : (words : List WordRow) (k : ℕ) (d : WordRow) → IsNonDecreasingBy key_of words → k < length words → ((j : ℕ) → j + 1 ≡ k → key_of (get_or words j d) ≡ key_of (get_or words k d) → ⊥) → (k + 1 < length words → key_of (get_or words k d) ≡ key_of (get_or words (k + 1) d) → ⊥) → IsStretch (stands_at (get_or words k d).port (get_or words k d).address) words k (k + 1)
+pub stretch_one : (words : List WordRow) (k : ℕ) (d : WordRow) → IsNonDecreasingBy key_of words → k < length words
+    → ((j : ℕ) → j + 1 ≡ k → key_of (get_or words j d) ≡ key_of (get_or words k d) → ⊥)
+    → (k + 1 < length words → key_of (get_or words k d) ≡ key_of (get_or words (k + 1) d) → ⊥) → IsStretch (stands_at (get_or words k d).port (get_or words k d).address) words k (k + 1)
 stretch_one words k d rise l before behind =
     stretch_here words w.port w.address k (k + 1) rise (omega arith) (omega (arith, l)) low inside high
   where
@@ -259,14 +269,16 @@ words_there words i j p a slice e s = let P : List WordRow → Type 0 = λ words
 
 -- ---- the first word that doesn't stand before a key
 
-pub first_low : (words : List WordRow) (j t : ℕ) (e : WordRow) → IsNonDecreasingBy key_of words → j < length words → ltb (key_of (get_or words j e)) t ≡ true → (k : ℕ) (d : WordRow) → k < j + 1 → key_of (get_or words k d) < t
+pub first_low : (words : List WordRow) (j t : ℕ) (e : WordRow) → IsNonDecreasingBy key_of words → j < length words
+    → ltb (key_of (get_or words j e)) t ≡ true → (k : ℕ) (d : WordRow) → k < j + 1 → key_of (get_or words k d) < t
 first_low words j t e rise inside h k d l =
     let low : key_of (get_or words j e) < t = lt_from (key_of (get_or words j e)) t h in
     let up : key_of (get_or words k d) ≤ key_of (get_or words j d) = rise k j d (omega (arith, l)) inside in
     let same : key_of (get_or words j e) ≡ key_of (get_or words j d) = ap key_of (any_default words j e d inside) in
     omega (arith, low, up, same)
 
-pub first_high : (words : List WordRow) (j t : ℕ) (e : WordRow) → IsNonDecreasingBy key_of words → j < length words → ltb (key_of (get_or words j e)) t ≡ false → (k : ℕ) (d : WordRow) → j ≤ k → k < length words → t ≤ key_of (get_or words k d)
+pub first_high : (words : List WordRow) (j t : ℕ) (e : WordRow) → IsNonDecreasingBy key_of words → j < length words
+    → ltb (key_of (get_or words j e)) t ≡ false → (k : ℕ) (d : WordRow) → j ≤ k → k < length words → t ≤ key_of (get_or words k d)
 first_high words j t e rise inside h k d l m =
     let high : t ≤ key_of (get_or words j e) = le_from (key_of (get_or words j e)) t h in
     let up : key_of (get_or words j d) ≤ key_of (get_or words k d) = rise j k d l m in

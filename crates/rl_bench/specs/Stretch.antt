@@ -1,5 +1,6 @@
 -- The part of a list that passes a test, and words by their addresses.
 use Rattle.std.specs.Prelude.{◌≡◌, ℕ, ◌+◌, ◌*◌, ◌^◌, ◌<◌, ◌≤◌, Bool, true, false, List, length, slice_index_or, All}
+use Rattle.std.specs.List.Sorted.{IsNonDecreasingBy}
 use Rattle.rl_bus.specs.declared.table.WordRow.{WordRow}
 use Rattle.rl_bus.specs.Setup.{stands_at, stands_for}
 use Rattle.rl_map.specs.Layout.{key_of}
@@ -14,6 +15,10 @@ pub record IsStretch {X : Type 0} (p : X → Bool) (xs : List X) (i j : ℕ) : T
   pub behind : (k : ℕ) (d : X) → j ≤ k → k < length xs → p (slice_index_or xs k d) ≡ false
 
 -- ---- words by port and address
+
+-- the words stand in this order
+abbrev pub AreOrdered : List WordRow → Type 0
+AreOrdered words = IsNonDecreasingBy key_of words
 
 -- the words before n stand before an address, and those from n on don't
 abbrev pub AllBefore : List WordRow → (n port address : ℕ) → Type 0

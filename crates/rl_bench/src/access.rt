@@ -11,7 +11,6 @@ ghost use Rattle.rl_bench.specs.Tables.{setup_held};
 
 use crate::board::Board;
 use crate::cells::Cells;
-use crate::lanes::{gather, spread};
 use rl_bus::{BusOp, Cell, Lanes, WordRow};
 use rl_policy::word::replaced;
 
@@ -45,7 +44,7 @@ pub fn read_cell(board: &Board, cells: &mut Cells, lanes: &Lanes, cell: Cell) ->
         }
         Cell::Loc { mem, index } => {
             let at = location(board, cells, mem, index);
-            gather(lanes, cells.locations[at])
+            lanes.gather(cells.locations[at])
         }
     }
 }
@@ -74,8 +73,8 @@ pub fn write_cell(board: &Board, cells: &mut Cells, lanes: &Lanes, word: u64, ce
         Cell::Loc { mem, index } => {
             if board.tables.mems[mem as usize].writable {
                 let at = location(board, cells, mem, index);
-                let (carried, mask) = spread(lanes, word);
-                cells.locations[at] = replaced(cells.locations[at], carried, mask);
+                let carried = lanes.spread(word);
+                cells.locations[at] = replaced(cells.locations[at], carried, lanes.covered());
             }
         }
     }

@@ -1,14 +1,10 @@
 //! The beats of a device, with the first word of each address.
 ghost use Rattle.std.specs.Prelude.{◌≡◌, ℕ, ◌<◌, ◌≤◌, ◌^◌, ◌==◌, nat_lt, length, false};
-ghost use Rattle.std.specs.Prelude.{slice_index, slice_set, if◌then◌else◌, IfOk, replicate};
-ghost use Rattle.std.specs.List.Sorted.{IsNonDecreasingBy};
-ghost use Rattle.rl_map.specs.Layout.{key_of};
-ghost use Rattle.std.specs.Prelude.{List};
+ghost use Rattle.std.specs.Prelude.{slice_index, slice_set, if◌then◌else◌, IfOk, replicate, List, Bool};
 ghost use Rattle.rl_bus.specs.declared.table.WordRow.{WordRow as Words};
 ghost use Rattle.rl_bus.specs.Setup.{stands_at};
 ghost use Rattle.rl_bench.specs.Beats.{AreQueuesOf, SendsBack, beats_of, count_for};
-ghost use Rattle.rl_bench.specs.Stretch.{IsStretch};
-ghost use Rattle.std.specs.Prelude.{Bool};
+ghost use Rattle.rl_bench.specs.Stretch.{IsStretch, AreOrdered};
 
 use crate::find::{Stretch, find_word, words_beside};
 use rl_bus::WordRow;
@@ -19,7 +15,9 @@ use std::alloc::{AllocError, Global};
 /// Words queue at an address where more than one has the same direction.
 #[derive(Debug, Clone, Copy)]
 pub struct Queue {
+    /// The number of the first word at the address.
     pub first: u32,
+    /// The number of the place.
     pub place: u32,
 }
 
@@ -93,7 +91,7 @@ fn is_queued(words: &[WordRow], at: Stretch, word: &WordRow) -> bool
 
 /// The addresses where words queue.
 pub fn queues_of(alloc: Global, words: &[WordRow]) -> Result<Vec<Queue>, AllocError>
-    requires rise { IsNonDecreasingBy key_of words.now }
+    requires rise { AreOrdered words.now }
     requires few { length words.now < 2 ^ 32 }
     ensures { IfOk result (λ queues. AreQueuesOf words.now queues.items) }
 {

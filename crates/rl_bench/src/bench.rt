@@ -1,13 +1,10 @@
 //! The device.
 ghost use Rattle.std.specs.Prelude.{◌≡◌, ◌+◌, ◌-◌, ◌<◌, ◌≤◌, ◌^◌, length, if◌then◌else◌, nat_lt, IfOk, replicate};
-ghost use Rattle.std.specs.Prelude.{slice_get, option_copied, min, true};
+ghost use Rattle.std.specs.Prelude.{slice_get, option_copied, min, true, All};
 ghost use Rattle.rl_bus.specs.Causes.{AnswerHasCause};
 ghost use Rattle.rl_bus.specs.Setup.{stands_at};
 ghost use Rattle.rl_bench.specs.Beats.{IsQuiet, HasBeats, BeatsAreWords};
-ghost use Rattle.std.specs.Prelude.{All};
-ghost use Rattle.std.specs.List.Sorted.{IsNonDecreasingBy};
-ghost use Rattle.rl_map.specs.Layout.{key_of};
-ghost use Rattle.rl_bench.specs.Stretch.{IsStretch, IsHint};
+ghost use Rattle.rl_bench.specs.Stretch.{IsStretch, IsHint, AreOrdered};
 ghost use Rattle.rl_bench.specs.Board.{FitCells, IsSetup, HasRoom};
 ghost use Rattle.rl_bench.specs.Found.{words_on, words_for, beat_for, item_is_faulty};
 ghost use Rattle.rl_bench.specs.Tables.{setup_held};
@@ -60,7 +57,7 @@ struct Found<'a> {
 
 // The words at an item's address, from its slot or near the last ones or by a search.
 fn stretch_at(words: &[WordRow], hints: &Hints, near: Stretch, port: u32, address: u64) -> Stretch
-    requires rise { IsNonDecreasingBy key_of words.now }
+    requires rise { AreOrdered words.now }
     requires hints { All (IsHint words.now) hints.now.slots.items }
     ensures { IsStretch (stands_at port address) words.now result.first result.end }
 {
@@ -264,7 +261,8 @@ impl Device for Bench {
 
     fn poke(&mut self, cell: Cell, value: u64)
         requires cell { IsCellOf (Some (bench_state self.old)) cell }
-        ensures step { Some (bench_state self.new) ≡ option_map (λ s. poked s cell value) (Some (bench_state self.old)) }
+        ensures step { Some (bench_state self.new) ≡ option_map (λ s. poked s cell value)
+            (Some (bench_state self.old)) }
         ensures later { failures_of self.old ≤ failures_of self.new }
         ensures failures { failures_of self.new ≡ failures_of self.old }
     {
@@ -282,7 +280,8 @@ impl Device for Bench {
 
     fn hw(&mut self, field: u32, value: u64)
         requires field { IsFieldOf (Some (bench_state self.old)) field }
-        ensures step { Some (bench_state self.new) ≡ option_map (λ s. hw_set s field value) (Some (bench_state self.old)) }
+        ensures step { Some (bench_state self.new) ≡ option_map (λ s. hw_set s field value)
+            (Some (bench_state self.old)) }
         ensures later { failures_of self.old ≤ failures_of self.new }
         ensures failures { failures_of self.new ≡ failures_of self.old }
     {

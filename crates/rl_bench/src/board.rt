@@ -11,8 +11,11 @@ use crate::tables::Tables;
 /// one word.
 #[derive(Drop)]
 pub struct Board {
+    /// What the device has, and its flaws.
     pub tables: Tables,
+    /// The masks of each register.
     pub shapes: Vec<Shape>,
+    /// The addresses where words queue.
     pub queues: Vec<Queue>,
     ghost sound: { IsSetup (setup_held tables) },
     ghost queued: { AreQueuesOf (setup_held tables).words queues.items },

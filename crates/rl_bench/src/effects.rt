@@ -12,14 +12,17 @@ pub struct Effects {
     pub owned: u64,
     /// Those that take the first write alone.
     pub spending: u64,
-    /// Those that a write of 0 sets where they are 0, and where they are 1.
+    /// Those that are 1 after a write of 0 where they were 0.
     pub zero_by_zero: u64,
+    /// Those that are 1 after a write of 0 where they were 1.
     pub one_by_zero: u64,
-    /// Those that a write of 1 sets where they are 0, and where they are 1.
+    /// Those that are 1 after a write of 1 where they were 0.
     pub zero_by_one: u64,
+    /// Those that are 1 after a write of 1 where they were 1.
     pub one_by_one: u64,
-    /// Those that a read sets where they are 0, and where they are 1.
+    /// Those that are 1 after a read where they were 0.
     pub zero_by_read: u64,
+    /// Those that are 1 after a read where they were 1.
     pub one_by_read: u64,
     /// Those that a read answers.
     pub shown: u64,

@@ -5,21 +5,25 @@ ghost use Rattle.std.specs.List.Sorted.{IsNonDecreasingBy};
 ghost use Rattle.rl_bus.specs.Setup.{stands_at, stands_for};
 ghost use Rattle.rl_bus.specs.declared.table.WordRow.{WordRow as Words};
 ghost use Rattle.rl_map.specs.Layout.{key_of};
-ghost use Rattle.rl_bench.specs.Stretch.{IsStretch, AllBefore, NoneBefore, stands_beside, LetsThrough};
+ghost use Rattle.rl_bench.specs.Stretch.{IsStretch, AllBefore, NoneBefore, AreOrdered, stands_beside, LetsThrough};
 
 use rl_bus::{FieldRow, ResetRow, WordRow};
 
 /// The rows from `first` to before `end`.
 #[derive(Debug, Clone, Copy)]
 pub struct Stretch {
+    /// The number of the first row.
     pub first: usize,
+    /// The number behind the last row.
     pub end: usize,
 }
 
 /// A word at an address, and how many words of its direction stand there.
 #[derive(Debug, Clone, Copy)]
 pub struct Here<'a> {
+    /// The word, where there is one.
     pub word: Option<&'a WordRow>,
+    /// How many words there are.
     pub count: usize,
 }
 
@@ -47,7 +51,7 @@ pub fn stands_at(word: &WordRow, port: u32, address: u64) -> bool
 
 // Whether the words before this one stand before an address, and it and those behind it do not.
 fn is_first(words: &[WordRow], first: usize, port: u32, address: u64) -> bool
-    requires { IsNonDecreasingBy key_of words.now }
+    requires { AreOrdered words.now }
     ensures within { result ≡ true → first ≤ length words.now }
     ensures before { result ≡ true → AllBefore words.now first port address }
     ensures behind { result ≡ true → NoneBefore words.now first port address }
@@ -60,7 +64,7 @@ fn is_first(words: &[WordRow], first: usize, port: u32, address: u64) -> bool
 
 // The first word that doesn't stand before an address.
 fn search(words: &[WordRow], port: u32, address: u64) -> usize
-    requires { IsNonDecreasingBy key_of words.now }
+    requires { AreOrdered words.now }
     ensures within { result ≤ length words.now }
     ensures before { AllBefore words.now result port address }
     ensures behind { NoneBefore words.now result port address }
@@ -70,7 +74,7 @@ fn search(words: &[WordRow], port: u32, address: u64) -> usize
 
 // The same, if it is a row from the one before the words near to the second one behind them.
 fn first_beside(words: &[WordRow], near: Stretch, port: u32, address: u64) -> Option<usize>
-    requires { IsNonDecreasingBy key_of words.now }
+    requires { AreOrdered words.now }
     ensures within { IfSome result (λ first. first ≤ length words.now) }
     ensures before { IfSome result (λ first. AllBefore words.now first port address) }
     ensures behind { IfSome result (λ first. NoneBefore words.now first port address) }
@@ -93,7 +97,7 @@ fn first_beside(words: &[WordRow], near: Stretch, port: u32, address: u64) -> Op
 
 // The same, which mostly is the row behind the words near, or another one beside them.
 fn first_from(words: &[WordRow], near: Stretch, port: u32, address: u64) -> usize
-    requires { IsNonDecreasingBy key_of words.now }
+    requires { AreOrdered words.now }
     ensures within { result ≤ length words.now }
     ensures before { AllBefore words.now result port address }
     ensures behind { NoneBefore words.now result port address }
@@ -110,7 +114,7 @@ fn first_from(words: &[WordRow], near: Stretch, port: u32, address: u64) -> usiz
 /// The words at an address of a port. They are found at once where they stand near, at these words or
 /// behind them.
 pub fn words_at(words: &[WordRow], near: Stretch, port: u32, address: u64) -> Stretch
-    requires { IsNonDecreasingBy key_of words.now }
+    requires { AreOrdered words.now }
     ensures { IsStretch (stands_at port address) words.now result.first result.end }
 {
     let first = first_from(words, near, port, address);
@@ -129,7 +133,8 @@ pub fn words_at(words: &[WordRow], near: Stretch, port: u32, address: u64) -> St
 fn same_address(words: &[WordRow], j: usize, k: usize) -> bool
     requires j { j < length words.now }
     requires k { k < length words.now }
-    ensures { result ≡ false → (d : Words) → key_of (slice_index_or words.now j d) ≢ key_of (slice_index_or words.now k d) }
+    ensures { result ≡ false → (d : Words)
+        → key_of (slice_index_or words.now j d) ≢ key_of (slice_index_or words.now k d) }
 {
     let word = &words[k];
     stands_at(&words[j], word.port, word.address)
@@ -137,7 +142,7 @@ fn same_address(words: &[WordRow], j: usize, k: usize) -> bool
 
 /// The words at the address of the word at `k`.
 pub fn words_beside(words: &[WordRow], k: usize) -> Stretch
-    requires rise { IsNonDecreasingBy key_of words.now }
+    requires rise { AreOrdered words.now }
     requires k { k < length words.now }
     ensures { (d : Words) → IsStretch (stands_beside (slice_index_or words.now k d)) words.now result.first result.end }
 {

@@ -13,6 +13,7 @@ const SLOTS: usize = 4096;
 /// The words of the addresses that were found last. Addresses that share a slot drive each other out.
 #[derive(Drop)]
 pub struct Hints {
+    /// 4,096 slots.
     pub slots: Vec<Stretch>,
     ghost full: { length slots.items ≡ 4096 },
 }

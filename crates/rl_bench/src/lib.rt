@@ -16,7 +16,6 @@ mod effects;
 mod find;
 mod flaw;
 mod hints;
-mod lanes;
 mod reset;
 mod rows;
 mod seat;

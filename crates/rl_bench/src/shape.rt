@@ -5,15 +5,17 @@ ghost use Rattle.rl_bus.specs.Setup.{held};
 ghost use Rattle.rl_bus.specs.Spread.{AreInCell};
 
 use crate::effects::Effects;
-use crate::lanes::{gather, spread};
 use rl_bus::Lanes;
 use rl_policy::word::replaced;
 
 /// What accesses do to the bits of a register, and which bits are stuck at which values.
 #[derive(Debug, Clone, Copy)]
 pub struct Shape {
+    /// The bits by what accesses do to them.
     pub effects: Effects,
+    /// The bits that are stuck.
     pub stuck: u64,
+    /// The values of the stuck bits, and 0 elsewhere.
     pub values: u64,
 }
 
@@ -33,8 +35,8 @@ impl Shape {
         ensures bits { ForRegOf self.now (λ r. result.0 ≡ reg_written r lanes.now bits marks word) }
         ensures marks { ForRegOf self.now (λ r. result.1 ≡ reg_marked r lanes.now marks) }
     {
-        let (carried, mask) = spread(lanes, word);
-        let (written, marked) = self.effects.write(bits, marks, carried, mask);
+        let carried = lanes.spread(word);
+        let (written, marked) = self.effects.write(bits, marks, carried, lanes.covered());
         (self.hold(written), marked)
     }
 
@@ -44,8 +46,7 @@ impl Shape {
         ensures word { ForRegOf self.now (λ r. result.0 ≡ reg_answered r lanes.now bits) }
         ensures bits { ForRegOf self.now (λ r. result.1 ≡ reg_left r lanes.now bits) }
     {
-        let (_, mask) = spread(lanes, 0);
-        let (shown, left) = self.effects.read(bits, mask);
-        (gather(lanes, shown), self.hold(left))
+        let (shown, left) = self.effects.read(bits, lanes.covered());
+        (lanes.gather(shown), self.hold(left))
     }
 }

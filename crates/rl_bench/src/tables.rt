@@ -19,18 +19,29 @@ use std::rc::Rc;
 /// What the device has, and its flaws.
 #[derive(Drop)]
 pub struct Tables {
+    /// The size of each register in bytes.
     pub regs: Vec<u32>,
+    /// The fields by register, with their declared policies.
     pub fields: Vec<FieldRow>,
+    /// The declared reset values by field.
     pub resets: Vec<ResetRow>,
+    /// The memories.
     pub mems: Vec<MemRow>,
+    /// The width of each port in bytes.
     pub ports: Vec<u32>,
     /// The rows of the layout, shared with it.
     pub words: Rc<Vec<WordRow>>,
+    /// The policies that the device has in place of the declared ones.
     pub other_policies: Vec<PolicyRow>,
+    /// The reset values that it has in place of the declared ones.
     pub other_resets: Vec<ResetRow>,
+    /// The bits that keep one value.
     pub stuck: Vec<StuckRow>,
+    /// The addresses where items fail.
     pub ranges: Vec<RangeRow>,
+    /// The numbers of the items that fail, counted from 1.
     pub nths: Vec<u64>,
+    /// The registers and memories that bus writes don't reach.
     pub deaf: Vec<ItemRow>,
 }
 

@@ -1,4 +1,5 @@
 mod Moves
 pub mod Reached
+pub mod LaneLemmas
 mod Rows
 pub mod Words

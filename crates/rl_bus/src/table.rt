@@ -1,6 +1,7 @@
 // The rows of the tables that say what a device has.
 
 use rl_policy::Policy;
+use rl_policy::word::{put, take, window};
 
 /// A register, or a location of a memory, by their numbers. `index` counts the locations of the memory.
 #[derive(Clone, Copy, Debug, PartialEq, Eq)]
@@ -44,6 +45,63 @@ pub struct Lanes {
     pub enabled: u8,
     /// The byte of the cell that lane `l` carries, counted from its lowest.
     pub bytes: [u8; 8],
+}
+
+impl Lanes {
+    ghost use Rattle.std.specs.Prelude.{◌≡◌, ◌<◌};
+    ghost use Rattle.rl_policy.specs.Bits.{bit, from_bits};
+    ghost use Rattle.rl_bus.specs.Spread.{AreInCell, spread_bit, lane_bit, gathered_bit};
+
+    fn is_enabled(&self, lane: u32) -> bool
+        requires { lane < 8 }
+        ensures { result ≡ bit self.now.enabled lane }
+    {
+        (self.enabled >> lane) & 1 == 1
+    }
+
+    /// The bits that a bus word carries, at their places in the cell, and 0 elsewhere.
+    pub fn spread(&self, word: u64) -> u64
+        requires { AreInCell self.now }
+        ensures { result ≡ from_bits 64 (spread_bit self.now (bit word)) }
+    {
+        let mut bits = 0;
+        for lane in 0..8 {
+            if self.is_enabled(lane) {
+                let place = 8 * u32::from(self.bytes[lane as usize]);
+                bits = put(bits, place, 8, take(word, 8 * lane, 8));
+            }
+        }
+        bits
+    }
+
+    /// The mask of the cell's bits that an enabled lane carries.
+    pub fn covered(&self) -> u64
+        requires { AreInCell self.now }
+        ensures { result ≡ from_bits 64 (lane_bit self.now) }
+    {
+        let mut mask = 0;
+        for lane in 0..8 {
+            if self.is_enabled(lane) {
+                mask |= window(8 * u32::from(self.bytes[lane as usize]), 8);
+            }
+        }
+        mask
+    }
+
+    /// The bus word that carries these bits of the cell in its enabled lanes, and 0 in the others.
+    pub fn gather(&self, bits: u64) -> u64
+        requires { AreInCell self.now }
+        ensures { result ≡ from_bits 64 (gathered_bit self.now (bit bits)) }
+    {
+        let mut word = 0;
+        for lane in 0..8 {
+            if self.is_enabled(lane) {
+                let place = 8 * u32::from(self.bytes[lane as usize]);
+                word = put(word, 8 * lane, 8, take(bits, place, 8));
+            }
+        }
+        word
+    }
 }
 
 /// A word of a cell, where it stands, and the directions in which its place lets items through.

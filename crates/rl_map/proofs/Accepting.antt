@@ -1,7 +1,7 @@
 -- Which places are accepted, and which condition refuses the next.
 use Rattle.std.proofs.Common.{◌≡◌, ℕ, zero, suc, ◌+◌, ◌<◌, ◌≤◌, Bool, true, false, cond, List, [], ◌∷◌, ◌++◌, length, get_or, take, drop, map, nat_lt, nat_le, Option, Some, None, refl, sym, ap, ◌∙◌, subst, arith, length-append}
 use Rattle.std.specs.Prelude.{slice_get, position, bytes_eq, is_some, option_map, ◌↔◌, Result, Err}
-use Rattle.std.specs.List.{list_any, position_or_len}
+use Rattle.std.specs.List.{position_or_len}
 use Rattle.std.specs.Option.{option_or}
 use Rattle.std.proofs.Common.{get_or-take, get_or-drop, length-take, length-drop}
 use Rattle.std.proofs.lemmas.Bool.Decides.{nat_tests}
@@ -25,18 +25,17 @@ use Rattle.rl_map.specs.declared.rows.PortRow.{PortRow}
 use Rattle.rl_map.specs.declared.rows.PlaceRow.{PlaceRow}
 use Rattle.rl_map.specs.Layout.{no_map, no_port}
 use Rattle.rl_map.specs.Maps.{MapTables, item_at, place_row}
-use Rattle.rl_map.specs.Faults.{Check, first_of, row_at, Placed, word_count, is_same_place, places_fault}
+use Rattle.rl_map.specs.Faults.{Check, first_of, row_at, Placed, word_count, is_placed, places_fault}
 use Rattle.rl_map.specs.Steps.{first_cause, Tells, there_checks, fifo_checks, word_checks, own_checks, place_of_part, own_fault, own_faults, accepted, shared_check, shared_faults}
 use Rattle.rl_map.specs.Building.{path_in, port_for, placed_in, placed_at, ArePlaces, rows_of, rows_of_all}
 use Rattle.rl_map.proofs.Lookups.{read_is}
 use Rattle.rl_map.proofs.Growing.{rows_more}
 use Rattle.rl_map.proofs.Placing.{length-rows_of}
 use Rattle.rl_map.proofs.Refusing.{first_append}
+use Rattle.rl_map.proofs.Bools.{lt_true, not_true}
+use Rattle.rl_map.proofs.Lists.{append_twice, dropped}
 
 -- ---- an item by its path
-
-lt_true : (a b : ℕ) → a < b → nat_lt a b ≡ true
-lt_true a b h = grind (arith, nat_tests)
 
 lt_same : (a : ℕ) → nat_lt a a ≡ false
 lt_same a = grind (arith, nat_tests)
@@ -46,10 +45,6 @@ at_first p xs n e low = ap (λ t. cond t (Some (position_or_len p xs)) None) (lt
 
 pub at_none : {X : Type 0} (p : X → Bool) (xs : List X) → position_or_len p xs ≡ length xs → position p xs ≡ None
 at_none p xs e = ap (λ n. cond (nat_lt n (length xs)) (Some (position_or_len p xs)) None) e ∙ ap (λ t. cond t (Some (position_or_len p xs)) None) (lt_same (length xs))
-
-not_true : (b : Bool) → (b ≡ true → ⊥) → b ≡ false
-not_true true h = absurd (h refl)
-not_true false h = refl
 
 -- what a look-up says of a number
 abbrev IsFoundIn : List (List ℕ) → (first len : ℕ) → List ℕ → Option ℕ → Type 0
@@ -103,8 +98,10 @@ item_reg chip path o r h e =
 pub item_other : (chip : ChipData) (path : List ℕ) (o p : Option ℕ) → reg_in chip path o → o ≡ None → mem_in chip path p → option_map (λ n. item.Mem n) p ≡ item_at chip path
 item_other chip path o p h e g =
     let none : position (bytes_eq path) (take (length chip.regs) (drop chip.scopes chip.paths)) ≡ None = found_by chip.paths chip.scopes (length chip.regs) path o h ∙ e in
-    let at : position (bytes_eq path) (take (length chip.mems) (drop (chip.scopes + length chip.regs) chip.paths)) ≡ p = found_by chip.paths (chip.scopes + length chip.regs) (length chip.mems) path p g in
-    sym (ap (λ x. option_or (option_map (λ n. item.Reg n) x) (option_map (λ n. item.Mem n) (position (bytes_eq path) (take (length chip.mems) (drop (chip.scopes + length chip.regs) chip.paths))))) none
+    let at : position (bytes_eq path) (take (length chip.mems) (drop (chip.scopes + length chip.regs) chip.paths)) ≡ p =
+    found_by chip.paths (chip.scopes + length chip.regs) (length chip.mems) path p g in
+    sym (ap (λ x. option_or (option_map (λ n. item.Reg n) x)
+    (option_map (λ n. item.Mem n) (position (bytes_eq path) (take (length chip.mems) (drop (chip.scopes + length chip.regs) chip.paths))))) none
     ∙ ap (λ x. option_map (λ n. item.Mem n) x) at)
 
 -- ---- causes
@@ -129,7 +126,8 @@ pub first_cause-of : (spot : Spot) (cs : List Check) → first_of spot cs ≡ op
 first_cause-of spot [] = refl
 first_cause-of spot (c ∷ cs) = by c.0 (first_cause-of spot cs)
   where
-    by : (t : Bool) → first_of spot cs ≡ option_map (λ c. Bad c spot) (first_cause cs) → cond t (Some (Bad c.1 spot)) (first_of spot cs) ≡ option_map (λ c. Bad c spot) (cond t (Some c.1) (first_cause cs))
+    by : (t : Bool) → first_of spot cs ≡ option_map (λ c. Bad c spot) (first_cause cs)
+        → cond t (Some (Bad c.1 spot)) (first_of spot cs) ≡ option_map (λ c. Bad c spot) (cond t (Some c.1) (first_cause cs))
     by true more = refl
     by false more = more
 
@@ -146,7 +144,7 @@ module _ (chip : ChipData) (maps : List MapRow) (ports : List PortRow) (earlier 
 
   -- the conditions from PlacedTwice on
   abbrev later : PlaceRow → Placed → List Check
-  later row p = (list_any (λ q. is_same_place q row) earlier, PlacedTwice) ∷ fifo_checks row ++ word_checks words p
+  later row p = (is_placed earlier row, PlacedTwice) ∷ fifo_checks row ++ word_checks words p
 
   own_some : length earlier < 4096 → first_cause own ≡ first_cause (there_checks chip maps part ++ later (place_row chip maps part) (place_of_part chip maps ports part))
   own_some h = ap (λ t. cond t (Some TooMany) (first_cause (there_checks chip maps part ++ later (place_row chip maps part) (place_of_part chip maps ports part)))) (le_false 4096 (length earlier) h)
@@ -158,17 +156,17 @@ module _ (chip : ChipData) (maps : List MapRow) (ports : List PortRow) (earlier 
       ∙ ap (λ r. first_cause (later r (placed_in maps ports r))) (sym same)
 
   own_once : (row : PlaceRow) → length earlier < 4096 → first_cause (there_checks chip maps part) ≡ None → row ≡ place_row chip maps part
-      → list_any (λ q. is_same_place q row) earlier ≡ false → first_cause own ≡ first_cause (fifo_checks row ++ word_checks words (placed_in maps ports row))
+      → is_placed earlier row ≡ false → first_cause own ≡ first_cause (fifo_checks row ++ word_checks words (placed_in maps ports row))
   own_once row few h same once =
       own_there row few h same ∙ ap (λ t. cond t (Some PlacedTwice) (first_cause (fifo_checks row ++ word_checks words (placed_in maps ports row)))) once
 
   pub own_lined : (row : PlaceRow) (e : MapCause) → length earlier < 4096 → first_cause (there_checks chip maps part) ≡ None → row ≡ place_row chip maps part
-      → list_any (λ q. is_same_place q row) earlier ≡ false → first_cause (fifo_checks row) ≡ Some e → first_cause own ≡ Some e
+      → is_placed earlier row ≡ false → first_cause (fifo_checks row) ≡ Some e → first_cause own ≡ Some e
   own_lined row e few h same once g = own_once row few h same once ∙ cause_met (fifo_checks row) (word_checks words (placed_in maps ports row)) e g
 
   -- the words' conditions decide
   pub own_words : (row : PlaceRow) (p : Placed) → length earlier < 4096 → first_cause (there_checks chip maps part) ≡ None → row ≡ place_row chip maps part
-      → list_any (λ q. is_same_place q row) earlier ≡ false → first_cause (fifo_checks row) ≡ None → p ≡ placed_in maps ports row
+      → is_placed earlier row ≡ false → first_cause (fifo_checks row) ≡ None → p ≡ placed_in maps ports row
       → first_cause own ≡ first_cause (word_checks words p)
   own_words row p few h same once g at =
       own_once row few h same once ∙ cause_later (fifo_checks row) (word_checks words (placed_in maps ports row)) g ∙ ap (λ x. first_cause (word_checks words x)) (sym at)
@@ -191,11 +189,6 @@ seat_is maps ports row map port path low_m low_p a b e =
 
 -- ---- place by place
 
-dropped : {X : Type 0} (xs : List X) (i : ℕ) (x : X) → i < length xs → x ≡ get_or xs i x → drop i xs ≡ x ∷ drop (i + 1) xs
-dropped [] i x low read = absurd (omega arith)
-dropped (y ∷ ys) zero x low read = ap (λ z. z ∷ ys) (sym read)
-dropped (y ∷ ys) (suc i) x low read = dropped ys i x (omega arith) read ∙ ap (λ n. x ∷ drop n (y ∷ ys)) (let e : suc (i + 1) ≡ suc i + 1 = omega arith in e)
-
 nothing : {X : Type 0} (xs : List X) (i : ℕ) → length xs ≤ i → drop i xs ≡ []
 nothing [] zero h = refl
 nothing [] (suc i) h = refl
@@ -205,10 +198,6 @@ nothing (x ∷ xs) (suc i) h = nothing xs i (omega arith)
 append_none : {X : Type 0} (xs : List X) → xs ++ [] ≡ xs
 append_none [] = refl
 append_none (x ∷ xs) = ap (λ ys. x ∷ ys) (append_none xs)
-
-append_twice : {X : Type 0} (xs ys zs : List X) → (xs ++ ys) ++ zs ≡ xs ++ (ys ++ zs)
-append_twice [] ys zs = refl
-append_twice (x ∷ xs) ys zs = ap (λ us. x ∷ us) (append_twice xs ys zs)
 
 -- the words of one place more
 words_more : (chip : ChipData) (maps : List MapRow) (ports : List PortRow) (places places' : List PlaceRow) (rows rows' : List WordRow) (p : PlaceRow)
@@ -230,7 +219,8 @@ module _ (chip : ChipData) (maps : List MapRow) (ports : List PortRow) (parts : 
       by refused some is ∙ sym (ap (own_faults chip maps ports places words) (dropped parts i part low read)) ∙ was
     where
       by : (o : Option MapFault) → is_some o ≡ true → o ≡ own_fault chip maps ports places words part
-          → o ≡ or_else (own_fault chip maps ports places words part) (own_faults chip maps ports (places ++ place_row chip maps part ∷ []) (words + word_count (place_of_part chip maps ports part)) (drop (i + 1) parts))
+          → o ≡ or_else (own_fault chip maps ports places words part)
+          (own_faults chip maps ports (places ++ place_row chip maps part ∷ []) (words + word_count (place_of_part chip maps ports part)) (drop (i + 1) parts))
       by None e f = cc
       by (Some x) e f = ap (λ o. or_else o (own_faults chip maps ports (places ++ place_row chip maps part ∷ []) (words + word_count (place_of_part chip maps ports part)) (drop (i + 1) parts))) f
 
@@ -258,7 +248,8 @@ module _ (chip : ChipData) (maps : List MapRow) (ports : List PortRow) (parts : 
       let more = added nothing in
       ap (λ n. own_faults chip maps ports places' n (drop (i + 1) parts)) (words_more chip maps ports places places' rows rows' (place_row chip maps part) t t' more)
       ∙ ap (λ xs. own_faults chip maps ports xs (length rows + word_count (place_of_part chip maps ports part)) (drop (i + 1) parts)) more
-      ∙ sym (ap (λ o. or_else o (own_faults chip maps ports (places ++ place_row chip maps part ∷ []) (length rows + word_count (place_of_part chip maps ports part)) (drop (i + 1) parts))) (sym is ∙ nothing))
+      ∙ sym (ap (λ o. or_else o
+      (own_faults chip maps ports (places ++ place_row chip maps part ∷ []) (length rows + word_count (place_of_part chip maps ports part)) (drop (i + 1) parts))) (sym is ∙ nothing))
       ∙ ap (own_faults chip maps ports places (length rows)) (sym (dropped parts i part low read)) ∙ was
     where
       by : (o : Option MapFault) → is_some o ≡ false → o ≡ None
@@ -274,24 +265,17 @@ module _ (chip : ChipData) (maps : List MapRow) (ports : List PortRow) (parts : 
       let more = added nothing in
       ap (λ n. places' ++ accepted chip maps ports places' n (drop (i + 1) parts)) (words_more chip maps ports places places' rows rows' (place_row chip maps part) t t' more)
       ∙ ap (λ xs. xs ++ accepted chip maps ports xs (length rows + word_count (place_of_part chip maps ports part)) (drop (i + 1) parts)) more
-      ∙ append_twice places (place_row chip maps part ∷ []) (accepted chip maps ports (places ++ place_row chip maps part ∷ []) (length rows + word_count (place_of_part chip maps ports part)) (drop (i + 1) parts))
-      ∙ ap (λ xs. places ++ xs) (sym (ap (λ t. cond t [] (place_row chip maps part ∷ accepted chip maps ports (places ++ place_row chip maps part ∷ []) (length rows + word_count (place_of_part chip maps ports part)) (drop (i + 1) parts)))
+      ∙ append_twice places (place_row chip maps part ∷ [])
+      (accepted chip maps ports (places ++ place_row chip maps part ∷ []) (length rows + word_count (place_of_part chip maps ports part)) (drop (i + 1) parts))
+      ∙ ap (λ xs. places ++ xs)
+      (sym (ap (λ t. cond t []
+      (place_row chip maps part ∷ accepted chip maps ports (places ++ place_row chip maps part ∷ []) (length rows + word_count (place_of_part chip maps ports part)) (drop (i + 1) parts)))
       (ap is_some (sym is) ∙ none)))
       ∙ ap (λ xs. places ++ accepted chip maps ports places (length rows) xs) (sym (dropped parts i part low read)) ∙ was
     where
       by : (o : Option MapFault) → is_some o ≡ false → o ≡ None
       by None e = refl
       by (Some x) e = cc
-
--- no place is left
-pub faults_done : (chip : ChipData) (maps : List MapRow) (ports : List PortRow) (parts : List PlacePart) (i : ℕ) (places : List PlaceRow) (words : ℕ) (whole : Option MapFault)
-    → length parts ≤ i → own_faults chip maps ports places words (drop i parts) ≡ whole → None ≡ whole
-faults_done chip maps ports parts i places words whole high was = sym (ap (own_faults chip maps ports places words) (nothing parts i high)) ∙ was
-
-pub accepted_done : (chip : ChipData) (maps : List MapRow) (ports : List PortRow) (parts : List PlacePart) (i : ℕ) (places : List PlaceRow) (words : ℕ) (whole : List PlaceRow)
-    → length parts ≤ i → places ++ accepted chip maps ports places words (drop i parts) ≡ whole → places ≡ whole
-accepted_done chip maps ports parts i places words whole high was =
-    sym (append_none places) ∙ sym (ap (λ xs. places ++ accepted chip maps ports places words xs) (nothing parts i high)) ∙ was
 
 -- ---- shared addresses among the other conditions
 
@@ -305,7 +289,8 @@ pub split : (chip : ChipData) (t : MapTables) (earlier : List PlaceRow) (words :
     ≡ or_else (shared_faults t.maps t.ports earlier (accepted chip t.maps t.ports earlier words parts)) (own_faults chip t.maps t.ports earlier words parts)
 split chip t earlier words [] = refl
 split chip t earlier words (part ∷ parts) =
-    ap (λ o. or_else o (places_fault chip t (earlier ++ row ∷ []) (words + word_count p) parts)) (first_append spot (own_checks chip t.maps earlier words part p) (shared_check (map (placed_in t.maps t.ports) earlier) p))
+    ap (λ o. or_else o (places_fault chip t (earlier ++ row ∷ []) (words + word_count p) parts))
+    (first_append spot (own_checks chip t.maps earlier words part p) (shared_check (map (placed_in t.maps t.ports) earlier) p))
     ∙ ap (λ o. or_else (or_else (own_fault chip t.maps t.ports earlier words part) one) o) (split chip t (earlier ++ row ∷ []) (words + word_count p) parts)
     ∙ by (own_fault chip t.maps t.ports earlier words part)
   where
@@ -345,6 +330,7 @@ all_accepted chip maps ports earlier words (part ∷ parts) h =
     rows : List PlaceRow
     rows = accepted chip maps ports (earlier ++ place_row chip maps part ∷ []) (words + word_count (place_of_part chip maps ports part)) parts
 
-    by : (o : Option MapFault) → or_else o faults ≡ None → (faults ≡ None → rows ≡ map (place_row chip maps) parts) → cond (is_some o) [] (place_row chip maps part ∷ rows) ≡ place_row chip maps part ∷ map (place_row chip maps) parts
+    by : (o : Option MapFault) → or_else o faults ≡ None → (faults ≡ None → rows ≡ map (place_row chip maps) parts)
+        → cond (is_some o) [] (place_row chip maps part ∷ rows) ≡ place_row chip maps part ∷ map (place_row chip maps) parts
     by None h more = ap (λ xs. place_row chip maps part ∷ xs) (more h)
     by (Some x) h more = cc

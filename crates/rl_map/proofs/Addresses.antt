@@ -1,4 +1,4 @@
-use Rattle.std.proofs.Common.{◌≡◌, ℕ, ◌+◌, ◌*◌, ◌/◌, ◌%◌, ◌<◌, ◌≤◌, Bool, true, false, ◌||◌, cond, List, [], ◌∷◌, arith, sym, ap, ◌∙◌, refl}
+use Rattle.std.proofs.Common.{◌≡◌, ℕ, ◌+◌, ◌*◌, ◌/◌, ◌%◌, ◌<◌, ◌≤◌, Bool, true, false, cond, List, [], ◌∷◌, arith, sym, ap, ◌∙◌, refl}
 use Rattle.std.specs.Int.{div_ceil}
 use Rattle.std.specs.List.{AllByRecursion}
 use Rattle.std.proofs.lemmas.List.Elements.{recursion_from_All}
@@ -13,6 +13,7 @@ use Rattle.rl_map.specs.Seat.{access_of, AddressesApart}
 use Rattle.rl_map.proofs.Chunks.{by_width, place_lt, chunk_lt, through_access}
 use Rattle.rl_map.proofs.Apart.{Wide, moved, place_same}
 use Rattle.rl_map.proofs.Spacing.{Spread, address_plain, same_word, same_mixed, same_byte, spaced_byte, spaced_word}
+use Rattle.rl_map.proofs.Bools.{or_false}
 
 -- no map of the path sends its words to one address
 abbrev pub Plain : List Level → Type 0
@@ -77,10 +78,6 @@ same_address (m ∷ up) w plain a address byte order ok within sp al_a al_b e =
       address = level.0;
       order = λ h. above.order (ap (λ x. x * count + place_in_time m.kind count (a.byte / n)) h ∙ ap (λ i. order * count + place_in_time m.kind count i) level.1);
     }
-
-or_false : (a b : Bool) → (a || b) ≡ false → (a ≡ false) × (b ≡ false)
-or_false true b e = cc
-or_false false b e = (refl, e)
 
 pub plain_of : (path : List Level) → has_fifo path ≡ false → Plain path
 plain_of [] e = tt

@@ -1,12 +1,10 @@
 -- A layout that was built is sound.
-use Rattle.std.proofs.Common.{◌≡◌, ◌≢◌, ℕ, zero, suc, ◌+◌, ◌*◌, ◌%◌, ◌^◌, ◌<◌, ◌≤◌, ◌⊎◌, inl, inr, Bool, true, false, not, ◌==◌, ◌&&◌, ◌||◌, cond, List, [], ◌∷◌, length, get_or, map, nat_lt, refl, sym, ap, ◌∙◌, subst, arith, eq-eqb, eqb-true}
+use Rattle.std.proofs.Common.{◌≡◌, ◌≢◌, ℕ, zero, suc, ◌+◌, ◌*◌, ◌%◌, ◌^◌, ◌<◌, ◌⊎◌, inl, inr, Bool, true, false, not, ◌==◌, ◌&&◌, ◌||◌, cond, List, [], ◌∷◌, length, get_or, map, nat_lt, refl, sym, ap, ◌∙◌, subst, arith, eq-eqb, eqb-true}
 use Rattle.std.specs.Prelude.{All, filter, flat_map, Contains, IsPermutation}
 use Rattle.std.specs.List.{list_any, range_with_len, AllByRecursion}
 use Rattle.std.specs.List.Sorted.{IsStableByKey}
 use Rattle.std.specs.Ordering.{nat_cmp, is_lt}
 use Rattle.std.specs.declared.cmp.Ordering.TheVariants.{Less, Equal, Greater}
-use Rattle.std.proofs.lemmas.Bool.{cases_lt}
-use Rattle.std.proofs.lemmas.Bool.Decides.{nat_tests}
 use Rattle.std.proofs.lemmas.List.Elements.{Contains-append_left, Contains-append_right, All-from_recursion}
 use Rattle.std.proofs.lemmas.List.Sorted.{Contains-permutation, length_permutation, All-permutation}
 use Rattle.rl_model.specs.Rows.{ChipData}
@@ -23,21 +21,18 @@ use Rattle.rl_map.specs.Access.{IsAligned, through}
 use Rattle.rl_map.specs.Seat.{access_of}
 use Rattle.rl_map.specs.Words.{no_word}
 use Rattle.rl_map.specs.Layout.{LayoutData, no_map, no_port, no_place, place_at, port_at, path_of, location_of, words_of, row_of, has_right, key_of, IsLocation, IsRowOf, IsAscending, IsSound}
-use Rattle.rl_map.specs.Maps.{location_rows, place_rows, all_rows, IsBuiltWith}
+use Rattle.rl_map.specs.Maps.{location_rows, place_rows, all_rows}
 use Rattle.rl_map.specs.Faults.{is_above, is_askew, is_unaligned}
 use Rattle.rl_map.specs.Locations.{AreStraight}
 use Rattle.rl_map.specs.Building.{IsPortRow, AreTables, IsPlaceRow, IsSeated, ArePlaces, path_in, placed_in, rows_of_all, rows_clash, NoRowsClash}
-use Rattle.rl_map.proofs.Lists.{filter_same}
+use Rattle.rl_map.proofs.Lists.{filter_same, mapped_length}
 use Rattle.rl_map.proofs.Lookups.{default_any}
 use Rattle.rl_map.proofs.Growing.{none_of}
-use Rattle.rl_map.proofs.Sorting.{ge_from, standing_by_key}
+use Rattle.rl_map.proofs.Sorting.{standing_by_key}
 use Rattle.rl_map.proofs.Sound.{IsTested, NoneClash, KeepsOrder, may_not, all_rows_are, sound_of}
+use Rattle.rl_map.proofs.Bools.{both, differ, ge_from, lt_false, lt_true, or_false, three, true_false}
 
 -- ---- what the tests say
-
-pub or_false : (a b : Bool) → (a || b) ≡ false → (a ≡ false) × (b ≡ false)
-or_false true b e = cc
-or_false false b e = (refl, e)
 
 pub aligned_from : (b : Bool) (x : ℕ) → (b && not (x == 0)) ≡ false → b ≡ true → x ≡ 0
 aligned_from true x e f = by (x == 0) refl e
@@ -81,10 +76,12 @@ tested chip maps places ports kinds first rows t p few same =
     let port : (n : ℕ) → n < length ports → IsPortRow kinds (length maps) (port_at l n) = λ n low. t.each_port n no_port low in
     let low : (q i j : ℕ) → IsLocation l q i → j < (place_at l q).bytes → is_above (placed_in maps ports (place_at l q)) i j ≡ false =
     λ q i j loc in_j. none_of (is_above (placed_in maps ports (place_at l q)) i) (place_at l q).bytes
-    (none_of (λ i. list_any (is_above (placed_in maps ports (place_at l q)) i) (range_with_len 0 (place_at l q).bytes)) (place_at l q).size (p.seated q no_place loc.place_in).low i loc.index_in) j in_j in
+    (none_of (λ i. list_any (is_above (placed_in maps ports (place_at l q)) i) (range_with_len 0 (place_at l q).bytes)) (place_at l q).size
+    (p.seated q no_place loc.place_in).low i loc.index_in) j in_j in
     let straight : (q i j : ℕ) → IsLocation l q i → j < (place_at l q).bytes → is_unaligned (placed_in maps ports (place_at l q)) i j ≡ false =
     λ q i j loc in_j. none_of (is_unaligned (placed_in maps ports (place_at l q)) i) (place_at l q).bytes
-    (none_of (λ i. list_any (is_unaligned (placed_in maps ports (place_at l q)) i) (range_with_len 0 (place_at l q).bytes)) (place_at l q).size (p.seated q no_place loc.place_in).straight i loc.index_in) j in_j in
+    (none_of (λ i. list_any (is_unaligned (placed_in maps ports (place_at l q)) i) (range_with_len 0 (place_at l q).bytes))
+    (place_at l q).size (p.seated q no_place loc.place_in).straight i loc.index_in) j in_j in
     record {
       maps = t.few;
       ports = omega (arith, t.few, t.fewer);
@@ -116,10 +113,6 @@ contains_flat f first (suc n) (suc j) y low h =
     Contains-append_right (f first) (flat_map f (range_with_len (first + 1) n)) y
     (contains_flat f (first + 1) n j y (omega arith) (subst (λ k. Contains (f k) y) (let e : first + suc j ≡ first + 1 + j = omega arith in e) h))
 
-mapped_length : {X Y : Type 0} (f : X → Y) (xs : List X) → length (map f xs) ≡ length xs
-mapped_length f [] = refl
-mapped_length f (x ∷ xs) = ap suc (mapped_length f xs)
-
 mapped_at : {X Y : Type 0} (f : X → Y) (xs : List X) (k : ℕ) (d : X) (e : Y) → k < length xs → get_or (map f xs) k e ≡ f (get_or xs k d)
 mapped_at f [] k d e low = absurd (omega arith)
 mapped_at f (x ∷ xs) zero d e low = refl
@@ -143,16 +136,6 @@ or_any false false false false (inr (inl h)) = cc
 or_any false false false false (inr (inr (inl h))) = cc
 or_any false false false false (inr (inr (inr h))) = cc
 
-both : (a b : Bool) → a ≡ true → b ≡ true → (a && b) ≡ true
-both a b e f = rw (e, f) refl
-
-differ : (a b : ℕ) → a ≢ b → not (a == b) ≡ true
-differ a b h = by (a == b) refl
-  where
-    by : (t : Bool) → (a == b) ≡ t → not t ≡ true
-    by true e = absurd (h (eqb-true a b e))
-    by false e = refl
-
 clashes : (l : LayoutData) (p i q j : ℕ) (w v : Word) → p ≢ q → may_not (place_at l p) (place_at l q) → rows_clash l.places (row_of l p i w) (row_of l q j v) ≡ true
 clashes l p i q j w v other may = both _ _ (differ p q other) (or_any _ _ _ _ (ways may))
   where
@@ -173,18 +156,12 @@ other_way p q (inl (write, x, y)) = inl (write, y, x)
 other_way p q (inr (inl f)) = inr (inr f)
 other_way p q (inr (inr f)) = inr (inl f)
 
-true_false : (b : Bool) → b ≡ true → b ≡ false → ⊥
-true_false b e f = cc
-
 at_none : (places : List PlaceRow) (rows : List WordRow) (x y : ℕ) (r s : WordRow) → NoRowsClash places rows → x < y → y < length rows → get_or rows x r ≡ r → get_or rows y s ≡ s
     → key_of r ≡ key_of s → rows_clash places r s ≡ false
 at_none places rows x y r s none less low at_x at_y key =
     let far : get_or rows x s ≡ r = default_any rows x s r (omega arith) ∙ at_x in
     subst (λ v. rows_clash places v s ≡ false) far (subst (λ v. rows_clash places (get_or rows x s) v ≡ false) at_y
     (none x y s less low (ap key_of far ∙ key ∙ ap key_of (sym at_y))))
-
-three : {X : Type 0} (a b : ℕ) → (a < b → X) → (b < a → X) → (a ≡ b → X) → X
-three a b f g h = elim (cases_lt a b) [ inl p ↦ f p | inr p ↦ elim (cases_lt b a) [ inl q ↦ g q | inr q ↦ h (omega arith) ] ]
 
 none_clash : (l : LayoutData) → IsPermutation (all_rows l) l.rows → NoRowsClash l.places l.rows → NoneClash l
 none_clash l moved none p i k q j m shared may =
@@ -194,18 +171,14 @@ none_clash l moved none p i k q j m shared may =
     let at_s = Contains-permutation (all_rows l) l.rows s moved (row_in l q j m shared.there shared.there_in) in
     let key : key_of r ≡ key_of s = ap (λ x. x * 2 ^ 64 + r.address) shared.port ∙ ap (λ x. (place_at l q).port * 2 ^ 64 + x) shared.address in
     let refuse : p ≢ q → ⊥ = λ other. three at_r.0 at_s.0
-    (λ less. true_false _ (clashes l p i q j (get_or (words_of l p i) k no_word) (get_or (words_of l q j) m no_word) other may) (at_none l.places l.rows at_r.0 at_s.0 r s none less at_s.1 at_r.2 at_s.2 key))
-    (λ less. true_false _ (clashes l q j p i (get_or (words_of l q j) m no_word) (get_or (words_of l p i) k no_word) (λ e. other (sym e)) (other_way (place_at l p) (place_at l q) may)) (at_none l.places l.rows at_s.0 at_r.0 s r none less at_r.1 at_s.2 at_r.2 (sym key)))
+    (λ less. true_false _ (clashes l p i q j (get_or (words_of l p i) k no_word) (get_or (words_of l q j) m no_word) other may)
+    (at_none l.places l.rows at_r.0 at_s.0 r s none less at_s.1 at_r.2 at_s.2 key))
+    (λ less. true_false _ (clashes l q j p i (get_or (words_of l q j) m no_word) (get_or (words_of l p i) k no_word) (λ e. other (sym e))
+    (other_way (place_at l p) (place_at l q) may)) (at_none l.places l.rows at_s.0 at_r.0 s r none less at_r.1 at_s.2 at_r.2 (sym key)))
     (λ same. other (ap (λ (x : WordRow). x.place) (sym at_r.2 ∙ ap (λ n. get_or l.rows n r) same ∙ default_any l.rows at_s.0 r s at_s.1 ∙ at_s.2))) in
     three p q (λ less. absurd (refuse (λ e. absurd (omega (arith, e))))) (λ less. absurd (refuse (λ e. absurd (omega (arith, e))))) (λ e. e)
 
 -- ---- the order
-
-lt_true : (a b : ℕ) → a < b → nat_lt a b ≡ true
-lt_true a b h = grind (arith, nat_tests)
-
-lt_false : (a b : ℕ) → b ≤ a → nat_lt a b ≡ false
-lt_false a b h = grind (arith, nat_tests)
 
 eq_false : (a b : ℕ) → a ≢ b → (a == b) ≡ false
 eq_false a b h = by (a == b) refl
@@ -265,7 +238,3 @@ built_sound chip maps places ports kinds first rows t p few moved ascending stab
     ∙ (same_key first rows port address stable ∙ ap (filter (λ r. key_of r == port * 2 ^ 64 + address)) all)
     ∙ sym (standing_by_key (all_rows l) port address low (λ k d in_k. (of_all k d in_k).low)) in
     sound_of l tests (none_clash l moves none) keeps moves ascending
-
-pub built_with : (chip : ChipData) (maps : List MapRow) (places : List PlaceRow) (ports : List PortRow) (kinds : List AdapterKind) (first rows : List WordRow)
-    → ArePlaces chip maps ports places first → IsBuiltWith (built maps places ports kinds rows) chip
-built_with chip maps places ports kinds first rows p place low = (p.each place no_place low).placed.known

@@ -115,9 +115,6 @@ aligned_even (level ∷ up) w a d i some e f = (
 
 -- ---- the bytes of an item
 
-pub at_index : Location → ℕ → Location
-at_index item index = record item { index = index }
-
 -- how far apart the locations of an item stand
 pub step_of : List Level → Location → ℕ
 step_of path item = distance path item.bytes true 1
@@ -149,7 +146,8 @@ mapped_even f g by first zero h = refl
 mapped_even f g by first (suc n) h =
     let here : f first ≡ seat_on by (g first) = subst (λ k. f k ≡ seat_on by (g k)) (let e : first + 0 ≡ first = omega arith in e) (h 0 (omega arith)) in
     ap (λ s. s ∷ map f (range_with_len (first + 1) n)) here
-    ∙ ap (λ ss. seat_on by (g first) ∷ ss) (mapped_even f g by (first + 1) n (λ j low. subst (λ k. f k ≡ seat_on by (g k)) (let e : first + suc j ≡ first + 1 + j = omega arith in e) (h (suc j) (omega arith))))
+    ∙ ap (λ ss. seat_on by (g first) ∷ ss)
+    (mapped_even f g by (first + 1) n (λ j low. subst (λ k. f k ≡ seat_on by (g k)) (let e : first + suc j ≡ first + 1 + j = omega arith in e) (h (suc j) (omega arith))))
 
 -- ---- the words
 

@@ -16,9 +16,9 @@ use Rattle.rl_map.specs.Layout.{location_of}
 use Rattle.rl_map.specs.Faults.{Placed, address_in, is_above, is_askew, is_unaligned}
 use Rattle.rl_map.specs.Locations.{AreStraight}
 use Rattle.rl_map.proofs.Growing.{none_of, is_none_of}
-use Rattle.rl_map.proofs.Sorting.{ge_from}
-use Rattle.rl_map.proofs.Closing.{or_false, aligned_from, straight_from}
+use Rattle.rl_map.proofs.Closing.{aligned_from, straight_from}
 use Rattle.rl_map.proofs.Even.{step_even, multiple_even, aligned_even, step_of, seat_even}
+use Rattle.rl_map.proofs.Bools.{ge_from, or_false}
 
 -- ---- one byte
 
@@ -100,7 +100,8 @@ none_above p last ok straight size h i low =
     (omega (arith, top, stands p last byte ok in_byte e f, stands p i byte ok in_byte e f, no_more i last (step_of p.path (location_of p.row 0)) (omega arith))))
 
 -- what the tests on both locations say
-pub straight_two : (path : List Level) (item : Location) → ((byte : ℕ) → byte < item.bytes → (is_askew (access_of (record item { index = 0 }) byte) path ≡ false) × (is_askew (access_of (record item { index = 1 }) byte) path ≡ false))
+pub straight_two : (path : List Level) (item : Location)
+    → ((byte : ℕ) → byte < item.bytes → (is_askew (access_of (record item { index = 0 }) byte) path ≡ false) × (is_askew (access_of (record item { index = 1 }) byte) path ≡ false))
     → AreStraight path item 2
 straight_two path item h zero byte low in_byte = straight_from path (access_of (record item { index = 0 }) byte) (h byte in_byte).0
 straight_two path item h (suc zero) byte low in_byte = straight_from path (access_of (record item { index = 1 }) byte) (h byte in_byte).1

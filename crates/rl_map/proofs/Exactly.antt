@@ -35,7 +35,8 @@ unfolding layout_fault
 by_maps chip maps places kinds e h other = ap (λ o. or_else o (places_fault chip (tables_of kinds maps) [] 0 places)) (h other)
 
 -- what the maps, the ports and the accepted places are
-pub record AreAccepted (chip : ChipData) (maps : List MapNode) (places : List PlacePart) (kinds : List AdapterKind) (map_rows : List MapRow) (ports : List PortRow) (rows : List PlaceRow) : Type 0 where
+pub record AreAccepted (chip : ChipData) (maps : List MapNode) (places : List PlacePart) (kinds : List AdapterKind) (map_rows : List MapRow)
+    (ports : List PortRow) (rows : List PlaceRow) : Type 0 where
   pub fine : maps_fault kinds no_tables maps ≡ None
   pub maps_are : map_rows ≡ (tables_of kinds maps).maps
   pub ports_are : ports ≡ (tables_of kinds maps).ports
@@ -49,7 +50,8 @@ unfolding layout_fault
 by_places chip maps places kinds map_rows ports rows h =
     ap (λ o. or_else o (places_fault chip (tables_of kinds maps) [] 0 places)) h.fine
     ∙ split chip (tables_of kinds maps) [] 0 places
-    ∙ ap (λ m. or_else (shared_faults m (tables_of kinds maps).ports [] (accepted chip m (tables_of kinds maps).ports [] 0 places)) (own_faults chip m (tables_of kinds maps).ports [] 0 places)) (sym h.maps_are)
+    ∙ ap (λ m. or_else (shared_faults m (tables_of kinds maps).ports [] (accepted chip m (tables_of kinds maps).ports [] 0 places))
+    (own_faults chip m (tables_of kinds maps).ports [] 0 places)) (sym h.maps_are)
     ∙ ap (λ p. or_else (shared_faults map_rows p [] (accepted chip map_rows p [] 0 places)) (own_faults chip map_rows p [] 0 places)) (sym h.ports_are)
     ∙ ap (λ r. or_else (shared_faults map_rows ports [] r) (own_faults chip map_rows ports [] 0 places)) (sym h.rows_are)
 

@@ -6,7 +6,6 @@ use Rattle.std.proofs.Math.Nat.{min-eq_left, min-eq_right}
 use Rattle.std.proofs.Math.ListN.{get_or-map}
 use Rattle.std.proofs.Math.Seq.{get_or-append_seam}
 use Rattle.std.proofs.lemmas.Bool.{cases_lt}
-use Rattle.std.proofs.lemmas.Bool.Decides.{nat_tests}
 use Rattle.std.proofs.lemmas.List.{get_or_append_left}
 use Rattle.std.proofs.lemmas.List.Sums.{position_or_len_is}
 use Rattle.std.proofs.lemmas.List.Quantifiers.{position-Some}
@@ -25,18 +24,13 @@ use Rattle.rl_map.specs.Faults.{Placed, address_in, stands_on, clash, sharer, ad
 use Rattle.rl_map.specs.Steps.{shared_check, shared_faults}
 use Rattle.rl_map.specs.Building.{placed_in}
 use Rattle.rl_map.specs.Clashes.{NotAfter, IsMade, IsLeast}
-use Rattle.rl_map.proofs.Lists.{filter_none}
+use Rattle.rl_map.proofs.Lists.{filter_none, all_flat, append_twice, mapped_length}
 use Rattle.rl_map.proofs.Sorting.{some_row}
 use Rattle.rl_map.proofs.Sound.{IsTested}
 use Rattle.rl_map.proofs.Sharing.{placed_of, may_not_both, Shares, StandsAt, word_at_byte, byte_at_word, stands_from, stands_to, shares_least, made_shares}
+use Rattle.rl_map.proofs.Bools.{and_true, at_zero, both, lt_false, lt_true, not_true, some_is}
 
 -- ---- positions
-
-lt_true : (a b : ℕ) → a < b → nat_lt a b ≡ true
-lt_true a b h = grind (arith, nat_tests)
-
-lt_false : (a b : ℕ) → b ≤ a → nat_lt a b ≡ false
-lt_false a b h = grind (arith, nat_tests)
 
 position_at : {X : Type 0} (p : X → Bool) (xs : List X) (i : ℕ) (d : X) → i < length xs → ((k : ℕ) → k < i → p (get_or xs k d) ≡ false) → p (get_or xs i d) ≡ true → position p xs ≡ Some i
 position_at p xs i d low before here =
@@ -76,26 +70,12 @@ in_flat f a first (suc n) (suc i) low h =
     in_right a (f first) (flat_map f (range_with_len (first + 1) n))
     (in_flat f a (first + 1) n i (omega arith) (subst (λ k. IsIn a (f k)) (let e : first + suc i ≡ first + 1 + i = omega arith in e) h))
 
-all_appended : {X : Type 0} (P : X → Type 0) (xs ys : List X) → AllByRecursion P xs → AllByRecursion P ys → AllByRecursion P (xs ++ ys)
-all_appended P [] ys a b = b
-all_appended P (x ∷ xs) ys a b = (a.0, all_appended P xs ys a.1 b)
-
 all_mapped : (f : ℕ → ℕ) (P : ℕ → Type 0) (first n : ℕ) → ((j : ℕ) → j < n → P (f (first + j))) → AllByRecursion P (map f (range_with_len first n))
 all_mapped f P first zero h = tt
 all_mapped f P first (suc n) h = (
   subst (λ k. P (f k)) (let e : first + 0 ≡ first = omega arith in e) (h 0 (omega arith)),
   all_mapped f P (first + 1) n (λ j low. subst (λ k. P (f k)) (let e : first + suc j ≡ first + 1 + j = omega arith in e) (h (suc j) (omega arith))),
 )
-
-all_flat : (f : ℕ → List ℕ) (P : ℕ → Type 0) (first n : ℕ) → ((j : ℕ) → j < n → AllByRecursion P (f (first + j))) → AllByRecursion P (flat_map f (range_with_len first n))
-all_flat f P first zero h = tt
-all_flat f P first (suc n) h =
-    all_appended P (f first) (flat_map f (range_with_len (first + 1) n))
-    (subst (λ k. AllByRecursion P (f k)) (let e : first + 0 ≡ first = omega arith in e) (h 0 (omega arith)))
-    (all_flat f P (first + 1) n (λ j low. subst (λ k. AllByRecursion P (f k)) (let e : first + suc j ≡ first + 1 + j = omega arith in e) (h (suc j) (omega arith))))
-
-at_zero : (j : ℕ) → 0 + j ≡ j
-at_zero j = omega arith
 
 all_addresses : (p : Placed) (P : ℕ → Type 0) → ((i j : ℕ) → i < p.row.size → j < p.row.bytes → P (address_in p i j)) → AllByRecursion P (addresses_of p)
 all_addresses p P h =
@@ -148,17 +128,6 @@ least_is (x ∷ xs) a h low = ap Some (fold_is a x xs h low.0 low.1)
 
 -- ---- the earlier places that share an address with a place
 
-and_true : (a b : Bool) → (a && b) ≡ true → (a ≡ true) × (b ≡ true)
-and_true true b e = (refl, e)
-and_true false b e = cc
-
-both : (a b : Bool) → a ≡ true → b ≡ true → (a && b) ≡ true
-both a b e f = rw (e, f) refl
-
-not_true : (b : Bool) → (b ≡ true → ⊥) → b ≡ false
-not_true true h = absurd (h refl)
-not_true false h = refl
-
 abbrev tests : LayoutData → (p q address : ℕ) → Bool
 tests l p q address = clash (placed_of l q) (placed_of l p) && stands_on address (placed_of l q)
 
@@ -187,10 +156,6 @@ pub record AreBefore (l : LayoutData) (earlier : List PlaceRow) (p : ℕ) : Type
   pub each : (q : ℕ) → q < p → get_or earlier q no_place ≡ place_at l q
   pub inside : p < length l.places
 
-mapped_length : {X Y : Type 0} (f : X → Y) (xs : List X) → length (map f xs) ≡ length xs
-mapped_length f [] = refl
-mapped_length f (x ∷ xs) = ap suc (mapped_length f xs)
-
 placed_at_q : (l : LayoutData) (earlier : List PlaceRow) (p q : ℕ) → AreBefore l earlier p → q < p
     → get_or (map (placed_in l.maps l.ports) earlier) q (placed_in l.maps l.ports no_place) ≡ placed_of l q
 placed_at_q l earlier p q b low = get_or-map (placed_in l.maps l.ports) earlier q no_place ∙ ap (placed_in l.maps l.ports) (b.each q low)
@@ -212,10 +177,6 @@ sharer_some l earlier p address q b low here before =
     position_at (λ q. clash q (placed_of l p) && stands_on address q) E q (placed_in l.maps l.ports no_place) (omega (arith, long))
     (λ k less. ap (λ q. clash q (placed_of l p) && stands_on address q) (placed_at_q l earlier p k b (omega arith)) ∙ before k less)
     (ap (λ q. clash q (placed_of l p) && stands_on address q) (placed_at_q l earlier p q b low) ∙ here)
-
-some_is : (o : Option ℕ) → is_some o ≡ true → (q : ℕ) × (o ≡ Some q)
-some_is None e = absurd cc
-some_is (Some q) e = (q, refl)
 
 some_sharer : (l : LayoutData) (earlier : List PlaceRow) (p address : ℕ) → AreBefore l earlier p → is_some (sharer (map (placed_in l.maps l.ports) earlier) (placed_of l p) address) ≡ true
     → (q : ℕ) × (q < p) × (tests l p q address ≡ true)
@@ -276,15 +237,6 @@ check_none spot E P e = ap (λ o. cond (is_some o) (Some (Bad (unwrap_or o TooMa
 check_some : (spot : Spot) (E : List Placed) (P : Placed) (cause : MapCause) → shared E P ≡ Some cause → first_of spot (shared_check E P) ≡ Some (Bad cause spot)
 check_some spot E P cause e = ap (λ o. cond (is_some o) (Some (Bad (unwrap_or o TooMany) spot)) None) e
 
-append_twice : {Y : Type 0} (xs ys zs : List Y) → (xs ++ ys) ++ zs ≡ xs ++ (ys ++ zs)
-append_twice [] ys zs = refl
-append_twice (x ∷ xs) ys zs = ap (λ us. x ∷ us) (append_twice xs ys zs)
-
--- the least clash comes at one of these places or later
-abbrev FromOn : ℕ → Option Shared → Type 0
-FromOn n None = Unit {0}
-FromOn n (Some s) = n ≤ s.place
-
 pub record IsFirstClash (l : LayoutData) (best : Option Shared) : Type 0 where
   pub least : (p q address : ℕ) → Shares l p q address → NotAfter best (record { place = p; address = address; other = q })
   pub made : (s : Shared) → best ≡ Some s → Shares l s.place s.other s.address
@@ -309,7 +261,8 @@ faults_none l t h earlier (p ∷ ps) e =
     let none = shared_none l t earlier (length earlier) b.0 (λ q address s. h.least (length earlier) q address s) in
     let here : shared (map (placed_in l.maps l.ports) earlier) (placed_in l.maps l.ports p) ≡ None =
     ap (λ x. shared (map (placed_in l.maps l.ports) earlier) (placed_in l.maps l.ports x)) b.1 ∙ none in
-    ap (λ o. or_else o (shared_faults l.maps l.ports (earlier ++ p ∷ []) ps)) (check_none (row_at array.Place (length earlier)) (map (placed_in l.maps l.ports) earlier) (placed_in l.maps l.ports p) here)
+    ap (λ o. or_else o (shared_faults l.maps l.ports (earlier ++ p ∷ []) ps))
+    (check_none (row_at array.Place (length earlier)) (map (placed_in l.maps l.ports) earlier) (placed_in l.maps l.ports p) here)
     ∙ faults_none l t h (earlier ++ p ∷ []) ps (append_twice earlier (p ∷ []) ps ∙ e)
 
 faults_some : (l : LayoutData) → IsTested l → (s : Shared) → IsFirstClash l (Some s) → (earlier ps : List PlaceRow) → earlier ++ ps ≡ l.places → length earlier ≤ s.place

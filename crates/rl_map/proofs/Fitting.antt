@@ -83,7 +83,8 @@ word_fits path base item kind ok size some narrow on order k inside at =
     let whole = words_partition path base item ok size in
     let low : here.byte < length seats = omega (arith, here.inside, long) in
     let listed : k < length (orders_below seats (slots item.bytes path)) = simp length-map at inside in
-    let number : number_of seats w.order ≡ k = ap (λ (v : Word). number_of seats v.order) (words_at seats (slots item.bytes path) k listed) ∙ (is_listed seats (slots item.bytes path) k listed).number in
+    let number : number_of seats w.order ≡ k = ap (λ (v : Word). number_of seats v.order) (words_at seats (slots item.bytes path) k listed)
+    ∙ (is_listed seats (slots item.bytes path) k listed).number in
     let same : number_of seats (get_or seats here.byte no_seat).order ≡ k = ap (λ (s : Seat). number_of seats s.order) (seat_at here.byte here.inside) ∙ ap (number_of seats) here.order_is ∙ number in
     let set : IsBitSet w.lanes (get_or seats here.byte no_seat).lane =
     subst (λ n. IsBitSet (get_or (item_words path base item) n no_word).lanes (get_or seats here.byte no_seat).lane) same (whole.placed here.byte low).1.enabled in

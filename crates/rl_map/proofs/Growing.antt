@@ -21,6 +21,7 @@ use Rattle.rl_map.specs.Layout.{no_map, no_port, no_place}
 use Rattle.rl_map.specs.Maps.{MapTables, no_tables, with_map, tables_of, map_number, map_with, level_of, path_under, port_under, map_row, port_row, ports_with}
 use Rattle.std.proofs.lemmas.List.Sums.{fold_more}
 use Rattle.rl_map.specs.Building.{IsMapRow, IsPortRow, AreTables, IsUnder, HasPort, rows_of, rows_of_all}
+use Rattle.rl_map.proofs.Lists.{one_longer}
 
 -- ---- maps and ports
 
@@ -38,9 +39,6 @@ map_more ports more m h = record {
 
 port_more : (kinds : List AdapterKind) (maps : ℕ) (p : PortRow) → IsPortRow kinds maps p → IsPortRow kinds (maps + 1) p
 port_more kinds maps p h = record { map = omega (arith, h.map); width = h.width; wide = h.wide; adapter = h.adapter; adapter_in = h.adapter_in; narrow = h.narrow; most = h.most }
-
-one_longer : {X : Type 0} (xs : List X) (x : X) → length (xs ++ x ∷ []) ≡ length xs + 1
-one_longer xs x = omega (arith, length-append xs (x ∷ []))
 
 with_child : (kinds : List AdapterKind) (maps : List MapRow) (ports : List PortRow) (row : MapRow) → AreTables kinds maps ports → length maps < 64 → IsMapRow ports row
     → AreTables kinds (maps ++ row ∷ []) ports
@@ -85,7 +83,12 @@ pub tables_more : (kinds : List AdapterKind) (maps : List MapRow) (ports : List 
 tables_more kinds maps ports m t few w under port = by m.parent under port
   where
     by : (parent : Option (List ℕ)) → IsUnder maps parent → HasPort kinds (length maps) parent m
-        → AreTables kinds (maps ++ record { name = m.name; path = path_under maps parent (level_of m); port = port_under (length ports) maps parent } ∷ []) (ports_with kinds (length maps) ports parent m)
+        → AreTables kinds (maps ++ record {
+          name = m.name;
+          path = path_under maps parent (level_of m);
+          port =
+              port_under (length ports) maps parent;
+        } ∷ []) (ports_with kinds (length maps) ports parent m)
     by None under port = with_root kinds maps ports _ (port_row kinds (length maps) m) t few (root_row kinds maps ports m m.name (port_row kinds (length maps) m) w refl) port
     by (Some name) under port =
         subst (λ o. AreTables kinds (maps ++ record { name = m.name; path = level_of m ∷ (map_with maps o).path; port = (map_with maps o).port } ∷ []) ports) (sym under.1)

@@ -1,5 +1,5 @@
 -- The words that are kept of places.
-use Rattle.std.proofs.Common.{◌≡◌, ℕ, ◌+◌, ◌*◌, ◌^◌, ◌<◌, ◌≤◌, ◌⊎◌, inl, inr, List, [], ◌∷◌, ◌++◌, length, length-append, get_or, sym, ap, ◌∙◌, subst, arith}
+use Rattle.std.proofs.Common.{◌≡◌, ℕ, ◌+◌, ◌*◌, ◌^◌, ◌<◌, ◌≤◌, ◌⊎◌, inl, inr, List, [], ◌∷◌, ◌++◌, length, get_or, sym, ap, ◌∙◌, subst, arith}
 use Rattle.std.specs.Prelude.{All, slice_get, Some}
 use Rattle.std.proofs.lemmas.Bool.{cases_lt}
 use Rattle.std.proofs.lemmas.List.{length-map, get_or_append_left}
@@ -25,6 +25,7 @@ use Rattle.rl_map.specs.Partition.{IsWordOn}
 use Rattle.rl_bus.specs.declared.op.AdapterKind.{AdapterKind}
 use Rattle.rl_bus.specs.declared.table.WordRow.{WordRow}
 use Rattle.std.proofs.lemmas.Option.{slice_get_within}
+use Rattle.rl_map.proofs.Lists.{one_longer}
 
 -- words that stand at addresses of 64 bits once they are moved
 pub low_words : (path : List Level) (base : ℕ) (item : Location) (words : List Word) (by : ℕ) → IsPath path → item.bytes ≤ 8 → AddressesFit path base item
@@ -46,9 +47,6 @@ kept_of maps ports p map port path loc kept low_m low_p a b e f h =
     subst (λ x. AreLocations x (port_for ports p).base (location_of p 0) p.size kept) path_is
     (subst (λ (x : PortRow). AreLocations path x.base (location_of p 0) p.size kept) port_is
     (subst (λ x. AreLocations path port.base x p.size kept) f h))
-
-one_longer : {X : Type 0} (xs : List X) (x : X) → length (xs ++ x ∷ []) ≡ length xs + 1
-one_longer xs x = omega (arith, length-append xs (x ∷ []))
 
 -- the words of one place more
 pub words_more : (maps : List MapRow) (ports : List PortRow) (places places' : List PlaceRow) (kept kept' : List PlaceWords) (p : PlaceRow) (words : PlaceWords)

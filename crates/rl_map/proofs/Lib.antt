@@ -1,3 +1,4 @@
+pub mod Bools
 pub mod Chunks
 pub mod Climb
 pub mod Apart
@@ -33,3 +34,4 @@ pub mod Keeping
 pub mod EvenTests
 pub mod Linking
 pub mod Owner
+pub mod Counting

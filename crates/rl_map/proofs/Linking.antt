@@ -1,5 +1,5 @@
 -- The places of each item, linked backwards.
-use Rattle.std.proofs.Common.{◌≡◌, ◌≢◌, ℕ, suc, ◌+◌, ◌-◌, ◌<◌, ◌≤◌, ◌⊎◌, inl, inr, Bool, true, false, not, ◌==◌, ◌&&◌, ◌||◌, cond, List, [], ◌∷◌, ◌++◌, length, length-append, get_or, set, nat_lt, Option, Some, None, refl, sym, ap, ◌∙◌, subst, arith, eq-eqb, eqb-true, get_or-set_other, get_or-set_same}
+use Rattle.std.proofs.Common.{◌≡◌, ◌≢◌, ℕ, suc, ◌+◌, ◌-◌, ◌<◌, ◌≤◌, ◌⊎◌, inl, inr, Bool, true, false, not, ◌==◌, ◌&&◌, ◌||◌, cond, List, [], ◌∷◌, ◌++◌, length, get_or, set, nat_lt, Option, Some, None, refl, sym, ap, ◌∙◌, subst, arith, eq-eqb, eqb-true, get_or-set_other, get_or-set_same}
 use Rattle.std.specs.Prelude.{position, MatchOption, IfSome, is_some}
 use Rattle.std.specs.List.{list_any, position_or_len}
 use Rattle.std.proofs.lemmas.Bool.{cases_lt}
@@ -11,10 +11,11 @@ use Rattle.rl_model.specs.declared.rows.Item.{Item}
 use Rattle.rl_model.specs.declared.rows.Item.TheVariants as item
 use Rattle.rl_map.specs.declared.rows.PlaceRow.{PlaceRow}
 use Rattle.rl_map.specs.Layout.{LayoutData, no_place, same_item, is_in, place_at, place_of}
-use Rattle.rl_map.specs.Faults.{is_same_place}
+use Rattle.rl_map.specs.Faults.{is_placed}
 use Rattle.rl_map.specs.Links.{number_of_item, IsLast, AreLinked}
 use Rattle.rl_map.proofs.Lookups.{same_from, place_there}
 use Rattle.rl_map.proofs.Accepting.{at_first, at_none}
+use Rattle.rl_map.proofs.Lists.{one_longer}
 
 -- ---- items and their numbers
 
@@ -73,9 +74,6 @@ equal_or_not a b = by (a == b) refl
     by true e = inl (eqb-true a b e)
     by false e = inr (λ f. let g : (a == b) ≡ true = ap (λ x. a == x) (sym f) ∙ equal_self a in let h = sym g ∙ e in cc)
 
-one_longer : {X : Type 0} (xs : List X) (x : X) → length (xs ++ x ∷ []) ≡ length xs + 1
-one_longer xs x = omega (arith, length-append xs (x ∷ []))
-
 pub linked_more : (places : List PlaceRow) (row : PlaceRow) (lasts grown lasts' before before' : List ℕ) (x value : ℕ) → AreLinked places lasts before
     → ((k : ℕ) → get_or grown k 0 ≡ get_or lasts k 0) → number_of_item row.item < length grown → x ≡ get_or grown (number_of_item row.item) 0
     → before' ≡ before ++ x ∷ [] → value ≡ length places + 1 → lasts' ≡ set grown (number_of_item row.item) value → AreLinked (places ++ row ∷ []) lasts' before'
@@ -98,7 +96,8 @@ linked_more places row lasts grown lasts' before before' x value was same inside
         → IsLast (places ++ row ∷ []) (length places + 1) i (get_or lasts' (number_of_item i) 0)
     of_item i (inl e) =
         let value_at : get_or lasts' (number_of_item i) 0 ≡ length places + 1 =
-        ap (λ xs. get_or xs (number_of_item i) 0) lasts_is ∙ ap (λ n. get_or (set grown (number_of_item row.item) value) n 0) (sym e) ∙ get_or-set_same grown (number_of_item row.item) value 0 inside ∙ value_is in
+        ap (λ xs. get_or xs (number_of_item i) 0) lasts_is ∙ ap (λ n. get_or (set grown (number_of_item row.item) value) n 0) (sym e)
+        ∙ get_or-set_same grown (number_of_item row.item) value 0 inside ∙ value_is in
         let same_one : same_item (get_or (places ++ row ∷ []) (length places) no_place).item i ≡ true =
         ap (λ (r : PlaceRow). same_item r.item i) added ∙ ap (λ a. same_item a i) (number_same row.item i e) ∙ same_self i in
         subst (IsLast (places ++ row ∷ []) (length places + 1) i) (sym value_at) (last_here (places ++ row ∷ []) (length places) i same_one)
@@ -176,7 +175,8 @@ found_next places i map above next place m found was some place_is last m_is = r
 
     at : (t : Bool) → is_in map m ≡ t → (f : Option ℕ)
         → MatchOption f (NoneFits places i map above (length places)) (λ b. (above ≤ b) × (b < length places) × (fits i map (get_or places b no_place) ≡ true) × NoneFits places i map above b)
-        → MatchOption (cond t (Some place) f) (NoneFits places i map next (length places)) (λ b. (next ≤ b) × (b < length places) × (fits i map (get_or places b no_place) ≡ true) × NoneFits places i map next b)
+        → MatchOption (cond t (Some place) f) (NoneFits places i map next (length places))
+        (λ b. (next ≤ b) × (b < length places) × (fits i map (get_or places b no_place) ≡ true) × NoneFits places i map next b)
     at true e f h = (last.most, omega (arith, was.most), ap (λ t. t && is_in map (get_or places place no_place).map) is_one ∙ ap (is_in map) (sym m_is) ∙ e, between)
     at false e None h =
         let other : fits i map (get_or places place no_place) ≡ false = ap (λ t. t && is_in map (get_or places place no_place).map) is_one ∙ ap (is_in map) (sym m_is) ∙ e in
@@ -193,10 +193,10 @@ found_all places i map above (Some b) h e =
 
 -- ---- the same map and item
 
-pub same_places : (places : List PlaceRow) (row : PlaceRow) → list_any (λ q. is_same_place q row) places ≡ list_any (fits row.item (Some row.map)) places
+pub same_places : (places : List PlaceRow) (row : PlaceRow) → is_placed places row ≡ list_any (fits row.item (Some row.map)) places
 same_places [] row = refl
 same_places (q ∷ places) row =
-    ap (λ t. t || list_any (λ q. is_same_place q row) places) (both_ways (q.map == row.map) (same_item q.item row.item)) ∙ ap (λ t. fits row.item (Some row.map) q || t) (same_places places row)
+    ap (λ t. t || is_placed places row) (both_ways (q.map == row.map) (same_item q.item row.item)) ∙ ap (λ t. fits row.item (Some row.map) q || t) (same_places places row)
   where
     both_ways : (a b : Bool) → (a && b) ≡ (b && a)
     both_ways true true = refl
@@ -228,7 +228,7 @@ one_found t xs = any_below t xs ∙ by (nat_lt (position_or_len t xs) (length xs
     by false = refl
 
 pub is_placed_by : (places : List PlaceRow) (row : PlaceRow) (o : Option ℕ) (b : Bool) → o ≡ position (fits row.item (Some row.map)) places → b ≡ is_some o
-    → b ≡ list_any (λ q. is_same_place q row) places
+    → b ≡ is_placed places row
 is_placed_by places row o b e f = f ∙ ap is_some e ∙ sym (one_found (fits row.item (Some row.map)) places) ∙ sym (same_places places row)
 
 -- what is found is a place of the item

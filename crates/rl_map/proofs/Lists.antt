@@ -1,5 +1,5 @@
 -- Lists of rows.
-use Rattle.std.proofs.Common.{◌≡◌, ◌≢◌, ℕ, zero, suc, ◌+◌, ◌<◌, ◌≤◌, Bool, true, false, ◌&&◌, cond, List, [], ◌∷◌, ◌++◌, length, take, drop, map, Some, None, refl, ap, ◌∙◌, subst, arith}
+use Rattle.std.proofs.Common.{◌≡◌, ◌≢◌, ℕ, zero, suc, ◌+◌, ◌<◌, ◌≤◌, Bool, true, false, ◌&&◌, cond, List, [], ◌∷◌, ◌++◌, length, length-append, get_or, take, drop, map, Some, None, refl, sym, ap, ◌∙◌, subst, arith}
 use Rattle.std.specs.Prelude.{filter, flat_map, find}
 use Rattle.std.specs.List.{range_with_len, AllByRecursion, AllWithin}
 use Rattle.std.proofs.lemmas.List.Elements.{filter-append}
@@ -78,7 +78,8 @@ flat_one f first (suc n) zero low h =
     rw none (append_nothing (f first) ∙ ap f (let e : first ≡ first + 0 = omega arith in e))
 flat_one f first (suc n) (suc i) low h =
     let here : f first ≡ [] = subst (λ k. f k ≡ []) (let e : first + 0 ≡ first = omega arith in e) (h 0 (omega arith) (λ e. absurd (omega (arith, e)))) in
-    rw here (flat_one f (first + 1) n i (omega arith) (λ j in_n other. subst (λ k. f k ≡ []) (let e : first + suc j ≡ first + 1 + j = omega arith in e) (h (suc j) (omega arith) (λ e. other (omega (arith, e)))))
+    rw here (flat_one f (first + 1) n i (omega arith)
+    (λ j in_n other. subst (λ k. f k ≡ []) (let e : first + suc j ≡ first + 1 + j = omega arith in e) (h (suc j) (omega arith) (λ e. other (omega (arith, e)))))
     ∙ ap f (let e : first + 1 + i ≡ first + suc i = omega arith in e))
 
 -- ---- the part of an ascending list where a key stands
@@ -94,3 +95,30 @@ all_from P [] zero h = tt
 all_from P [] (suc n) h = tt
 all_from P (x ∷ xs) zero h = (h 0 x (omega arith) (omega arith), all_from P xs zero (λ k d p q. h (suc k) d (omega arith) (omega arith)))
 all_from P (x ∷ xs) (suc n) h = all_from P xs n (λ k d p q. h (suc k) d (omega arith) (omega arith))
+
+pub mapped_length : {X Y : Type 0} (f : X → Y) (xs : List X) → length (map f xs) ≡ length xs
+mapped_length f [] = refl
+mapped_length f (x ∷ xs) = ap suc (mapped_length f xs)
+
+pub append_twice : {X : Type 0} (xs ys zs : List X) → (xs ++ ys) ++ zs ≡ xs ++ (ys ++ zs)
+append_twice [] ys zs = refl
+append_twice (x ∷ xs) ys zs = ap (λ us. x ∷ us) (append_twice xs ys zs)
+
+pub one_longer : {X : Type 0} (xs : List X) (x : X) → length (xs ++ x ∷ []) ≡ length xs + 1
+one_longer xs x = omega (arith, length-append xs (x ∷ []))
+
+pub all_appended : {X : Type 0} (P : X → Type 0) (xs ys : List X) → AllByRecursion P xs → AllByRecursion P ys → AllByRecursion P (xs ++ ys)
+all_appended P [] ys a b = b
+all_appended P (x ∷ xs) ys a b = (a.0, all_appended P xs ys a.1 b)
+
+pub all_flat : {Y : Type 0} (f : ℕ → List Y) (P : Y → Type 0) (first n : ℕ) → ((j : ℕ) → j < n → AllByRecursion P (f (first + j))) → AllByRecursion P (flat_map f (range_with_len first n))
+all_flat f P first zero h = tt
+all_flat f P first (suc n) h =
+    all_appended P (f first) (flat_map f (range_with_len (first + 1) n))
+    (subst (λ k. AllByRecursion P (f k)) (let e : first + 0 ≡ first = omega arith in e) (h 0 (omega arith)))
+    (all_flat f P (first + 1) n (λ j low. subst (λ k. AllByRecursion P (f k)) (let e : first + suc j ≡ first + 1 + j = omega arith in e) (h (suc j) (omega arith))))
+
+pub dropped : {X : Type 0} (xs : List X) (i : ℕ) (x : X) → i < length xs → x ≡ get_or xs i x → drop i xs ≡ x ∷ drop (i + 1) xs
+dropped [] i x low read = absurd (omega arith)
+dropped (y ∷ ys) zero x low read = ap (λ z. z ∷ ys) (sym read)
+dropped (y ∷ ys) (suc i) x low read = dropped ys i x (omega arith) read ∙ ap (λ n. x ∷ drop n (y ∷ ys)) (let e : suc (i + 1) ≡ suc i + 1 = omega arith in e)

@@ -1,5 +1,5 @@
 -- What the look-ups of a layout find.
-use Rattle.std.proofs.Common.{◌≡◌, ℕ, zero, suc, ◌^◌, ◌<◌, ◌≤◌, Bool, true, false, ◌==◌, ◌&&◌, cond, List, [], ◌∷◌, length, get_or, map, Option, Some, None, refl, sym, ap, ◌∙◌, subst, arith, eqb-true}
+use Rattle.std.proofs.Common.{◌≡◌, ℕ, zero, suc, ◌<◌, ◌≤◌, Bool, true, false, ◌==◌, ◌&&◌, cond, List, [], ◌∷◌, length, get_or, map, Option, Some, None, refl, sym, ap, ◌∙◌, subst, arith, eqb-true}
 use Rattle.std.specs.Prelude.{filter, find, slice_get}
 use Rattle.std.specs.List.{AllByRecursion}
 use Rattle.std.proofs.lemmas.List.Elements.{recursion_from_All}
@@ -15,12 +15,11 @@ use Rattle.rl_map.specs.declared.rows.MapRow.{MapRow}
 use Rattle.rl_map.specs.declared.rows.PortRow.{PortRow}
 use Rattle.rl_map.specs.declared.rows.PlaceRow.{PlaceRow}
 use Rattle.rl_map.specs.declared.rows.Here.{Here}
-use Rattle.rl_map.specs.declared.seat.Seat.{Seat}
 use Rattle.rl_map.specs.Seat.{seat_of, AddressesFit}
 use Rattle.rl_map.specs.Words.{item_words, words_with, no_word}
-use Rattle.rl_map.specs.Layout.{LayoutData, no_map, no_port, no_place, map_at, port_at, place_at, location_of, words_of, seat_at, row_of, index_of, has_right, lets_through, standing, here_of, found, words_here, words_found, same_item, is_in, place_of, IsLocation, IsRowOf, IsHere, IsSound}
-use Rattle.rl_map.proofs.Fitting.{as_many}
-use Rattle.rl_map.proofs.Lists.{filter_both, filter_find, filter_found}
+use Rattle.rl_map.specs.Layout.{LayoutData, no_place, map_at, port_at, place_at, location_of, words_of, seat_at, row_of, index_of, has_right, lets_through, standing, here_of, found, words_here, words_found, same_item, is_in, place_of, IsLocation, IsRowOf, IsHere, IsSound}
+use Rattle.rl_map.proofs.Lists.{filter_both, filter_find, filter_found, mapped_length}
+use Rattle.rl_map.proofs.Bools.{and_true}
 
 -- ---- reads
 
@@ -51,15 +50,6 @@ none_stand l port address write e = by (standing l port address write) e
 
 -- ---- a location, by its rows
 
-pub words_shown : (l : LayoutData) (place index : ℕ) (row : PlaceRow) (map : MapRow) (port : PortRow) (path : List Level) (loc : Location)
-    → row ≡ place_at l place → map ≡ map_at l row.map → port ≡ port_at l row.port → path ≡ map.path → loc ≡ location_of row index
-    → item_words path port.base loc ≡ words_of l place index
-unfolding words_of
-words_shown l place index row map port path loc a b c d e =
-    ap (λ p. item_words p port.base loc) (d ∙ ap (λ (m : MapRow). m.path) (b ∙ ap (λ (r : PlaceRow). map_at l r.map) a))
-    ∙ ap (λ n. item_words (map_at l (place_at l place).map).path n loc) (ap (λ (p : PortRow). p.base) (c ∙ ap (λ (r : PlaceRow). port_at l r.port) a))
-    ∙ ap (item_words (map_at l (place_at l place).map).path (port_at l (place_at l place).port).base) (e ∙ ap (λ r. location_of r index) a)
-
 pub seat_shown : (l : LayoutData) (place index byte : ℕ) (row : PlaceRow) (map : MapRow) (port : PortRow) (path : List Level) (loc : Location)
     → row ≡ place_at l place → map ≡ map_at l row.map → port ≡ port_at l row.port → path ≡ map.path → loc ≡ location_of row index
     → seat_of path port.base loc byte ≡ seat_at l place index byte
@@ -73,33 +63,6 @@ seat_shown l place index byte row map port path loc a b c d e =
 pub record Shown (l : LayoutData) (place index : ℕ) (path : List Level) (base : ℕ) (loc : Location) : Type 0 where
   pub words : item_words path base loc ≡ words_of l place index
   pub fits : AddressesFit path base loc
-
-pub shown : (l : LayoutData) (place index : ℕ) (row : PlaceRow) (map : MapRow) (port : PortRow) (path : List Level) (loc : Location)
-    → IsSound l → IsLocation l place index → row ≡ get_or l.places place row → map ≡ get_or l.maps row.map map → port ≡ get_or l.ports row.port port
-    → path ≡ map.path → loc ≡ location_of row index → Shown l place index path port.base loc
-shown l place index row map port path loc sound there a b c d e =
-    let row_is : row ≡ place_at l place = read_is l.places place row no_place there.place_in a in
-    let fine = sound.each_place place there.place_in in
-    let map_is : map ≡ map_at l row.map = read_is l.maps row.map map no_map (subst (λ (r : PlaceRow). r.map < length l.maps) (sym row_is) fine.map) b in
-    let port_is : port ≡ port_at l row.port = read_is l.ports row.port port no_port (subst (λ (r : PlaceRow). r.port < length l.ports) (sym row_is) fine.port_in) c in
-    let size : loc.bytes ≡ (place_at l place).bytes = ap (λ (i : Location). i.bytes) e ∙ ap (λ (r : PlaceRow). r.bytes) row_is in
-    record {
-      words = words_shown l place index row map port path loc row_is map_is port_is d e;
-      fits = λ byte low. subst (λ (s : Seat). s.address < 2 ^ 64) (sym (seat_shown l place index byte row map port path loc row_is map_is port_is d e))
-          ((sound.each_location place index there).fits byte (subst (λ n. byte < n) size low));
-    }
-
--- each location has as many words as the first
-pub counted : (l : LayoutData) (place index count : ℕ) (row : PlaceRow) (map : MapRow) (path : List Level) (loc : Location)
-    → IsSound l → IsLocation l place index → row ≡ get_or l.places place row → map ≡ get_or l.maps row.map map → path ≡ map.path → loc ≡ location_of row 0
-    → ((base : ℕ) → count ≡ length (item_words path base loc)) → count ≡ length (words_of l place index)
-counted l place index count row map path loc sound there a b d e many =
-    let row_is : row ≡ place_at l place = read_is l.places place row no_place there.place_in a in
-    let fine = sound.each_place place there.place_in in
-    let map_is : map ≡ map_at l row.map = read_is l.maps row.map map no_map (subst (λ (r : PlaceRow). r.map < length l.maps) (sym row_is) fine.map) b in
-    let port = port_at l row.port in
-    many 0 ∙ ap (λ i. length (item_words path 0 i)) e ∙ as_many path 0 port.base (location_of row 0) 0 index
-    ∙ ap length (words_shown l place index row map port path (location_of row index) row_is map_is refl d refl)
 
 -- ---- what stands at an address
 
@@ -156,17 +119,9 @@ first_in P st lets (r ∷ rows) row h e = by (st r) (lets r) refl refl e (first_
         there true q e = cc
     by false t p q e more = more e
 
-and_true : (a b : Bool) → (a && b) ≡ true → (a ≡ true) × (b ≡ true)
-and_true true b e = (refl, e)
-and_true false b e = cc
-
 right_is : (l : LayoutData) (p i : ℕ) (w : Word) (write : Bool) → lets_through write (row_of l p i w) ≡ has_right (place_at l p).rights write
 right_is l p i w true = refl
 right_is l p i w false = refl
-
-mapped_length : {X Y : Type 0} (f : X → Y) (xs : List X) → length (map f xs) ≡ length xs
-mapped_length f [] = refl
-mapped_length f (x ∷ xs) = ap suc (mapped_length f xs)
 
 pub is_here : (l : LayoutData) → IsSound l → (port address : ℕ) (write : Bool) (group : List WordRow) (row : WordRow) (index count : ℕ) → group ≡ filter (stands_at port address) l.rows
     → find (lets_through write) group ≡ Some row → index ≡ index_of row.cell → count ≡ length (filter (lets_through write) group)

@@ -24,7 +24,9 @@ row_owner l sound a b d low_a low_b port address fifo =
     let there : Occupies l r.port r.address s.place (index_of s.cell) =
     let o = row_occupies l s is_s in
     record { location = o.location; port_is = o.port_is ∙ sym port; number = o.number; number_in = o.number_in; address_is = o.address_is ∙ sym address } in
-    let one = sound.owner r.port r.address r.place (index_of r.cell) s.place (index_of s.cell) (row_occupies l r is_r) there fifo in
-    (one.0, ap (λ (x : WordRow). x.cell) is_r.row
-    ∙ ap (λ x. cell_of (place_at l x).item (index_of r.cell)) one.0 ∙ ap (λ x. cell_of (place_at l s.place).item x) one.1
-    ∙ sym (ap (λ (x : WordRow). x.cell) is_s.row))
+    let one = sound.owner r.port r.address r.place (index_of r.cell) s.place (index_of s.cell) (row_occupies l r is_r) there fifo in (
+      one.0,
+      ap (λ (x : WordRow). x.cell) is_r.row
+          ∙ ap (λ x. cell_of (place_at l x).item (index_of r.cell)) one.0 ∙ ap (λ x. cell_of (place_at l s.place).item x) one.1
+          ∙ sym (ap (λ (x : WordRow). x.cell) is_s.row),
+    )

@@ -126,10 +126,6 @@ address_at-is (seat ∷ seats) (suc i) low one =
     (address_at-is seats i (omega arith) (λ k h. one (suc k) (omega arith)))
 
 -- ---- the orders, and the numbers of the words
--- what one more number adds
-orders_more : (t : Bool) (seats : List Seat) (n : ℕ) → list_any (λ seat. seat.order == n) seats ≡ t
-    → orders_below seats (suc n) ≡ cond t (orders_below seats n ++ n ∷ []) (orders_below seats n)
-orders_more t seats n e = ap (λ t. cond t (orders_below seats n ++ n ∷ []) (orders_below seats n)) e
 
 -- the `k`-th order
 pub record IsOrderNumber (seats : List Seat) (n order k : ℕ) : Type 0 where
@@ -154,7 +150,8 @@ number_is seats zero order low e = absurd (omega arith)
 number_is seats (suc n) order low e =
     elim (cases_lt order n) [
       | inl h ↦ let s = number_step (list_any (λ seat. seat.order == n) seats) seats n order _ (number_is seats n order h e) in record { inside = s.0; order_is = s.1 }
-      | inr h ↦ let same : n ≡ order = omega arith in subst (λ m. IsOrderNumber seats (suc n) m (number_of seats m)) same (number_last seats n (subst (λ m. list_any (λ seat. seat.order == m) seats ≡ true) (sym same) e))
+      | inr h ↦ let same : n ≡ order =
+          omega arith in subst (λ m. IsOrderNumber seats (suc n) m (number_of seats m)) same (number_last seats n (subst (λ m. list_any (λ seat. seat.order == m) seats ≡ true) (sym same) e))
     ]
 
 -- each listed order is one that a byte has, and its number is its place
@@ -216,7 +213,8 @@ placed : (seats : List Seat) (n : ℕ) → AreApart seats n → (j : ℕ) → j 
 placed seats n apart j low =
     let seat = get_or seats j no_seat in
     let at = number_is seats n seat.order (apart.order_in j low) (list_any_at (λ s. s.order == seat.order) seats j no_seat low (eq-eqb seat.order seat.order refl)) in
-    let found : byte_at seats seat.order seat.lane ≡ Some j = byte_from-at seats 0 j low (λ k h order lane. absurd (let same = apart.distinct k j (omega arith) low order lane in omega arith)) ∙ ap Some (omega arith) in
+    let found : byte_at seats seat.order seat.lane ≡ Some j =
+    byte_from-at seats 0 j low (λ k h order lane. absurd (let same = apart.distinct k j (omega arith) low order lane in omega arith)) ∙ ap Some (omega arith) in
     let lane_in = apart.lane_in j low in (
       rw length-map at.inside,
       rw (words_at seats n _ at.inside, at.order_is) (record {

@@ -1,5 +1,5 @@
 -- One place more.
-use Rattle.std.proofs.Common.{◌≡◌, ℕ, zero, suc, ◌+◌, ◌*◌, ◌^◌, ◌<◌, ◌≤◌, ◌⊎◌, inl, inr, Bool, true, false, ◌||◌, eq-eqb, List, [], ◌∷◌, ◌++◌, length, get_or, map, refl, sym, ap, ◌∙◌, subst, arith}
+use Rattle.std.proofs.Common.{◌≡◌, ℕ, zero, suc, ◌+◌, ◌*◌, ◌^◌, ◌<◌, ◌≤◌, ◌⊎◌, inl, inr, Bool, true, false, eq-eqb, List, [], ◌∷◌, ◌++◌, length, get_or, map, refl, sym, ap, ◌∙◌, subst, arith}
 use Rattle.std.specs.Prelude.{flat_map, IsPermutation}
 use Rattle.std.specs.List.{list_any, range_with_len, AllByRecursion}
 use Rattle.std.proofs.Common.{length-append}
@@ -20,13 +20,14 @@ use Rattle.rl_map.specs.declared.rows.PlaceRow.{PlaceRow}
 use Rattle.rl_map.specs.Seat.{AddressesFit}
 use Rattle.rl_map.specs.Words.{item_words}
 use Rattle.rl_map.specs.Layout.{no_map, no_port, no_place, location_of, word_row, same_item, PlacedOnce}
-use Rattle.rl_map.specs.Faults.{is_above, is_same_place}
+use Rattle.rl_map.specs.Faults.{is_above, is_same_place, is_placed}
 use Rattle.rl_map.specs.Building.{path_in, port_for, placed_in, placed_at, IsPlaceRow, IsSeated, HasRoom, ArePlaces, AreRowsOf, location_rows_of, rows_of, rows_of_all}
 use Rattle.rl_map.proofs.Fitting.{as_many}
 use Rattle.rl_map.proofs.Lookups.{read_is}
-use Rattle.rl_map.proofs.Sorting.{ge_from}
 use Rattle.rl_map.proofs.Growing.{none_of, rows_more, flat_more}
 use Rattle.std.proofs.Common.{map as mapped}
+use Rattle.rl_map.proofs.Bools.{or_false, ge_from}
+use Rattle.rl_map.proofs.Lists.{all_appended, append_twice, mapped_length}
 
 pub room_is : (maps : List MapRow) (ports : List PortRow) (words : ℕ) (p : PlaceRow) (map : MapRow) (port : PortRow) (path : List Level)
     → p.map < length maps → p.port < length ports → map ≡ get_or maps p.map map → port ≡ get_or ports p.port port → path ≡ map.path
@@ -49,17 +50,9 @@ fits_of maps ports p seated most index low byte in_byte =
 
 -- ---- rows
 
-or_false : (a b : Bool) → (a || b) ≡ false → (a ≡ false) × (b ≡ false)
-or_false true b e = cc
-or_false false b e = (refl, e)
-
 flat_length : {Y : Type 0} (f : ℕ → List Y) (first n c : ℕ) → ((j : ℕ) → length (f j) ≡ c) → length (flat_map f (range_with_len first n)) ≡ n * c
 flat_length f first zero c h = omega arith
 flat_length f first (suc n) c h = omega (arith, length-append (f first) (flat_map f (range_with_len (first + 1) n)), h first, flat_length f (first + 1) n c h)
-
-mapped_length : {X Y : Type 0} (f : X → Y) (xs : List X) → length (map f xs) ≡ length xs
-mapped_length f [] = refl
-mapped_length f (x ∷ xs) = ap suc (mapped_length f xs)
 
 pub length-rows_of : (maps : List MapRow) (ports : List PortRow) (number : ℕ) (p : PlaceRow)
     → length (rows_of maps ports number p) ≡ p.size * length (item_words (path_in maps p) (port_for ports p).base (location_of p 0))
@@ -83,7 +76,7 @@ same_self (item.Mem m) = eq-eqb m m refl
 is_same : (p q : PlaceRow) → p.item ≡ q.item → p.map ≡ q.map → is_same_place p q ≡ true
 is_same p q e f = rw (eq-eqb p.map q.map f) (subst (λ it. same_item p.item it ≡ true) e (same_self p.item))
 
-pub once_more : (places : List PlaceRow) (row : PlaceRow) → PlacedOnce places → list_any (λ q. is_same_place q row) places ≡ false → PlacedOnce (places ++ row ∷ [])
+pub once_more : (places : List PlaceRow) (row : PlaceRow) → PlacedOnce places → is_placed places row ≡ false → PlacedOnce (places ++ row ∷ [])
 once_more places row once new p q low_p low_q = by (cases_lt p (length places)) (cases_lt q (length places))
   where
     At : ℕ → PlaceRow
@@ -118,7 +111,7 @@ once_more places row once new p q low_p low_q = by (cases_lt p (length places)) 
 pub places_more : (chip : ChipData) (maps : List MapRow) (ports : List PortRow) (places : List PlaceRow) (rows : List WordRow) (p : PlaceRow) (number words : ℕ)
     (seen places' : List PlaceRow) (rows' : List WordRow)
     → ArePlaces chip maps ports places rows → IsPlaceRow chip maps ports p → HasRoom maps ports words p → seen ≡ places → length seen < 4096
-    → list_any (λ q. is_same_place q p) seen ≡ false
+    → is_placed seen p ≡ false
     → number ≡ length places → words ≡ length rows → places' ≡ places ++ p ∷ [] → rows' ≡ rows ++ rows_of maps ports number p
     → ArePlaces chip maps ports places' rows'
 places_more chip maps ports places rows p number words seen places' rows' t fits room see few new a b e f =
@@ -127,16 +120,12 @@ places_more chip maps ports places rows p number words seen places' rows' t fits
     let long : length rows' ≡ length rows + length (rows_of maps ports number p) = ap length f ∙ length-append rows (rows_of maps ports number p) in
     subst (λ x. ArePlaces chip maps ports x rows') (sym e) (record {
       few = omega (arith, length-append places (p ∷ []), ap length see);
-      once = once_more places p t.once (subst (λ x. list_any (λ q. is_same_place q p) x ≡ false) see new);
+      once = once_more places p t.once (subst (λ x. is_placed x p ≡ false) see new);
       each = All-push (IsPlaceRow chip maps ports) places p t.each fits;
       seated = All-push (λ q. IsSeated (placed_in maps ports q)) places p t.seated room.seated;
       words_are = all;
       few_words = omega (arith, long, length-rows_of maps ports number p, room.room, b);
     })
-
-append_twice : {Y : Type 0} (xs ys zs : List Y) → (xs ++ ys) ++ zs ≡ xs ++ (ys ++ zs)
-append_twice [] ys zs = refl
-append_twice (x ∷ xs) ys zs = ap (λ us. x ∷ us) (append_twice xs ys zs)
 
 -- the rows of one location more
 pub location_more : (maps : List MapRow) (ports : List PortRow) (number : ℕ) (p : PlaceRow) (i : ℕ) (old rows rows' : List WordRow) (words : List Word)
@@ -156,10 +145,6 @@ all_mapped : {X Y : Type 0} (f : X → Y) (P : Y → Type 0) (xs : List X) → (
 all_mapped f P [] h = tt
 all_mapped f P (x ∷ xs) h = (h x, all_mapped f P xs h)
 
-all_appended : {X : Type 0} (P : X → Type 0) (xs ys : List X) → AllByRecursion P xs → AllByRecursion P ys → AllByRecursion P (xs ++ ys)
-all_appended P [] ys a b = b
-all_appended P (x ∷ xs) ys a b = (a.0, all_appended P xs ys a.1 b)
-
 all_flat : {Y : Type 0} (f : ℕ → List Y) (P : Y → Type 0) (first n : ℕ) → ((j : ℕ) → first ≤ j → j < first + n → AllByRecursion P (f j)) → AllByRecursion P (flat_map f (range_with_len first n))
 all_flat f P first zero h = tt
 all_flat f P first (suc n) h =
@@ -173,5 +158,6 @@ rows_in chip maps ports places first rows t moved =
     let all : AllByRecursion P (rows_of_all maps ports places) =
     all_flat (λ q. rows_of maps ports q (get_or places q no_place)) P 0 (length places) (λ q low high.
     all_flat (location_rows_of maps ports q (get_or places q no_place)) P 0 (get_or places q no_place).size (λ i low_i high_i.
-    all_mapped (word_row (get_or places q no_place) q i) P (item_words (path_in maps (get_or places q no_place)) (port_for ports (get_or places q no_place)).base (location_of (get_or places q no_place) i)) (λ w. omega arith))) in
+    all_mapped (word_row (get_or places q no_place) q i) P
+    (item_words (path_in maps (get_or places q no_place)) (port_for ports (get_or places q no_place)).base (location_of (get_or places q no_place) i)) (λ w. omega arith))) in
     All-permutation P first rows moved (All-from_recursion P first (subst (AllByRecursion P) (sym t.words_are) all))

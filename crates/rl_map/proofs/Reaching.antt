@@ -1,28 +1,18 @@
 -- Words that are a partition are parts.
-use Rattle.std.proofs.Common.{◌≡◌, ℕ, zero, suc, ◌+◌, ◌/◌, ◌<◌, ◌≤◌, ◌⊎◌, inl, inr, Bool, true, false, ◌&&◌, ◌||◌, cond, eqb, List, [], ◌∷◌, length, get_or, nat_lt, Option, Some, None, is_some, refl, sym, ap, ◌∙◌, subst, arith, eq-eqb, eqb-true}
-use Rattle.std.specs.Prelude.{IsBitSet, slice_index}
+use Rattle.std.proofs.Common.{◌≡◌, ℕ, zero, suc, ◌+◌, ◌/◌, ◌<◌, ◌≤◌, ◌⊎◌, inl, inr, Bool, true, false, ◌&&◌, ◌||◌, cond, eqb, List, [], ◌∷◌, length, get_or, nat_lt, Some, is_some, refl, sym, ap, ◌∙◌, subst, arith, eq-eqb, eqb-true}
+use Rattle.std.specs.Prelude.{IsBitSet}
 use Rattle.std.proofs.lemmas.Nat.{bit_set_by_shift}
 use Rattle.std.proofs.lemmas.Nat.Bits.{shr_and_one}
 use Rattle.std.proofs.lemmas.Bool.{cases_lt}
-use Rattle.std.proofs.lemmas.Bool.Decides.{nat_tests}
 use Rattle.rl_policy.specs.Bits.{bit}
 use Rattle.rl_bus.specs.declared.table.Lanes.{Lanes}
 use Rattle.rl_bus.specs.Spread.{lane_below}
+use Rattle.rl_bus.proofs.LaneLemmas.{found_lane}
 use Rattle.rl_map.specs.declared.seat.Seat.{Seat}
 use Rattle.rl_map.specs.declared.word.Word.{Word}
 use Rattle.rl_map.specs.Words.{no_seat, no_word, lanes_of}
 use Rattle.rl_map.specs.Partition.{number_of, IsPartition, AreParts, have_bit, has_bit}
-
--- the lane that carries a byte is enabled and names it
-found_lane : (n : ℕ) (s : Lanes) (j l : ℕ) → lane_below n s j ≡ Some l → (l < n) × ((bit s.enabled l ≡ true) × (slice_index s.bytes l ≡ j))
-unfolding lane_below
-found_lane zero s j l e = absurd cc
-found_lane (suc k) s j l e = by (bit s.enabled k) (eqb (slice_index s.bytes k) j) refl refl e (found_lane k s j l)
-  where
-    by : (a t : Bool) → bit s.enabled k ≡ a → eqb (slice_index s.bytes k) j ≡ t → cond (a && t) (Some k) (lane_below k s j) ≡ Some l → (lane_below k s j ≡ Some l → (l < k) × ((bit s.enabled l ≡ true) × (slice_index s.bytes l ≡ j))) → (l < suc k) × ((bit s.enabled l ≡ true) × (slice_index s.bytes l ≡ j))
-    by true true p q e more = let same : k ≡ l = cc in (omega arith, (subst (λ l. bit s.enabled l ≡ true) same p, subst (λ l. slice_index s.bytes l ≡ j) same (eqb-true _ j q)))
-    by true false p q e more = let h = more e in (omega (arith, h.0), (h.1.0, h.1.1))
-    by false t p q e more = let h = more e in (omega (arith, h.0), (h.1.0, h.1.1))
+use Rattle.rl_map.proofs.Bools.{lt_from, lt_true, some_is}
 
 -- ---- the two tests of a bit
 
@@ -51,10 +41,6 @@ lane_there (suc n) l s j low on is = by (bit s.enabled n && eqb (get_or s.bytes 
     by true q side more = refl
     by false q (inl less) more = more less
     by false q (inr above) more = let h = here (omega arith) in absurd (false_true (bit s.enabled n && eqb (get_or s.bytes n 0) j) q h)
-
-some_is : (o : Option ℕ) → is_some o ≡ true → (l : ℕ) × (o ≡ Some l)
-some_is None e = absurd cc
-some_is (Some l) e = (l, refl)
 
 -- ---- the word of a byte is the one of its number
 
@@ -98,7 +84,8 @@ parts_of num base (w ∷ ws) h = (
   parts_of num (suc base) ws (tail_numbered num base w ws h),
 )
 
-some_has : (ws : List Word) (k b : ℕ) → k < length ws → has_bit (get_or ws k no_word) b ≡ true → have_bit ws b ≡ true
+-- a byte of a word is a byte of all words
+pub some_has : (ws : List Word) (k b : ℕ) → k < length ws → has_bit (get_or ws k no_word) b ≡ true → have_bit ws b ≡ true
 some_has [] k b low e = absurd (omega arith)
 some_has (w ∷ ws) zero b low e = ap (λ t. t || have_bit ws b) e
 some_has (w ∷ ws) (suc k) b low e = by (has_bit w b) (some_has ws k b (omega arith) e)
@@ -130,12 +117,6 @@ tested true true f g = refl
 tested true false f g = let h = f refl in cc
 tested false true f g = let h = g refl in cc
 tested false false f g = refl
-
-lt_true : (a b : ℕ) → a < b → nat_lt a b ≡ true
-lt_true a b h = grind (arith, nat_tests)
-
-lt_from : (a b : ℕ) → nat_lt a b ≡ true → a < b
-lt_from a b h = grind (arith, nat_tests)
 
 pub parts_from : (seats : List Seat) (words : List Word) → IsPartition seats words → AreParts words
 parts_from seats words whole = parts_of (λ b. number seats (b / 8)) 0 words (λ i b low e. omega (arith, number_is seats words whole i b low e))

@@ -19,6 +19,7 @@ use Rattle.rl_map.specs.Maps.{MapTables, map_number, map_with, level_of, path_un
 use Rattle.rl_map.specs.Faults.{Check, first_of, row_at, has_parent, is_width, map_checks, maps_fault, Fails, Passes}
 use Rattle.rl_map.specs.Steps.{name_checks, under_checks, row_checks, port_checks}
 use Rattle.rl_map.proofs.Lookups.{read_is}
+use Rattle.rl_map.proofs.Lists.{dropped}
 
 -- ---- a list of conditions after another
 
@@ -57,7 +58,8 @@ a_parent : (spot : Spot) (maps : List MapRow) (level : Level) (name : List ℕ) 
     → first_of spot (parent_checks maps level (Some name)) ≡ cond (nat_lt 4 (length (level ∷ row.path))) (Some (Bad TooDeep spot)) None
 a_parent spot maps level name n row h read =
     let at = position-Some (λ (m : MapRow). bytes_eq m.name name) maps n no_map h in
-    subst (λ o. first_of spot ((not (is_some o), NoSuchMap) ∷ (nat_lt 4 (length (level ∷ (map_with maps o).path)), TooDeep) ∷ []) ≡ cond (nat_lt 4 (length (level ∷ row.path))) (Some (Bad TooDeep spot)) None) (sym h)
+    subst (λ o. first_of spot ((not (is_some o), NoSuchMap) ∷ (nat_lt 4 (length (level ∷ (map_with maps o).path)), TooDeep) ∷ []) ≡ cond
+    (nat_lt 4 (length (level ∷ row.path))) (Some (Bad TooDeep spot)) None) (sym h)
     (ap (λ (r : MapRow). cond (nat_lt 4 (length (level ∷ r.path))) (Some (Bad TooDeep spot)) None) (sym (read_is maps n row no_map at.0 read)))
 
 pub under_none : (spot : Spot) (maps : List MapRow) (m : MapNode) (name : List ℕ) → m.parent ≡ Some name → map_number maps name ≡ None
@@ -104,11 +106,6 @@ map_by_row kinds spot maps m e h other = first_met spot (row_checks maps m) (por
 
 -- ---- all maps
 
-dropped : {X : Type 0} (xs : List X) (i : ℕ) (x : X) → i < length xs → x ≡ get_or xs i x → drop i xs ≡ x ∷ drop (i + 1) xs
-dropped [] i x low read = absurd (omega arith)
-dropped (y ∷ ys) zero x low read = ap (λ z. z ∷ ys) (sym read)
-dropped (y ∷ ys) (suc i) x low read = dropped ys i x (omega arith) read ∙ ap (λ n. x ∷ drop n (y ∷ ys)) (let e : suc (i + 1) ≡ suc i + 1 = omega arith in e)
-
 abbrev tables : List MapRow → List PortRow → MapTables
 tables maps ports = record { maps = maps; ports = ports }
 
@@ -124,7 +121,8 @@ maps_end kinds maps ports parts i m whole e low read was h other =
     ∙ ap (λ o. or_else o (maps_fault kinds (with_map kinds (tables maps ports) m) (drop (i + 1) parts))) (h other)
 
 -- a map that is added
-pub maps_next : (kinds : List AdapterKind) (maps : List MapRow) (ports : List PortRow) (maps' : List MapRow) (ports' : List PortRow) (parts : List MapNode) (i : ℕ) (m : MapNode) (whole : Option MapFault)
+pub maps_next : (kinds : List AdapterKind) (maps : List MapRow) (ports : List PortRow) (maps' : List MapRow) (ports' : List PortRow)
+    (parts : List MapNode) (i : ℕ) (m : MapNode) (whole : Option MapFault)
     → i < length parts → m ≡ get_or parts i m → maps_from kinds maps ports (drop i parts) ≡ whole
     → first_of (row_at array.Map (length maps)) (map_checks kinds maps m) ≡ None
     → maps' ≡ maps ++ map_row (length ports) maps m ∷ [] → ports' ≡ ports_with kinds (length maps) ports m.parent m

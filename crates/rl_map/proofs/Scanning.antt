@@ -1,12 +1,9 @@
 -- Rows of one address, as a scan over ascending rows meets them.
 use Rattle.std.proofs.Common.{◌≡◌, ◌≢◌, ℕ, zero, suc, ◌+◌, ◌-◌, ◌<◌, ◌≤◌, ◌⊎◌, inl, inr, Bool, true, false, ◌==◌, List, [], ◌∷◌, length, get_or, take, drop, refl, sym, ap, ◌∙◌, subst, arith, eqb-true, eq-eqb}
-use Rattle.std.specs.Prelude.{All}
 use Rattle.std.proofs.lemmas.Bool.{cases_lt}
 use Rattle.std.proofs.lemmas.List.{get_or-take, length-take-le}
 use Rattle.rl_bus.specs.declared.table.WordRow.{WordRow}
-use Rattle.rl_map.specs.declared.rows.PlaceRow.{PlaceRow}
 use Rattle.rl_map.specs.Layout.{key_of, IsAscending}
-use Rattle.rl_map.specs.Building.{rows_clash}
 use Rattle.rl_map.proofs.Lookups.{default_any}
 
 -- the rows from `start` to `k` are those of one address, and those before are of smaller ones
@@ -81,17 +78,3 @@ slice_length xs s k low high = length-take-le (k - s) (drop s xs) (let n = dropp
     dropped [] s = omega arith
     dropped (x ∷ xs) zero = omega arith
     dropped (x ∷ xs) (suc s) = let h = dropped xs s in omega arith
-
--- no row of the address clashes with row k
-pub none_with : (places : List PlaceRow) (rows : List WordRow) (next k i : ℕ) (d e : WordRow) → Scan rows next (k + 1) → next ≤ k → k < length rows
-    → All (λ x. rows_clash places x (get_or rows k e) ≡ false) (take (k - next) (drop next rows)) → length (take (k - next) (drop next rows)) ≡ k - next
-    → i < k → key_of (get_or rows i d) ≡ key_of (get_or rows k d) → rows_clash places (get_or rows i d) (get_or rows k d) ≡ false
-none_with places rows next k i d e h in_k low none long less key =
-    elim (cases_lt i next) [
-      | inl p ↦ let a = h.before i d p in let b = h.same k d in_k (omega arith) in absurd (omega (arith, a, b, key))
-      | inr p ↦
-          let at : get_or (take (k - next) (drop next rows)) (i - next) d ≡ get_or rows i d =
-          get_slice rows next (k - next) (i - next) d (omega arith) ∙ ap (λ n. get_or rows n d) (let f : next + (i - next) ≡ i = omega arith in f) in
-          subst (λ x. rows_clash places (get_or rows i d) x ≡ false) (default_any rows k e d low)
-          (subst (λ x. rows_clash places x (get_or rows k e) ≡ false) at (none (i - next) d (omega (arith, long))))
-    ]

@@ -1,9 +1,7 @@
 -- The first clash of rows is the first refusal for a shared address.
-use Rattle.std.proofs.Common.{◌≡◌, ◌≢◌, ℕ, zero, suc, ◌+◌, ◌*◌, ◌^◌, ◌<◌, ◌≤◌, inl, inr, Bool, true, false, not, ◌==◌, ◌&&◌, ◌||◌, nat_lt, List, length, get_or, Option, refl, sym, ap, ◌∙◌, subst, arith, eqb-true, eq-eqb}
+use Rattle.std.proofs.Common.{◌≡◌, ◌≢◌, ℕ, zero, suc, ◌+◌, ◌*◌, ◌^◌, ◌<◌, ◌≤◌, Bool, true, false, not, ◌==◌, ◌&&◌, ◌||◌, List, length, get_or, Option, refl, sym, ap, ◌∙◌, subst, arith, eqb-true, eq-eqb}
 use Rattle.std.specs.Prelude.{All, IsPermutation}
 use Rattle.std.specs.List.{list_any, range_with_len}
-use Rattle.std.proofs.lemmas.Bool.{cases_lt}
-use Rattle.std.proofs.lemmas.Bool.Decides.{nat_tests}
 use Rattle.std.proofs.lemmas.List.FromFn.{get_or-map-range_with_len, length-map-range_with_len}
 use Rattle.std.proofs.lemmas.List.Sorted.{Contains-permutation}
 use Rattle.rl_bus.specs.declared.table.WordRow.{WordRow}
@@ -28,6 +26,7 @@ use Rattle.rl_map.proofs.Growing.{is_some_of}
 use Rattle.rl_map.proofs.Sound.{IsTested, is_path}
 use Rattle.rl_map.proofs.Closing.{row_in}
 use Rattle.std.proofs.lemmas.Nat.{same_from_place}
+use Rattle.rl_map.proofs.Bools.{and_true, both, differ, lt_false, lt_true, three}
 
 -- ---- bytes and words
 
@@ -138,20 +137,6 @@ may_not_comm p q =
     ∙ ap (λ x. ((has_right q.rights false && has_right p.rights false) || x) || p.fifo || q.fifo) (and_comm (has_right p.rights true) (has_right q.rights true))
     ∙ or_last (share_right q p) p.fifo q.fifo
 
-and_true : (a b : Bool) → (a && b) ≡ true → (a ≡ true) × (b ≡ true)
-and_true true b e = (refl, e)
-and_true false b e = cc
-
-both : (a b : Bool) → a ≡ true → b ≡ true → (a && b) ≡ true
-both a b e f = rw (e, f) refl
-
-differ : (a b : ℕ) → a ≢ b → not (a == b) ≡ true
-differ a b h = by (a == b) refl
-  where
-    by : (t : Bool) → (a == b) ≡ t → not t ≡ true
-    by true e = absurd (h (eqb-true a b e))
-    by false e = refl
-
 differ_from : (a b : ℕ) → not (a == b) ≡ true → a ≢ b
 differ_from a b e f = absurd (let g = eq-eqb a b f in cc)
 
@@ -163,15 +148,6 @@ pub record Shares (l : LayoutData) (p q address : ℕ) : Type 0 where
   pub may_not : may_not_both (place_at l q) (place_at l p) ≡ true
   pub earlier : StandsAt l q address
   pub later : StandsAt l p address
-
-three : {X : Type 0} (a b : ℕ) → (a < b → X) → (b < a → X) → (a ≡ b → X) → X
-three a b f g h = elim (cases_lt a b) [ inl p ↦ f p | inr p ↦ elim (cases_lt b a) [ inl q ↦ g q | inr q ↦ h (omega arith) ] ]
-
-lt_true : (a b : ℕ) → a < b → nat_lt a b ≡ true
-lt_true a b h = grind (arith, nat_tests)
-
-lt_false : (a b : ℕ) → b ≤ a → nat_lt a b ≡ false
-lt_false a b h = grind (arith, nat_tests)
 
 shared_up : (r s : WordRow) → r.place < s.place → shared_by r s ≡ record { place = s.place; address = s.address; other = r.place }
 shared_up r s h = rw (lt_true r.place s.place h) refl
@@ -223,7 +199,8 @@ made_of l r s a b key clash less =
       later_in = b.location.place_in;
       port = sym (ap (λ (x : WordRow). x.port) a.row) ∙ same.0 ∙ ap (λ (x : WordRow). x.port) b.row;
       may_not =
-          ap (λ x. ((x && has_right (place_at l s.place).rights false) || (has_right (place_at l r.place).rights true && has_right (place_at l s.place).rights true)) || (place_at l r.place).fifo || (place_at l s.place).fifo)
+          ap (λ x. ((x && has_right (place_at l s.place).rights false) ||
+          (has_right (place_at l r.place).rights true && has_right (place_at l s.place).rights true)) || (place_at l r.place).fifo || (place_at l s.place).fifo)
           (sym (ap (λ (x : WordRow). x.reads) a.row))
           ∙ ap (λ x. ((r.reads && x) || (has_right (place_at l r.place).rights true && has_right (place_at l s.place).rights true)) || (place_at l r.place).fifo || (place_at l s.place).fifo)
           (sym (ap (λ (x : WordRow). x.reads) b.row))

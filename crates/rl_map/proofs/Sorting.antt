@@ -1,5 +1,5 @@
 -- Rows by port and address.
-use Rattle.std.proofs.Common.{◌≡◌, ℕ, zero, suc, ◌+◌, ◌*◌, ◌^◌, ◌<◌, ◌≤◌, ◌-◌, ◌⊎◌, inl, inr, Bool, true, false, ◌&&◌, ◌==◌, List, [], ◌∷◌, ◌++◌, length, get_or, subst, take, drop, nat_lt, nat_le, refl, sym, ap, ◌∙◌, arith, eq-eqb, eqb-true}
+use Rattle.std.proofs.Common.{◌≡◌, ℕ, zero, suc, ◌+◌, ◌*◌, ◌^◌, ◌<◌, ◌≤◌, ◌-◌, ◌⊎◌, inl, inr, Bool, true, false, ◌==◌, List, [], ◌∷◌, ◌++◌, length, get_or, subst, take, drop, nat_le, refl, sym, ap, ◌∙◌, arith, eq-eqb, eqb-true}
 use Rattle.std.specs.Prelude.{filter, All}
 use Rattle.std.specs.List.{AllByRecursion, AllWithin}
 use Rattle.std.proofs.lemmas.Bool.{cases_lt}
@@ -13,21 +13,15 @@ use Rattle.rl_bus.specs.Setup.{stands_at}
 use Rattle.rl_map.specs.Layout.{key_of}
 use Rattle.rl_map.proofs.Lists.{filter_none, filter_all, filter_same, all_below, all_from}
 use Rattle.rl_map.proofs.Lookups.{default_any}
+use Rattle.rl_map.proofs.Bools.{and_true, both}
 
 -- ---- a key tells port and address
-
-and_true : (a b : Bool) → (a && b) ≡ true → (a ≡ true) × (b ≡ true)
-and_true true b e = (refl, e)
-and_true false b e = cc
 
 tested : (a b : Bool) → (a ≡ true → b ≡ true) → (b ≡ true → a ≡ true) → a ≡ b
 tested true true f g = refl
 tested true false f g = let h = f refl in cc
 tested false true f g = let h = g refl in cc
 tested false false f g = refl
-
-both : (a b : Bool) → a ≡ true → b ≡ true → (a && b) ≡ true
-both a b e f = rw (e, f) refl
 
 pub key_tells : (r : WordRow) (port address : ℕ) → r.address < 2 ^ 64 → address < 2 ^ 64 → stands_at port address r ≡ (key_of r == port * 2 ^ 64 + address)
 key_tells r port address low_r low =
@@ -70,15 +64,6 @@ lt_false a b h = grind (arith, nat_tests)
 
 gt_false : (a b : ℕ) → b < a → (a == b) ≡ false
 gt_false a b h = grind (arith, nat_tests)
-
-pub lt_from : (a b : ℕ) → nat_lt a b ≡ true → a < b
-lt_from a b h = grind (arith, nat_tests)
-
-pub ge_from : (a b : ℕ) → nat_lt a b ≡ false → b ≤ a
-ge_from a b h = grind (arith, nat_tests)
-
-pub le_from : (a b : ℕ) → nat_le a b ≡ true → a ≤ b
-le_from a b h = grind (arith, nat_tests)
 
 pub gt_from : (a b : ℕ) → nat_le a b ≡ false → b < a
 gt_from a b h = grind (arith, nat_tests)

@@ -1,6 +1,6 @@
 -- What a build has tested of a layout makes it sound.
-use Rattle.std.proofs.Common.{◌≡◌, ◌≢◌, ℕ, zero, suc, ◌+◌, ◌^◌, ◌<◌, ◌≤◌, ◌⊎◌, inl, inr, Bool, true, false, ◌==◌, ◌&&◌, cond, List, [], ◌∷◌, ◌++◌, length, get_or, map, refl, sym, ap, ◌∙◌, subst, arith, eq-eqb, eqb-true}
-use Rattle.std.specs.Prelude.{filter, flat_map, IsPermutation}
+use Rattle.std.proofs.Common.{◌≡◌, ◌≢◌, ℕ, zero, suc, ◌^◌, ◌<◌, ◌≤◌, ◌⊎◌, inl, inr, Bool, true, false, ◌==◌, ◌&&◌, cond, List, [], ◌∷◌, length, get_or, map, refl, sym, ap, ◌∙◌, subst, arith, eq-eqb, eqb-true}
+use Rattle.std.specs.Prelude.{filter, IsPermutation}
 use Rattle.std.specs.List.{AllByRecursion, range_with_len}
 use Rattle.std.proofs.lemmas.List.Elements.{recursion_from_All, All-from_recursion}
 use Rattle.std.proofs.lemmas.List.Sorted.{All-permutation}
@@ -24,7 +24,8 @@ use Rattle.rl_map.proofs.Partition.{words_partition}
 use Rattle.rl_map.proofs.WordsApart.{words_apart}
 use Rattle.rl_map.proofs.Reaching.{parts_from, reach_from}
 use Rattle.rl_map.proofs.Fitting.{AreOn, words_fit}
-use Rattle.rl_map.proofs.Lists.{filter_none, filter_same, filter_both, filter_mapped, filter_flat, flat_nothing, flat_one}
+use Rattle.rl_map.proofs.Lists.{filter_both, filter_flat, filter_mapped, filter_none, filter_same, flat_nothing, flat_one, all_flat, mapped_length}
+use Rattle.rl_map.proofs.Bools.{and_true, at_zero, not_true, true_false}
 
 pub record IsTested (l : LayoutData) : Type 0 where
   pub maps : length l.maps ≤ 64
@@ -62,10 +63,6 @@ NoneClash l = (p i k q j m : ℕ) → IsShared l p i k q j m → may_not (place_
 abbrev pub KeepsOrder : LayoutData → Type 0
 KeepsOrder l = (port address : ℕ) → address < 2 ^ 64 → filter (stands_at port address) l.rows ≡ filter (stands_at port address) (all_rows l)
 
-mapped_length : {X Y : Type 0} (f : X → Y) (xs : List X) → length (map f xs) ≡ length xs
-mapped_length f [] = refl
-mapped_length f (x ∷ xs) = ap suc (mapped_length f xs)
-
 -- ---- a location by itself
 
 pub is_path : (l : LayoutData) → IsTested l → (p : ℕ) → p < length l.places → IsPath (path_of l p)
@@ -93,9 +90,6 @@ word_on l t p i loc k inside =
 word_low : (l : LayoutData) → IsTested l → (p i : ℕ) → IsLocation l p i → (k : ℕ) → k < length (words_of l p i) → (get_or (words_of l p i) k no_word).address < 2 ^ 64
 word_low l t p i loc k inside =
     omega (arith, (word_on l t p i loc k inside).address, t.most (place_at l p).port (t.each_place p loc.place_in).port_in)
-
-true_false : (b : Bool) → b ≡ true → b ≡ false → ⊥
-true_false b e f = cc
 
 fifo_one : (l : LayoutData) → IsTested l → (p : ℕ) → p < length l.places → (place_at l p).fifo ≡ true → (place_at l p).size ≡ 1
 fifo_one l t p low e = by (place_at l p).item refl
@@ -135,17 +129,6 @@ all_mapped : {X Y : Type 0} (f : X → Y) (P : Y → Type 0) (xs : List X) (d : 
 all_mapped f P [] d h = tt
 all_mapped f P (x ∷ xs) d h = (h 0 (omega arith), all_mapped f P xs d (λ k low. h (suc k) (omega arith)))
 
-all_appended : {X : Type 0} (P : X → Type 0) (xs ys : List X) → AllByRecursion P xs → AllByRecursion P ys → AllByRecursion P (xs ++ ys)
-all_appended P [] ys a b = b
-all_appended P (x ∷ xs) ys a b = (a.0, all_appended P xs ys a.1 b)
-
-all_flat : {Y : Type 0} (f : ℕ → List Y) (P : Y → Type 0) (first n : ℕ) → ((j : ℕ) → j < n → AllByRecursion P (f (first + j))) → AllByRecursion P (flat_map f (range_with_len first n))
-all_flat f P first zero h = tt
-all_flat f P first (suc n) h =
-    all_appended P (f first) (flat_map f (range_with_len (first + 1) n))
-    (subst (λ k. AllByRecursion P (f k)) (let e : first + 0 ≡ first = omega arith in e) (h 0 (omega arith)))
-    (all_flat f P (first + 1) n (λ j low. subst (λ k. AllByRecursion P (f k)) (let e : first + suc j ≡ first + 1 + j = omega arith in e) (h (suc j) (omega arith))))
-
 row_is : (l : LayoutData) → IsTested l → (p i : ℕ) → IsLocation l p i → (k : ℕ) → k < length (words_of l p i) → IsRowOf l (row_of l p i (get_or (words_of l p i) k no_word))
 row_is l t p i loc k inside =
     let e = sym (index_is l t p i loc) in
@@ -157,9 +140,6 @@ row_is l t p i loc k inside =
       row = ap (λ j. row_of l p j (get_or (words_of l p j) k no_word)) e;
     }
 
-at_zero : (j : ℕ) → 0 + j ≡ j
-at_zero j = omega arith
-
 pub all_rows_are : (l : LayoutData) → IsTested l → AllByRecursion (IsRowOf l) (all_rows l)
 all_rows_are l t =
     all_flat (place_rows l) (IsRowOf l) 0 (length l.places) (λ p low_p. subst (λ x. AllByRecursion (IsRowOf l) (place_rows l x)) (sym (at_zero p))
@@ -167,14 +147,6 @@ all_rows_are l t =
     (all_mapped (row_of l p i) (IsRowOf l) (words_of l p i) no_word (λ k inside. row_is l t p i (record { place_in = low_p; index_in = low_i }) k inside)))))
 
 -- ---- what stands at an address
-
-and_true : (a b : Bool) → (a && b) ≡ true → (a ≡ true) × (b ≡ true)
-and_true true b e = (refl, e)
-and_true false b e = cc
-
-not_true : (b : Bool) → (b ≡ true → ⊥) → b ≡ false
-not_true true h = absurd (h refl)
-not_true false h = refl
 
 right_is : (l : LayoutData) (p i : ℕ) (w : Word) (write : Bool) → lets_through write (row_of l p i w) ≡ has_right (place_at l p).rights write
 right_is l p i w true = refl
@@ -352,10 +324,12 @@ owner_of l t none port address p i q j a b fifo =
     let shared : IsShared l p i a.number q j b.number =
     record { here = a.location; here_in = a.number_in; there = b.location; there_in = b.number_in; port = a.port_is ∙ sym b.port_is; address = a.address_is ∙ sym b.address_is } in
     let same : p ≡ q = none p i a.number q j b.number shared (inr (inl fifo)) in
-    let there : IsLocation l p j = subst (λ x. IsLocation l x j) (sym same) b.location in
-    (same, same_location l t p i j a.location there a.number b.number a.number_in
-    (subst (λ x. b.number < length (words_of l x j)) (sym same) b.number_in)
-    (a.address_is ∙ sym b.address_is ∙ ap (λ x. (get_or (words_of l x j) b.number no_word).address) (sym same)))
+    let there : IsLocation l p j = subst (λ x. IsLocation l x j) (sym same) b.location in (
+      same,
+      same_location l t p i j a.location there a.number b.number a.number_in
+          (subst (λ x. b.number < length (words_of l x j)) (sym same) b.number_in)
+          (a.address_is ∙ sym b.address_is ∙ ap (λ x. (get_or (words_of l x j) b.number no_word).address) (sym same)),
+    )
 
 -- ---- the whole
 
@@ -382,7 +356,8 @@ has_words l t none keeps p i loc =
       some = few.0;
       few = few.1;
       fits = λ byte low. omega (arith, (t.on p i loc).address byte low, t.most (place_at l p).port place.port_in);
-      on = λ k d inside. subst (λ w. IsWordOn (port_at l (place_at l p).port).kind (port_at l (place_at l p).port).bytes w) (same_default (words_of l p i) k no_word d inside) (word_on l t p i loc k inside);
+      on = λ k d inside. subst (λ w. IsWordOn (port_at l (place_at l p).port).kind (port_at l (place_at l p).port).bytes w)
+          (same_default (words_of l p i) k no_word d inside) (word_on l t p i loc k inside);
       partition = whole;
       parts = parts_from (place_seats l p i) (words_of l p i) whole;
       reach = reach_from (place_seats l p i) (words_of l p i) (place_at l p).bytes long whole;

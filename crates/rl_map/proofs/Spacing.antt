@@ -43,10 +43,6 @@ same_mixed off A B b c p q round_a round_b low_p low_q e =
     let s = same_from_place (A / b) p (B / b) q c low_p low_q (omega arith) in
     (sym (div-add-mod' A b) ∙ (ap (λ x. x * b + A % b) s.0 ∙ ap (λ x. B / b * b + x) (round_a ∙ sym round_b)) ∙ div-add-mod' B b, s.1)
 
--- a byte-addressed child in a byte-addressed map
-same_steps : (start M x y u v off : ℕ) → u < M → v < M → off + (start + M * x) + u ≡ off + (start + M * y) + v → (x ≡ y) × (u ≡ v)
-same_steps start M x y u v off low_u low_v e = same_from_place x u y v M low_u low_v (omega arith)
-
 split_product : (n d i k : ℕ) → d + i ≡ k → n * d + n * i ≡ n * k
 split_product n d i k e = omega (arith, ap (λ x. n * x) e)
 

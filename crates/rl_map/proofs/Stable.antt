@@ -5,12 +5,12 @@ use Rattle.std.specs.List.{AllByRecursion}
 use Rattle.std.specs.List.Sorted.{IsStableByKey}
 use Rattle.std.specs.Ordering.{nat_cmp}
 use Rattle.std.proofs.lemmas.Bool.{cases_lt}
-use Rattle.std.proofs.lemmas.Bool.Decides.{nat_tests}
 use Rattle.rl_bus.specs.declared.table.WordRow.{WordRow}
 use Rattle.rl_map.specs.Layout.{key_of, IsAscending}
 use Rattle.rl_map.specs.Maps.{row_into, by_address}
 use Rattle.rl_map.proofs.Lists.{filter_none}
 use Rattle.rl_map.proofs.Closing.{same_key}
+use Rattle.rl_map.proofs.Bools.{ge_from, lt_from}
 
 abbrev at_key : ℕ → WordRow → Bool
 at_key key r = key_of r == key
@@ -36,12 +36,6 @@ all_into P r (s ∷ rows) p h = by (nat_lt (key_of s) (key_of r)) (all_into P r 
     by : (t : Bool) → AllByRecursion P (row_into r rows) → AllByRecursion P (cond t (s ∷ row_into r rows) (r ∷ s ∷ rows))
     by true more = (h.0, more)
     by false more = (p, h)
-
-lt_from : (a b : ℕ) → nat_lt a b ≡ true → a < b
-lt_from a b h = grind (arith, nat_tests)
-
-ge_from : (a b : ℕ) → nat_lt a b ≡ false → b ≤ a
-ge_from a b h = grind (arith, nat_tests)
 
 all_more : (a b : ℕ) (rows : List WordRow) → a ≤ b → AllByRecursion (λ s. b ≤ key_of s) rows → AllByRecursion (λ s. a ≤ key_of s) rows
 all_more a b [] low h = tt

@@ -61,7 +61,8 @@ seated_from : (path : List Level) (base : ℕ) (item : Location) (word : Word) �
 seated_from path base item word a =
     let long : length (seats_of path base item) ≡ item.bytes = length-map-range_with_len (seat_of path base item) 0 item.bytes in
     let low : a.byte < item.bytes = omega (arith, a.inside, long) in
-    let at : get_or (seats_of path base item) a.byte no_seat ≡ seat_of path base item a.byte = get_or-map-range_with_len (seat_of path base item) 0 item.bytes a.byte a.byte no_seat low (omega arith) in
+    let at : get_or (seats_of path base item) a.byte no_seat ≡ seat_of path base item a.byte =
+    get_or-map-range_with_len (seat_of path base item) 0 item.bytes a.byte a.byte no_seat low (omega arith) in
     record {
       byte = a.byte;
       inside = low;

@@ -40,6 +40,10 @@ pub record AreTables (kinds : List AdapterKind) (maps : List MapRow) (ports : Li
   pub each_map : All (IsMapRow ports) maps
   pub each_port : All (IsPortRow kinds (length maps)) ports
 
+-- of some adapter kinds
+abbrev pub HasTables : List MapRow → List PortRow → Type 0
+HasTables maps ports = (kinds : List AdapterKind) × AreTables kinds maps ports
+
 -- a map's parent is an earlier map, whose path has room for one more
 abbrev pub IsUnder : List MapRow → Option (List ℕ) → Type 0
 IsUnder maps None = Unit {0}

@@ -93,6 +93,9 @@ word_count p = p.row.size * length (item_words p.path p.port.base (location_of p
 abbrev pub is_same_place : PlaceRow → PlaceRow → Bool
 is_same_place p q = p.map == q.map && same_item p.item q.item
 
+abbrev pub is_placed : List PlaceRow → PlaceRow → Bool
+is_placed places p = list_any (λ q. is_same_place q p) places
+
 -- some byte of some location
 abbrev pub some_byte : Placed → ((index byte : ℕ) → Bool) → Bool
 some_byte p test = list_any (λ index. list_any (test index) (range_with_len 0 p.row.bytes)) (range_with_len 0 p.row.size)
@@ -151,7 +154,7 @@ place_checks chip t earlier words part p =
     (nat_le 4096 (length earlier), TooMany)
     ∷ (is_none (map_number t.maps part.map), NoSuchMap)
     ∷ (is_none (item_at chip part.item), NoSuchItem)
-    ∷ (list_any (λ q. is_same_place q p.row) earlier, PlacedTwice)
+    ∷ (is_placed earlier p.row, PlacedTwice)
     ∷ (is_mem p.row.item && p.row.fifo, MemInFifo)
     ∷ (nat_lt 1048576 (words + word_count p), TooMany)
     ∷ (some_byte p (is_above p), AddressOverflow)

@@ -1,11 +1,12 @@
 -- What holds of every path and every item.
-use Rattle.std.specs.Prelude.{◌≡◌, ℕ, ◌+◌, ◌*◌, ◌/◌, ◌%◌, ◌≤◌, List, [], ◌∷◌, All, false}
+use Rattle.std.specs.Prelude.{◌≡◌, ℕ, zero, suc, ◌+◌, ◌*◌, ◌/◌, ◌%◌, ◌<◌, ◌≤◌, ◌==◌, if◌then◌else◌, List, [], ◌∷◌, All, false}
 use Rattle.std.specs.Int.{div_ceil}
 use Rattle.rl_map.specs.declared.path.Level.{Level}
+use Rattle.rl_map.specs.declared.seat.Access.{Access}
 use Rattle.rl_map.specs.declared.seat.Location.{Location}
 use Rattle.rl_map.specs.declared.seat.Seat.{Seat}
-use Rattle.rl_map.specs.Level.{IsPath}
-use Rattle.rl_map.specs.Access.{place_in_time, address_of}
+use Rattle.rl_map.specs.Level.{IsPath, stride_of}
+use Rattle.rl_map.specs.Access.{carried, place_in_time, address_of}
 use Rattle.rl_map.specs.Seat.{seat_of, SeatsApart, AddressesApart}
 use Rattle.rl_map.specs.Words.{seats_of, item_words}
 use Rattle.rl_map.specs.Partition.{IsPartition}
@@ -44,3 +45,23 @@ byte_seat_of (level ∷ up) base item byte =
 abbrev pub ByteAddressedAlike : Type 0
 ByteAddressedAlike = (path : List Level) (base : ℕ) (item : Location) (byte : ℕ)
     → All (λ level. level.word ≡ false) path → seat_of path base item byte ≡ byte_seat_of path base item byte
+
+-- ---- addresses by counting
+
+-- What unit number `unit` of a child's addresses takes of its parent's: a word as many words as its bytes fill, and a byte a
+-- byte. Where the child counts bytes and the parent words, the last byte of each word of the child takes that word's.
+abbrev pub units_of : Access → Level → ℕ → ℕ
+units_of access level unit =
+    let count = div_ceil access.bytes level.bytes in
+    if access.word then count * stride_of level
+    else if level.word then (if (unit + 1) % access.bytes == 0 then count else 0)
+    else 1
+
+-- the units of the parent that go before an address of the child
+abbrev pub units_before : Access → Level → (address : ℕ) → ℕ
+units_before access level zero = 0
+units_before access level (suc unit) = units_before access level unit + units_of access level unit
+
+-- an access starts in the map above it behind the units that go before its address
+abbrev pub EveryAddressCounted : Type 0
+EveryAddressCounted = (access : Access) (level : Level) → 0 < access.bytes → carried access level ≡ units_before access level access.address

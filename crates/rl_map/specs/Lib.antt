@@ -11,6 +11,7 @@ pub mod LayoutText
 pub mod Building
 pub mod Locations
 pub mod Links
+pub mod Placing
 pub mod Laws
 pub mod Steps
 pub mod Clashes

@@ -1,6 +1,5 @@
 -- The conditions of maps and places, step by step.
 use Rattle.std.specs.Prelude.{◌≡◌, ℕ, ◌+◌, nat_lt, nat_le, ◌&&◌, not, List, [], ◌∷◌, ◌++◌, length, map, Option, Some, None, is_some, is_none, unwrap_or, Result, Ok, Err, if◌then◌else◌}
-use Rattle.std.specs.List.{list_any}
 use Rattle.rl_model.specs.declared.fault.Array.TheVariants as array
 use Rattle.rl_model.specs.Rows.{ChipData}
 use Rattle.rl_model.specs.Rules.{is_name, or_else}
@@ -14,7 +13,7 @@ use Rattle.rl_map.specs.declared.rows.MapRow.{MapRow}
 use Rattle.rl_map.specs.declared.rows.PortRow.{PortRow}
 use Rattle.rl_map.specs.declared.rows.PlaceRow.{PlaceRow}
 use Rattle.rl_map.specs.Maps.{path_under, level_of, map_number, kind_number, kind_with, item_at, place_row}
-use Rattle.rl_map.specs.Faults.{Check, first_of, row_at, has_parent, is_width, Placed, is_mem, word_count, is_same_place, some_byte, is_above, is_unaligned, shared}
+use Rattle.rl_map.specs.Faults.{Check, first_of, row_at, has_parent, is_width, Placed, is_mem, word_count, is_placed, some_byte, is_above, is_unaligned, shared}
 use Rattle.rl_map.specs.Building.{placed_in}
 
 -- ---- the cause alone
@@ -68,7 +67,7 @@ word_checks words p =
 abbrev pub own_checks : ChipData → List MapRow → List PlaceRow → ℕ → PlacePart → Placed → List Check
 own_checks chip maps earlier words part p =
     (nat_le 4096 (length earlier), TooMany)
-    ∷ there_checks chip maps part ++ (list_any (λ q. is_same_place q p.row) earlier, PlacedTwice) ∷ fifo_checks p.row ++ word_checks words p
+    ∷ there_checks chip maps part ++ (is_placed earlier p.row, PlacedTwice) ∷ fifo_checks p.row ++ word_checks words p
 
 -- a part as a place
 abbrev pub place_of_part : ChipData → List MapRow → List PortRow → PlacePart → Placed

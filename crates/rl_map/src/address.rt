@@ -49,7 +49,8 @@ fn is_unaligned(row: &PlaceRow, path: &[Level], port: &PortRow, index: u32, byte
 fn is_location_above(row: &PlaceRow, path: &[Level], port: &PortRow, index: u32) -> bool
     requires path { IsPath path.now }
     requires size { row.now.bytes ≤ 8 }
-    ensures { result ≡ list_any (is_above (placed_at row.now path.now port.now) index) (range_with_len 0 row.now.bytes) }
+    ensures { result ≡ list_any (is_above (placed_at row.now path.now port.now) index)
+        (range_with_len 0 row.now.bytes) }
 {
     for byte in 0..row.bytes {
         if is_above(row, path, port, index, byte) {
@@ -94,7 +95,8 @@ pub(crate) fn is_place_above(row: &PlaceRow, path: &[Level], port: &PortRow) -> 
     requires path { IsPath path.now }
     requires size { row.now.bytes ≤ 8 }
     requires locations { 1 ≤ row.now.size }
-    ensures { result ≡ some_byte (placed_at row.now path.now port.now) (is_above (placed_at row.now path.now port.now)) }
+    ensures { result ≡ some_byte (placed_at row.now path.now port.now)
+        (is_above (placed_at row.now path.now port.now)) }
 {
     for index in first_to_test(row, path)..row.size {
         if is_location_above(row, path, port, index) {
@@ -108,7 +110,8 @@ fn is_location_unaligned(row: &PlaceRow, path: &[Level], port: &PortRow, index: 
     requires path { IsPath path.now }
     requires size { row.now.bytes ≤ 8 }
     requires width { 0 < port.now.bytes }
-    ensures { result ≡ list_any (is_unaligned (placed_at row.now path.now port.now) index) (range_with_len 0 row.now.bytes) }
+    ensures { result ≡ list_any (is_unaligned (placed_at row.now path.now port.now) index)
+        (range_with_len 0 row.now.bytes) }
 {
     for byte in 0..row.bytes {
         if is_unaligned(row, path, port, index, byte) {
@@ -124,7 +127,8 @@ pub(crate) fn is_place_unaligned(row: &PlaceRow, path: &[Level], port: &PortRow)
     requires path { IsPath path.now }
     requires size { row.now.bytes ≤ 8 }
     requires width { 0 < port.now.bytes }
-    ensures { result ≡ some_byte (placed_at row.now path.now port.now) (is_unaligned (placed_at row.now path.now port.now)) }
+    ensures { result ≡ some_byte (placed_at row.now path.now port.now)
+        (is_unaligned (placed_at row.now path.now port.now)) }
 {
     for index in 0..row.size.min(2) {
         if is_location_unaligned(row, path, port, index) {

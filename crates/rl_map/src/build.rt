@@ -51,7 +51,8 @@ impl Layout {
         kinds: &[AdapterKind],
     ) -> Result<Layout, MapFault>
         requires { length kinds.now < 2 ^ 32 }
-        ensures exact { Passes result (layout_fault chip.now maps.now places.now kinds.now) (λ l. l ≡ layout_of chip.now maps.now places.now kinds.now) }
+        ensures exact { Passes result (layout_fault chip.now maps.now places.now kinds.now)
+            (λ l. l ≡ layout_of chip.now maps.now places.now kinds.now) }
         ensures sound { IfOk result IsSound }
         ensures kinds { IfOk result (λ l. l.kinds ≡ kinds.now) }
         ensures built_with { IfOk result (λ l. IsBuiltWith l chip.now) }

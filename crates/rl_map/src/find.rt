@@ -1,5 +1,6 @@
 //! Words by address.
-ghost use Rattle.std.specs.Prelude.{◌≡◌, ◌<◌, ◌≤◌, ◌*◌, ◌+◌, ◌^◌, ℕ, List, length, filter, find, position, bytes_eq, All, if◌then◌else◌};
+ghost use Rattle.std.specs.Prelude.{◌≡◌, ◌<◌, ◌≤◌, ◌*◌, ◌+◌, ◌^◌, ℕ, List, length, filter};
+ghost use Rattle.std.specs.Prelude.{find, position, bytes_eq, All, if◌then◌else◌};
 ghost use Rattle.rl_bus.specs.Setup.{stands_at};
 ghost use Rattle.rl_map.specs.Layout.{key_of, index_of, is_in, lets_through, IsAscending};
 

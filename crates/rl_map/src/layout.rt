@@ -1,6 +1,8 @@
 //! A layout, and what it answers.
-ghost use Rattle.std.specs.Prelude.{◌≡◌, ◌+◌, ◌^◌, ◌<◌, ◌≤◌, ◌↔◌, ℕ, Some, None, IfSome, IfOk, position, length, slice_get, All};
-ghost use Rattle.rl_map.specs.Layout.{map_at, port_at, place_at, seat_at, words_of, has_right, found, words_found, standing, place_of, map_named, IsLocation, IsHere, IsSound};
+ghost use Rattle.std.specs.Prelude.{◌≡◌, ◌+◌, ◌^◌, ◌<◌, ◌≤◌, ◌↔◌, ℕ, Some, None, IfSome};
+ghost use Rattle.std.specs.Prelude.{IfOk, position, length, slice_get, All};
+ghost use Rattle.rl_map.specs.Layout.{map_at, port_at, place_at, seat_at, words_of, has_right, found};
+ghost use Rattle.rl_map.specs.Layout.{words_found, standing, place_of, map_named, IsLocation, IsHere, IsSound};
 ghost use Rattle.rl_map.specs.Partition.{IsWordOn};
 
 use crate::find::{count_through, first_through, index_of, map_number, rows_at};
@@ -33,19 +35,29 @@ pub struct Layout {
 }
 
 impl Model for Layout {
-    ghost use Rattle.rl_map.specs.Layout.{LayoutData};
-
-    ghost Value = { LayoutData };
-
-    ghost view = { λ l. record { maps = l.maps.items; places = l.places.items; ports = l.ports.items; kinds = l.kinds.items; rows = l.rows.value.items } };
-
-    ghost use Rattle.rl_map.specs.Layout.{IsSound};
+    ghost use Rattle.rl_map.specs.Layout.{LayoutData, IsSound};
     ghost use Rattle.rl_map.specs.Locations.{AreKept};
     ghost use Rattle.rl_map.specs.Links.{AreLinked};
 
-    ghost invariant = { λ l. IsSound (record { maps = l.maps.items; places = l.places.items; ports = l.ports.items; kinds = l.kinds.items; rows = l.rows.value.items })
-        × AreKept (record { maps = l.maps.items; places = l.places.items; ports = l.ports.items; kinds = l.kinds.items; rows = l.rows.value.items }) l.words.items
-        × AreLinked l.places.items l.links.lasts.items l.links.before.items };
+    ghost Value = { LayoutData };
+
+    ghost view = { λ l. record {
+      maps = l.maps.items;
+      places = l.places.items;
+      ports = l.ports.items;
+      kinds = l.kinds.items;
+      rows = l.rows.value.items;
+    } };
+
+    ghost invariant = { λ l.
+        let held : LayoutData = record {
+          maps = l.maps.items;
+          places = l.places.items;
+          ports = l.ports.items;
+          kinds = l.kinds.items;
+          rows = l.rows.value.items;
+        } in
+        IsSound held × AreKept held l.words.items × AreLinked l.places.items l.links.lasts.items l.links.before.items };
 }
 
 impl Layout {
@@ -64,7 +76,8 @@ impl Layout {
     /// How many words an access to a register or a location of the place has: 1 to 8.
     pub fn words(&self, place: u32) -> u32
         requires { place < length self.now.places }
-        ensures count { (index : ℕ) → IsLocation self.now place index → result ≡ length (words_of self.now place index) }
+        ensures count { (index : ℕ) → IsLocation self.now place index
+            → result ≡ length (words_of self.now place index) }
         ensures some { 0 < result }
         ensures few { result ≤ 8 }
     {
@@ -77,7 +90,8 @@ impl Layout {
         requires location { IsLocation self.now place index }
         requires number { k < length (words_of self.now place index) }
         ensures word { slice_get (words_of self.now place index) k ≡ Some result }
-        ensures on { IsWordOn (port_at self.now (place_at self.now place).port).kind (port_at self.now (place_at self.now place).port).bytes result }
+        ensures on { IsWordOn (port_at self.now (place_at self.now place).port).kind
+            (port_at self.now (place_at self.now place).port).bytes result }
     {
         let kept = &self.words[place as usize];
         kept.word(index, k)
@@ -252,7 +266,8 @@ impl Layout {
     fn location_words(&self, place: u32, index: u32) -> Words
         requires { IsLocation self.now place index }
         ensures words { result ≡ words_of self.now place index }
-        ensures on { All (IsWordOn (port_at self.now (place_at self.now place).port).kind (port_at self.now (place_at self.now place).port).bytes) result }
+        ensures on { All (IsWordOn (port_at self.now (place_at self.now place).port).kind
+            (port_at self.now (place_at self.now place).port).bytes) result }
     {
         let kept = &self.words[place as usize];
         kept.location(index)

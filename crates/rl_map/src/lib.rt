@@ -9,6 +9,7 @@
 
 mod address;
 mod build;
+mod checks;
 mod fault;
 mod find;
 mod kept;
@@ -17,7 +18,6 @@ mod layout;
 mod limits;
 mod links;
 mod maps;
-mod name;
 mod parts;
 mod path;
 mod places;

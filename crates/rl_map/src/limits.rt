@@ -11,6 +11,3 @@ pub(crate) const MOST_PLACES: usize = 4096;
 
 /// Words of all locations of all places together.
 pub(crate) const MOST_WORDS: u64 = 1_048_576;
-
-/// Bytes of a name.
-pub(crate) const LONGEST_NAME: usize = 32;

@@ -1,5 +1,6 @@
 //! The places of each item.
-ghost use Rattle.std.specs.Prelude.{◌≡◌, ◌+◌, ◌*◌, ◌<◌, ◌≤◌, ◌^◌, ◌++◌, ◌∷◌, ◌&&◌, ℕ, [], length, OnOk, position, slice_index_or, Some, if◌then◌else◌};
+ghost use Rattle.std.specs.Prelude.{◌≡◌, ◌+◌, ◌*◌, ◌<◌, ◌≤◌, ◌^◌, ◌++◌, ◌∷◌, ◌&&◌, ℕ, [], length};
+ghost use Rattle.std.specs.Prelude.{OnOk, position, slice_index_or, Some, if◌then◌else◌};
 ghost use Rattle.rl_map.specs.Layout.{same_item, is_in};
 ghost use Rattle.rl_map.specs.Links.{number_of_item, AreLinked};
 

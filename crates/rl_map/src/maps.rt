@@ -1,6 +1,8 @@
 //! The maps and ports of a layout.
-ghost use Rattle.std.specs.Prelude.{⊤, ◌≡◌, ◌++◌, ◌+◌, ◌<◌, ◌≤◌, ◌^◌, ◌∷◌, ℕ, [], Some, None, IfOk, OnOk, IfSome, length, All};
-ghost use Rattle.rl_map.specs.Maps.{kind_number, map_row, path_under, port_under, port_row, ports_with, tables_of, level_of, no_tables};
+ghost use Rattle.std.specs.Prelude.{⊤, ◌≡◌, ◌++◌, ◌+◌, ◌<◌, ◌≤◌, ◌^◌, ◌∷◌, ℕ, [], Some};
+ghost use Rattle.std.specs.Prelude.{None, IfOk, OnOk, IfSome, length, All};
+ghost use Rattle.rl_map.specs.Maps.{kind_number, map_row, path_under, port_under, port_row};
+ghost use Rattle.rl_map.specs.Maps.{ports_with, tables_of, level_of, no_tables};
 ghost use Rattle.rl_map.specs.Faults.{is_width, Passes, first_of, row_at, map_checks, maps_fault};
 ghost use Rattle.rl_map.specs.Steps.{name_checks, under_checks, row_checks, adapter_checks, port_checks};
 ghost use Rattle.rl_model.specs.declared.fault.Array.TheVariants as array;
@@ -10,12 +12,11 @@ ghost use Rattle.rl_bus.specs.Lanes.{IsWidth};
 use crate::fault::{MapCause, MapFault, refusal, row_at};
 use crate::find::map_number;
 use crate::limits::{MOST_LEVELS, MOST_MAPS};
-use crate::name::is_name;
 use crate::parts::MapNode;
 use crate::path::{Level, Path};
 use crate::rows::{MapRow, PortRow};
 use rl_bus::AdapterKind;
-use rl_model::{Array, Name, Spot};
+use rl_model::{Array, Name, Spot, is_name};
 use std::alloc::{AllocError, Global};
 
 /// The number of the first kind with a name.
@@ -167,7 +168,8 @@ fn map_row(alloc: Global, maps: &[MapRow], ports: u32, map: &MapNode) -> Result<
     ensures few { OnOk result (length maps.now < 64) }
     ensures under { OnOk result (IsUnder maps.now map.now.parent) }
     ensures width { OnOk result (IsWidth map.now.bytes) }
-    ensures fault { Passes result (first_of (row_at array.Map (length maps.now)) (row_checks maps.now map.now)) (λ _. ⊤) }
+    ensures fault { Passes result
+        (first_of (row_at array.Map (length maps.now)) (row_checks maps.now map.now)) (λ _. ⊤) }
 {
     let spot = row_at(Array::Map, maps.len() as u32);
     check_name(maps, map, spot)?;
@@ -192,10 +194,13 @@ fn add_map(
 ) -> Result<(), MapFault>
     requires kinds { length kinds.now < 2 ^ 32 }
     requires tables { AreTables kinds.now maps.old.items ports.old.items }
-    ensures maps { OnOk result (maps.new.items ≡ maps.old.items ++ map_row (length ports.old.items) maps.old.items map.now ∷ []) }
-    ensures ports { OnOk result (ports.new.items ≡ ports_with kinds.now (length maps.old.items) ports.old.items map.now.parent map.now) }
+    ensures maps { OnOk result
+        (maps.new.items ≡ maps.old.items ++ map_row (length ports.old.items) maps.old.items map.now ∷ []) }
+    ensures ports { OnOk result
+        (ports.new.items ≡ ports_with kinds.now (length maps.old.items) ports.old.items map.now.parent map.now) }
     ensures tables { OnOk result (AreTables kinds.now maps.new.items ports.new.items) }
-    ensures fault { Passes result (first_of (row_at array.Map (length maps.old.items)) (map_checks kinds.now maps.old.items map.now)) (λ _. ⊤) }
+    ensures fault { Passes result
+        (first_of (row_at array.Map (length maps.old.items)) (map_checks kinds.now maps.old.items map.now)) (λ _. ⊤) }
 {
     let number = maps.len() as u32;
     let count = ports.len() as u32;

@@ -1,5 +1,6 @@
 //! Words of two places at one address.
-ghost use Rattle.std.specs.Prelude.{◌≡◌, false, true, ◌≤◌, ◌<◌, ◌^◌, ◌&&◌, ◌||◌, ℕ, List, None, Some, Option, OnOk, length, fold, All, if◌then◌else◌, ◌==◌, slice_index_or, IsPermutation};
+ghost use Rattle.std.specs.Prelude.{◌≡◌, false, true, ◌≤◌, ◌<◌, ◌^◌, ◌&&◌, ◌||◌, ℕ, List, None, Some, Option, OnOk};
+ghost use Rattle.std.specs.Prelude.{length, fold, All, if◌then◌else◌, ◌==◌, slice_index_or, IsPermutation};
 ghost use Rattle.std.specs.List.Sorted.{IsStableByKey};
 ghost use Rattle.std.specs.Ordering.{nat_cmp};
 ghost use Rattle.rl_map.specs.Layout.{IsAscending, key_of};
@@ -110,8 +111,10 @@ fn group_start(rows: &[WordRow], start: usize, k: usize) -> usize
     requires k_in { k < length rows.now }
     requires start_in { start ≤ k }
     ensures bound { result ≤ k }
-    ensures same { (d : WordRow) → key_of (slice_index_or rows.now start d) ≡ key_of (slice_index_or rows.now k d) → result ≡ start }
-    ensures other { (d : WordRow) → (key_of (slice_index_or rows.now start d) == key_of (slice_index_or rows.now k d)) ≡ false → result ≡ k }
+    ensures same { (d : WordRow)
+        → key_of (slice_index_or rows.now start d) ≡ key_of (slice_index_or rows.now k d) → result ≡ start }
+    ensures other { (d : WordRow)
+        → (key_of (slice_index_or rows.now start d) == key_of (slice_index_or rows.now k d)) ≡ false → result ≡ k }
 {
     if key(&rows[start]) == key(&rows[k]) {
         start
@@ -120,7 +123,8 @@ fn group_start(rows: &[WordRow], start: usize, k: usize) -> usize
     }
 }
 
-/// The first place that clashes with an earlier one, of its addresses the least, and of the earlier places there the first.
+/// The first place that clashes with an earlier one, of its addresses the least, and of the earlier places there
+/// the first.
 pub(crate) fn first_shared(places: &[PlaceRow], rows: &[WordRow]) -> Option<Shared>
     requires rows { AreRowsOf places.now rows.now }
     requires ascending { IsAscending rows.now }

@@ -332,6 +332,14 @@ const WORDS: &[(&str, &str)] = &[
         "map bus 2 little byte 0 plain; sub sub 4 little word bus 256; at sub r8 1 rw",
         "104 0=0 1=1; 106 0=2 1=3; 108 0=4 1=5; 10a 0=6 1=7; ",
     ),
+    (
+        "map bus 2 little word 0 plain; sub sub 4 little word bus 256; at sub r4 3 rw",
+        "106 0=0 1=1; 107 0=2 1=3; ",
+    ),
+    (
+        "map bus 2 little word 0 plain; sub sub 4 little byte bus 256; at sub r4 4 rw",
+        "102 0=0 1=1; 103 0=2 1=3; ",
+    ),
 ];
 
 #[test]

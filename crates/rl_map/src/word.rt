@@ -1,5 +1,6 @@
 //! The words of an item: the bytes that one bus item carries.
-ghost use Rattle.std.specs.Prelude.{◌≡◌, ℕ, ◌+◌, ◌^◌, ◌<◌, ◌≤◌, ◌==◌, if◌then◌else◌, List, [], ◌∷◌, ◌++◌, ◌*◌, length, take, slice_get, Some, IsTrue, ◌↔◌, All};
+ghost use Rattle.std.specs.Prelude.{◌≡◌, ℕ, ◌+◌, ◌^◌, ◌<◌, ◌≤◌, ◌==◌, if◌then◌else◌, List, [], ◌∷◌};
+ghost use Rattle.std.specs.Prelude.{◌++◌, ◌*◌, length, take, slice_get, Some, IsTrue, ◌↔◌, All};
 ghost use Rattle.std.specs.List.{list_any};
 ghost use Rattle.rl_map.specs.Words.{byte_at, address_at, word_of, words_below, seats_of, item_words, words_with};
 ghost use Rattle.rl_map.specs.Locations.{all_further};

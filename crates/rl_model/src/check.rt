@@ -23,8 +23,8 @@ fn is_name_byte(c: u8) -> bool
     is_letter(c) || c >= b'0' && c <= b'9'
 }
 
-/// Whether a text is a letter or `_`, and then letters, digits and `_`, of 1 to 32 bytes.
-fn is_name(text: &[u8]) -> bool
+/// Whether a text is a letter or `_`, and then letters, digits and `_`, of 1 to 32 bytes: this project's own rule of a name.
+pub fn is_name(text: &[u8]) -> bool
     ensures { result ≡ is_name text.now }
 {
     match text {

@@ -21,6 +21,7 @@ mod rows;
 mod sets;
 mod text;
 
+pub use check::is_name;
 pub use chip::Chip;
 pub use fault::{Array, ModelCause, ModelFault, Spot};
 pub use name::Name;

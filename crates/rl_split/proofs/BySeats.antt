@@ -21,10 +21,11 @@ use Rattle.rl_map.specs.Seat.{seat_of}
 use Rattle.rl_map.specs.Words.{lanes_of, no_seat, no_word}
 use Rattle.rl_split.specs.Access.{IsChoice, lanes_for, has_chosen, sent_words, joined_bit, joined, orders_of, sent_of, chosen_lanes, enabled_lanes, word_of, carries_lanes, kind_of, bus_bytes_of, op_of, ops_of}
 use Rattle.rl_split.specs.Seats.{number_at, ValueIsBySeats, no_op, OperationsAreBySeats}
-use Rattle.rl_split.proofs.Carried.{found_lane}
+use Rattle.rl_bus.proofs.LaneLemmas.{found_lane}
+use Rattle.rl_map.proofs.Reaching.{some_has}
 use Rattle.rl_split.proofs.Chosen.{lane_chosen, chosen_bit, sent_touches, not_sent}
 use Rattle.rl_split.proofs.ReadRuns.{none_spread}
-use Rattle.rl_split.proofs.Sending.{IsHere, is_here, lane_there, some_has}
+use Rattle.rl_split.proofs.Sending.{IsHere, is_here, lane_there}
 use Rattle.rl_split.proofs.Sent.{none_joined}
 
 -- ---- one word of many

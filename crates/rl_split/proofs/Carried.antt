@@ -1,21 +1,11 @@
 -- What a word carries of a cell.
-use Rattle.std.proofs.Common.{◌≡◌, ℕ, zero, suc, ◌+◌, ◌*◌, ◌/◌, ◌%◌, ◌<◌, Bool, true, false, ◌&&◌, cond, eqb, Option, Some, None, is_some, refl, ap, ◌∙◌, subst, arith, eqb-true}
+use Rattle.std.proofs.Common.{◌≡◌, ℕ, ◌+◌, ◌*◌, ◌/◌, ◌%◌, Bool, true, ◌&&◌, Option, Some, None, is_some, refl, ap, ◌∙◌, arith}
 use Rattle.std.specs.Prelude.{slice_index}
 use Rattle.rl_policy.specs.Bits.{bit, from_bits}
 use Rattle.rl_policy.proofs.BitLemmas.{bit-from_bits}
 use Rattle.rl_bus.specs.declared.table.Lanes.{Lanes}
 use Rattle.rl_bus.specs.Spread.{lane_below, bit_in, spread_bit, lane_bit, gathered_bit}
-
--- the lane that carries a byte is enabled and names it
-pub found_lane : (n : ℕ) (s : Lanes) (j l : ℕ) → lane_below n s j ≡ Some l → (l < n) × ((bit s.enabled l ≡ true) × (slice_index s.bytes l ≡ j))
-unfolding lane_below
-found_lane zero s j l e = absurd cc
-found_lane (suc k) s j l e = by (bit s.enabled k) (eqb (slice_index s.bytes k) j) refl refl e (found_lane k s j l)
-  where
-    by : (a t : Bool) → bit s.enabled k ≡ a → eqb (slice_index s.bytes k) j ≡ t → cond (a && t) (Some k) (lane_below k s j) ≡ Some l → (lane_below k s j ≡ Some l → (l < k) × ((bit s.enabled l ≡ true) × (slice_index s.bytes l ≡ j))) → (l < suc k) × ((bit s.enabled l ≡ true) × (slice_index s.bytes l ≡ j))
-    by true true p q e more = let same : k ≡ l = cc in (omega arith, (subst (λ l. bit s.enabled l ≡ true) same p, subst (λ l. slice_index s.bytes l ≡ j) same (eqb-true _ j q)))
-    by true false p q e more = let h = more e in (omega (arith, h.0), (h.1.0, h.1.1))
-    by false t p q e more = let h = more e in (omega (arith, h.0), (h.1.0, h.1.1))
+use Rattle.rl_bus.proofs.LaneLemmas.{found_lane}
 
 lane_of_bit : (l b : ℕ) → ((8 * l + b % 8) / 8 ≡ l) × ((8 * l + b % 8) % 8 ≡ b % 8)
 lane_of_bit l b = (omega arith, omega arith)

@@ -1,7 +1,6 @@
 pub mod Carried
 pub mod Kept
 pub mod Adding
-pub mod OneLane
 pub mod Compose
 pub mod Policies
 pub mod Items

@@ -1,5 +1,5 @@
 -- The words that an access sends, over a device of the layout.
-use Rattle.std.proofs.Common.{◌≡◌, ℕ, zero, suc, ◌-◌, ◌*◌, ◌/◌, ◌^◌, ◌<◌, ◌≤◌, ◌⊎◌, inl, inr, Bool, true, false, not, ◌&&◌, ◌||◌, cond, eqb, ltb, List, [], ◌∷◌, length, get_or, map, Some, is_some, refl, sym, ap, ◌∙◌, subst, arith, eq-eqb, eqb-true}
+use Rattle.std.proofs.Common.{◌≡◌, ℕ, zero, suc, ◌-◌, ◌*◌, ◌/◌, ◌^◌, ◌<◌, ◌≤◌, ◌⊎◌, inl, inr, Bool, true, false, not, ◌&&◌, cond, eqb, ltb, List, [], ◌∷◌, length, get_or, map, Some, is_some, refl, sym, ap, ◌∙◌, subst, arith, eq-eqb, eqb-true}
 use Rattle.std.specs.Prelude.{All, slice_index, filter, bit_and}
 use Rattle.std.proofs.lemmas.Bool.{cases_lt}
 use Rattle.std.proofs.lemmas.Bool.Decides.{nat_tests}
@@ -23,6 +23,7 @@ use Rattle.rl_map.specs.Words.{words_with, lanes_of, no_word}
 use Rattle.rl_split.specs.Access.{all_bytes, chosen_lanes, lanes_for, has_chosen, sent_words, op_of, kind_of, bus_bytes_of, carries_lanes, enabled_lanes}
 use Rattle.rl_split.specs.Law.{no_flaws}
 use Rattle.rl_split.proofs.Turns.{IsTurn}
+use Rattle.rl_map.proofs.Reaching.{some_has}
 
 -- ---- lists
 
@@ -159,16 +160,6 @@ lane_there (suc n) l s j low on is = by (bit s.enabled n && eqb (slice_index s.b
     by true q side more = refl
     by false q (inl less) more = more less
     by false q (inr above) more = let h = here (omega arith) in absurd (false_true (bit s.enabled n && eqb (slice_index s.bytes n) j) q h)
-
--- a byte of a word is a byte of all words
-pub some_has : (ws : List Word) (k b : ℕ) → k < length ws → has_bit (get_or ws k no_word) b ≡ true → have_bit ws b ≡ true
-some_has [] k b low e = absurd (omega arith)
-some_has (w ∷ ws) zero b low e = ap (λ t. t || have_bit ws b) e
-some_has (w ∷ ws) (suc k) b low e = by (has_bit w b) (some_has ws k b (omega arith) e)
-  where
-    by : (t : Bool) → have_bit ws b ≡ true → (t || have_bit ws b) ≡ true
-    by true h = refl
-    by false h = h
 
 -- each enabled lane carries a byte of the item
 pub byte_in : (ws : List Word) (bytes k l : ℕ) → ((b : ℕ) → have_bit ws b ≡ ltb (b / 8) bytes) → k < length ws → l < 8 → bit (get_or ws k no_word).lanes l ≡ true → slice_index (get_or ws k no_word).bytes l < bytes

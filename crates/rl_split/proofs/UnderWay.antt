@@ -1,5 +1,5 @@
 -- Words of an access beside others that are half done.
-use Rattle.std.proofs.Common.{◌≡◌, ℕ, zero, suc, ◌+◌, ◌<◌, ◌≤◌, Bool, true, false, ◌&&◌, cond, eqb, ltb, List, [], ◌∷◌, ◌++◌, length, get_or, map, take, drop, set, refl, sym, ap, ◌∙◌, subst, arith, eqb-true, append_assoc, append-nil}
+use Rattle.std.proofs.Common.{◌≡◌, ℕ, zero, suc, ◌+◌, ◌<◌, ◌≤◌, Bool, true, false, ◌&&◌, cond, eqb, ltb, List, [], ◌∷◌, ◌++◌, length, get_or, map, take, drop, refl, sym, ap, ◌∙◌, subst, arith, eqb-true, append_assoc, append-nil}
 use Rattle.std.specs.Prelude.{All, slice_index, slice_get}
 use Rattle.rl_policy.specs.Bits.{bit}
 use Rattle.std.proofs.lemmas.Bool.Decides.{nat_tests}
@@ -11,23 +11,21 @@ use Rattle.rl_bus.specs.declared.table.Cell.TheVariants as cell
 use Rattle.rl_bus.specs.declared.table.Lanes.{Lanes}
 use Rattle.rl_bus.specs.declared.table.WordRow.{WordRow}
 use Rattle.rl_bus.specs.Setup.{Setup, words_at}
-use Rattle.rl_bus.specs.State.{State, state_after, answer_of, beats_on, word_at}
+use Rattle.rl_bus.specs.State.{State, state_after, answer_of, beats_on}
 use Rattle.rl_model.specs.Rows.{ChipData}
-use Rattle.rl_model.specs.Fields.{fields_of, place_at}
 use Rattle.rl_map.specs.declared.word.Word.{Word}
 use Rattle.rl_model.specs.declared.rows.Item.TheVariants as item
 use Rattle.rl_map.specs.Layout.{LayoutData, Occupies, place_at as row_at, words_of, row_of}
 use Rattle.rl_map.specs.Tables.{setup_of}
 use Rattle.rl_map.specs.Words.{words_with, no_word}
 use Rattle.rl_split.specs.Access.{all_bytes, lanes_for, sent_words, sent_of, op_of, ops_of}
-use Rattle.rl_split.specs.Law.{IsPlaceOf, IsReady, Holds, IsWrite, IsRead, no_flaws}
-use Rattle.rl_split.specs.Runs.{state_after_all, answers_of}
+use Rattle.rl_split.specs.Law.{IsPlaceOf, IsReady, no_flaws}
+use Rattle.rl_split.specs.Runs.{state_after_all}
 use Rattle.rl_split.specs.Seats.{no_op}
-use Rattle.rl_split.specs.Step.{Register, every, wstep, rstep}
-use Rattle.rl_split.specs.UnderWay.{IsDevice, whole_ops, whole_op, alone, IsUnderWay, IsTouched, IsNextWord, IsOver, NoneSentIsUnderWay, NextWordGoesOn, OthersStayUnderWay, AllSentIsWrite, AllSentIsRead}
+use Rattle.rl_split.specs.UnderWay.{IsDevice, whole_ops, whole_op, alone, IsUnderWay, IsTouched, IsNextWord, NoneSentIsUnderWay, NextWordGoesOn, OthersStayUnderWay, AllSentIsWrite, AllSentIsRead}
 use Rattle.rl_split.proofs.Accesses.{whole_write_is_step, whole_read_is_step, whole_sends, here_of}
 use Rattle.rl_split.proofs.Items.{Meets, bits_written, marks_written, bits_left, bits_shown, write_meets, read_meets, write_answers, read_answers, after_write, after_read}
-use Rattle.rl_split.proofs.Sending.{IsHere, whole_sent, alone_at}
+use Rattle.rl_split.proofs.Sending.{whole_sent, alone_at}
 use Rattle.rl_split.proofs.Steps.{flawless}
 use Rattle.rl_split.proofs.Turns.{IsTurn, Stands, first_stands, turn_meets, turn_moves, beat_is, count_at, left_over, all_head, all_tail}
 

@@ -1,16 +1,16 @@
 -- A whole access to a register of which the first words were sent, beside other accesses that are half done.
-use Rattle.std.specs.Prelude.{◌≡◌, ℕ, ◌+◌, ◌^◌, ◌<◌, Bool, true, false, List, length, map, take, get_or, slice_index}
+use Rattle.std.specs.Prelude.{◌≡◌, ℕ, ◌+◌, ◌<◌, Bool, true, false, List, length, take, get_or, slice_index}
 use Rattle.rl_bus.specs.declared.op.BusOp.{BusOp}
 use Rattle.rl_bus.specs.State.{State, state_after, answer_of}
 use Rattle.rl_model.specs.Rows.{ChipData}
 use Rattle.rl_model.specs.Fields.{fields_of}
 use Rattle.rl_map.specs.Layout.{LayoutData, Occupies, place_at as row_at}
 use Rattle.rl_map.specs.Tables.{setup_of}
-use Rattle.rl_split.specs.Access.{all_bytes, ops_of, joined}
+use Rattle.rl_split.specs.Access.{all_bytes, ops_of}
 use Rattle.rl_split.specs.Law.{IsPlaceOf, IsReady, Holds, no_flaws}
-use Rattle.rl_split.specs.Runs.{state_after_all, answers_of}
+use Rattle.rl_split.specs.Runs.{state_after_all}
 use Rattle.rl_split.specs.Seats.{no_op}
-use Rattle.rl_split.specs.Step.{Register, every, wstep, rstep, ranswer}
+use Rattle.rl_split.specs.Step.{Register, every, wstep, rstep}
 
 -- a device of this chip and this layout, without flaws, whatever its beats are
 pub record IsDevice (c : ChipData) (l : LayoutData) (s : State) : Type 0 where

@@ -10,7 +10,7 @@ ghost use Rattle.rl_split.specs.Lists.{ops_in, orders_in};
 
 use crate::answers::Answers;
 use crate::fields::carries_lanes;
-use crate::lanes::{gather, lanes_for, spread};
+use crate::lanes::lanes_for;
 use crate::words::Words;
 use rl_bus::{AdapterKind, BusOp, Lanes};
 use rl_map::{Layout, Word};
@@ -31,7 +31,7 @@ fn operation(
     BusOp {
         write,
         address: word.address,
-        word: if write { gather(lanes, value) } else { 0 },
+        word: if write { lanes.gather(value) } else { 0 },
         lanes: if carries_lanes(kind, write) {
             lanes.enabled
         } else {
@@ -133,7 +133,7 @@ pub fn join(
         let word = layout.word(place, index, k);
         let lanes = lanes_for(&word, chosen);
         if lanes.enabled != 0 {
-            value |= spread(&lanes, answers.word(sent));
+            value |= lanes.spread(answers.word(sent));
             sent += 1;
         }
         k += 1;

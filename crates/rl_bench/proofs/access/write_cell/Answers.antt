@@ -37,7 +37,12 @@ returns-in-Reg-clause-state c beats items =
     (c.write-written.ensures.bits at e
     ∙ ap (λ n. held t r (λ b. bit_written (policy_at t r b) (bit n b) (bit c.index-in-Reg-2.result.now b) (word b) (lanes b))) x
     ∙ ap (λ n. held t r (λ b. bit_written (policy_at t r b) (bit (slice_index old.bits.items r) b) (bit n b) (word b) (lanes b))) m)
-    ∙ ap (λ v. record (state_of t old beats items) { bits = slice_set old.bits.items r (held t r (λ b. bit_written (policy_at t r b) (bit (slice_index old.bits.items r) b) (bit (slice_index old.marks.items r) b) (word b) (lanes b))); marks = slice_set old.marks.items r v })
+    ∙ ap (λ v. record (state_of t old beats items) {
+      bits =
+          slice_set old.bits.items r
+          (held t r (λ b. bit_written (policy_at t r b) (bit (slice_index old.bits.items r) b) (bit (slice_index old.marks.items r) b) (word b) (lanes b)));
+      marks = slice_set old.marks.items r v;
+    })
     (c.write-written.ensures.marks at e
     ∙ ap (λ n. from_bits 64 (λ b. mark_written (policy_at t r b) (bit n b) (lanes b))) m))
 
@@ -49,8 +54,9 @@ returns-then-index-clause-state c beats items =
     let here = location t mem c.in-Loc.index in
     let l = (c.requires.cell.loc mem c.in-Loc.index c.in-Loc.is).0 in
     let writable : (mem_of t mem).writable ≡ true = ap (λ row. row.writable) (sym (get_or_read t.mems mem _ l c.index-in-Loc.ensures no_mem)) ∙ c.if-index.true in
-    let x : c.index-then-index.result.now ≡ slice_index old.locations.items here = get_or_read old.locations.items c.location-at.result _ c.location-at.ensures.within c.index-then-index.ensures 0 ∙ ap (slice_index old.locations.items) c.location-at.ensures.at in
-    let lane : (b : ℕ) → b < 64 → bit c.spread-carried.result.1 b ≡ lane_bit c.args.lanes.now b = λ b k. ap (λ n. bit n b) c.spread-carried.ensures.mask ∙ bit-from_bits 64 _ b k in
-    let carried : (b : ℕ) → b < 64 → bit c.spread-carried.result.0 b ≡ spread_bit c.args.lanes.now (bit c.args.word) b = λ b k. ap (λ n. bit n b) c.spread-carried.ensures.bits ∙ bit-from_bits 64 _ b k in
+    let x : c.index-then-index.result.now ≡ slice_index old.locations.items here =
+    get_or_read old.locations.items c.location-at.result _ c.location-at.ensures.within c.index-then-index.ensures 0 ∙ ap (slice_index old.locations.items) c.location-at.ensures.at in
+    let lane : (b : ℕ) → b < 64 → bit c.covered.result b ≡ lane_bit c.args.lanes.now b = λ b k. ap (λ n. bit n b) c.covered.ensures ∙ bit-from_bits 64 _ b k in
+    let carried : (b : ℕ) → b < 64 → bit c.spread-carried.result b ≡ spread_bit c.args.lanes.now (bit c.args.word) b = λ b k. ap (λ n. bit n b) c.spread-carried.ensures ∙ bit-from_bits 64 _ b k in
     rw (c.in-Loc.is, writable, c.location-at.ensures.at) (ap (λ v. record (state_of t old beats items) { locations = slice_set old.locations.items here v })
     (is_from_bits 64 _ _ c.replaced.type_inv (λ b k. rw (c.replaced.ensures b k, lane b k, carried b k, x) refl)))

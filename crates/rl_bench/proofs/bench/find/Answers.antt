@@ -20,7 +20,8 @@ returns-clause-beat c =
     let words = c.args.board.now.tables.words.value.items in
     let at = c.stretch_at-at.result in
     c.beat_at-beat.ensures
-    ∙ beat_is words c.args.beats.now c.args.port c.args.op.now.address at.first at.end (words_there words at.first at.end c.args.port c.args.op.now.address _ c.words-words.ensures c.stretch_at-at.ensures)
+    ∙ beat_is words c.args.beats.now c.args.port c.args.op.now.address at.first at.end
+    (words_there words at.first at.end c.args.port c.args.op.now.address _ c.words-words.ensures c.stretch_at-at.ensures)
 
 pub returns-clause-word : goal.returns-clause-word
 returns-clause-word c =
@@ -31,7 +32,8 @@ returns-clause-word c =
     ∙ ap (λ ws. slice_get (filter q ws) c.beat_at-beat.result) c.words-words.ensures
     ∙ ap (slice_get (filter q words))
     (c.beat_at-beat.ensures
-    ∙ beat_is words c.args.beats.now c.args.port c.args.op.now.address at.first at.end (words_there words at.first at.end c.args.port c.args.op.now.address _ c.words-words.ensures c.stretch_at-at.ensures))
+    ∙ beat_is words c.args.beats.now c.args.port c.args.op.now.address at.first at.end
+    (words_there words at.first at.end c.args.port c.args.op.now.address _ c.words-words.ensures c.stretch_at-at.ensures))
 
 pub returns-clause-count : goal.returns-clause-count
 returns-clause-count c =

@@ -15,7 +15,10 @@ loop-k-init c =
     let t = setup_held c.args.tables.now in
     let reg = c.args.reg in
     let own = fields_there t.fields c.fields_of-own.result.first c.fields_of-own.result.end reg _ c.deref.ensures.value c.fields_of-own.ensures in
-    effects_same _ _ c.none-effects.result (λ b _. sym (ap (option_map (policy_of t)) (no_place_before (λ f. covers f reg b) t.fields c.fields_of-own.result.first no_field (omega (arith, own.order, own.within)) (λ j l. other_reg (get_or t.fields j no_field) reg b (own.before j no_field l))))) c.none-effects.ensures
+    effects_same _ _ c.none-effects.result
+    (λ b _. sym (ap (option_map (policy_of t))
+    (no_place_before (λ f. covers f reg b) t.fields c.fields_of-own.result.first no_field (omega (arith, own.order, own.within))
+    (λ j l. other_reg (get_or t.fields j no_field) reg b (own.before j no_field l))))) c.none-effects.ensures
 
 pub loop-k-preserved : goal.loop-k-preserved
 loop-k-preserved c =
@@ -43,4 +46,7 @@ returns c =
     let reg = c.args.reg in
     let own = fields_there t.fields c.fields_of-own.result.first c.fields_of-own.result.end reg _ c.deref.ensures.value c.fields_of-own.ensures in
     let k = c.loop-k.k in
-    effects_same _ _ c.loop-k.effects (λ b _. ap (option_map (policy_of t)) (no_place_behind (λ f. covers f reg b) t.fields k no_field (omega (arith, c.loop-k.auto.k-end own.order, own.within)) (λ j l m. other_reg (get_or t.fields j no_field) reg b (own.behind j no_field (omega (arith, l, c.loop-k-test.false)) m)))) c.loop-k.invariant
+    effects_same _ _ c.loop-k.effects
+    (λ b _. ap (option_map (policy_of t))
+    (no_place_behind (λ f. covers f reg b) t.fields k no_field (omega (arith, c.loop-k.auto.k-end own.order, own.within))
+    (λ j l m. other_reg (get_or t.fields j no_field) reg b (own.behind j no_field (omega (arith, l, c.loop-k-test.false)) m)))) c.loop-k.invariant

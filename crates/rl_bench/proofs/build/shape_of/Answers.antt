@@ -25,7 +25,8 @@ loop-k-preserved c =
     let l : i < length xs = omega (arith, c.loop-k-test.true, c.len-k-end.ensures, c.args.tables.now.stuck.ok.0) in
     let x = get_or xs i no_stuck in
     let first : ℕ → Option StuckRow = λ b. find (λ s. names_bit t s reg b) (take i xs) in
-    let more : (b : ℕ) → find (λ s. names_bit t s reg b) (take (i + 1) xs) ≡ option_or (first b) (cond (names_bit t x reg b) (Some x) None) = λ b. find_more (λ s. names_bit t s reg b) xs i no_stuck l in
+    let more : (b : ℕ) → find (λ s. names_bit t s reg b) (take (i + 1) xs) ≡ option_or (first b)
+    (cond (names_bit t x reg b) (Some x) None) = λ b. find_more (λ s. names_bit t s reg b) xs i no_stuck l in
     let has : ℕ → Bool = λ b. is_some (option_map (λ s. s.value) (first b)) in
     let new : (b : ℕ) → b < 64 → bit (bit_and c.stuck_seat.result (bit_not w64 c.loop-k.stuck)) b ≡ (names_bit t x reg b && not (has b)) =
     λ b k. bit-and c.stuck_seat.result (bit_not w64 c.loop-k.stuck) b
@@ -37,7 +38,8 @@ loop-k-preserved c =
           ∙ ap (λ y. has b || y) (new b k)
           ∙ stuck_bit (first b) (names_bit t x reg b) x ∙ ap (λ o. is_some (option_map (λ s. s.value) o)) (sym (more b));
       values = λ b k. bit-or c.loop-k.values _ b ∙ ap (λ y. y || bit (bit_and (bit_and c.stuck_seat.result (bit_not w64 c.loop-k.stuck)) c.repeated.result) b) (was.values b k)
-          ∙ ap (λ y. or_else (option_map (λ s. s.value) (first b)) false || y) (bit-and _ c.repeated.result b ∙ ap (λ y. y && bit c.repeated.result b) (new b k) ∙ ap (λ y. (names_bit t x reg b && not (has b)) && y) (c.repeated.ensures b k ∙ value))
+          ∙ ap (λ y. or_else (option_map (λ s. s.value) (first b)) false || y)
+          (bit-and _ c.repeated.result b ∙ ap (λ y. y && bit c.repeated.result b) (new b k) ∙ ap (λ y. (names_bit t x reg b && not (has b)) && y) (c.repeated.ensures b k ∙ value))
           ∙ stuck_value (first b) (names_bit t x reg b) x ∙ ap (λ o. or_else (option_map (λ s. s.value) o) false) (sym (more b));
     }
 

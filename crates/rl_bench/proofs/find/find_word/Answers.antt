@@ -15,7 +15,8 @@ filter_other p xs i d l h = sym (rw h at (filter_more p xs i d l) ∙ append-nil
 pub loop-k-init : goal.loop-k-init
 loop-k-init c =
     let q = stands_for c.args.port c.args.address c.args.write in
-    let none : filter q (take c.args.at.first c.args.words.now) ≡ [] = none_taken q c.args.words.now c.args.at.first (λ k d l m. not_for c.args.port c.args.address c.args.write (get_or c.args.words.now k d) (c.requires.before k d l)) in
+    let none : filter q (take c.args.at.first c.args.words.now) ≡ [] =
+    none_taken q c.args.words.now c.args.at.first (λ k d l m. not_for c.args.port c.args.address c.args.write (get_or c.args.words.now k d) (c.requires.before k d l)) in
     record { found = sym (ap (λ xs. slice_get xs c.args.beat) none); count = sym (ap length none); behind = omega arith }
 
 pub loop-k-preserved-then-not-lets_through : goal.loop-k-preserved-then-not-lets_through
@@ -51,11 +52,15 @@ loop-k-preserved c =
 pub returns-clause-word : goal.returns-clause-word
 returns-clause-word c =
     let q = stands_for c.args.port c.args.address c.args.write in
-    let whole : filter q (take c.loop-k.k c.args.words.now) ≡ filter q c.args.words.now = all_taken q c.args.words.now c.loop-k.k (λ k d l m. not_for c.args.port c.args.address c.args.write (get_or c.args.words.now k d) (c.requires.behind k d (omega (arith, l, c.loop-k-test.false)) m)) in
+    let whole : filter q (take c.loop-k.k c.args.words.now) ≡ filter q c.args.words.now =
+    all_taken q c.args.words.now c.loop-k.k
+    (λ k d l m. not_for c.args.port c.args.address c.args.write (get_or c.args.words.now k d) (c.requires.behind k d (omega (arith, l, c.loop-k-test.false)) m)) in
     c.loop-k.invariant.found ∙ ap (λ xs. slice_get xs c.args.beat) whole
 
 pub returns-clause-count : goal.returns-clause-count
 returns-clause-count c =
     let q = stands_for c.args.port c.args.address c.args.write in
-    let whole : filter q (take c.loop-k.k c.args.words.now) ≡ filter q c.args.words.now = all_taken q c.args.words.now c.loop-k.k (λ k d l m. not_for c.args.port c.args.address c.args.write (get_or c.args.words.now k d) (c.requires.behind k d (omega (arith, l, c.loop-k-test.false)) m)) in
+    let whole : filter q (take c.loop-k.k c.args.words.now) ≡ filter q c.args.words.now =
+    all_taken q c.args.words.now c.loop-k.k
+    (λ k d l m. not_for c.args.port c.args.address c.args.write (get_or c.args.words.now k d) (c.requires.behind k d (omega (arith, l, c.loop-k-test.false)) m)) in
     c.loop-k.invariant.count ∙ ap length whole

@@ -11,7 +11,8 @@ returns-then-first-eq0-clause-behind c t k d l m =
 
 pub returns-else-first-eq0-clause-before : goal.returns-else-first-eq0-clause-before
 returns-else-first-eq0-clause-before c t k d l =
-    first_low c.args.words.now (c.args.first - 1) (c.args.port * 2 ^ 64 + c.args.address) _ c.requires (omega (arith, l, c.if-first-words.false)) (sym c.is_before-else-first-eq0.ensures ∙ t) k d (omega (arith, l))
+    first_low c.args.words.now (c.args.first - 1) (c.args.port * 2 ^ 64 + c.args.address) _ c.requires
+    (omega (arith, l, c.if-first-words.false)) (sym c.is_before-else-first-eq0.ensures ∙ t) k d (omega (arith, l))
 
 pub returns-else-first-eq0-clause-behind : goal.returns-else-first-eq0-clause-behind
 returns-else-first-eq0-clause-behind c t k d l m =

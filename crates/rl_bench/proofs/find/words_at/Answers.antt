@@ -8,5 +8,6 @@ returns-then-not-stands_at c =
     let j = c.loop-end.end in
     let t = c.args.port * 2 ^ 64 + c.args.address in
     let apart = c.stands_at.ensures.key (sym c.stands_at.ensures.test ∙ c.if-not-stands_at.true) in
-    stretch_here words c.args.port c.args.address c.first_from-first.result j c.requires c.loop-end.auto.end (omega (arith, c.loop-end-test.true)) c.first_from-first.ensures.before c.loop-end.invariant
+    stretch_here words c.args.port c.args.address c.first_from-first.result j c.requires c.loop-end.auto.end
+    (omega (arith, c.loop-end-test.true)) c.first_from-first.ensures.before c.loop-end.invariant
     (λ d m. high_from words j t _ d m apart (c.first_from-first.ensures.behind j d c.loop-end.auto.end m))

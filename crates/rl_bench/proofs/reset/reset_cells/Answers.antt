@@ -55,7 +55,8 @@ returns-then-kind-eq0-clause-state c beats items =
     let old = c.args.cells.now in
     let s : State = state_of t old beats items in
     let bits : c.loop-reg.cells.bits.items ≡ map (reg_reset s c.args.kind) (range_with_len 0 (length old.bits.items)) =
-    fill_by_all (reg_reset s c.args.kind) c.loop-reg.cells.bits.items (length old.bits.items) 0 was.long (λ k l. was.done k (omega (arith, l, c.requires.bits, c.loop-reg-test.false, c.len-reg-end.ensures, c.args.board.now.tables.regs.ok.0))) in
+    fill_by_all (reg_reset s c.args.kind) c.loop-reg.cells.bits.items (length old.bits.items) 0 was.long
+    (λ k l. was.done k (omega (arith, l, c.requires.bits, c.loop-reg-test.false, c.len-reg-end.ensures, c.args.board.now.tables.regs.ok.0))) in
     let yes : eqb c.args.kind 0 ≡ true = grind (arith, nat_tests, c.if-kind-eq0.true) in
     let marks : c.fill.new.self.items ≡ replicate (length old.marks.items) 0 =
     c.fill.ensures.items (λ y e. e) ∙ ap (λ n. replicate n 0) (c.loop-reg.cells.marks.ok.0 ∙ ap (λ v. length v.items) was.marks) in
@@ -71,7 +72,8 @@ returns-else-kind-eq0-clause-state c beats items =
     let old = c.args.cells.now in
     let s : State = state_of t old beats items in
     let bits : c.loop-reg.cells.bits.items ≡ map (reg_reset s c.args.kind) (range_with_len 0 (length old.bits.items)) =
-    fill_by_all (reg_reset s c.args.kind) c.loop-reg.cells.bits.items (length old.bits.items) 0 was.long (λ k l. was.done k (omega (arith, l, c.requires.bits, c.loop-reg-test.false, c.len-reg-end.ensures, c.args.board.now.tables.regs.ok.0))) in
+    fill_by_all (reg_reset s c.args.kind) c.loop-reg.cells.bits.items (length old.bits.items) 0 was.long
+    (λ k l. was.done k (omega (arith, l, c.requires.bits, c.loop-reg-test.false, c.len-reg-end.ensures, c.args.board.now.tables.regs.ok.0))) in
     let no : eqb c.args.kind 0 ≡ false = grind (arith, nat_tests, c.if-kind-eq0.false) in
     rw no (ap (λ x. made t items x c.loop-reg.cells.marks.items c.loop-reg.cells.locations.items) bits
     ∙ ap (λ m. made t items (map (reg_reset s c.args.kind) (range_with_len 0 (length old.bits.items))) m c.loop-reg.cells.locations.items) (ap (λ v. v.items) was.marks)

@@ -19,7 +19,9 @@ loop-k-init c =
     let t = setup_held c.args.board.now.tables in
     let reg = c.args.reg in
     let own = fields_there t.fields c.fields_of-own.result.first c.fields_of-own.result.end reg _ c.deref.ensures.value c.fields_of-own.ensures in
-    let none : (b : ℕ) → position (λ f. covers f reg b) (take c.fields_of-own.result.first t.fields) ≡ None = λ b. no_place_before (λ f. covers f reg b) t.fields c.fields_of-own.result.first no_field (omega (arith, own.order, own.within)) (λ j l. other_reg (get_or t.fields j no_field) reg b (own.before j no_field l)) in
+    let none : (b : ℕ) → position (λ f. covers f reg b) (take c.fields_of-own.result.first t.fields) ≡ None =
+    λ b. no_place_before (λ f. covers f reg b) t.fields c.fields_of-own.result.first no_field (omega (arith, own.order, own.within))
+    (λ j l. other_reg (get_or t.fields j no_field) reg b (own.before j no_field l)) in
     record {
       taken = λ b k. bit-zero b ∙ sym (ap is_some (none b));
       word = λ b k. sym (ap (λ o. reset_bit t c.args.kind o b (bit c.args.bits b)) (none b));
@@ -32,7 +34,9 @@ returns c b small =
     let own = fields_there t.fields c.fields_of-own.result.first c.fields_of-own.result.end reg _ c.deref.ensures.value c.fields_of-own.ensures in
     let k = c.loop-k.k in
     c.loop-k.invariant.word b small
-    ∙ ap (λ o. reset_bit t c.args.kind o b (bit c.args.bits b)) (no_place_behind (λ f. covers f reg b) t.fields k no_field (omega (arith, c.loop-k.auto.k-end own.order, own.within)) (λ j l m. other_reg (get_or t.fields j no_field) reg b (own.behind j no_field (omega (arith, l, c.loop-k-test.false)) m)))
+    ∙ ap (λ o. reset_bit t c.args.kind o b (bit c.args.bits b))
+    (no_place_behind (λ f. covers f reg b) t.fields k no_field (omega (arith, c.loop-k.auto.k-end own.order, own.within))
+    (λ j l m. other_reg (get_or t.fields j no_field) reg b (own.behind j no_field (omega (arith, l, c.loop-k-test.false)) m)))
 
 pub with_value-word-requires-clause-free : goal.with_value-word-requires-clause-free
 with_value-word-requires-clause-free c b k h =

@@ -9,7 +9,8 @@ use Rattle.rl_map.proofs.address.is_place_unaligned.Goals as goal
 pub returns-then-is_location_unaligned : goal.returns-then-is_location_unaligned
 returns-then-is_location_unaligned c =
     let p = placed_at c.args.row.now c.args.path.now c.args.port.now in
-    sym (is_some_of (λ i. list_any (is_unaligned p i) (range_with_len 0 c.args.row.now.bytes)) c.args.row.now.size c.loop-index.index (omega arith) (sym c.is_location_unaligned.ensures ∙ c.if-is_location_unaligned.true))
+    sym (is_some_of (λ i. list_any (is_unaligned p i) (range_with_len 0 c.args.row.now.bytes)) c.args.row.now.size c.loop-index.index
+    (omega arith) (sym c.is_location_unaligned.ensures ∙ c.if-is_location_unaligned.true))
 
 pub returns : goal.returns
 returns c =

@@ -4,8 +4,9 @@ use Rattle.std.specs.List.Sorted.{IsPartitionPoint}
 use Rattle.std.proofs.lemmas.List.Sorted.{IsPartitionPoint-from_clause, IsPartitionedBy-leb, IsPartitionedBy-ltb}
 use Rattle.rl_bus.specs.declared.table.WordRow.{WordRow}
 use Rattle.rl_map.specs.Layout.{key_of}
-use Rattle.rl_map.proofs.Sorting.{ArePoints, points_rise, some_row, group_is, standing_by_key, lt_from, ge_from, le_from, gt_from}
+use Rattle.rl_map.proofs.Sorting.{ArePoints, points_rise, some_row, group_is, standing_by_key, gt_from}
 use Rattle.rl_map.proofs.find.rows_at.Goals as goal
+use Rattle.rl_map.proofs.Bools.{ge_from, le_from, lt_from}
 
 points : (rows : List WordRow) (key start end : ℕ) → IsPartitionPoint (λ r. ltb (key_of r) key ≡ true) (λ r. ltb (key_of r) key ≡ false) rows start
     → IsPartitionPoint (λ r. leb (key_of r) key ≡ true) (λ r. leb (key_of r) key ≡ false) rows end → start ≤ length rows → end ≤ length rows → ArePoints rows key start end

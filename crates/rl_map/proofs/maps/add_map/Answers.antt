@@ -9,8 +9,10 @@ use Rattle.rl_map.proofs.maps.add_map.Goals as goal
 
 pub returns-clause-tables : goal.returns-clause-tables
 returns-clause-tables c =
-    tables_by c.args.kinds.now _ _ c.args.map.now _ _ _ _ _ _ c.requires.tables c.deref.ensures.value c.in_ok-row.ensures.few c.in_ok-row.ensures.width c.in_ok-row.ensures.under c.in_ok-add_port.ensures.has_port
-    (omega (arith, c.len-count.ensures, c.args.ports.now.ok)) (omega (arith, c.len-number.ensures, c.args.maps.now.ok)) c.in_ok-row.ensures.row c.in_ok-push.ensures.items c.in_ok-add_port.ensures.added
+    tables_by c.args.kinds.now _ _ c.args.map.now _ _ _ _ _ _ c.requires.tables c.deref.ensures.value c.in_ok-row.ensures.few
+    c.in_ok-row.ensures.width c.in_ok-row.ensures.under c.in_ok-add_port.ensures.has_port
+    (omega (arith, c.len-count.ensures, c.args.ports.now.ok))
+    (omega (arith, c.len-number.ensures, c.args.maps.now.ok)) c.in_ok-row.ensures.row c.in_ok-push.ensures.items c.in_ok-add_port.ensures.added
 
 pub returns-in_err-row-clause-fault : goal.returns-in_err-row-clause-fault
 returns-in_err-row-clause-fault c =

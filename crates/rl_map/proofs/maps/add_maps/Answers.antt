@@ -12,14 +12,16 @@ loop-part-preserved c =
       maps = next.0;
       ports = next.1;
       tables = made.tables;
-      fault = maps_next c.args.kinds.now c.loop-part.maps.items c.loop-part.ports.items _ _ c.args.parts.now c.loop-part.part-index c.part-item.result _ c.loop-part-test.true c.part-item.is was.fault made.fault.0 made.maps made.ports;
+      fault = maps_next c.args.kinds.now c.loop-part.maps.items c.loop-part.ports.items _ _ c.args.parts.now c.loop-part.part-index
+          c.part-item.result _ c.loop-part-test.true c.part-item.is was.fault made.fault.0 made.maps made.ports;
     }
 
 pub returns-in_err-add_map-clause-fault : goal.returns-in_err-add_map-clause-fault
 returns-in_err-add_map-clause-fault c =
     let p = err_from_is_err_and c.from_residual.result c.from_residual.ensures.1 in
     failed c.from_residual.result _ c.in_err-add_map.field-0.0 p.0 p.1 p.2
-    (maps_end c.args.kinds.now c.loop-part.maps.items c.loop-part.ports.items c.args.parts.now c.loop-part.part-index c.part-item.result _ _ c.loop-part-test.true c.part-item.is c.loop-part.invariant.fault
+    (maps_end c.args.kinds.now c.loop-part.maps.items c.loop-part.ports.items c.args.parts.now c.loop-part.part-index c.part-item.result _ _
+    c.loop-part-test.true c.part-item.is c.loop-part.invariant.fault
     c.in_err-add_map.ensures.fault)
 
 pub returns-clause-fault : goal.returns-clause-fault

@@ -1,5 +1,6 @@
-use Rattle.std.proofs.Common.{◌≡◌, [], ◌∷◌, ◌++◌, length, None, Some, ap, ◌∙◌, subst, arith}
+use Rattle.std.proofs.Common.{◌≡◌, [], ◌∷◌, ◌++◌, length, None, Some, sym, ap, ◌∙◌, subst, arith}
 use Rattle.rl_map.specs.Layout.{no_port}
+use Rattle.rl_map.specs.Links.{AreLinked}
 use Rattle.rl_map.proofs.Closing.{straight_of}
 use Rattle.rl_map.proofs.Keeping.{words_more}
 use Rattle.rl_map.proofs.Placing.{fits_of, places_more}
@@ -16,10 +17,20 @@ push_place-requires-clause-fits c =
 pub push_place-requires-clause-straight : goal.push_place-requires-clause-straight
 push_place-requires-clause-straight c = straight_of c.args.maps.now c.args.ports.now c.in-Ok.row c.in-Ok.ensures.room.seated
 
-pub returns-in_ok-push-in-Ok-3-clause-places : goal.returns-in_ok-push-in-Ok-3-clause-places
-returns-in_ok-push-in-Ok-3-clause-places c =
-    places_more c.args.chip.now c.args.maps.now c.args.ports.now _ _ c.in-Ok.row _ _ _ _ _ c.requires.places c.in-Ok.ensures.row c.in-Ok.ensures.room c.deref.ensures.value c.in-Ok.ensures.few c.in-Ok.ensures.once
-    (omega (arith, c.len-number.ensures, c.args.placing.now.places.ok)) (omega (arith, c.len-count.ensures, c.args.placing.now.rows.ok)) c.in_ok-push-in-Ok-3.ensures.items c.in_ok-words-in-Ok.ensures.rows
+pub returns-in_ok-push-in-Ok-3-clause-placed : goal.returns-in_ok-push-in-Ok-3-clause-placed
+returns-in_ok-push-in-Ok-3-clause-placed c = record {
+  places =
+      places_more c.args.chip.now c.args.maps.now c.args.ports.now _ _ c.in-Ok.row _ _ _ _ _ c.requires.placed.places c.in-Ok.ensures.row c.in-Ok.ensures.room c.deref.ensures.value c.in-Ok.ensures.few
+      c.in-Ok.ensures.once
+      (omega (arith, c.len-number.ensures, c.args.placing.now.places.ok))
+      (omega (arith, c.len-count.ensures, c.args.placing.now.rows.ok)) c.in_ok-push-in-Ok-3.ensures.items c.in_ok-words-in-Ok.ensures.rows;
+  words =
+      words_more c.args.maps.now c.args.ports.now _ _ _ _ c.in-Ok.row c.in_ok-words-in-Ok.words c.requires.placed.words c.in_ok-words-in-Ok.ensures.words
+      c.in_ok-push-in-Ok-3.ensures.items c.in_ok-push-in-Ok.ensures.items;
+  links =
+      subst (λ x. AreLinked x c.push-in-Ok.new.self.lasts.items c.push-in-Ok.new.self.before.items)
+      (ap (λ xs. xs ++ c.in-Ok.row ∷ []) c.deref-in-Ok.ensures.value ∙ sym c.in_ok-push-in-Ok-3.ensures.items) c.in_ok-push-in-Ok-2.ensures;
+}
 
 pub returns-in_ok-push-in-Ok-3-clause-fault : goal.returns-in_ok-push-in-Ok-3-clause-fault
 returns-in_ok-push-in-Ok-3-clause-fault c =
@@ -33,11 +44,6 @@ returns-in_ok-push-in-Ok-3-clause-fault c =
 
 pub returns-in_ok-push-in-Ok-3-clause-added : goal.returns-in_ok-push-in-Ok-3-clause-added
 returns-in_ok-push-in-Ok-3-clause-added c = λ e. c.in_ok-push-in-Ok-3.ensures.items ∙ ap (λ r. c.args.placing.now.places.items ++ r ∷ []) c.in-Ok.ensures.exact
-
-pub returns-in_ok-push-in-Ok-3-clause-words : goal.returns-in_ok-push-in-Ok-3-clause-words
-returns-in_ok-push-in-Ok-3-clause-words c =
-    words_more c.args.maps.now c.args.ports.now _ _ _ _ c.in-Ok.row c.in_ok-words-in-Ok.words c.requires.words c.in_ok-words-in-Ok.ensures.words
-    c.in_ok-push-in-Ok-3.ensures.items c.in_ok-push-in-Ok.ensures.items
 
 pub returns-in-Err-clause-fault : goal.returns-in-Err-clause-fault
 returns-in-Err-clause-fault c =

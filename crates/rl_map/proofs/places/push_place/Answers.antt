@@ -13,7 +13,8 @@ location-words-requires c =
     let i = c.loop-index.index in
     let kept = c.of-kept.result in
     let all = kept_of maps ports p _ _ _ _ kept c.requires.map c.requires.port c.index-maps-place.is c.index-ports-place.is c.levels.ensures.levels c.location.ensures c.of-kept.ensures in
-    low_words (path_in maps p) (port_for ports p).base (location_of p i) kept.words (i * kept.step) c.requires.path c.requires.most (c.requires.fits i c.loop-index-test.true) (all i c.loop-index-test.true)
+    low_words (path_in maps p) (port_for ports p).base (location_of p i) kept.words (i * kept.step) c.requires.path c.requires.most
+    (c.requires.fits i c.loop-index-test.true) (all i c.loop-index-test.true)
 
 pub loop-index-preserved : goal.loop-index-preserved
 loop-index-preserved c =

@@ -36,7 +36,8 @@ returns-then-is_faulty-clause-state c =
     let ws = c.send_back.new.beats in
     let e : (with_items b.beats ws).items ≡ ws = with_items_is b.beats ws (c.send_back.auto.beats ∙ c.deref_mut.ensures.len) in
     let beats : ℕ → ℕ → ℕ = beats_of b.board.tables.words.value.items (with_items b.beats ws).items in
-    let done : (k : ℕ) → slice_index ws k ≡ cond (list_any (is_queue k w.place) b.board.queues.items) 0 (slice_index b.beats.items k) = λ k. rw (c.deref-then-is_faulty.ensures.value, c.deref_mut.ensures.value) at (c.send_back.ensures k) in
+    let done : (k : ℕ) → slice_index ws k ≡ cond (list_any (is_queue k w.place) b.board.queues.items) 0 (slice_index b.beats.items k) =
+    λ k. rw (c.deref-then-is_faulty.ensures.value, c.deref_mut.ensures.value) at (c.send_back.ensures k) in
     ap (λ n. state_of s.setup b.cells beats n) c.saturating_add-self.ensures
     ∙ faulty_state s c.args.port c.args.op.now w beats h f (λ p a. rw e (back_is b.board.tables.words.value.items b.board.queues.items b.beats.items ws w.place b.board.queued b.quiet done p a))
 
@@ -50,7 +51,8 @@ returns-then-is_faulty-clause-answer c =
 pub touch-answer-requires-clause-word : goal.touch-answer-requires-clause-word
 touch-answer-requires-clause-word c =
     let s = bench_state c.args.self.now in
-    word_in s.setup c.args.port c.args.op.now.address c.args.op.now.write _ c.in-Some.word.now c.args.self.now.board.sound (sym (rw c.deref.ensures.value at c.find-found.ensures.word) ∙ ap option_copied c.in-Some.is)
+    word_in s.setup c.args.port c.args.op.now.address c.args.op.now.write _ c.in-Some.word.now c.args.self.now.board.sound
+    (sym (rw c.deref.ensures.value at c.find-found.ensures.word) ∙ ap option_copied c.in-Some.is)
 
 pub next_beat-next-requires : goal.next_beat-next-requires
 next_beat-next-requires c =
@@ -73,7 +75,9 @@ returns-clause-state c =
     let at = c.find-found.result.at in
     let next = c.next_beat-next.result in
     let set_there : ws ≡ cond (ltb at.first at.end) (slice_set b.beats.items at.first next) b.beats.items = rw c.deref_mut-2.ensures.value at c.set_beat.ensures in
-    let next_is : next ≡ cond (ltb (c.find-found.result.beat + 1) (length (filter (stands_for port op.address op.write) b.board.tables.words.value.items))) (c.find-found.result.beat + 1) 0 = rw c.find-found.ensures.count at c.next_beat-next.ensures in
+    let next_is : next ≡ cond
+    (ltb (c.find-found.result.beat + 1) (length (filter (stands_for port op.address op.write) b.board.tables.words.value.items)))
+    (c.find-found.result.beat + 1) 0 = rw c.find-found.ensures.count at c.next_beat-next.ensures in
     ap (λ n. state_of s.setup c.touch-answer.new.cells beats n) c.saturating_add-self.ensures
     ∙ touched_state s port op w (state_of s.setup c.touch-answer.new.cells s.beats (counted s).items) beats h f
     (c.touch-answer.ensures.state s.beats (counted s).items)
@@ -107,7 +111,8 @@ invariant_of-self-2-clause-quiet c =
     let next = c.next_beat-next.result in
     let set_there : ws ≡ cond (ltb at.first at.end) (slice_set b.beats.items at.first next) b.beats.items = rw c.deref_mut-2.ensures.value at c.set_beat.ensures in
     let stands : Bool = is_some (position (stands_at port op.address) words) in
-    let next_is : next ≡ cond (ltb (c.find-found.result.beat + 1) (length (filter (stands_for port op.address op.write) words))) (c.find-found.result.beat + 1) 0 = rw c.find-found.ensures.count at c.next_beat-next.ensures in
+    let next_is : next ≡ cond (ltb (c.find-found.result.beat + 1) (length (filter (stands_for port op.address op.write) words)))
+    (c.find-found.result.beat + 1) 0 = rw c.find-found.ensures.count at c.next_beat-next.ensures in
     subst (IsQuiet words) (sym e)
     (quiet_set words b.beats.items ws port op.address c.find-found.result.beat op.write stands b.quiet
     (λ p a. ap (λ xs. beats_of words xs p a) set_there
@@ -127,7 +132,8 @@ invariant_of-self-then-is_faulty-clause-quiet c =
     let w = c.in-Some.word.now in
     let ws = c.send_back.new.beats in
     let e : (with_items b.beats ws).items ≡ ws = with_items_is b.beats ws (c.send_back.auto.beats ∙ c.deref_mut.ensures.len) in
-    let done : (k : ℕ) → slice_index ws k ≡ cond (list_any (is_queue k w.place) b.board.queues.items) 0 (slice_index b.beats.items k) = λ k. rw (c.deref-then-is_faulty.ensures.value, c.deref_mut.ensures.value) at (c.send_back.ensures k) in
+    let done : (k : ℕ) → slice_index ws k ≡ cond (list_any (is_queue k w.place) b.board.queues.items) 0 (slice_index b.beats.items k) =
+    λ k. rw (c.deref-then-is_faulty.ensures.value, c.deref_mut.ensures.value) at (c.send_back.ensures k) in
     subst (IsQuiet words) (sym e) (quiet_back words b.beats.items ws w.place b.quiet (λ p a. back_is words b.board.queues.items b.beats.items ws w.place b.board.queued b.quiet done p a))
 
 pub invariant_of-self-then-is_faulty-clause-named : goal.invariant_of-self-then-is_faulty-clause-named
@@ -137,7 +143,8 @@ invariant_of-self-then-is_faulty-clause-named c =
     let ws = c.send_back.new.beats in
     let e : (with_items b.beats ws).items ≡ ws = with_items_is b.beats ws (c.send_back.auto.beats ∙ c.deref_mut.ensures.len) in
     let beats : ℕ → ℕ → ℕ = beats_of b.board.tables.words.value.items (with_items b.beats ws).items in
-    let done : (k : ℕ) → slice_index ws k ≡ cond (list_any (is_queue k w.place) b.board.queues.items) 0 (slice_index b.beats.items k) = λ k. rw (c.deref-then-is_faulty.ensures.value, c.deref_mut.ensures.value) at (c.send_back.ensures k) in
+    let done : (k : ℕ) → slice_index ws k ≡ cond (list_any (is_queue k w.place) b.board.queues.items) 0 (slice_index b.beats.items k) =
+    λ k. rw (c.deref-then-is_faulty.ensures.value, c.deref_mut.ensures.value) at (c.send_back.ensures k) in
     named_back (bench_state b) w.place beats b.named (λ p a. rw e (back_is b.board.tables.words.value.items b.board.queues.items b.beats.items ws w.place b.board.queued b.quiet done p a))
 
 pub invariant_of-self-2-clause-named : goal.invariant_of-self-2-clause-named
@@ -156,7 +163,9 @@ invariant_of-self-2-clause-named c =
     let at = c.find-found.result.at in
     let next = c.next_beat-next.result in
     let set_there : ws ≡ cond (ltb at.first at.end) (slice_set b.beats.items at.first next) b.beats.items = rw c.deref_mut-2.ensures.value at c.set_beat.ensures in
-    let next_is : next ≡ cond (ltb (c.find-found.result.beat + 1) (length (filter (stands_for port op.address op.write) b.board.tables.words.value.items))) (c.find-found.result.beat + 1) 0 = rw c.find-found.ensures.count at c.next_beat-next.ensures in
+    let next_is : next ≡ cond
+    (ltb (c.find-found.result.beat + 1) (length (filter (stands_for port op.address op.write) b.board.tables.words.value.items)))
+    (c.find-found.result.beat + 1) 0 = rw c.find-found.ensures.count at c.next_beat-next.ensures in
     named_on s port op w (state_of s.setup c.touch-answer.new.cells s.beats (counted s).items) beats b.board.sound.even b.named h f
     (c.touch-answer.ensures.state s.beats (counted s).items)
     (λ p a. rw e (ap (λ xs. beats_of b.board.tables.words.value.items xs p a) set_there

@@ -17,4 +17,4 @@ returns-clause-bits c at e =
     c.hold.ensures at e
     ∙ held_same _ _ _ _ (λ b k.
     ap (λ n. bit n b) (c.read-shown.ensures.bits (policy_at at.setup at.reg) e.effects) ∙ bit-from_bits 64 _ b k
-    ∙ ap (bit_left (policy_at at.setup at.reg b) (bit c.args.bits b)) (ap (λ n. bit n b) c.spread-mask.ensures.mask ∙ bit-from_bits 64 _ b k))
+    ∙ ap (bit_left (policy_at at.setup at.reg b) (bit c.args.bits b)) (ap (λ n. bit n b) c.covered.ensures ∙ bit-from_bits 64 _ b k))

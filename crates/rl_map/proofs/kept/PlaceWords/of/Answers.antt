@@ -8,8 +8,10 @@ step_of-requires-clause-behind c =
     behind c.args.path.now c.args.base c.args.item.now c.args.size c.requires.path c.requires.some (omega arith) c.requires.straight
 
 pub returns-then-size-eq1 : goal.returns-then-size-eq1
-returns-then-size-eq1 c = one_location c.args.path.now c.args.base c.args.item.now c.args.size c.words-words.result (omega arith) (c.words-words.ensures ∙ ap (item_words c.args.path.now c.args.base) c.at.ensures)
+returns-then-size-eq1 c =
+    one_location c.args.path.now c.args.base c.args.item.now c.args.size c.words-words.result (omega arith) (c.words-words.ensures ∙ ap (item_words c.args.path.now c.args.base) c.at.ensures)
 
 pub returns : goal.returns
 returns c =
-    many_locations c.args.path.now c.args.base c.args.item.now c.args.size c.words-words.result c.step_of.result c.requires.path c.requires.some (omega arith) c.requires.straight (c.words-words.ensures ∙ ap (item_words c.args.path.now c.args.base) c.at.ensures) c.step_of.ensures
+    many_locations c.args.path.now c.args.base c.args.item.now c.args.size c.words-words.result c.step_of.result c.requires.path
+    c.requires.some (omega arith) c.requires.straight (c.words-words.ensures ∙ ap (item_words c.args.path.now c.args.base) c.at.ensures) c.step_of.ensures

@@ -15,7 +15,8 @@ pub first_shared-shared-requires-clause-rows : goal.first_shared-shared-requires
 first_shared-shared-requires-clause-rows c =
     subst (λ x. AreRowsOf x c.deref-4.result.now) (sym c.deref-3.ensures.value)
     (subst (λ y. AreRowsOf c.add_places.new.placing.places.items y) (sym c.deref-4.ensures.value)
-    (rows_in c.args.chip.now c.deref.result.now c.deref-2.result.now c.add_places.new.placing.places.items c.add_places.new.placing.rows.items c.sort_rows.new.rows.items c.in_ok-refused.ensures.places c.in_ok-sort_rows.ensures.moved))
+    (rows_in c.args.chip.now c.deref.result.now c.deref-2.result.now c.add_places.new.placing.places.items
+    c.add_places.new.placing.rows.items c.sort_rows.new.rows.items c.in_ok-refused.ensures.placed.places c.in_ok-sort_rows.ensures.moved))
 
 pub invariant_of-result : goal.invariant_of-result
 invariant_of-result c =
@@ -26,21 +27,23 @@ invariant_of-result c =
     let rows = c.sort_rows.new.rows.items in
     let p : ArePlaces c.args.chip.now maps ports places first =
     subst (λ m. ArePlaces c.args.chip.now m ports places first) c.deref.ensures.value
-    (subst (λ q. ArePlaces c.args.chip.now c.deref.result.now q places first) c.deref-2.ensures.value c.in_ok-refused.ensures.places) in
+    (subst (λ q. ArePlaces c.args.chip.now c.deref.result.now q places first) c.deref-2.ensures.value c.in_ok-refused.ensures.placed.places) in
     let none : NoRowsClash places rows =
     subst (λ x. NoRowsClash x rows) c.deref-3.ensures.value
-    (subst (λ y. NoRowsClash c.deref-3.result.now y) c.deref-4.ensures.value (none_least c.deref-3.result.now c.deref-4.result.now c.first_shared-shared.result c.first_shared-shared.ensures.least (none_shared c.first_shared-shared.result c.in_ok-refused.refused _ c.first_fault.ensures c.in_default.is))) in
+    (subst (λ y. NoRowsClash c.deref-3.result.now y) c.deref-4.ensures.value
+    (none_least c.deref-3.result.now c.deref-4.result.now c.first_shared-shared.result c.first_shared-shared.ensures.least
+    (none_shared c.first_shared-shared.result c.in_ok-refused.refused _ c.first_fault.ensures c.in_default.is))) in
     let sorted = c.in_ok-sort_rows.ensures in
     let kepts = c.add_places.new.placing.words.items in
     let kinds = c.in_ok-from_slice.field-0.items in
     let shared : c.in_ok-new.field-0.value.items ≡ rows = ap (λ v. v.items) c.in_ok-new.ensures.ok in
     let words : AreWordsOf maps ports places kepts =
-    subst (λ m. AreWordsOf m ports places kepts) c.deref.ensures.value (subst (λ q. AreWordsOf c.deref.result.now q places kepts) c.deref-2.ensures.value c.in_ok-refused.ensures.words) in (
+    subst (λ m. AreWordsOf m ports places kepts) c.deref.ensures.value (subst (λ q. AreWordsOf c.deref.result.now q places kepts) c.deref-2.ensures.value c.in_ok-refused.ensures.placed.words) in (
       subst (λ r. IsSound (built maps places ports kinds r)) (sym shared)
           (subst (λ k. IsSound (built maps places ports k rows)) (sym c.in_ok-from_slice.ensures.items)
           (built_sound c.args.chip.now maps places ports c.args.kinds.now first rows c.in_ok-tables.ensures.tables p c.requires sorted.moved sorted.ascending sorted.stable none)),
       subst (λ r. AreKept (built maps places ports kinds r) kepts) (sym shared) (kept_built maps places ports kinds rows kepts words),
-      c.in_ok-refused.ensures.links,
+      c.in_ok-refused.ensures.placed.links,
     )
 
 pub returns-clause-sound : goal.returns-clause-sound
@@ -62,7 +65,7 @@ returns-in-Some-clause-exact c =
     let rows = c.sort_rows.new.rows.items in
     let p : ArePlaces chip maps ports places first =
     subst (λ m. ArePlaces chip m ports places first) c.deref.ensures.value
-    (subst (λ q. ArePlaces chip c.deref.result.now q places first) c.deref-2.ensures.value c.in_ok-refused.ensures.places) in
+    (subst (λ q. ArePlaces chip c.deref.result.now q places first) c.deref-2.ensures.value c.in_ok-refused.ensures.placed.places) in
     let sorted = c.in_ok-sort_rows.ensures in
     let made : AreMade chip c.args.maps.now c.args.places.now c.args.kinds.now maps ports places first rows c.first_shared-shared.result c.in_ok-refused.refused = record {
       accepted = record {
@@ -98,7 +101,7 @@ returns-clause-exact c =
     let rows = c.sort_rows.new.rows.items in
     let p : ArePlaces chip maps ports places first =
     subst (λ m. ArePlaces chip m ports places first) c.deref.ensures.value
-    (subst (λ q. ArePlaces chip c.deref.result.now q places first) c.deref-2.ensures.value c.in_ok-refused.ensures.places) in
+    (subst (λ q. ArePlaces chip c.deref.result.now q places first) c.deref-2.ensures.value c.in_ok-refused.ensures.placed.places) in
     let sorted = c.in_ok-sort_rows.ensures in
     let made : AreMade chip c.args.maps.now c.args.places.now c.args.kinds.now maps ports places first rows c.first_shared-shared.result c.in_ok-refused.refused = record {
       accepted = record {
@@ -124,5 +127,6 @@ returns-clause-exact c =
     let none = sym c.first_fault.ensures ∙ c.in_default.is in (
       fault_is chip c.args.maps.now c.args.places.now c.args.kinds.now maps ports places first rows c.first_shared-shared.result c.in_ok-refused.refused made ∙ none,
       ap (λ v. built maps places ports c.in_ok-from_slice.field-0.items v.items) c.in_ok-new.ensures.ok
-          ∙ whole_is chip c.args.maps.now c.args.places.now c.args.kinds.now maps ports places first rows c.first_shared-shared.result c.in_ok-refused.refused _ made none c.in_ok-from_slice.ensures.items,
+          ∙ whole_is chip c.args.maps.now c.args.places.now c.args.kinds.now maps ports places first rows c.first_shared-shared.result
+          c.in_ok-refused.refused _ made none c.in_ok-from_slice.ensures.items,
     )

@@ -7,12 +7,27 @@ use Rattle.rl_map.proofs.layout.Layout.location_words.Goals as goal
 
 pub location-requires : goal.location-requires
 location-requires c =
-    let l : LayoutData = record { maps = c.self.inside.maps.items; places = c.self.inside.places.items; ports = c.self.inside.ports.items; kinds = c.self.inside.kinds.items; rows = c.self.inside.rows.value.items } in
-    kept_low l c.self.inside.words.items c.self.invariant.0 c.self.invariant.1 c.args.place c.args.index (subst (λ v. IsLocation v c.args.place c.args.index) (sym c.self.view_is) c.requires) _ c.index-kept.ensures
+    let l : LayoutData = record {
+      maps = c.self.inside.maps.items;
+      places = c.self.inside.places.items;
+      ports =
+          c.self.inside.ports.items;
+      kinds = c.self.inside.kinds.items;
+      rows = c.self.inside.rows.value.items;
+    } in
+    kept_low l c.self.inside.words.items c.self.invariant.0 c.self.invariant.1 c.args.place c.args.index
+    (subst (λ v. IsLocation v c.args.place c.args.index) (sym c.self.view_is) c.requires) _ c.index-kept.ensures
 
 pub returns : goal.returns
 returns c =
-    let l : LayoutData = record { maps = c.self.inside.maps.items; places = c.self.inside.places.items; ports = c.self.inside.ports.items; kinds = c.self.inside.kinds.items; rows = c.self.inside.rows.value.items } in
+    let l : LayoutData = record {
+      maps = c.self.inside.maps.items;
+      places = c.self.inside.places.items;
+      ports =
+          c.self.inside.ports.items;
+      kinds = c.self.inside.kinds.items;
+      rows = c.self.inside.rows.value.items;
+    } in
     let there : IsLocation l c.args.place c.args.index = subst (λ v. IsLocation v c.args.place c.args.index) (sym c.self.view_is) c.requires in
     let is = words_kept l c.self.inside.words.items c.self.invariant.0 c.self.invariant.1 c.args.place c.args.index there _ c.index-kept.ensures c.location.result c.location.ensures in
     record {

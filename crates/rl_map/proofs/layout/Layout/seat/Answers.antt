@@ -7,7 +7,14 @@ use Rattle.rl_map.proofs.layout.Layout.seat.Goals as goal
 
 pub seat-requires-clause-fits : goal.seat-requires-clause-fits
 seat-requires-clause-fits c =
-    let l : LayoutData = record { maps = c.self.inside.maps.items; places = c.self.inside.places.items; ports = c.self.inside.ports.items; kinds = c.self.inside.kinds.items; rows = c.self.inside.rows.value.items } in
+    let l : LayoutData = record {
+      maps = c.self.inside.maps.items;
+      places = c.self.inside.places.items;
+      ports =
+          c.self.inside.ports.items;
+      kinds = c.self.inside.kinds.items;
+      rows = c.self.inside.rows.value.items;
+    } in
     let sound : IsSound l = c.self.invariant.0 in
     let there : IsLocation l c.args.place c.args.index = subst (λ v. IsLocation v c.args.place c.args.index) (sym c.self.view_is) c.requires.location in
     let byte_in : c.args.byte < (place_at l c.args.place).bytes = subst (λ v. c.args.byte < (place_at v c.args.place).bytes) (sym c.self.view_is) c.requires.byte in
@@ -19,4 +26,5 @@ seat-requires-clause-fits c =
     read_is l.ports c.index-row.result.now.port _ no_port (subst (λ (r : PlaceRow). r.port < length l.ports) (sym row_is) place.port_in) c.index-port.ensures in
     let same = seat_shown l c.args.place c.args.index c.from.result c.index-row.result.now c.index-map.result.now c.index-port.result.now c.levels.result.now c.location.result
     row_is map_is port_is c.levels.ensures.levels c.location.ensures in
-    subst (λ (s : Seat). s.address < 2 ^ 64) (sym same) ((sound.each_location c.args.place c.args.index there).fits c.from.result (subst (λ n. n < (place_at l c.args.place).bytes) (sym c.from.ensures) byte_in))
+    subst (λ (s : Seat). s.address < 2 ^ 64) (sym same)
+    ((sound.each_location c.args.place c.args.index there).fits c.from.result (subst (λ n. n < (place_at l c.args.place).bytes) (sym c.from.ensures) byte_in))

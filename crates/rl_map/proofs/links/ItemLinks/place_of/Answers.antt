@@ -20,7 +20,8 @@ loop-above-preserved c =
     let was = c.loop-above.invariant in
     let low : place < length places = omega (arith, was.most) in
     let next : IsLast places place _ c.index-above.result.now =
-    subst (IsLast places place _) (sym (read_is c.args.self.now.before.items place c.index-above.result.now 0 (omega (arith, c.requires.linked.long)) c.index-above.ensures)) (c.requires.linked.each_place place low) in
+    subst (IsLast places place _)
+    (sym (read_is c.args.self.now.before.items place c.index-above.result.now 0 (omega (arith, c.requires.linked.long)) c.index-above.ensures)) (c.requires.linked.each_place place low) in
     subst (IsFoundFrom places c.args.item c.args.map c.index-above.result.now)
     (ap (λ t. cond t (Some place) c.loop-above.found) (sym c.is_in-fits.ensures) ∙ sym c.place_or-found.ensures)
     (found_next places c.args.item c.args.map above c.index-above.result.now place _ c.loop-above.found was (omega arith) (omega arith) next
