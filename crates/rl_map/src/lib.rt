@@ -24,8 +24,6 @@ mod places;
 mod rows;
 mod seat;
 mod shared;
-#[cfg(test)]
-mod tests;
 mod word;
 
 pub use fault::{MapCause, MapFault};

@@ -26,6 +26,3 @@ pub use rl_bus::Failed;
 pub use sink::Sink;
 pub use source::Source;
 pub use standard::{StdSink, StdSource};
-
-#[cfg(test)]
-mod tests;

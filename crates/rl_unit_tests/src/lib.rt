@@ -12,8 +12,12 @@ mod desc;
 #[cfg(test)]
 mod mam;
 #[cfg(test)]
+mod map;
+#[cfg(test)]
 mod mirror;
 #[cfg(test)]
 mod model;
 #[cfg(test)]
 mod policy;
+#[cfg(test)]
+mod report;

@@ -1,13 +1,13 @@
 ghost use Rattle.std.specs.Prelude.{◌<◌, length};
 ghost use Rattle.rl_map.specs.Layout.{IsSound};
 
-use crate::MapCause::{
+use bitflags::Flags;
+use rl_bus::{AdapterKind, ShortName};
+use rl_map::MapCause::{
     AddressOverflow, BadBytes, BadName, DuplicateName, MemInFifo, NoSuchAdapter, NoSuchItem,
     NoSuchMap, PlacedTwice, SharedAddress, TooDeep, TooMany, Unaligned,
 };
-use crate::{Kind, Layout, MapCause, MapFault, MapNode, PlacePart, Word};
-use bitflags::Flags;
-use rl_bus::{AdapterKind, ShortName};
+use rl_map::{Kind, Layout, MapCause, MapFault, MapNode, PlacePart, Word};
 use rl_model::Array::{Map, Place};
 use rl_model::{Array, Chip, MemPart, Name, Parts, RegPart, Rights, Skip, Spot};
 use std::alloc::{AllocError, AllocGlobal, Global};

@@ -1,4 +1,4 @@
-use crate::{Got, Head, LineReader, MemSink, MemSource, Sink, put_all};
+use rl_report::{Got, Head, LineReader, MemSink, MemSource, Sink, put_all};
 use std::test::Fail;
 
 #[test]
