@@ -1,6 +1,5 @@
 -- Every operation of a sequence is granted, from any model of its chip and layout.
-use Rattle.std.proofs.Common.{◌≡◌, ℕ, zero, suc, ◌+◌, ◌-◌, ◌*◌, ◌^◌, ◌%◌, ◌<◌, ◌≤◌, ◌==◌, nat_lt, bit_xor, if◌then◌else◌, Bool, true, false, not, ◌&&◌, length, Option, Some, None, Result, Ok, Err, IsOk, unwrap_or, refl, sym, ap, subst, ◌∙◌, eq-eqb, arith}
-use Rattle.std.specs.Prelude.{slice_index_or}
+use Rattle.std.proofs.Common.{◌≡◌, ℕ, zero, suc, ◌+◌, ◌*◌, ◌^◌, ◌<◌, ◌==◌, nat_lt, bit_xor, if◌then◌else◌, Bool, true, false, not, ◌&&◌, length, Option, Some, Ok, Err, IsOk, unwrap_or, refl, sym, ap, subst, ◌∙◌, eq-eqb, arith}
 use Rattle.std.proofs.lemmas.Bool.{and_parts, eqb-true, false_from_ne_true}
 use Rattle.std.proofs.lemmas.List.Sums.{position_or_len_is}
 use Rattle.std.proofs.lemmas.Nat.{xor_lt, mod_below, pow_pos, pow_below}
@@ -16,15 +15,14 @@ use Rattle.rl_model.specs.declared.rows.Item.TheVariants.{Reg, Mem}
 use Rattle.rl_model.specs.Fields.{size_of}
 use Rattle.rl_mirror.specs.Mirror.{mirrored_of}
 use Rattle.rl_access.specs.Model.{ModelData, IsModel}
-use Rattle.rl_access.specs.Rules.{Grant, grant, placed, with_right, way, item_size, memory_size, is_writable}
-use Rattle.rl_access.specs.declared.event.Op.{Op}
+use Rattle.rl_access.specs.Rules.{Grant, grant, only_where, placed, with_right, way, item_size, memory_size, is_writable}
 use Rattle.rl_access.specs.declared.event.Op.TheVariants as op
 use Rattle.rl_access.specs.declared.event.Refused.{Refused}
 use Rattle.rl_access.specs.declared.event.Refused.TheVariants.{NoRight, NoBackdoor, NotWritable, OutOfRange, TooWide}
 use Rattle.rl_access.proofs.Bytes.{bytes_bits}
 use Rattle.rl_seq.specs.declared.sequence.Sequence.{Sequence}
 use Rattle.rl_seq.specs.declared.sequence.Sequence.TheVariants.{HwReset, BitBash, Access, Shared, MemWalk}
-use Rattle.rl_seq.specs.Choice.{is_of, may_read, may_write, is_reg_tested, is_accessed, is_walked, is_tested, has_writable_field, no_reg_access_test, no_mem_walk_test, low_bits, turned_round}
+use Rattle.rl_seq.specs.Choice.{is_bit_compared, is_of, may_read, may_write, is_reg_tested, is_tested, has_writable_field, no_reg_access_test, no_mem_walk_test, low_bits, turned_round}
 use Rattle.rl_seq.specs.Plan.{Plan, stop, step, look, followed_by, only_if, each_below}
 use Rattle.rl_seq.specs.Sequences.{map_at, check_at, bash_once, bash_bit, check_other, fill, check_filled, write_number, settle_before, check_last, walk_location, items_of, item_of, has_rights, is_chosen, is_visited, at_place, visit, visit_all, walk}
 use Rattle.rl_seq.specs.Granted.{IsModelFor, IsGranted, NoStepIsRefused}
@@ -50,10 +48,6 @@ for_model : (c : ChipData) (l : LayoutData) (m : ModelData) (P : ChipData → La
 for_model c l m P is h = subst (λ x. P x l) is.chip (subst (λ y. P m.chip y) is.layout h)
 
 -- ---- the place of an item in a map
-
--- a test that picks the place's row
-picks : LayoutData → Item → ℕ → PlaceRow → Bool
-picks l item place p = same_item p.item item && is_in (Some (map_at l place)) p.map
 
 not_before : (l : LayoutData) (item : Item) (place k : ℕ) → IsLayout l → place < length l.places → is_of l place item ≡ true → k < place
     → (same_item (place_at l k).item item && is_in (Some (map_at l place)) (place_at l k).map) ≡ false
@@ -125,10 +119,6 @@ bashed_fits m reg bit ok there low =
 record IsPlace (l : LayoutData) (place : ℕ) (item : Item) : Type 0 where
   there : place < length l.places
   mine : is_of l place item ≡ true
-
--- an operation is granted by any model of the chip and the layout
-Grants : ChipData → LayoutData → Op → Type 0
-Grants c l op = (m : ModelData) → IsModelFor c l m → IsOk (grant m op)
 
 checks : (c : ChipData) (l : LayoutData) (reg place : ℕ) → IsPlace l place (Reg reg) → may_read l place ≡ true → (m : ModelData)
     → IsModelFor c l m → IsOk (grant m (op.Check reg (Some (map_at l place))))
@@ -206,7 +196,7 @@ is_right Shared c l block reg so = tt
 is_right MemWalk c l block mem so = (and_parts (is_tested c (Mem mem) block no_mem_walk_test) (is_writable c mem) so).1
 
 -- the rights that it needs are there
-HasRights : Sequence → LayoutData → ℕ → Type 0
+abbrev HasRights : Sequence → LayoutData → ℕ → Type 0
 HasRights HwReset l place = may_read l place ≡ true
 HasRights BitBash l place = (may_read l place ≡ true) × (may_write l place ≡ true)
 HasRights Access l place = (may_read l place ≡ true) × (may_write l place ≡ true)
@@ -309,7 +299,8 @@ granted_at BitBash c l reg place inside is p right =
     each c l (8 * size_of c reg) (bash_bit c reg (map_at l place))
     (λ bit low.
     let once = bashed c l reg place bit p right.0 right.1 inside low in
-    chosen c l _ _ (λ so. followed c l (bash_once reg (map_at l place) bit) (bash_once reg (map_at l place) bit) once once))
+    chosen c l (is_bit_compared c reg bit) (followed_by (bash_once reg (map_at l place) bit) (bash_once reg (map_at l place) bit))
+    (λ so. followed c l (bash_once reg (map_at l place) bit) (bash_once reg (map_at l place) bit) once once))
 granted_at Access c l reg place inside is p right = accessed c l reg place p right.0 right.1 inside is
 granted_at Shared c l reg place inside is p right =
     λ m at. (
@@ -336,7 +327,7 @@ granted which c l block =
 
 pub no_step_is_refused : NoStepIsRefused
 no_step_is_refused c l block = record {
-  hw_reset = (λ m is. refl, granted HwReset c l block);
+  hw_reset = ((λ m is. refl), granted HwReset c l block);
   bit_bash = granted BitBash c l block;
   access = granted Access c l block;
   shared_access = granted Shared c l block;

@@ -1,4 +1,4 @@
-use Rattle.std.proofs.Common.{◌≡◌, ◌∙◌, length, ap, sym, arith}
+use Rattle.std.proofs.Common.{◌∙◌, length, ap, sym, arith}
 use Rattle.rl_map.specs.Layout.{LayoutData}
 use Rattle.rl_seq.specs.Sequences.{is_visited, visit}
 use Rattle.rl_seq.specs.Visits.{turns}

@@ -1,4 +1,4 @@
-use Rattle.std.proofs.Common.{◌≡◌, ◌∙◌, ap, sym, arith}
+use Rattle.std.proofs.Common.{◌∙◌, ap, sym, arith}
 use Rattle.rl_seq.specs.Sequences.{items_of, is_chosen, visit_all}
 use Rattle.rl_seq.proofs.Following.{follows_same, each_first, each_more, each_skipped, each_broke, each_all}
 use Rattle.rl_seq.proofs.Planned.{same_plan}
