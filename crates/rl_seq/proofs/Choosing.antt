@@ -26,7 +26,8 @@ bytes_are c (Reg r) n e = mapped_or (λ r. r.bytes) (slice_get c.regs r) 0 n e
 bytes_are c (Mem m) n e = mapped_or (λ m. m.bytes) (slice_get c.mems m) 0 n e
 
 -- the lowest bits, as a mask takes them
-pub low_is : (c : ChipData) (item : Item) (v n all : ℕ) → bytes_of c item ≡ Some n → all ≡ 2 ^ (8 * n) - 1 → bit_and v all ≡ low_bits c item v
+pub low_is : (c : ChipData) (item : Item) (v n all : ℕ) → bytes_of c item ≡ Some n → all ≡ 2 ^ (8 * n) - 1
+    → bit_and v all ≡ low_bits c item v
 low_is c item v n all bytes is =
     ap (bit_and v) is ∙ and_mask v (8 * n) ∙ ap (λ k. v % 2 ^ (8 * k)) (sym (bytes_are c item n bytes))
 
@@ -34,7 +35,8 @@ turned_below : (v k : ℕ) → v < 2 ^ 64 → k ≤ 64 → bit_and (184467440737
 turned_below v k fits few =
     let some : 0 < 2 ^ k = pow_pos k in
     let most : 2 ^ k ≤ 18446744073709551616 = pow_mono few in
-    let both : bit_and (18446744073709551615 - v) (2 ^ k - 1) + bit_and v (2 ^ k - 1) ≡ 2 ^ k - 1 = and-not 64 v (2 ^ k - 1) fits (omega (arith, some, most)) in
+    let both : bit_and (18446744073709551615 - v) (2 ^ k - 1) + bit_and v (2 ^ k - 1) ≡ 2 ^ k - 1 = and-not 64 v (2 ^ k - 1) fits
+    (omega (arith, some, most)) in
     let low : bit_and v (2 ^ k - 1) ≡ v % 2 ^ k = and_mask v k in
     omega (arith, both, low)
 
@@ -43,7 +45,8 @@ pub is_turned : (c : ChipData) (item : Item) (v n all : ℕ) → v < 2 ^ 64 → 
     → bit_and (18446744073709551615 - v) all ≡ turned_round c item v
 is_turned c item v n all fits few bytes is =
     let size : item_size c item ≡ n = bytes_are c item n bytes in
-    ap (bit_and (18446744073709551615 - v)) is ∙ turned_below v (8 * n) fits (omega (arith, few)) ∙ ap (λ k. 2 ^ (8 * k) - 1 - v % 2 ^ (8 * k)) (sym size)
+    ap (bit_and (18446744073709551615 - v)) is ∙ turned_below v (8 * n) fits (omega (arith, few))
+    ∙ ap (λ k. 2 ^ (8 * k) - 1 - v % 2 ^ (8 * k)) (sym size)
 
 -- an item has at most 8 bytes
 pub size_most : (c : ChipData) (reg : ℕ) → IsSound c → reg < length c.regs → size_of c reg ≤ 8
@@ -63,15 +66,19 @@ any_found p zero k low is = absurd (omega (arith, low))
 any_found p (suc n) k low is =
     elim (nat_lt k n) as (λ b. nat_lt k n ≡ b → (any_below n p || p n) ≡ true) [
       | true ↦ λ less. ap (λ b. b || p n) (any_found p n k (ltb-true k n less) is)
-      | false ↦ λ not_less. let same : k ≡ n = let above = ltb-false k n not_less in omega (arith, above, low) in ap (λ b. any_below n p || b) (ap p (sym same) ∙ is) ∙ or_true (any_below n p)
+      | false ↦ λ not_less. let same : k ≡ n = let above = ltb-false k n not_less in omega (arith, above, low) in
+          ap (λ b. any_below n p || b) (ap p (sym same) ∙ is) ∙ or_true (any_below n p)
     ] refl
 
 pub any_more : (p : ℕ → Bool) (n : ℕ) → any_below n p ≡ false → p n ≡ false → any_below (n + 1) p ≡ false
 any_more p n before now = ap (λ m. any_below m p) (add-one n) ∙ ap (λ b. b || p n) before ∙ now
 
 -- a field of a register, as it is asked for
-pub writable_at : (c : ChipData) (reg first count k : ℕ) (f : Field) (b : Bool) → IsSound c → reg < length c.regs → option_map (λ r. r.first) (slice_get c.regs reg) ≡ Some first → option_map (λ r. r.count) (slice_get c.regs reg) ≡ Some count → k < count
-    → option_map (λ f. f.shape) (slice_get c.fields (first + k)) ≡ Some f → b ≡ is_read_only f.policy → not b ≡ not (is_read_only (field_of c (first_of c reg + k)).shape.policy)
+pub writable_at : (c : ChipData) (reg first count k : ℕ) (f : Field) (b : Bool) → IsSound c → reg < length c.regs
+    → option_map (λ r. r.first) (slice_get c.regs reg) ≡ Some first → option_map (λ r. r.count) (slice_get c.regs reg) ≡ Some count
+    → k < count
+    → option_map (λ f. f.shape) (slice_get c.fields (first + k)) ≡ Some f → b ≡ is_read_only f.policy
+    → not b ≡ not (is_read_only (field_of c (first_of c reg + k)).shape.policy)
 writable_at c reg first count k f b sound there firsts counts low asked is =
     let starts : first_of c reg ≡ first = mapped_or (λ r. r.first) (slice_get c.regs reg) 0 first firsts in
     let many : count_of c reg ≡ count = mapped_or (λ r. r.count) (slice_get c.regs reg) 0 count counts in
@@ -86,7 +93,9 @@ is_compared_at c reg bit k =
     is_within f.lsb f.width bit && is_compared f
 
 -- what is found of the k-th field, by its number
-pub compared_in : (c : ChipData) (reg bit first k : ℕ) (f : Field) → first_of c reg ≡ first → f ≡ (field_of c (first + k)).shape → (is_within f.lsb f.width bit && is_compared f) ≡ is_compared_at c reg bit k
+pub compared_in : (c : ChipData) (reg bit first k : ℕ) (f : Field) → first_of c reg ≡ first → f ≡ (field_of c (first + k)).shape
+    → (is_within f.lsb f.width bit && is_compared f) ≡ is_compared_at c reg bit k
 compared_in c reg bit first k f starts is =
     ap (λ (g : Field). is_within g.lsb g.width bit && is_compared g) is
-    ∙ ap (λ n. is_within (field_of c (n + k)).shape.lsb (field_of c (n + k)).shape.width bit && is_compared (field_of c (n + k)).shape) (sym starts)
+    ∙ ap (λ n. is_within (field_of c (n + k)).shape.lsb (field_of c (n + k)).shape.width bit && is_compared (field_of c (n + k)).shape)
+    (sym starts)

@@ -26,9 +26,14 @@ module _ {R : Type 0} (r : Recorder R) where
 
   later_on : {T U E F : Type 0} (x : T) (p : Result U E) (a b c : ℕ) → HasCause {E = F} a b (Ok x) → HasCause b c p → HasCause a c p
   later_on x (Ok y) a b c first then = record { later = omega (arith, first.later, then.later); failed = tt }
-  later_on x (Err e) a b c first then = record { later = omega (arith, first.later, then.later); failed = let up = then.failed in omega (arith, first.later, up) }
+  later_on x (Err e) a b c first then = record {
+    later = omega (arith, first.later, then.later);
+    failed = let up = then.failed in
+        omega (arith, first.later, up);
+  }
 
-  stays_on : {T U E F : Type 0} (s m new : Stage R) (x : T) (p : Result U E) → Stays {E = F} r s m (Ok x) → Stays r m new p → Stays r s new p
+  stays_on : {T U E F : Type 0} (s m new : Stage R) (x : T) (p : Result U E) → Stays {E = F} r s m (Ok x) → Stays r m new p
+      → Stays r s new p
   stays_on s m new x p first then = record {
     ready = then.ready;
     parts = parts_on s.scene.model m.scene.model new.scene.model first.parts then.parts;
@@ -45,18 +50,22 @@ module _ {R : Type 0} (r : Recorder R) where
   stays_ok s new x y a = record { ready = a.ready; parts = a.parts; cause = record { later = a.cause.later; failed = tt }; steady = a.steady }
 
   -- one operation, and its event as the recorder took it
-  pub follows_one : {E : Type 0} (s new : Scene) (old rec : R) (before after : Tally) (op : Op) (event : Event) (result : Result (Unit {0}) E)
+  pub follows_one : {E : Type 0} (s new : Scene) (old rec : R) (before after : Tally) (op : Op) (event : Event)
+      (result : Result (Unit {0}) E)
       → IsReady new.model new.adapters new.device → IsSameChip s.model new.model → Performs s new op event
-      → OnOk result (r.takes old new.model event rec) → OnOk result (after ≡ counted before event) → OnErr result (r.breaks old new.model event rec)
+      → OnOk result (r.takes old new.model event rec) → OnOk result (after ≡ counted before event)
+      → OnErr result (r.breaks old new.model event rec)
       → HasCause (r.faults old) (r.faults rec) result → r.steady rec ≡ r.steady old
       → Follows r (record { scene = s; recorder = old }) (record { scene = new; recorder = rec }) before after (step op stop) result
   follows_one s new old rec before after op event result ready parts performs took counts broke cause steady = record {
-    walks = walks_one r.takes r.breaks old rec s new before after op new.model event result (record { performs = performs; model = refl }) took counts broke;
+    walks = walks_one r.takes r.breaks old rec s new before after op new.model event result
+        (record { performs = performs; model = refl }) took counts broke;
     stays = record { ready = ready; parts = parts; cause = cause; steady = steady };
   }
 
   -- one that broke off, as `?` passes it on
-  pub follows_err : {T U E : Type 0} (s new : Stage R) (t0 t1 t2 : Tally) (p : Plan) (e : E) (result : Result U E) → Follows {T = T} r s new t0 t1 p (Err e) → IsErr result → Follows r s new t0 t2 p result
+  pub follows_err : {T U E : Type 0} (s new : Stage R) (t0 t1 t2 : Tally) (p : Plan) (e : E) (result : Result U E)
+      → Follows {T = T} r s new t0 t1 p (Err e) → IsErr result → Follows r s new t0 t2 p result
   follows_err s new t0 t1 t2 p e (Ok y) a is = absurd (let no : false ≡ true = is in cc)
   follows_err s new t0 t1 t2 p e (Err f) a is = record {
     walks = record { told = a.walks.told; handed = record { all = tt; part = a.walks.handed.part }; counts = tt; run = a.walks.run };
@@ -64,32 +73,38 @@ module _ {R : Type 0} (r : Recorder R) where
   }
 
   -- nothing
-  pub follows_none : {T E : Type 0} (s : Stage R) (tally : Tally) (x : T) → IsReady s.scene.model s.scene.adapters s.scene.device → Follows {E = E} r s s tally tally stop (Ok x)
+  pub follows_none : {T E : Type 0} (s : Stage R) (tally : Tally) (x : T) → IsReady s.scene.model s.scene.adapters s.scene.device
+      → Follows {E = E} r s s tally tally stop (Ok x)
   follows_none s tally x ready = record { walks = walks_none r.takes r.breaks s.recorder s.scene tally x; stays = stays_none s x ready }
 
   -- one plan after another
-  pub follows_then : {T U E F : Type 0} (s m new : Stage R) (t0 t1 t2 : Tally) (p q : Plan) (x : T) (result : Result U E) → Follows {E = F} r s m t0 t1 p (Ok x) → Follows r m new t1 t2 q result → Follows r s new t0 t2 (followed_by p q) result
+  pub follows_then : {T U E F : Type 0} (s m new : Stage R) (t0 t1 t2 : Tally) (p q : Plan) (x : T) (result : Result U E)
+      → Follows {E = F} r s m t0 t1 p (Ok x) → Follows r m new t1 t2 q result → Follows r s new t0 t2 (followed_by p q) result
   follows_then s m new t0 t1 t2 p q x result a b = record {
     walks = walks_then r.takes r.breaks s.recorder m.recorder new.recorder s.scene m.scene new.scene t0 t1 t2 p q x result a.walks b.walks;
     stays = stays_on s m new x result a.stays b.stays;
   }
 
   -- one that broke off, whatever was to follow
-  pub follows_broke : {T U E : Type 0} (s new : Stage R) (t0 t1 t2 : Tally) (p q : Plan) (e : E) (result : Result U E) → Follows {T = T} r s new t0 t1 p (Err e) → IsErr result → Follows r s new t0 t2 (followed_by p q) result
+  pub follows_broke : {T U E : Type 0} (s new : Stage R) (t0 t1 t2 : Tally) (p q : Plan) (e : E) (result : Result U E)
+      → Follows {T = T} r s new t0 t1 p (Err e) → IsErr result → Follows r s new t0 t2 (followed_by p q) result
   follows_broke s new t0 t1 t2 p q e result a is = record {
     walks = walks_broke r.takes r.breaks s.recorder new.recorder s.scene new.scene t0 t1 t2 p q e result a.walks is;
     stays = stays_err s new e result a.stays is;
   }
 
   -- a plan that is the same
-  pub follows_same : {T E : Type 0} (s new : Stage R) (t0 t1 : Tally) (p q : Plan) (result : Result T E) → p ≡ q → Follows r s new t0 t1 p result → Follows r s new t0 t1 q result
+  pub follows_same : {T E : Type 0} (s new : Stage R) (t0 t1 : Tally) (p q : Plan) (result : Result T E) → p ≡ q
+      → Follows r s new t0 t1 p result → Follows r s new t0 t1 q result
   follows_same s new t0 t1 p q result e a = record { walks = walks_same r.takes r.breaks s.recorder new.recorder s.scene new.scene t0 t1 p q result e a.walks; stays = a.stays }
 
   -- or does the same
-  pub follows_alike : {T E : Type 0} (s new : Stage R) (t0 t1 : Tally) (p q : Plan) (result : Result T E) → Alike p q → Follows r s new t0 t1 p result → Follows r s new t0 t1 q result
+  pub follows_alike : {T E : Type 0} (s new : Stage R) (t0 t1 : Tally) (p q : Plan) (result : Result T E) → Alike p q
+      → Follows r s new t0 t1 p result → Follows r s new t0 t1 q result
   follows_alike s new t0 t1 p q result e a = record { walks = walks_alike r.takes r.breaks s.recorder new.recorder s.scene new.scene t0 t1 p q result e a.walks; stays = a.stays }
 
-  pub follows_look : {T E : Type 0} (s new : Stage R) (t0 t1 : Tally) (f : ModelData → Plan) (result : Result T E) → Follows r s new t0 t1 (f s.scene.model) result → Follows r s new t0 t1 (look f) result
+  pub follows_look : {T E : Type 0} (s new : Stage R) (t0 t1 : Tally) (f : ModelData → Plan) (result : Result T E)
+      → Follows r s new t0 t1 (f s.scene.model) result → Follows r s new t0 t1 (look f) result
   follows_look s new t0 t1 f result a = record { walks = walks_look r.takes r.breaks s.recorder new.recorder s.scene new.scene t0 t1 f result a.walks; stays = a.stays }
 
   -- ---- for each number below a count
@@ -98,10 +113,12 @@ module _ {R : Type 0} (r : Recorder R) where
   abbrev pub Followed : Stage R → Stage R → Tally → Tally → Plan → Type 0
   Followed s new before after p = Follows {T = Unit {0}} {E = Unit {0}} r s new before after p (Ok tt)
 
-  pub each_first : (s : Stage R) (tally : Tally) (f : ℕ → Plan) → IsReady s.scene.model s.scene.adapters s.scene.device → Followed s s tally tally (each_below 0 f)
+  pub each_first : (s : Stage R) (tally : Tally) (f : ℕ → Plan) → IsReady s.scene.model s.scene.adapters s.scene.device
+      → Followed s s tally tally (each_below 0 f)
   each_first s tally f ready = follows_none s tally tt ready
 
-  done : {T E F : Type 0} {U : Type 0} (s new : Stage R) (t0 t1 : Tally) (p : Plan) (x : T) (y : U) → Follows {E = E} r s new t0 t1 p (Ok x) → Follows {E = F} r s new t0 t1 p (Ok y)
+  done : {T E F : Type 0} {U : Type 0} (s new : Stage R) (t0 t1 : Tally) (p : Plan) (x : T) (y : U) → Follows {E = E} r s new t0 t1 p (Ok x)
+      → Follows {E = F} r s new t0 t1 p (Ok y)
   done s new t0 t1 p x y a = record {
     walks = record { told = a.walks.told; handed = record { all = a.walks.handed.all; part = tt }; counts = a.walks.counts; run = a.walks.run };
     stays = stays_ok s new x y a.stays;
@@ -112,34 +129,44 @@ module _ {R : Type 0} (r : Recorder R) where
       → Followed s m t0 t1 (each_below i f) → Follows {E = E} r m new t1 t2 q (Ok x) → Followed s new t0 t2 (each_below (i + 1) f)
   each_more s m new t0 t1 t2 f i q x same a b =
       done s new t0 t2 (each_below (i + 1) f) x tt
-      (follows_same s new t0 t2 (followed_by (each_below i f) q) (each_below (i + 1) f) (Ok x) (ap (followed_by (each_below i f)) same ∙ grown i f)
+      (follows_same s new t0 t2 (followed_by (each_below i f) q) (each_below (i + 1) f) (Ok x)
+      (ap (followed_by (each_below i f)) same ∙ grown i f)
       (follows_then s m new t0 t1 t2 (each_below i f) q tt (Ok x) a b))
 
   -- the one that comes next was left out
-  pub each_skipped : (s m : Stage R) (t0 t1 : Tally) (f : ℕ → Plan) (i : ℕ) → f i ≡ stop → Followed s m t0 t1 (each_below i f) → Followed s m t0 t1 (each_below (i + 1) f)
-  each_skipped s m t0 t1 f i out a = each_more {E = Unit {0}} s m m t0 t1 t1 f i stop (tt {0}) (sym out) a (follows_none m t1 (tt {0}) a.stays.ready)
+  pub each_skipped : (s m : Stage R) (t0 t1 : Tally) (f : ℕ → Plan) (i : ℕ) → f i ≡ stop → Followed s m t0 t1 (each_below i f)
+      → Followed s m t0 t1 (each_below (i + 1) f)
+  each_skipped s m t0 t1 f i out a = each_more {E = Unit {0}} s m m t0 t1 t1 f i stop (tt {0}) (sym out) a
+      (follows_none m t1 (tt {0}) a.stays.ready)
 
   -- the one that comes next broke off
-  pub each_broke : {U V E : Type 0} (s m new : Stage R) (t0 t1 t2 t3 : Tally) (f : ℕ → Plan) (i n : ℕ) (q : Plan) (e : E) (result : Result V E) → q ≡ f i → i < n
-      → Followed s m t0 t1 (each_below i f) → Follows {T = U} r m new t1 t2 q (Err e) → IsErr result → Follows r s new t0 t3 (each_below n f) result
+  pub each_broke : {U V E : Type 0} (s m new : Stage R) (t0 t1 t2 t3 : Tally) (f : ℕ → Plan) (i n : ℕ) (q : Plan) (e : E)
+      (result : Result V E) → q ≡ f i → i < n
+      → Followed s m t0 t1 (each_below i f) → Follows {T = U} r m new t1 t2 q (Err e) → IsErr result
+      → Follows r s new t0 t3 (each_below n f) result
   each_broke s m new t0 t1 t2 t3 f i n q e result same low a b is =
       let both = follows_then s m new t0 t1 t2 (each_below i f) q tt (Err e) a b in
-      let this = follows_same s new t0 t2 (followed_by (each_below i f) q) (followed_by (each_below i f) (f i)) (Err e) (ap (followed_by (each_below i f)) same) both in
+      let this = follows_same s new t0 t2 (followed_by (each_below i f) q) (followed_by (each_below i f) (f i)) (Err e)
+      (ap (followed_by (each_below i f)) same) both in
       record {
         walks = walks_below r.takes r.breaks s.recorder new.recorder s.scene new.scene t0 t2 t3 f i n e result low this.walks is;
         stays = stays_err s new e result this.stays is;
       }
 
   -- all of them were followed
-  pub each_all : {T E : Type 0} (s new : Stage R) (t0 t1 : Tally) (f : ℕ → Plan) (i n : ℕ) (x : T) → i ≡ n → Followed s new t0 t1 (each_below i f) → Follows {E = E} r s new t0 t1 (each_below n f) (Ok x)
-  each_all s new t0 t1 f i n x same a = follows_same s new t0 t1 (each_below i f) (each_below n f) (Ok x) (ap (λ k. each_below k f) same) (done s new t0 t1 (each_below i f) tt x a)
+  pub each_all : {T E : Type 0} (s new : Stage R) (t0 t1 : Tally) (f : ℕ → Plan) (i n : ℕ) (x : T) → i ≡ n
+      → Followed s new t0 t1 (each_below i f) → Follows {E = E} r s new t0 t1 (each_below n f) (Ok x)
+  each_all s new t0 t1 f i n x same a = follows_same s new t0 t1 (each_below i f) (each_below n f) (Ok x) (ap (λ k. each_below k f) same)
+      (done s new t0 t1 (each_below i f) tt x a)
 
   -- ---- a sequence
 
-  pub sequence_ends : {T E : Type 0} (s new : Stage R) (before after : Tally) (p : Plan) (x : T) → Follows {E = E} r s new before after p (Ok x) → before ≡ no_tally
+  pub sequence_ends : {T E : Type 0} (s new : Stage R) (before after : Tally) (p : Plan) (x : T)
+      → Follows {E = E} r s new before after p (Ok x) → before ≡ no_tally
       → IsSequence {E = E} r.takes r.breaks s.recorder new.recorder s.scene new.scene p (Ok after)
   sequence_ends s new before after p x a none = sequence_done r.takes r.breaks s.recorder new.recorder s.scene new.scene before after p x a.walks none
 
-  pub sequence_breaks : {T E : Type 0} (s new : Stage R) (before after : Tally) (p : Plan) (e : E) (result : Result Tally E) → Follows {T = T} r s new before after p (Err e) → IsErr result
+  pub sequence_breaks : {T E : Type 0} (s new : Stage R) (before after : Tally) (p : Plan) (e : E) (result : Result Tally E)
+      → Follows {T = T} r s new before after p (Err e) → IsErr result
       → IsSequence r.takes r.breaks s.recorder new.recorder s.scene new.scene p result
   sequence_breaks s new before after p e result a is = sequence_broke r.takes r.breaks s.recorder new.recorder s.scene new.scene before after p e result a.walks is

@@ -1,4 +1,5 @@
 pub mod Choosing
 pub mod Following
+pub mod Granting
 pub mod Planned
 pub mod Turning

@@ -13,7 +13,7 @@ use Rattle.rl_seq.specs.declared.visit.Visit.{Visit}
 use Rattle.rl_seq.specs.declared.visit.Visit.TheVariants.{Check, Bash, Access, Share, Walk}
 use Rattle.rl_seq.specs.Choice.{is_bit_compared}
 use Rattle.rl_seq.specs.Plan.{Plan, stop, step, look, followed_by, only_if, each_below}
-use Rattle.rl_seq.specs.Sequences.{map_at, bash_once, access_with, write_turned, check_other, walk_location, at_place}
+use Rattle.rl_seq.specs.Sequences.{map_at, bash_once, access_with, write_turned, check_other, walk_location, is_chosen, is_visited, at_place}
 use Rattle.rl_seq.specs.Stage.{Stage, Follows}
 use Rattle.rl_seq.specs.Visits.{visit_of, turn_of, turns, parts_of, part_of}
 use Rattle.rl_seq.proofs.Planned.{Alike, alike_same, alike_step, alike_look, alike_looked}
@@ -27,11 +27,14 @@ if_some (Some op) = step op stop
 abbrev pub at_part : ChipData → LayoutData → Visit → (turn part : ℕ) → Plan
 at_part c l v turn part = look (λ m. if_some (part_of c l m.mirror v turn part))
 
-part_on : (m n : ModelData) (v : Visit) (turn part : ℕ) → IsSameChip m n → part_of n.chip n.layout n.mirror v turn part ≡ part_of m.chip m.layout n.mirror v turn part
-part_on m n v turn part same = ap (λ c. part_of c n.layout n.mirror v turn part) same.chip ∙ ap (λ l. part_of m.chip l n.mirror v turn part) same.layout
+part_on : (m n : ModelData) (v : Visit) (turn part : ℕ) → IsSameChip m n
+    → part_of n.chip n.layout n.mirror v turn part ≡ part_of m.chip m.layout n.mirror v turn part
+part_on m n v turn part same = ap (λ c. part_of c n.layout n.mirror v turn part) same.chip
+    ∙ ap (λ l. part_of m.chip l n.mirror v turn part) same.layout
 
 -- what is done at a part, by the answer that the visit gives
-at_answer : {R T E : Type 0} (r : Recorder R) (s new : Stage R) (before after : Tally) (m : ModelData) (v : Visit) (turn part : ℕ) (answer : Option Op) (result : Result T E)
+at_answer : {R T E : Type 0} (r : Recorder R) (s new : Stage R) (before after : Tally) (m : ModelData) (v : Visit) (turn part : ℕ)
+    (answer : Option Op) (result : Result T E)
     → IsSameChip m s.scene.model → answer ≡ part_of s.scene.model.chip s.scene.model.layout s.scene.model.mirror v turn part
     → Follows r s new before after (if_some answer) result → Follows r s new before after (at_part m.chip m.layout v turn part) result
 at_answer r s new before after m v turn part answer result same is a =
@@ -39,21 +42,29 @@ at_answer r s new before after m v turn part answer result same is a =
     (follows_same r s new before after (if_some answer) _ result (ap if_some (is ∙ part_on m s.scene.model v turn part same)) a)
 
 -- a part that has an operation, as it was performed
-pub one_part : {R T E : Type 0} (r : Recorder R) (s new : Stage R) (before after : Tally) (m : ModelData) (v : Visit) (turn part : ℕ) (op : Op) (answer : Option Op) (result : Result T E)
-    → IsSameChip m s.scene.model → answer ≡ part_of s.scene.model.chip s.scene.model.layout s.scene.model.mirror v turn part → answer ≡ Some op
+pub one_part : {R T E : Type 0} (r : Recorder R) (s new : Stage R) (before after : Tally) (m : ModelData) (v : Visit) (turn part : ℕ)
+    (op : Op) (answer : Option Op) (result : Result T E)
+    → IsSameChip m s.scene.model → answer ≡ part_of s.scene.model.chip s.scene.model.layout s.scene.model.mirror v turn part
+    → answer ≡ Some op
     → Follows r s new before after (step op stop) result → Follows r s new before after (at_part m.chip m.layout v turn part) result
 one_part r s new before after m v turn part op answer result same is some a =
-    at_answer r s new before after m v turn part answer result same is (follows_same r s new before after (step op stop) (if_some answer) result (ap if_some (sym some)) a)
+    at_answer r s new before after m v turn part answer result same is
+    (follows_same r s new before after (step op stop) (if_some answer) result (ap if_some (sym some)) a)
 
 -- a part that is left out
 pub no_part : {R E : Type 0} (r : Recorder R) (s : Stage R) (tally : Tally) (m : ModelData) (v : Visit) (turn part : ℕ) (answer : Option Op)
     → IsSameChip m s.scene.model → answer ≡ part_of s.scene.model.chip s.scene.model.layout s.scene.model.mirror v turn part → answer ≡ None
-    → IsReady s.scene.model s.scene.adapters s.scene.device → Follows {E = E} r s s tally tally (at_part m.chip m.layout v turn part) (Ok (tt {0}))
+    → IsReady s.scene.model s.scene.adapters s.scene.device → Follows {E = E} r s s tally tally (at_part m.chip m.layout v turn part)
+    (Ok (tt {0}))
 no_part r s tally m v turn part answer same is none ready =
-    at_answer r s s tally tally m v turn part answer (Ok (tt {0})) same is (follows_same r s s tally tally stop (if_some answer) (Ok (tt {0})) (ap if_some (sym none)) (follows_none r s tally (tt {0}) ready))
+    at_answer r s s tally tally m v turn part answer (Ok (tt {0})) same is
+    (follows_same r s s tally tally stop (if_some answer) (Ok (tt {0})) (ap if_some (sym none)) (follows_none r s tally (tt {0}) ready))
 
-bashed : (c : ChipData) (l : LayoutData) (reg map bit : ℕ) (b : Bool) → Alike (each_below (if b then 4 else 0) (at_part c l (Bash reg map) bit)) (only_if b (followed_by (bash_once reg map bit) (bash_once reg map bit)))
-bashed c l reg map bit true = alike_look _ _ (λ m. alike_step _ _ _ (alike_looked _ _ (λ m1. alike_step _ _ _ (alike_look _ _ (λ m2. alike_step _ _ _ (alike_looked _ _ (λ m3. alike_same _)))))))
+bashed : (c : ChipData) (l : LayoutData) (reg map bit : ℕ) (b : Bool) → Alike
+    (each_below (if b then 4 else 0) (at_part c l (Bash reg map) bit))
+    (only_if b (followed_by (bash_once reg map bit) (bash_once reg map bit)))
+bashed c l reg map bit true = alike_look _ _ (λ m. alike_step _ _ _ (alike_looked _ _
+    (λ m1. alike_step _ _ _ (alike_look _ _ (λ m2. alike_step _ _ _ (alike_looked _ _ (λ m3. alike_same _)))))))
 bashed c l reg map bit false = alike_same stop
 
 chosen : (op : Op) (b : Bool) → Alike (if_some (if b then Some op else None)) (only_if b (step op stop))
@@ -61,23 +72,29 @@ chosen op true = alike_same _
 chosen op false = alike_same _
 
 walked : (c : ChipData) (l : LayoutData) (mem map k : ℕ) → Alike (each_below 4 (at_part c l (Walk mem map) k)) (walk_location c mem map k)
-walked c l mem map zero = alike_looked _ _ (λ m. alike_step _ _ _ (alike_looked _ _ (λ m1. alike_looked _ _ (λ m2. alike_looked _ _ (λ m3. chosen _ _)))))
-walked c l mem map (suc k) = alike_looked _ _ (λ m. alike_step _ _ _ (alike_looked _ _ (λ m1. alike_step _ _ _ (alike_looked _ _ (λ m2. alike_step _ _ _ (alike_looked _ _ (λ m3. chosen _ _)))))))
+walked c l mem map zero = alike_looked _ _ (λ m. alike_step _ _ _ (alike_looked _ _
+    (λ m1. alike_looked _ _ (λ m2. alike_looked _ _ (λ m3. chosen _ _)))))
+walked c l mem map (suc k) = alike_looked _ _ (λ m. alike_step _ _ _ (alike_looked _ _
+    (λ m1. alike_step _ _ _ (alike_looked _ _ (λ m2. alike_step _ _ _ (alike_looked _ _ (λ m3. chosen _ _)))))))
 
-pub turn_alike : (c : ChipData) (l : LayoutData) (v : Visit) (turn : ℕ) → Alike (each_below (parts_of c v turn) (at_part c l v turn)) (turn_of c l v turn)
+pub turn_alike : (c : ChipData) (l : LayoutData) (v : Visit) (turn : ℕ)
+    → Alike (each_below (parts_of c v turn) (at_part c l v turn)) (turn_of c l v turn)
 turn_alike c l (Check reg map) turn = alike_looked _ _ (λ m. alike_same _)
 turn_alike c l (Bash reg map) bit = bashed c l reg map bit (is_bit_compared c reg bit)
-turn_alike c l (Access reg map value) turn = alike_looked _ _ (λ m. alike_step _ _ _ (alike_looked _ _ (λ m1. alike_step _ _ _ (alike_looked _ _ (λ m2. alike_step _ _ _ (alike_looked _ _ (λ m3. alike_same _)))))))
+turn_alike c l (Access reg map value) turn = alike_looked _ _ (λ m. alike_step _ _ _
+    (alike_looked _ _ (λ m1. alike_step _ _ _ (alike_looked _ _ (λ m2. alike_step _ _ _ (alike_looked _ _ (λ m3. alike_same _)))))))
 turn_alike c l (Share reg place value) zero = alike_looked _ _ (λ m. alike_same _)
 turn_alike c l (Share reg place value) (suc other) = alike_looked _ _ (λ m. chosen _ _)
 turn_alike c l (Walk mem map) k = walked c l mem map k
 
 -- the write, and then a turn for each place
-shared : (c : ChipData) (l : LayoutData) (reg place value n : ℕ) → each_below (suc n) (turn_of c l (Share reg place value)) ≡ write_turned c l reg place value (each_below n (check_other l reg place))
+shared : (c : ChipData) (l : LayoutData) (reg place value n : ℕ) → each_below (suc n)
+    (turn_of c l (Share reg place value)) ≡ write_turned c l reg place value (each_below n (check_other l reg place))
 shared c l reg place value zero = refl
 shared c l reg place value (suc n) = ap (λ p. followed_by p (check_other l reg place n)) (shared c l reg place value n)
 
-all_shared : (c : ChipData) (l : LayoutData) (reg place value n : ℕ) → each_below (n + 1) (turn_of c l (Share reg place value)) ≡ write_turned c l reg place value (each_below n (check_other l reg place))
+all_shared : (c : ChipData) (l : LayoutData) (reg place value n : ℕ) → each_below (n + 1)
+    (turn_of c l (Share reg place value)) ≡ write_turned c l reg place value (each_below n (check_other l reg place))
 all_shared c l reg place value n = ap (λ k. each_below k (turn_of c l (Share reg place value))) (add-one n) ∙ shared c l reg place value n
 
 -- what is chosen is done, and what isn't is left out
@@ -87,8 +104,19 @@ chosen_is b p so = ap (λ c. only_if c p) (sym so)
 pub left_out : (b : Bool) (p : Plan) → b ≡ false → only_if b p ≡ stop
 left_out b p so = ap (λ c. only_if c p) so
 
+-- an answer of another chip and layout that are the same
+pub chosen_same : (which : Sequence) (block : Option ℕ) (number : ℕ) (answer : Bool) (h n : ChipData) (y k : LayoutData)
+    → answer ≡ is_chosen which h y block number → h ≡ n → y ≡ k → answer ≡ is_chosen which n k block number
+chosen_same which block number answer h n y k is chips layouts =
+    is ∙ ap (λ c. is_chosen which c y block number) chips ∙ ap (λ l. is_chosen which n l block number) layouts
+
+pub visited_same : (which : Sequence) (number place : ℕ) (answer : Bool) (y k : LayoutData)
+    → answer ≡ is_visited which y number place → y ≡ k → answer ≡ is_visited which k number place
+visited_same which number place answer y k is layouts = is ∙ ap (λ l. is_visited which l number place) layouts
+
 -- what is mirrored as the sequence comes to the place is what its plan looks at
-pub visited : {R T E : Type 0} (r : Recorder R) (which : Sequence) (number place : ℕ) (s new : Stage R) (before after : Tally) (result : Result T E)
+pub visited : {R T E : Type 0} (r : Recorder R) (which : Sequence) (number place : ℕ) (s new : Stage R) (before after : Tally)
+    (result : Result T E)
     → Follows r s new before after (turns s.scene.model.chip s.scene.model.layout (visit_of which s.scene.model number place)) result
     → Follows r s new before after (at_place which s.scene.model.chip s.scene.model.layout number place) result
 visited r sequence.HwReset reg place s new before after result a = a
@@ -98,6 +126,8 @@ visited r sequence.Access reg place s new before after result a =
     follows_look r s new before after (λ n. access_with m.chip reg (map_at m.layout place) (mirrored_of n.mirror reg)) result a
 visited r sequence.Shared reg place s new before after result a =
     let m = s.scene.model in
-    follows_look r s new before after (λ n. write_turned m.chip m.layout reg place (mirrored_of n.mirror reg) (each_below (length m.layout.places) (check_other m.layout reg place))) result
-    (follows_same r s new before after _ _ result (all_shared m.chip m.layout reg place (mirrored_of m.mirror reg) (length m.layout.places)) a)
+    follows_look r s new before after (λ n. write_turned m.chip m.layout reg place (mirrored_of n.mirror reg)
+    (each_below (length m.layout.places) (check_other m.layout reg place))) result
+    (follows_same r s new before after _ _ result (all_shared m.chip m.layout reg place (mirrored_of m.mirror reg)
+    (length m.layout.places)) a)
 visited r sequence.MemWalk mem place s new before after result a = a

@@ -1,4 +1,5 @@
 pub mod Choice
+pub mod Granted
 pub mod Plan
 pub mod Sequences
 pub mod Stage

@@ -44,14 +44,16 @@ Breaks (step op p) s (t ∷ u ∷ told) new = (mid : Scene) × IsOneStep s mid o
 Breaks (look f) s told new = Breaks (f s.model) s told new
 
 -- the plan was followed, and each event handed over and counted; at `Err` the recorder failed at the last one
-pub record Walks {R T E : Type 0} (takes breaks : R → ModelData → Event → R → Type 0) (old rec : R) (s new : Scene) (before after : Tally) (p : Plan) (r : Result T E) : Type 0 where
+pub record Walks {R T E : Type 0} (takes breaks : R → ModelData → Event → R → Type 0) (old rec : R) (s new : Scene) (before after : Tally)
+    (p : Plan) (r : Result T E) : Type 0 where
   pub told : List Told
   pub handed : HandsOver takes breaks old told rec r
   pub counts : OnOk r (after ≡ counted_all before told)
   pub run : MatchResult r (λ x. Runs p s told new) (λ e. Breaks p s told new)
 
 -- the same of a sequence, which answers what it counted
-pub record IsSequence {R E : Type 0} (takes breaks : R → ModelData → Event → R → Type 0) (old rec : R) (s new : Scene) (p : Plan) (r : Result Tally E) : Type 0 where
+pub record IsSequence {R E : Type 0} (takes breaks : R → ModelData → Event → R → Type 0) (old rec : R) (s new : Scene)
+    (p : Plan) (r : Result Tally E) : Type 0 where
   pub told : List Told
   pub handed : HandsOver takes breaks old told rec r
   pub counts : IfOk r (λ tally. tally ≡ counted_all no_tally told)

@@ -3,7 +3,9 @@ ghost use Rattle.std.specs.Prelude.{◌≡◌, ◌<◌, ◌&&◌, length, IfSome
 ghost use Rattle.rl_model.specs.Chip.{HasItem};
 ghost use Rattle.rl_mirror.specs.Compared.{is_compared};
 ghost use Rattle.rl_policy.specs.Bits.{is_within};
-ghost use Rattle.rl_seq.specs.Choice.{is_tested, is_reg_tested, is_of, may_read, may_write, is_bit_compared, places_of, has_writable_field, is_read_only, low_bits, turned_round, is_accessed, is_shared, is_walked};
+ghost use Rattle.rl_seq.specs.Choice.{is_tested, is_reg_tested, is_accessed, is_shared, is_walked, is_of, may_read};
+ghost use Rattle.rl_seq.specs.Choice.{may_write, places_of, is_bit_compared, has_writable_field, is_read_only};
+ghost use Rattle.rl_seq.specs.Choice.{low_bits, turned_round};
 
 use bitflags::Flags;
 use rl_map::Layout;

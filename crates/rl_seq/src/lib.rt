@@ -8,6 +8,7 @@
 #![tactic(auto)]
 
 mod choice;
+pub mod law;
 mod sequence;
 mod sequences;
 mod step;

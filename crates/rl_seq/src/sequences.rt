@@ -4,7 +4,8 @@ ghost use Rattle.rl_bus.specs.Causes.{HasCause};
 ghost use Rattle.rl_access.specs.Call.{scene_of};
 ghost use Rattle.rl_access.specs.Model.{IsReady, IsSameChip};
 ghost use Rattle.rl_seq.specs.Plan.{IsSequence};
-ghost use Rattle.rl_seq.specs.Sequences.{walk, hw_reset_plan, bit_bash_plan, access_test_plan, shared_access_plan, mem_walk_plan};
+ghost use Rattle.rl_seq.specs.Sequences.{walk, hw_reset_plan, bit_bash_plan};
+ghost use Rattle.rl_seq.specs.Sequences.{access_test_plan, shared_access_plan, mem_walk_plan};
 ghost use Rattle.rl_seq.specs.Stage.{Stays, stage_of};
 
 use crate::sequence::Sequence;

@@ -6,7 +6,8 @@ ghost use Rattle.rl_access.specs.Rules.{memory_size};
 ghost use Rattle.rl_access.specs.declared.event.Op.TheVariants as op;
 ghost use Rattle.rl_seq.specs.Choice.{low_bits, turned_round};
 ghost use Rattle.rl_seq.specs.Sequences.{items_of};
-ghost use Rattle.rl_seq.specs.Visits.{visit_of, IsVisit, IsStep, turns_of, parts_of, part_of, bash_part, access_part, share_part, some_if, walk_part};
+ghost use Rattle.rl_seq.specs.Visits.{visit_of, IsVisit, IsStep, turns_of, parts_of, part_of};
+ghost use Rattle.rl_seq.specs.Visits.{bash_part, access_part, share_part, some_if, walk_part};
 
 use crate::choice::{is_bit_compared, is_of, low_bits, may_read, turned_round};
 use crate::sequence::Sequence;

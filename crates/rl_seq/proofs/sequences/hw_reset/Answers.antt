@@ -12,7 +12,8 @@ returns-in_err-perform_step g c =
     let m = c.args.model.now in
     let failed = c.in_err-perform_step.ensures.follows in
     let stays = stays_err g.R.Recorder _ _ _ c.from_residual.result failed.stays c.from_residual.ensures.0 in
-    let all = follows_broke g.R.Recorder {U = Unit {0}} _ _ _ _ c.new-tally.result (step (op.Reset 0) stop) (walk HwReset m.chip m.layout c.args.block)
+    let all = follows_broke g.R.Recorder {U = Unit {0}} _ _ _ _ c.new-tally.result (step (op.Reset 0) stop)
+    (walk HwReset m.chip m.layout c.args.block)
     _ (Err c.in_err-perform_step.field-0.0) failed refl in
     record {
       ready = stays.ready;
@@ -26,7 +27,8 @@ pub returns-in_err-walk : goal.returns-in_err-walk
 returns-in_err-walk g c =
     let m = c.args.model.now in
     let reset = c.in_ok-perform_step.ensures.follows in
-    let checks = follows_same g.R.Recorder _ _ _ _ _ _ _ (same_plan (λ h y. walk HwReset h y c.args.block) m c.perform_step.new.model reset.stays.parts) c.in_err-walk.ensures.follows in
+    let checks = follows_same g.R.Recorder _ _ _ _ _ _ _
+    (same_plan (λ h y. walk HwReset h y c.args.block) m c.perform_step.new.model reset.stays.parts) c.in_err-walk.ensures.follows in
     let all = follows_then g.R.Recorder _ _ _ _ _ _ (step (op.Reset 0) stop) (walk HwReset m.chip m.layout c.args.block) _ _ reset checks in
     let stays = stays_err g.R.Recorder _ _ _ c.from_residual-in_err-walk.result all.stays c.from_residual-in_err-walk.ensures.0 in
     record {
@@ -41,7 +43,8 @@ pub returns : goal.returns
 returns g c =
     let m = c.args.model.now in
     let reset = c.in_ok-perform_step.ensures.follows in
-    let checks = follows_same g.R.Recorder _ _ _ _ _ _ _ (same_plan (λ h y. walk HwReset h y c.args.block) m c.perform_step.new.model reset.stays.parts) c.in_ok-walk.ensures.follows in
+    let checks = follows_same g.R.Recorder _ _ _ _ _ _ _
+    (same_plan (λ h y. walk HwReset h y c.args.block) m c.perform_step.new.model reset.stays.parts) c.in_ok-walk.ensures.follows in
     let all = follows_then g.R.Recorder _ _ _ _ _ _ (step (op.Reset 0) stop) (walk HwReset m.chip m.layout c.args.block) _ _ reset checks in
     record {
       ready = all.stays.ready;

@@ -8,7 +8,8 @@ returns-in_err-step g c =
     let failed = c.in_err-step.ensures in
     record {
       follows = follows_err g.R.Recorder _ _ _ c.args.tally.now _ _ _ c.from_residual.result
-          (follows_one g.R.Recorder _ _ _ _ _ _ c.args.op c.perform-event.result (Err c.in_err-step.field-0.0) done.ready done.parts done.performs tt tt failed.broken failed.cause failed.steady)
+          (follows_one g.R.Recorder _ _ _ _ _ _ c.args.op c.perform-event.result
+          (Err c.in_err-step.field-0.0) done.ready done.parts done.performs tt tt failed.broken failed.cause failed.steady)
           c.from_residual.ensures.0;
     }
 
@@ -17,5 +18,6 @@ returns g c =
     let done = c.perform-event.ensures in
     let took = c.in_ok-step.ensures in
     record {
-      follows = follows_one g.R.Recorder _ _ _ _ _ _ c.args.op c.perform-event.result (Ok (tt {0})) done.ready done.parts done.performs took.taken c.count.ensures tt took.cause took.steady;
+      follows = follows_one g.R.Recorder _ _ _ _ _ _ c.args.op c.perform-event.result
+          (Ok (tt {0})) done.ready done.parts done.performs took.taken c.count.ensures tt took.cause took.steady;
     }

@@ -14,7 +14,8 @@ loop-part-preserved g c =
     let m = c.args.model.now in
     let f = at_part m.chip m.layout c.args.visit c.args.turn in
     each_more g.R.Recorder _ _ _ _ _ _ f c.loop-part.part (f c.loop-part.part) _ refl c.loop-part.invariant
-    (one_part g.R.Recorder _ _ _ _ m c.args.visit c.args.turn c.loop-part.part c.in-Some.op c.part.result _ c.loop-part.invariant.stays.parts c.part.ensures.part c.in-Some.is c.in_ok-perform_step.ensures.follows)
+    (one_part g.R.Recorder _ _ _ _ m c.args.visit c.args.turn c.loop-part.part c.in-Some.op c.part.result _
+    c.loop-part.invariant.stays.parts c.part.ensures.part c.in-Some.is c.in_ok-perform_step.ensures.follows)
 
 pub returns-in_err-perform_step : goal.returns-in_err-perform_step
 returns-in_err-perform_step g c =
@@ -22,8 +23,10 @@ returns-in_err-perform_step g c =
     let f = at_part m.chip m.layout c.args.visit c.args.turn in
     record {
       follows = follows_alike g.R.Recorder _ _ _ _ _ _ c.from_residual.result (turn_alike m.chip m.layout c.args.visit c.args.turn)
-          (each_broke g.R.Recorder _ _ _ _ _ _ _ f c.loop-part.part (parts_of m.chip c.args.visit c.args.turn) (f c.loop-part.part) _ c.from_residual.result refl (let count = c.parts-part-end.ensures in omega arith) c.loop-part.invariant
-          (one_part g.R.Recorder _ _ _ _ m c.args.visit c.args.turn c.loop-part.part c.in-Some.op c.part.result _ c.loop-part.invariant.stays.parts c.part.ensures.part c.in-Some.is c.in_err-perform_step.ensures.follows)
+          (each_broke g.R.Recorder _ _ _ _ _ _ _ f c.loop-part.part (parts_of m.chip c.args.visit c.args.turn)
+          (f c.loop-part.part) _ c.from_residual.result refl (let count = c.parts-part-end.ensures in omega arith) c.loop-part.invariant
+          (one_part g.R.Recorder _ _ _ _ m c.args.visit c.args.turn c.loop-part.part c.in-Some.op c.part.result _
+          c.loop-part.invariant.stays.parts c.part.ensures.part c.in-Some.is c.in_err-perform_step.ensures.follows)
           c.from_residual.ensures.0);
     }
 
@@ -33,7 +36,8 @@ returns g c =
     let f = at_part m.chip m.layout c.args.visit c.args.turn in
     record {
       follows = follows_alike g.R.Recorder _ _ _ _ _ _ _ (turn_alike m.chip m.layout c.args.visit c.args.turn)
-          (each_all g.R.Recorder _ _ _ _ f c.loop-part.part (parts_of m.chip c.args.visit c.args.turn) _ (let count = c.parts-part-end.ensures in omega arith) c.loop-part.invariant);
+          (each_all g.R.Recorder _ _ _ _ f c.loop-part.part (parts_of m.chip c.args.visit c.args.turn) _
+          (let count = c.parts-part-end.ensures in omega arith) c.loop-part.invariant);
     }
 
 pub loop-part-preserved-in_default : goal.loop-part-preserved-in_default
@@ -41,4 +45,5 @@ loop-part-preserved-in_default g c =
     let m = c.args.model.now in
     let f = at_part m.chip m.layout c.args.visit c.args.turn in
     each_more g.R.Recorder {E = Unit {0}} _ _ _ _ _ _ f c.loop-part.part (f c.loop-part.part) _ refl c.loop-part.invariant
-    (no_part g.R.Recorder _ _ m c.args.visit c.args.turn c.loop-part.part c.part.result c.loop-part.invariant.stays.parts c.part.ensures.part c.in_default.is c.loop-part.invariant.stays.ready)
+    (no_part g.R.Recorder _ _ m c.args.visit c.args.turn c.loop-part.part c.part.result
+    c.loop-part.invariant.stays.parts c.part.ensures.part c.in_default.is c.loop-part.invariant.stays.ready)

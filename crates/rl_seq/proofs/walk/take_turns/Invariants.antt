@@ -6,6 +6,7 @@ use Rattle.rl_seq.proofs.walk.take_turns.Given as goal
 
 abbrev pub invariant-loop-turn : goal.invariant-loop-turn
 invariant-loop-turn g l = Followed g.R.Recorder
-    (stage_of (λ b. (goal.Adapter-dyn g (b.vtable, b.value)).standing b.value) g.D.Device l.fn.model l.fn.adapters.items l.fn.device l.fn.recorder)
+    (stage_of (λ b. (goal.Adapter-dyn g
+    (b.vtable, b.value)).standing b.value) g.D.Device l.fn.model l.fn.adapters.items l.fn.device l.fn.recorder)
     (stage_of (λ b. (goal.Adapter-dyn g (b.vtable, b.value)).standing b.value) g.D.Device l.model l.adapters.items l.device l.recorder)
     l.fn.tally l.tally (each_below l.turn (turn_of l.fn.model.chip l.fn.model.layout l.visit))

@@ -4,42 +4,65 @@ use Rattle.rl_seq.specs.Sequences.{is_visited, visit}
 use Rattle.rl_seq.specs.Visits.{turns}
 use Rattle.rl_seq.proofs.Following.{follows_same, each_first, each_more, each_skipped, each_broke, each_all}
 use Rattle.rl_seq.proofs.Planned.{same_plan}
-use Rattle.rl_seq.proofs.Turning.{chosen_is, left_out, visited}
+use Rattle.rl_seq.proofs.Turning.{chosen_is, left_out, visited_same, visited}
 use Rattle.rl_seq.proofs.walk.visit_places.Goals as goal
 
 pub loop-place-init : goal.loop-place-init
-loop-place-init g c = let m = c.args.model.now in each_first g.R.Recorder _ c.args.tally.now (visit c.args.sequence m.chip m.layout c.args.number) c.requires.ready
+loop-place-init g c =
+    let m = c.args.model.now in
+    each_first g.R.Recorder _ c.args.tally.now (visit c.args.sequence m.chip m.layout c.args.number) c.requires.ready
 
 pub loop-place-preserved : goal.loop-place-preserved
 loop-place-preserved g c =
     let m = c.args.model.now in
-    each_more g.R.Recorder _ _ _ _ _ _ (visit c.args.sequence m.chip m.layout c.args.number) c.loop-place.place _ _ (same_plan (λ h y. visit c.args.sequence h y c.args.number c.loop-place.place) m c.loop-place.model c.loop-place.invariant.stays.parts) c.loop-place.invariant
-    (follows_same g.R.Recorder _ _ _ _ _ (visit c.args.sequence c.loop-place.model.chip c.loop-place.model.layout c.args.number c.loop-place.place) _
-    (chosen_is (is_visited c.args.sequence c.loop-place.model.layout c.args.number c.loop-place.place) _ (sym (c.visits.ensures ∙ ap (λ (y : LayoutData). is_visited c.args.sequence y c.args.number c.loop-place.place) c.layout-in-loop-place.ensures.layout) ∙ c.if-not-visits.false))
-    (visited g.R.Recorder c.args.sequence c.args.number c.loop-place.place _ _ _ _ _
-    (follows_same g.R.Recorder _ _ _ _ _ _ _ (ap (turns c.loop-place.model.chip c.loop-place.model.layout) c.of-visit.ensures.visit) c.in_ok-take_turns.ensures.follows)))
+    let n = c.loop-place.model in
+    let which = c.args.sequence in
+    let number = c.args.number in
+    let place = c.loop-place.place in
+    let answer = visited_same which number place c.visits.result _ n.layout c.visits.ensures c.layout-in-loop-place.ensures.layout in
+    each_more g.R.Recorder _ _ _ _ _ _ (visit which m.chip m.layout number) place _ _
+    (same_plan (λ h y. visit which h y number place) m n c.loop-place.invariant.stays.parts) c.loop-place.invariant
+    (follows_same g.R.Recorder _ _ _ _ _ (visit which n.chip n.layout number place) _
+    (chosen_is (is_visited which n.layout number place) _ (sym answer ∙ c.if-not-visits.false))
+    (visited g.R.Recorder which number place _ _ _ _ _
+    (follows_same g.R.Recorder _ _ _ _ _ _ _ (ap (turns n.chip n.layout) c.of-visit.ensures.visit) c.in_ok-take_turns.ensures.follows)))
+
+pub loop-place-preserved-then-not-visits : goal.loop-place-preserved-then-not-visits
+loop-place-preserved-then-not-visits g c =
+    let m = c.args.model.now in
+    let parts = c.loop-place.invariant.stays.parts in
+    let answer = visited_same c.args.sequence c.args.number c.loop-place.place c.visits.result _ m.layout c.visits.ensures
+    (c.layout-in-loop-place.ensures.layout ∙ parts.layout) in
+    each_skipped g.R.Recorder _ _ _ _ (visit c.args.sequence m.chip m.layout c.args.number) c.loop-place.place
+    (left_out (is_visited c.args.sequence m.layout c.args.number c.loop-place.place) _ (sym answer ∙ c.if-not-visits.true))
+    c.loop-place.invariant
 
 pub returns-in_err-take_turns : goal.returns-in_err-take_turns
 returns-in_err-take_turns g c =
     let m = c.args.model.now in
+    let n = c.loop-place.model in
+    let which = c.args.sequence in
+    let number = c.args.number in
+    let place = c.loop-place.place in
+    let answer = visited_same which number place c.visits.result _ n.layout c.visits.ensures c.layout-in-loop-place.ensures.layout in
+    let count = c.places-place-end.ensures.count ∙ ap (λ (y : LayoutData). length y.places) c.layout.ensures.layout in
     record {
-      follows = each_broke g.R.Recorder _ _ _ _ _ _ _ (visit c.args.sequence m.chip m.layout c.args.number) c.loop-place.place (length m.layout.places) _ _ c.from_residual.result
-          (same_plan (λ h y. visit c.args.sequence h y c.args.number c.loop-place.place) m c.loop-place.model c.loop-place.invariant.stays.parts) (let count = c.places-place-end.ensures.count ∙ ap (λ (h : LayoutData). length h.places) c.layout.ensures.layout in omega arith) c.loop-place.invariant
-          (follows_same g.R.Recorder _ _ _ _ _ (visit c.args.sequence c.loop-place.model.chip c.loop-place.model.layout c.args.number c.loop-place.place) _
-          (chosen_is (is_visited c.args.sequence c.loop-place.model.layout c.args.number c.loop-place.place) _ (sym (c.visits.ensures ∙ ap (λ (y : LayoutData). is_visited c.args.sequence y c.args.number c.loop-place.place) c.layout-in-loop-place.ensures.layout) ∙ c.if-not-visits.false))
-          (visited g.R.Recorder c.args.sequence c.args.number c.loop-place.place _ _ _ _ _
-          (follows_same g.R.Recorder _ _ _ _ _ _ _ (ap (turns c.loop-place.model.chip c.loop-place.model.layout) c.of-visit.ensures.visit) c.in_err-take_turns.ensures.follows))) c.from_residual.ensures.0;
+      follows = each_broke g.R.Recorder _ _ _ _ _ _ _ (visit which m.chip m.layout number) place (length m.layout.places) _ _
+          c.from_residual.result (same_plan (λ h y. visit which h y number place) m n c.loop-place.invariant.stays.parts)
+          (omega arith) c.loop-place.invariant
+          (follows_same g.R.Recorder _ _ _ _ _ (visit which n.chip n.layout number place) _
+          (chosen_is (is_visited which n.layout number place) _ (sym answer ∙ c.if-not-visits.false))
+          (visited g.R.Recorder which number place _ _ _ _ _
+          (follows_same g.R.Recorder _ _ _ _ _ _ _
+          (ap (turns n.chip n.layout) c.of-visit.ensures.visit) c.in_err-take_turns.ensures.follows)))
+          c.from_residual.ensures.0;
     }
 
 pub returns : goal.returns
 returns g c =
     let m = c.args.model.now in
-    record { follows = each_all g.R.Recorder _ _ _ _ (visit c.args.sequence m.chip m.layout c.args.number) c.loop-place.place (length m.layout.places) _ (let count = c.places-place-end.ensures.count ∙ ap (λ (h : LayoutData). length h.places) c.layout.ensures.layout in omega arith) c.loop-place.invariant }
-
-pub loop-place-preserved-then-not-visits : goal.loop-place-preserved-then-not-visits
-loop-place-preserved-then-not-visits g c =
-    let m = c.args.model.now in
-    each_skipped g.R.Recorder _ _ _ _ (visit c.args.sequence m.chip m.layout c.args.number) c.loop-place.place
-    (left_out (is_visited c.args.sequence m.layout c.args.number c.loop-place.place) _
-    (sym (c.visits.ensures ∙ ap (λ (y : LayoutData). is_visited c.args.sequence y c.args.number c.loop-place.place) (c.layout-in-loop-place.ensures.layout ∙ c.loop-place.invariant.stays.parts.layout)) ∙ c.if-not-visits.true))
-    c.loop-place.invariant
+    let count = c.places-place-end.ensures.count ∙ ap (λ (y : LayoutData). length y.places) c.layout.ensures.layout in
+    record {
+      follows = each_all g.R.Recorder _ _ _ _ (visit c.args.sequence m.chip m.layout c.args.number) c.loop-place.place
+          (length m.layout.places) _ (omega arith) c.loop-place.invariant;
+    }

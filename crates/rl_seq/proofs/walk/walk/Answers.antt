@@ -1,46 +1,65 @@
 use Rattle.std.proofs.Common.{◌∙◌, ap, sym, arith}
-use Rattle.rl_model.specs.Rows.{ChipData}
-use Rattle.rl_map.specs.Layout.{LayoutData}
 use Rattle.rl_seq.specs.Sequences.{items_of, is_chosen, visit_all}
 use Rattle.rl_seq.proofs.Following.{follows_same, each_first, each_more, each_skipped, each_broke, each_all}
 use Rattle.rl_seq.proofs.Planned.{same_plan}
-use Rattle.rl_seq.proofs.Turning.{chosen_is, left_out}
+use Rattle.rl_seq.proofs.Turning.{chosen_is, left_out, chosen_same}
 use Rattle.rl_seq.proofs.walk.walk.Goals as goal
 
 pub loop-number-init : goal.loop-number-init
-loop-number-init g c = let m = c.args.model.now in each_first g.R.Recorder _ c.args.tally.now (visit_all c.args.sequence m.chip m.layout c.args.block) c.requires.ready
+loop-number-init g c =
+    let m = c.args.model.now in
+    each_first g.R.Recorder _ c.args.tally.now (visit_all c.args.sequence m.chip m.layout c.args.block) c.requires.ready
 
 pub loop-number-preserved : goal.loop-number-preserved
 loop-number-preserved g c =
     let m = c.args.model.now in
-    each_more g.R.Recorder _ _ _ _ _ _ (visit_all c.args.sequence m.chip m.layout c.args.block) c.loop-number.number _ _ (same_plan (λ h y. visit_all c.args.sequence h y c.args.block c.loop-number.number) m c.loop-number.model c.loop-number.invariant.stays.parts) c.loop-number.invariant
-    (follows_same g.R.Recorder _ _ _ _ _ (visit_all c.args.sequence c.loop-number.model.chip c.loop-number.model.layout c.args.block c.loop-number.number) _
-    (chosen_is (is_chosen c.args.sequence c.loop-number.model.chip c.loop-number.model.layout c.args.block c.loop-number.number) _ (sym (c.is_chosen.ensures ∙ ap (λ (h : ChipData). is_chosen c.args.sequence h c.layout.result.now c.args.block c.loop-number.number) c.chip-in-loop-number.ensures.chip ∙ ap (λ (y : LayoutData). is_chosen c.args.sequence c.loop-number.model.chip y c.args.block c.loop-number.number) c.layout.ensures.layout) ∙ c.if-not-is_chosen.false))
+    let n = c.loop-number.model in
+    let which = c.args.sequence in
+    let block = c.args.block in
+    let number = c.loop-number.number in
+    let answer = chosen_same which block number c.is_chosen.result _ n.chip _ n.layout c.is_chosen.ensures
+    c.chip-in-loop-number.ensures.chip c.layout.ensures.layout in
+    each_more g.R.Recorder _ _ _ _ _ _ (visit_all which m.chip m.layout block) number _ _
+    (same_plan (λ h y. visit_all which h y block number) m n c.loop-number.invariant.stays.parts) c.loop-number.invariant
+    (follows_same g.R.Recorder _ _ _ _ _ (visit_all which n.chip n.layout block number) _
+    (chosen_is (is_chosen which n.chip n.layout block number) _ (sym answer ∙ c.if-not-is_chosen.false))
     c.in_ok-visit_places.ensures.follows)
-
-pub returns-in_err-visit_places : goal.returns-in_err-visit_places
-returns-in_err-visit_places g c =
-    let m = c.args.model.now in
-    record {
-      follows = each_broke g.R.Recorder _ _ _ _ _ _ _ (visit_all c.args.sequence m.chip m.layout c.args.block) c.loop-number.number (items_of c.args.sequence m.chip) _ _ c.from_residual.result
-          (same_plan (λ h y. visit_all c.args.sequence h y c.args.block c.loop-number.number) m c.loop-number.model c.loop-number.invariant.stays.parts) (let count = c.items-number-end.ensures ∙ ap (items_of c.args.sequence) c.chip.ensures.chip in omega arith) c.loop-number.invariant
-          (follows_same g.R.Recorder _ _ _ _ _ (visit_all c.args.sequence c.loop-number.model.chip c.loop-number.model.layout c.args.block c.loop-number.number) _
-          (chosen_is (is_chosen c.args.sequence c.loop-number.model.chip c.loop-number.model.layout c.args.block c.loop-number.number) _ (sym (c.is_chosen.ensures ∙ ap (λ (h : ChipData). is_chosen c.args.sequence h c.layout.result.now c.args.block c.loop-number.number) c.chip-in-loop-number.ensures.chip ∙ ap (λ (y : LayoutData). is_chosen c.args.sequence c.loop-number.model.chip y c.args.block c.loop-number.number) c.layout.ensures.layout) ∙ c.if-not-is_chosen.false))
-          c.in_err-visit_places.ensures.follows) c.from_residual.ensures.0;
-    }
-
-pub returns : goal.returns
-returns g c =
-    let m = c.args.model.now in
-    record { follows = each_all g.R.Recorder _ _ _ _ (visit_all c.args.sequence m.chip m.layout c.args.block) c.loop-number.number (items_of c.args.sequence m.chip) _ (let count = c.items-number-end.ensures ∙ ap (items_of c.args.sequence) c.chip.ensures.chip in omega arith) c.loop-number.invariant }
 
 pub loop-number-preserved-then-not-is_chosen : goal.loop-number-preserved-then-not-is_chosen
 loop-number-preserved-then-not-is_chosen g c =
     let m = c.args.model.now in
     let parts = c.loop-number.invariant.stays.parts in
+    let answer = chosen_same c.args.sequence c.args.block c.loop-number.number c.is_chosen.result _ m.chip _ m.layout c.is_chosen.ensures
+    (c.chip-in-loop-number.ensures.chip ∙ parts.chip) (c.layout.ensures.layout ∙ parts.layout) in
     each_skipped g.R.Recorder _ _ _ _ (visit_all c.args.sequence m.chip m.layout c.args.block) c.loop-number.number
-    (left_out (is_chosen c.args.sequence m.chip m.layout c.args.block c.loop-number.number) _
-    (sym (c.is_chosen.ensures
-    ∙ ap (λ (h : ChipData). is_chosen c.args.sequence h c.layout.result.now c.args.block c.loop-number.number) (c.chip-in-loop-number.ensures.chip ∙ parts.chip)
-    ∙ ap (λ (y : LayoutData). is_chosen c.args.sequence m.chip y c.args.block c.loop-number.number) (c.layout.ensures.layout ∙ parts.layout)) ∙ c.if-not-is_chosen.true))
+    (left_out (is_chosen c.args.sequence m.chip m.layout c.args.block c.loop-number.number) _ (sym answer ∙ c.if-not-is_chosen.true))
     c.loop-number.invariant
+
+pub returns-in_err-visit_places : goal.returns-in_err-visit_places
+returns-in_err-visit_places g c =
+    let m = c.args.model.now in
+    let n = c.loop-number.model in
+    let which = c.args.sequence in
+    let block = c.args.block in
+    let number = c.loop-number.number in
+    let answer = chosen_same which block number c.is_chosen.result _ n.chip _ n.layout c.is_chosen.ensures
+    c.chip-in-loop-number.ensures.chip c.layout.ensures.layout in
+    let count = c.items-number-end.ensures ∙ ap (items_of which) c.chip.ensures.chip in
+    record {
+      follows = each_broke g.R.Recorder _ _ _ _ _ _ _ (visit_all which m.chip m.layout block) number (items_of which m.chip) _ _
+          c.from_residual.result (same_plan (λ h y. visit_all which h y block number) m n c.loop-number.invariant.stays.parts)
+          (omega arith) c.loop-number.invariant
+          (follows_same g.R.Recorder _ _ _ _ _ (visit_all which n.chip n.layout block number) _
+          (chosen_is (is_chosen which n.chip n.layout block number) _ (sym answer ∙ c.if-not-is_chosen.false))
+          c.in_err-visit_places.ensures.follows)
+          c.from_residual.ensures.0;
+    }
+
+pub returns : goal.returns
+returns g c =
+    let m = c.args.model.now in
+    let count = c.items-number-end.ensures ∙ ap (items_of c.args.sequence) c.chip.ensures.chip in
+    record {
+      follows = each_all g.R.Recorder _ _ _ _ (visit_all c.args.sequence m.chip m.layout c.args.block) c.loop-number.number
+          (items_of c.args.sequence m.chip) _ (omega arith) c.loop-number.invariant;
+    }

@@ -6,6 +6,7 @@ use Rattle.rl_seq.proofs.walk.walk.Given as goal
 
 abbrev pub invariant-loop-number : goal.invariant-loop-number
 invariant-loop-number g l = Followed g.R.Recorder
-    (stage_of (λ b. (goal.Adapter-dyn g (b.vtable, b.value)).standing b.value) g.D.Device l.fn.model l.fn.adapters.items l.fn.device l.fn.recorder)
+    (stage_of (λ b. (goal.Adapter-dyn g
+    (b.vtable, b.value)).standing b.value) g.D.Device l.fn.model l.fn.adapters.items l.fn.device l.fn.recorder)
     (stage_of (λ b. (goal.Adapter-dyn g (b.vtable, b.value)).standing b.value) g.D.Device l.model l.adapters.items l.device l.recorder)
     l.fn.tally l.tally (each_below l.number (visit_all l.sequence l.fn.model.chip l.fn.model.layout l.block))
