@@ -15,4 +15,5 @@ mod step;
 mod visit;
 mod walk;
 
+pub use sequence::Sequence;
 pub use sequences::{access_test, bit_bash, hw_reset, mem_walk, shared_access};

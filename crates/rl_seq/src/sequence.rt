@@ -8,7 +8,7 @@ use rl_model::{Chip, Item, Skip};
 
 /// The five sequences.
 #[derive(Clone, Copy)]
-pub(crate) enum Sequence {
+pub enum Sequence {
     HwReset,
     BitBash,
     Access,
