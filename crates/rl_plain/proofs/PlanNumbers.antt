@@ -7,6 +7,7 @@ use Rattle.rl_map.specs.Layout.{LayoutData, IsSound}
 use Rattle.rl_access.specs.Rules.{memory_size}
 use Rattle.rl_seq.specs.declared.sequence.Sequence.{Sequence}
 use Rattle.rl_seq.specs.declared.sequence.Sequence.TheVariants.{HwReset, BitBash, Access, Shared, MemWalk}
+use Rattle.rl_seq.specs.Choice.{is_bit_compared}
 use Rattle.rl_seq.specs.Plan.{Plan, stop, step, look, followed_by, only_if, each_below}
 use Rattle.rl_seq.specs.Sequences.{map_at, bash_once, bash_bit, check_other, fill, check_filled, write_number, settle_before, check_last, walk_location, items_of, at_place, visit, visit_all, walk}
 use Rattle.rl_plain.specs.Calls.{PlanHasNumbers, PlansHaveNumbers}
@@ -35,7 +36,8 @@ in_map l place ok inside = (ok.each_place place inside).map
 bashed : (c : ChipData) (l : LayoutData) (reg map bit : ℕ) → reg < length c.regs → map < length l.maps → PlanHasNumbers c l (bash_bit c reg map bit)
 bashed c l reg map bit inside in_map =
     let once : PlanHasNumbers c l (bash_once reg map bit) = λ m chip layout. ((inside, in_map), ((inside, in_map), tt)) in
-    chosen c l _ _ (followed c l (bash_once reg map bit) (bash_once reg map bit) once once)
+    chosen c l (is_bit_compared c reg bit) (followed_by (bash_once reg map bit) (bash_once reg map bit))
+    (followed c l (bash_once reg map bit) (bash_once reg map bit) once once)
 
 before : (c : ChipData) (l : LayoutData) (mem map k : ℕ) → mem < length c.mems → map < length l.maps → PlanHasNumbers c l (settle_before c mem map k)
 before c l mem map zero inside in_map = tt
