@@ -200,7 +200,3 @@ off_written (Some bytes) adapters left old told new h same =
       text = appends_keeps old told new
           (taken_text h.taken adapters) h.text same;
     }
-
--- a source that didn't fail is no cause
-pub no_source : (status : Status) (sink now : ℕ) → IsCaused status 0 0 sink now → status ≢ SourceFault
-no_source status sink now h is = omega (arith, h.source_fault is)

@@ -15,6 +15,7 @@ use Rattle.rl_log.specs.declared.status.Status.TheVariants.{Passed, SinkFault}
 use Rattle.rl_play.specs.Earlier.{KeepsEarlier}
 use Rattle.rl_session.specs.Judged.{Judged, refused, ending_judged, judged_by, judged, map_judged, soak_by, soak_ending, first_world, script_ending}
 use Rattle.regrun.specs.Output.{IsJudged}
+use Rattle.regrun.specs.Telling.{Stops}
 use Rattle.rl_log.specs.Log.{Ending, script_from}
 use Rattle.rl_session.specs.Session.{behind, opening_of, map_text, map_status}
 use Rattle.rl_play.specs.Played.{coming, EndsAs, IsPlayed}
@@ -22,7 +23,6 @@ use Rattle.rl_log.specs.Recording.{no_counts}
 use Rattle.rl_session.specs.Soak.{soak_line_text, soak_text, mirror_sum}
 use Rattle.rl_log.specs.Statuses.{is_complete}
 use Rattle.rl_log.specs.Telling.{Tells}
-use Rattle.regrun.specs.Telling.{Stops}
 use Rattle.rl_access.specs.World.{IsAt, world}
 use Rattle.rl_play.proofs.EndingLemmas.{tells_none, tells_front, tells_later, front_of_none, incomplete, not_sink_fault, tells_written}
 

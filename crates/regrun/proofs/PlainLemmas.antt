@@ -5,10 +5,10 @@ use Rattle.rl_log.specs.declared.status.Status.{Status}
 use Rattle.rl_log.specs.declared.status.Status.TheVariants.{SinkFault}
 use Rattle.rl_session.specs.Judged.{judged}
 use Rattle.regrun.specs.Output.{IsJudged}
+use Rattle.regrun.specs.Telling.{Stops}
 use Rattle.rl_session.specs.Session.{opening_of, refusal_of}
 use Rattle.rl_plain_log.specs.PlainLog.{IsSteadyOpening, IsPlainLog, WritesPlainLog}
 use Rattle.rl_log.specs.Statuses.{is_complete}
-use Rattle.regrun.specs.Telling.{Stops}
 use Rattle.rl_play.proofs.EndingLemmas.{not_sink_fault}
 use Rattle.rl_plain_log.proofs.PlainSession.{log_of_refused}
 

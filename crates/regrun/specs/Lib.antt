@@ -1,3 +1,5 @@
 pub mod Output
+pub mod Prelude
+pub mod Task
 pub mod Telling
 pub mod Words

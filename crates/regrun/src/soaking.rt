@@ -1,19 +1,6 @@
 // A session that is made from a number, run with nothing written but one line.
 ghost use Rattle.std.specs.Prelude.{◌≡◌, ◌≤◌, ◌<◌, ◌^◌, ◌-◌, ◌++◌, false, true, Some, IfSome, map, length, min, take, drop, vec_len};
-ghost use Rattle.rl_access.specs.Model.{IsReady, IsSameChip};
-ghost use Rattle.rl_map.specs.Maps.{IsBuiltWith};
-ghost use Rattle.rl_bench.specs.Flaws.{AreFlawsOf};
-ghost use Rattle.rl_bench.specs.State.{bench_state};
-ghost use Rattle.rl_bus.specs.Standing.{kinds_of};
-ghost use Rattle.rl_report.specs.Reading.{input_of};
-ghost use Rattle.rl_log.specs.Causes.{IsCaused};
-ghost use Rattle.regrun.specs.Output.{output_of, WritesJudged};
-ghost use Rattle.rl_session.specs.Judged.{soak_judged, soak_script_judged};
-ghost use Rattle.rl_play.specs.Played.{coming, IsPlayed};
-ghost use Rattle.rl_session.specs.Soak.{soak_line_text};
-ghost use Rattle.rl_log.specs.Statuses.{is_complete};
-ghost use Rattle.rl_log.specs.Telling.{Tells};
-ghost use Rattle.rl_play.specs.Told.{told};
+ghost use Rattle.regrun.specs.Prelude.{IsReady, IsSameChip, IsBuiltWith, AreFlawsOf, bench_state, kinds_of, input_of, IsCaused, output_of, WritesJudged, soak_judged, soak_script_judged, coming, IsPlayed, soak_line_text, is_complete, Tells};
 
 use crate::top::{fresh_lines, open_session};
 use rl_access::{Event, Model};
@@ -21,7 +8,7 @@ use rl_bench::Bench;
 use rl_bus::{Adapter, Adapters};
 use rl_desc::Desc;
 use rl_log::{Counts, Status};
-use rl_play::{Buffered, Earlier, Log, play_lines};
+use rl_play::{Log, play_lines};
 use rl_report::{Failed, LineReader, Sink, Source};
 use rl_session::{mirror_sum, open, put_soak_line, soak_session};
 use std::alloc::Global;
@@ -121,20 +108,14 @@ fn run_quietly(
 }
 
 // Writes the line of a soak that came to its end.
-fn put_line<K: Sink, E: Earlier>(
-    status: Status,
-    out: &mut Buffered<'_, K, E>,
-    n: u64,
-    counts: &Counts,
-    sum: u64,
-) -> Status
+fn put_line<L: Log>(status: Status, out: &mut L, n: u64, counts: &Counts, sum: u64) -> Status
     requires { is_complete status ≡ true }
     ensures tells { Tells result status
-        (told K.written out.old) (told K.written out.new) (soak_line_text n counts.now sum) }
-    ensures sink_later { K.faults out.old.sink.now ≤ K.faults out.new.sink.now }
-    ensures cause { IsCaused result 0 0 (K.faults out.old.sink.now) (K.faults out.new.sink.now) }
-    ensures ends_kept { K.ends out.new.sink.now ≡ K.ends out.old.sink.now }
-    ensures same_sink { out.new.sink.ghost_name ≡ out.old.sink.ghost_name }
+        (L.written out.old) (L.written out.new) (soak_line_text n counts.now sum) }
+    ensures sink_later { L.faults out.old ≤ L.faults out.new }
+    ensures cause { IsCaused result 0 0 (L.faults out.old) (L.faults out.new) }
+    ensures ends_kept { L.ends out.new ≡ L.ends out.old }
+    ensures same_target { L.target out.new ≡ L.target out.old }
 {
     match put_soak_line(out, n, counts, sum) {
         Ok(()) => status,
@@ -143,13 +124,13 @@ fn put_line<K: Sink, E: Earlier>(
 }
 
 // Runs the session of a description, and writes its line.
-fn soak_desc<K: Sink, E: Earlier>(
+fn soak_desc<L: Log>(
     alloc: Global,
     n: u64,
     desc: Desc,
     lines: &mut LineReader,
     source: &mut Text,
-    out: &mut Buffered<'_, K, E>,
+    out: &mut L,
     adapters: &mut Adapters,
 ) -> Status
     requires kinds { desc.layout.kinds ≡ kinds_of (map standing adapters.old.items) }
@@ -160,12 +141,12 @@ fn soak_desc<K: Sink, E: Earlier>(
     ensures kinds { kinds_of (map standing adapters.new.items) ≡ kinds_of (map standing adapters.old.items) }
     ensures tells { IfSome (input_of lines.old (Some (drop source.old.at source.old.bytes.items))) (λ bytes.
         WritesJudged (soak_script_judged n desc bytes) result
-        (output_of (told K.written) standing out.old adapters.old.items)
-        (output_of (told K.written) standing out.new adapters.new.items)) }
-    ensures sink_later { K.faults out.old.sink.now ≤ K.faults out.new.sink.now }
-    ensures cause { IsCaused result 0 0 (K.faults out.old.sink.now) (K.faults out.new.sink.now) }
-    ensures ends_kept { K.ends out.new.sink.now ≡ K.ends out.old.sink.now }
-    ensures same_sink { out.new.sink.ghost_name ≡ out.old.sink.ghost_name }
+        (output_of L.written standing out.old adapters.old.items)
+        (output_of L.written standing out.new adapters.new.items)) }
+    ensures sink_later { L.faults out.old ≤ L.faults out.new }
+    ensures cause { IsCaused result 0 0 (L.faults out.old) (L.faults out.new) }
+    ensures ends_kept { L.ends out.new ≡ L.ends out.old }
+    ensures same_target { L.target out.new ≡ L.target out.old }
 {
     let Ok((mut model, mut bench)) = open(alloc, desc) else {
         return Status::Memory;
@@ -188,21 +169,21 @@ fn soak_desc<K: Sink, E: Earlier>(
 }
 
 // Makes the session of a number, runs it and writes one line.
-pub(crate) fn put_soak<K: Sink, E: Earlier>(
+pub(crate) fn put_soak<L: Log>(
     alloc: Global,
     n: u64,
-    out: &mut Buffered<'_, K, E>,
+    out: &mut L,
     adapters: &mut Adapters,
 ) -> Status
     requires few { length (map standing adapters.old.items) < 2 ^ 32 }
     ensures kinds { kinds_of (map standing adapters.new.items) ≡ kinds_of (map standing adapters.old.items) }
     ensures tells { WritesJudged (soak_judged n) result
-        (output_of (told K.written) standing out.old adapters.old.items)
-        (output_of (told K.written) standing out.new adapters.new.items) }
-    ensures sink_later { K.faults out.old.sink.now ≤ K.faults out.new.sink.now }
-    ensures cause { IsCaused result 0 0 (K.faults out.old.sink.now) (K.faults out.new.sink.now) }
-    ensures ends_kept { K.ends out.new.sink.now ≡ K.ends out.old.sink.now }
-    ensures same_sink { out.new.sink.ghost_name ≡ out.old.sink.ghost_name }
+        (output_of L.written standing out.old adapters.old.items)
+        (output_of L.written standing out.new adapters.new.items) }
+    ensures sink_later { L.faults out.old ≤ L.faults out.new }
+    ensures cause { IsCaused result 0 0 (L.faults out.old) (L.faults out.new) }
+    ensures ends_kept { L.ends out.new ≡ L.ends out.old }
+    ensures same_target { L.target out.new ≡ L.target out.old }
 {
     let Ok(bytes) = soak_session(alloc, n) else {
         return Status::Memory;

@@ -2,37 +2,14 @@
 ghost use Rattle.std.specs.Prelude.{◌≡◌, ◌≢◌, ℕ, ◌≤◌, ◌<◌, ◌^◌, ◌↔◌, List, [], None, Some, Ok, Err, map, length, true, false, OnOk, IfOk, IfErr, IfSome};
 ghost use Rattle.std.specs.Io.KnownBytes.{Keeps};
 ghost use Rattle.std.specs.declared.option.Option.{Option};
-ghost use Rattle.rl_access.specs.Model.{IsModel};
-ghost use Rattle.rl_bus.specs.Causes.{Rose};
-ghost use Rattle.rl_bus.specs.Standing.{Standing, kinds_of};
-ghost use Rattle.rl_log.specs.Causes.{IsCaused, NoneFailed};
-ghost use Rattle.rl_play.specs.Earlier.{KeepsEarlier};
-ghost use Rattle.rl_session.specs.Judged.{judged, map_judged, script_judged, soak_judged};
-ghost use Rattle.regrun.specs.Output.{output_of, BreaksOff, WritesJudged};
-ghost use Rattle.rl_session.specs.Session.{behind};
-ghost use Rattle.rl_session.specs.Judged.{first_world};
-ghost use Rattle.rl_plain_log.specs.PlainLog.{IsPlainLog, IsSteadyOpening, WritesPlainLog};
-ghost use Rattle.rl_play.specs.Played.{BreaksAfter};
-ghost use Rattle.rl_session.specs.Refusals.{description_refused_text};
-ghost use Rattle.rl_session.specs.Session.{head_of, opening_after, opening_of};
-ghost use Rattle.rl_log.specs.Statuses.{is_complete};
-ghost use Rattle.rl_log.specs.Telling.{Tells};
-ghost use Rattle.regrun.specs.Telling.{Stops};
-ghost use Rattle.rl_play.specs.Told.{told};
-ghost use Rattle.regrun.specs.Words.{asked_by};
-ghost use Rattle.rl_bus.specs.declared.op.AdapterKind.{AdapterKind};
-ghost use Rattle.rl_map.specs.LayoutText.{layout_text};
-ghost use Rattle.rl_map.specs.Maps.{IsBuiltWith};
-ghost use Rattle.rl_report.specs.Opening.{separator_at, FindsHead, TakesNoHead};
-ghost use Rattle.rl_report.specs.Reading.{input_of};
-ghost use Rattle.rl_bench.specs.Flaws.{AreFlawsOf};
+ghost use Rattle.regrun.specs.Prelude.{IsModel, Rose, Standing, kinds_of, IsCaused, NoneFailed, KeepsEarlier, judged, map_judged, script_judged, soak_judged, output_of, BreaksOff, WritesJudged, Does, behind, first_world, IsPlainLog, IsSteadyOpening, WritesPlainLog, BreaksAfter, description_refused_text, head_of, opening_after, opening_of, is_complete, Tells, Stops, told, asked_by, AdapterKind, layout_text, IsBuiltWith, separator_at, FindsHead, TakesNoHead, input_of, AreFlawsOf};
 
 use crate::soaking::put_soak;
 use crate::words::{Built, task_built};
 use rl_bus::{Adapter, Adapters};
 use rl_desc::{Desc, DescFault};
 use rl_log::{Counts, Status};
-use rl_play::{Buffered, Earlier, play_lines};
+use rl_play::{Buffered, Earlier, Log, play_lines};
 use rl_report::{Failed, Head, HeadFault, LineReader, Sink, Source, put_all};
 use rl_session::{described, open, put_description_refused, put_layout};
 use std::alloc::{AllocError, Global};
@@ -48,13 +25,13 @@ pub(crate) fn fresh_lines(alloc: Global) -> Result<LineReader, AllocError>
 }
 
 // Ends a session that is refused, with this last line.
-fn refuse<K: Sink, E: Earlier>(line: &[u8], out: &mut Buffered<'_, K, E>) -> Status
-    ensures tells { Tells result Status.Refused (told K.written out.old) (told K.written out.new) line.now }
+fn refuse<L: Log>(line: &[u8], out: &mut L) -> Status
+    ensures tells { Tells result Status.Refused (L.written out.old) (L.written out.new) line.now }
     ensures none_found { result ≢ Status.Found }
-    ensures sink_later { K.faults out.old.sink.now ≤ K.faults out.new.sink.now }
-    ensures cause { IsCaused result 0 0 (K.faults out.old.sink.now) (K.faults out.new.sink.now) }
-    ensures ends_kept { K.ends out.new.sink.now ≡ K.ends out.old.sink.now }
-    ensures same_sink { out.new.sink.ghost_name ≡ out.old.sink.ghost_name }
+    ensures sink_later { L.faults out.old ≤ L.faults out.new }
+    ensures cause { IsCaused result 0 0 (L.faults out.old) (L.faults out.new) }
+    ensures ends_kept { L.ends out.new ≡ L.ends out.old }
+    ensures same_target { L.target out.new ≡ L.target out.old }
 {
     match put_all(out, line) {
         Ok(()) => Status::Refused,
@@ -63,11 +40,11 @@ fn refuse<K: Sink, E: Earlier>(line: &[u8], out: &mut Buffered<'_, K, E>) -> Sta
 }
 
 // Reads the bytes before the separator, or ends the session.
-fn read_head<S: Source, K: Sink, E: Earlier>(
+fn read_head<S: Source, L: Log>(
     lines: &mut LineReader,
     source: &mut S,
     head: &mut Vec<u8>,
-    out: &mut Buffered<'_, K, E>,
+    out: &mut L,
 ) -> Result<(), Status>
     requires empty { head.old.items ≡ [] }
     requires first { lines.old.asked ≡ false }
@@ -83,21 +60,21 @@ fn read_head<S: Source, K: Sink, E: Earlier>(
     // Where the source fails, no whole separator was taken, and nothing was told.
     ensures at_fault { result ≡ Err Status.SourceFault → IfSome (input_of lines.old (S.left source.old))
         (λ bytes. TakesNoHead bytes (S.left source.new)) }
-    ensures same_told { result ≡ Err Status.SourceFault → Keeps (told K.written out.old) (told K.written out.new) }
-    ensures flushed { result ≡ Err Status.SourceFault → out.old.end ≡ 0 → out.new.end ≡ 0 }
+    ensures same_told { result ≡ Err Status.SourceFault → Keeps (L.written out.old) (L.written out.new) }
+    ensures flushed { result ≡ Err Status.SourceFault → L.is_out out.old → L.is_out out.new }
     ensures unwritten { result ≡ Err Status.SourceFault → out.new ≡ out.old }
 
-    ensures told { OnOk result (Keeps (told K.written out.old) (told K.written out.new)) }
+    ensures told { OnOk result (Keeps (L.written out.old) (L.written out.new)) }
     ensures stops { IfErr result (λ status. IfSome (input_of lines.old (S.left source.old)) (λ bytes.
         (kinds : List AdapterKind)
-        → Stops (opening_of bytes kinds) status (told K.written out.old) (told K.written out.new))) }
+        → Stops (opening_of bytes kinds) status (L.written out.old) (L.written out.new))) }
     ensures none_found { IfErr result (λ status. status ≢ Status.Found) }
     ensures source_later { S.faults source.old ≤ S.faults source.new }
-    ensures sink_later { K.faults out.old.sink.now ≤ K.faults out.new.sink.now }
+    ensures sink_later { L.faults out.old ≤ L.faults out.new }
     ensures cause { IfErr result (λ status. IsCaused status
-        (S.faults source.old) (S.faults source.new) (K.faults out.old.sink.now) (K.faults out.new.sink.now)) }
-    ensures ends_kept { K.ends out.new.sink.now ≡ K.ends out.old.sink.now }
-    ensures same_sink { out.new.sink.ghost_name ≡ out.old.sink.ghost_name }
+        (S.faults source.old) (S.faults source.new) (L.faults out.old) (L.faults out.new)) }
+    ensures ends_kept { L.ends out.new ≡ L.ends out.old }
+    ensures same_target { L.target out.new ≡ L.target out.old }
 {
     let answer = match lines.read_head(source, head) {
         Ok(answer) => answer,
@@ -112,18 +89,15 @@ fn read_head<S: Source, K: Sink, E: Earlier>(
 }
 
 // Ends a session whose description is refused.
-fn refuse_description<K: Sink, E: Earlier>(
-    fault: &DescFault,
-    out: &mut Buffered<'_, K, E>,
-) -> Status
+fn refuse_description<L: Log>(fault: &DescFault, out: &mut L) -> Status
     requires { fault.now ≢ DescFault.Memory }
     ensures tells { Tells result Status.Refused
-        (told K.written out.old) (told K.written out.new) (description_refused_text fault.now) }
+        (L.written out.old) (L.written out.new) (description_refused_text fault.now) }
     ensures none_found { result ≢ Status.Found }
-    ensures sink_later { K.faults out.old.sink.now ≤ K.faults out.new.sink.now }
-    ensures cause { IsCaused result 0 0 (K.faults out.old.sink.now) (K.faults out.new.sink.now) }
-    ensures ends_kept { K.ends out.new.sink.now ≡ K.ends out.old.sink.now }
-    ensures same_sink { out.new.sink.ghost_name ≡ out.old.sink.ghost_name }
+    ensures sink_later { L.faults out.old ≤ L.faults out.new }
+    ensures cause { IsCaused result 0 0 (L.faults out.old) (L.faults out.new) }
+    ensures ends_kept { L.ends out.new ≡ L.ends out.old }
+    ensures same_target { L.target out.new ≡ L.target out.old }
 {
     match put_description_refused(out, fault) {
         Ok(()) => Status::Refused,
@@ -132,11 +106,11 @@ fn refuse_description<K: Sink, E: Earlier>(
 }
 
 // Reads the description that opens a session, or ends the session.
-fn read_desc<K: Sink, E: Earlier>(
+fn read_desc<L: Log>(
     alloc: Global,
     head: &[u8],
     adapters: &Adapters,
-    out: &mut Buffered<'_, K, E>,
+    out: &mut L,
 ) -> Result<Desc, Status>
     requires few { length (map standing adapters.now.items) < 2 ^ 32 }
     ensures kinds { IfOk result (λ desc. desc.layout.kinds ≡ kinds_of (map standing adapters.now.items)) }
@@ -144,15 +118,15 @@ fn read_desc<K: Sink, E: Earlier>(
     ensures flaws { IfOk result (λ desc. AreFlawsOf desc.chip desc.layout desc.flaws) }
     ensures opening { IfOk result (λ desc.
         opening_after (Ok head.now) (kinds_of (map standing adapters.now.items)) ≡ Ok desc) }
-    ensures told { OnOk result (Keeps (told K.written out.old) (told K.written out.new)) }
+    ensures told { OnOk result (Keeps (L.written out.old) (L.written out.new)) }
     ensures stops { IfErr result (λ status. Stops
         (opening_after (Ok head.now) (kinds_of (map standing adapters.now.items)))
-        status (told K.written out.old) (told K.written out.new)) }
+        status (L.written out.old) (L.written out.new)) }
     ensures none_found { IfErr result (λ status. status ≢ Status.Found) }
-    ensures sink_later { K.faults out.old.sink.now ≤ K.faults out.new.sink.now }
-    ensures cause { IfErr result (λ status. IsCaused status 0 0 (K.faults out.old.sink.now) (K.faults out.new.sink.now)) }
-    ensures ends_kept { K.ends out.new.sink.now ≡ K.ends out.old.sink.now }
-    ensures same_sink { out.new.sink.ghost_name ≡ out.old.sink.ghost_name }
+    ensures sink_later { L.faults out.old ≤ L.faults out.new }
+    ensures cause { IfErr result (λ status. IsCaused status 0 0 (L.faults out.old) (L.faults out.new)) }
+    ensures ends_kept { L.ends out.new ≡ L.ends out.old }
+    ensures same_target { L.target out.new ≡ L.target out.old }
 {
     let fault = match described(alloc, head, adapters) {
         Ok(desc) => return Ok(desc),
@@ -165,11 +139,11 @@ fn read_desc<K: Sink, E: Earlier>(
 }
 
 // Reads a session up to its separator, and its description, or ends it.
-pub(crate) fn open_session<S: Source, K: Sink, E: Earlier>(
+pub(crate) fn open_session<S: Source, L: Log>(
     alloc: Global,
     lines: &mut LineReader,
     source: &mut S,
-    out: &mut Buffered<'_, K, E>,
+    out: &mut L,
     adapters: &Adapters,
 ) -> Result<Desc, Status>
     requires few { length (map standing adapters.now.items) < 2 ^ 32 }
@@ -189,21 +163,21 @@ pub(crate) fn open_session<S: Source, K: Sink, E: Earlier>(
     // Where the source fails, no whole separator was taken, and nothing was told.
     ensures at_fault { result ≡ Err Status.SourceFault → IfSome (input_of lines.old (S.left source.old))
         (λ bytes. TakesNoHead bytes (S.left source.new)) }
-    ensures same_told { result ≡ Err Status.SourceFault → Keeps (told K.written out.old) (told K.written out.new) }
-    ensures flushed { result ≡ Err Status.SourceFault → out.old.end ≡ 0 → out.new.end ≡ 0 }
+    ensures same_told { result ≡ Err Status.SourceFault → Keeps (L.written out.old) (L.written out.new) }
+    ensures flushed { result ≡ Err Status.SourceFault → L.is_out out.old → L.is_out out.new }
     ensures unwritten { result ≡ Err Status.SourceFault → out.new ≡ out.old }
 
-    ensures told { OnOk result (Keeps (told K.written out.old) (told K.written out.new)) }
+    ensures told { OnOk result (Keeps (L.written out.old) (L.written out.new)) }
     ensures stops { IfErr result (λ status. IfSome (input_of lines.old (S.left source.old)) (λ bytes. Stops
         (opening_of bytes (kinds_of (map standing adapters.now.items)))
-        status (told K.written out.old) (told K.written out.new))) }
+        status (L.written out.old) (L.written out.new))) }
     ensures none_found { IfErr result (λ status. status ≢ Status.Found) }
     ensures source_later { S.faults source.old ≤ S.faults source.new }
-    ensures sink_later { K.faults out.old.sink.now ≤ K.faults out.new.sink.now }
+    ensures sink_later { L.faults out.old ≤ L.faults out.new }
     ensures cause { IfErr result (λ status. IsCaused status
-        (S.faults source.old) (S.faults source.new) (K.faults out.old.sink.now) (K.faults out.new.sink.now)) }
-    ensures ends_kept { K.ends out.new.sink.now ≡ K.ends out.old.sink.now }
-    ensures same_sink { out.new.sink.ghost_name ≡ out.old.sink.ghost_name }
+        (S.faults source.old) (S.faults source.new) (L.faults out.old) (L.faults out.new)) }
+    ensures ends_kept { L.ends out.new ≡ L.ends out.old }
+    ensures same_target { L.target out.new ≡ L.target out.old }
 {
     let mut head = Vec::new(alloc);
     read_head(lines, source, &mut head, out)?;
@@ -211,12 +185,12 @@ pub(crate) fn open_session<S: Source, K: Sink, E: Earlier>(
 }
 
 // Runs the session that a description opens.
-fn run_session<S: Source, K: Sink, E: Earlier>(
+fn run_session<S: Source, L: Log>(
     alloc: Global,
     desc: Desc,
     lines: &mut LineReader,
     source: &mut S,
-    out: &mut Buffered<'_, K, E>,
+    out: &mut L,
     adapters: &mut Adapters,
 ) -> Status
     requires kinds { desc.layout.kinds ≡ kinds_of (map standing adapters.old.items) }
@@ -225,21 +199,22 @@ fn run_session<S: Source, K: Sink, E: Earlier>(
     requires found { lines.old.found ≡ true }
     requires going { lines.old.refused ≡ false }
     ensures kinds { kinds_of (map standing adapters.new.items) ≡ kinds_of (map standing adapters.old.items) }
-    ensures tells { IfSome (input_of lines.old (S.left source.old)) (λ bytes. WritesJudged (script_judged desc bytes) result
-        (output_of (told K.written) standing out.old adapters.old.items)
-        (output_of (told K.written) standing out.new adapters.new.items)) }
+    ensures tells { IfSome (input_of lines.old (S.left source.old)) (λ bytes.
+        WritesJudged (script_judged desc bytes) result
+        (output_of L.written standing out.old adapters.old.items)
+        (output_of L.written standing out.new adapters.new.items)) }
     ensures sound { is_complete result ≡ true → (adapters : List Standing) → IsModel (first_world desc adapters).model }
     ensures at_fault { result ≡ Status.SourceFault → IfSome (input_of lines.old (S.left source.old)) (λ bytes.
         BreaksAfter 1 (first_world desc (map standing adapters.old.items)) bytes
-        (S.left source.new) (told K.written out.old) (told K.written out.new)) }
+        (S.left source.new) (L.written out.old) (L.written out.new)) }
     ensures unended { result ≡ Status.SourceFault → lines.old.ended ≡ false }
-    ensures flushed { result ≡ Status.SourceFault → out.new.end ≡ 0 }
+    ensures flushed { result ≡ Status.SourceFault → L.is_out out.new }
     ensures source_later { S.faults source.old ≤ S.faults source.new }
-    ensures sink_later { K.faults out.old.sink.now ≤ K.faults out.new.sink.now }
+    ensures sink_later { L.faults out.old ≤ L.faults out.new }
     ensures cause { IsCaused result
-        (S.faults source.old) (S.faults source.new) (K.faults out.old.sink.now) (K.faults out.new.sink.now) }
-    ensures ends_kept { K.ends out.new.sink.now ≡ K.ends out.old.sink.now }
-    ensures same_sink { out.new.sink.ghost_name ≡ out.old.sink.ghost_name }
+        (S.faults source.old) (S.faults source.new) (L.faults out.old) (L.faults out.new) }
+    ensures ends_kept { L.ends out.new ≡ L.ends out.old }
+    ensures same_target { L.target out.new ≡ L.target out.old }
 {
     let Ok((mut model, mut bench)) = open(alloc, desc) else {
         return Status::Memory;
@@ -258,29 +233,29 @@ fn run_session<S: Source, K: Sink, E: Earlier>(
 }
 
 // Reads a session, runs it and writes its log.
-fn run<S: Source, K: Sink, E: Earlier>(
+fn run<S: Source, L: Log>(
     alloc: Global,
     source: &mut S,
-    out: &mut Buffered<'_, K, E>,
+    out: &mut L,
     adapters: &mut Adapters,
 ) -> Status
     requires few { length (map standing adapters.old.items) < 2 ^ 32 }
     ensures kinds { kinds_of (map standing adapters.new.items) ≡ kinds_of (map standing adapters.old.items) }
     ensures tells { IfSome (S.left source.old) (λ bytes. WritesJudged (judged bytes) result
-        (output_of (told K.written) standing out.old adapters.old.items)
-        (output_of (told K.written) standing out.new adapters.new.items)) }
+        (output_of L.written standing out.old adapters.old.items)
+        (output_of L.written standing out.new adapters.new.items)) }
     ensures plain { is_complete result ≡ true → IfSome (S.left source.old) (λ bytes.
         IsPlainLog bytes (map standing adapters.old.items)) }
     ensures at_fault { result ≡ Status.SourceFault → IfSome (S.left source.old) (λ bytes.
         BreaksOff bytes (map standing adapters.old.items)
-        (S.left source.new) (told K.written out.old) (told K.written out.new)) }
-    ensures flushed { result ≡ Status.SourceFault → out.old.end ≡ 0 → out.new.end ≡ 0 }
+        (S.left source.new) (L.written out.old) (L.written out.new)) }
+    ensures flushed { result ≡ Status.SourceFault → L.is_out out.old → L.is_out out.new }
     ensures source_later { S.faults source.old ≤ S.faults source.new }
-    ensures sink_later { K.faults out.old.sink.now ≤ K.faults out.new.sink.now }
+    ensures sink_later { L.faults out.old ≤ L.faults out.new }
     ensures cause { IsCaused result
-        (S.faults source.old) (S.faults source.new) (K.faults out.old.sink.now) (K.faults out.new.sink.now) }
-    ensures ends_kept { K.ends out.new.sink.now ≡ K.ends out.old.sink.now }
-    ensures same_sink { out.new.sink.ghost_name ≡ out.old.sink.ghost_name }
+        (S.faults source.old) (S.faults source.new) (L.faults out.old) (L.faults out.new) }
+    ensures ends_kept { L.ends out.new ≡ L.ends out.old }
+    ensures same_target { L.target out.new ≡ L.target out.old }
 {
     let Ok(mut lines) = fresh_lines(alloc) else {
         return Status::Memory;
@@ -292,15 +267,15 @@ fn run<S: Source, K: Sink, E: Earlier>(
 }
 
 // Writes where the items of a description stand.
-fn put_description<K: Sink, E: Earlier>(desc: &Desc, out: &mut Buffered<'_, K, E>) -> Status
+fn put_description<L: Log>(desc: &Desc, out: &mut L) -> Status
     requires { IsBuiltWith desc.now.layout desc.now.chip }
     ensures tells { Tells result Status.Passed
-        (told K.written out.old) (told K.written out.new) (layout_text desc.now.chip desc.now.layout) }
+        (L.written out.old) (L.written out.new) (layout_text desc.now.chip desc.now.layout) }
     ensures none_found { result ≢ Status.Found }
-    ensures sink_later { K.faults out.old.sink.now ≤ K.faults out.new.sink.now }
-    ensures cause { IsCaused result 0 0 (K.faults out.old.sink.now) (K.faults out.new.sink.now) }
-    ensures ends_kept { K.ends out.new.sink.now ≡ K.ends out.old.sink.now }
-    ensures same_sink { out.new.sink.ghost_name ≡ out.old.sink.ghost_name }
+    ensures sink_later { L.faults out.old ≤ L.faults out.new }
+    ensures cause { IsCaused result 0 0 (L.faults out.old) (L.faults out.new) }
+    ensures ends_kept { L.ends out.new ≡ L.ends out.old }
+    ensures same_target { L.target out.new ≡ L.target out.old }
 {
     match put_layout(out, &desc.chip, &desc.layout) {
         Ok(()) => Status::Passed,
@@ -309,24 +284,24 @@ fn put_description<K: Sink, E: Earlier>(desc: &Desc, out: &mut Buffered<'_, K, E
 }
 
 // Reads a description, and writes where its items stand.
-fn show_layout<S: Source, K: Sink, E: Earlier>(
+fn show_layout<S: Source, L: Log>(
     alloc: Global,
     source: &mut S,
-    out: &mut Buffered<'_, K, E>,
+    out: &mut L,
     adapters: &Adapters,
 ) -> Status
     requires few { length (map standing adapters.now.items) < 2 ^ 32 }
     ensures tells { IfSome (S.left source.old) (λ bytes. WritesJudged (map_judged bytes) result
-        (output_of (told K.written) standing out.old adapters.now.items)
-        (output_of (told K.written) standing out.new adapters.now.items)) }
+        (output_of L.written standing out.old adapters.now.items)
+        (output_of L.written standing out.new adapters.now.items)) }
     ensures unwritten { result ≡ Status.SourceFault → out.new ≡ out.old }
     ensures none_found { result ≢ Status.Found }
     ensures source_later { S.faults source.old ≤ S.faults source.new }
-    ensures sink_later { K.faults out.old.sink.now ≤ K.faults out.new.sink.now }
+    ensures sink_later { L.faults out.old ≤ L.faults out.new }
     ensures cause { IsCaused result
-        (S.faults source.old) (S.faults source.new) (K.faults out.old.sink.now) (K.faults out.new.sink.now) }
-    ensures ends_kept { K.ends out.new.sink.now ≡ K.ends out.old.sink.now }
-    ensures same_sink { out.new.sink.ghost_name ≡ out.old.sink.ghost_name }
+        (S.faults source.old) (S.faults source.new) (L.faults out.old) (L.faults out.new) }
+    ensures ends_kept { L.ends out.new ≡ L.ends out.old }
+    ensures same_target { L.target out.new ≡ L.target out.old }
 {
     let Ok(mut lines) = fresh_lines(alloc) else {
         return Status::Memory;
@@ -370,40 +345,26 @@ fn finish<K: Sink, E: Earlier>(status: Status, out: &mut Buffered<'_, K, E>) -> 
 }
 
 // Does what the words ask for. What is kept back isn't written yet.
-fn perform_task<S: Source, K: Sink, E: Earlier>(
+fn perform_task<S: Source, L: Log>(
     alloc: Global,
     task: Built,
     source: &mut S,
-    out: &mut Buffered<'_, K, E>,
+    out: &mut L,
     adapters: &mut Adapters,
 ) -> Status
     requires few { length (map standing adapters.old.items) < 2 ^ 32 }
-    ensures kinds { kinds_of (map standing adapters.new.items) ≡ kinds_of (map standing adapters.old.items) }
-    ensures run { task ≡ Built.Run → IfSome (S.left source.old) (λ bytes. WritesJudged (judged bytes) result
-        (output_of (told K.written) standing out.old adapters.old.items)
-        (output_of (told K.written) standing out.new adapters.new.items)) }
-    ensures plain { task ≡ Built.Run → is_complete result ≡ true → IfSome (S.left source.old) (λ bytes.
-        IsPlainLog bytes (map standing adapters.old.items)) }
-    ensures map { task ≡ Built.Map → IfSome (S.left source.old) (λ bytes. WritesJudged (map_judged bytes) result
-        (output_of (told K.written) standing out.old adapters.old.items)
-        (output_of (told K.written) standing out.new adapters.new.items)) }
-    ensures soak { (n : ℕ) → task ≡ Built.Soak n → WritesJudged (soak_judged n) result
-        (output_of (told K.written) standing out.old adapters.old.items)
-        (output_of (told K.written) standing out.new adapters.new.items) }
-    ensures at_fault { task ≡ Built.Run → result ≡ Status.SourceFault → IfSome (S.left source.old) (λ bytes.
-        BreaksOff bytes (map standing adapters.old.items)
-        (S.left source.new) (told K.written out.old) (told K.written out.new)) }
-    ensures flushed { task ≡ Built.Run → result ≡ Status.SourceFault → out.old.end ≡ 0 → out.new.end ≡ 0 }
+    ensures does { Does task result (S.left source.old) (S.left source.new)
+        (output_of L.written standing out.old adapters.old.items)
+        (output_of L.written standing out.new adapters.new.items) }
+    ensures flushed { task ≡ Built.Run → result ≡ Status.SourceFault → L.is_out out.old → L.is_out out.new }
     ensures unwritten { task ≡ Built.Map → result ≡ Status.SourceFault → out.new ≡ out.old }
     ensures map_adapters { task ≡ Built.Map → adapters.new ≡ adapters.old }
-    ensures map_status { task ≡ Built.Map → result ≢ Status.Found }
-    ensures soak_unread { (n : ℕ) → task ≡ Built.Soak n → (source.new ≡ source.old) × (result ≢ Status.SourceFault) }
+    ensures soak_unread { (n : ℕ) → task ≡ Built.Soak n → source.new ≡ source.old }
     ensures source_later { S.faults source.old ≤ S.faults source.new }
-    ensures sink_later { K.faults out.old.sink.now ≤ K.faults out.new.sink.now }
-    ensures cause { IsCaused result
-        (S.faults source.old) (S.faults source.new) (K.faults out.old.sink.now) (K.faults out.new.sink.now) }
-    ensures ends_kept { K.ends out.new.sink.now ≡ K.ends out.old.sink.now }
-    ensures same_sink { out.new.sink.ghost_name ≡ out.old.sink.ghost_name }
+    ensures sink_later { L.faults out.old ≤ L.faults out.new }
+    ensures cause { IsCaused result (S.faults source.old) (S.faults source.new) (L.faults out.old) (L.faults out.new) }
+    ensures ends_kept { L.ends out.new ≡ L.ends out.old }
+    ensures same_target { L.target out.new ≡ L.target out.old }
 {
     match task {
         Built::Run => run(alloc, source, out, adapters),
@@ -422,30 +383,19 @@ fn run_task<S: Source, K: Sink, E: Earlier>(
 ) -> Status
     requires few { length (map standing adapters.old.items) < 2 ^ 32 }
     requires earlier { K.written sink.old ≡ E.bytes }
-    ensures run { task ≡ Built.Run → IfSome (S.left source.old) (λ bytes. WritesJudged (judged bytes) result
-        (output_of K.written standing sink.old adapters.old.items)
-        (output_of K.written standing sink.new adapters.new.items)) }
-    ensures plain { task ≡ Built.Run → is_complete result ≡ true → IfSome (S.left source.old) (λ bytes.
-        IsPlainLog bytes (map standing adapters.old.items)) }
-    ensures map { task ≡ Built.Map → IfSome (S.left source.old) (λ bytes. WritesJudged (map_judged bytes) result
-        (output_of K.written standing sink.old adapters.old.items)
-        (output_of K.written standing sink.new adapters.new.items)) }
-    ensures soak { (n : ℕ) → task ≡ Built.Soak n → WritesJudged (soak_judged n) result
+    ensures does { Does task result (S.left source.old) (S.left source.new)
         (output_of K.written standing sink.old adapters.old.items)
         (output_of K.written standing sink.new adapters.new.items) }
-    ensures at_fault { task ≡ Built.Run → result ≡ Status.SourceFault → IfSome (S.left source.old) (λ bytes.
-        BreaksOff bytes (map standing adapters.old.items) (S.left source.new) (K.written sink.old) (K.written sink.new)) }
     ensures unwritten { task ≡ Built.Map → result ≡ Status.SourceFault → sink.new ≡ sink.old }
     ensures map_adapters { task ≡ Built.Map → adapters.new ≡ adapters.old }
-    ensures map_status { task ≡ Built.Map → result ≢ Status.Found }
-    ensures soak_unread { (n : ℕ) → task ≡ Built.Soak n → (source.new ≡ source.old) × (result ≢ Status.SourceFault) }
+    ensures soak_unread { (n : ℕ) → task ≡ Built.Soak n → source.new ≡ source.old }
     ensures keeps_earlier { KeepsEarlier (K.written sink.old) (K.written sink.new) }
     ensures source_later { S.faults source.old ≤ S.faults source.new }
     ensures sink_later { K.faults sink.old ≤ K.faults sink.new }
-    ensures cause { IsCaused result (S.faults source.old) (S.faults source.new) (K.faults sink.old) (K.faults sink.new) }
+    ensures cause { IsCaused result
+        (S.faults source.old) (S.faults source.new) (K.faults sink.old) (K.faults sink.new) }
     ensures ended { is_complete result ≡ true → Rose (K.ends sink.old) (K.ends sink.new) }
     ensures not_ended { is_complete result ≡ false → K.ends sink.new ≡ K.ends sink.old }
-    ensures kinds { kinds_of (map standing adapters.new.items) ≡ kinds_of (map standing adapters.old.items) }
 {
     let mut out = Buffered::<K, E>::new(sink);
     let status = perform_task(alloc, task, source, &mut out, adapters);
@@ -483,7 +433,8 @@ pub fn regrun<S: Source, K: Sink>(
     // The other half. Where the description declares no flaw and no volatile field, and wherever the session is refused
     // before its script, what `run` wrote as a whole is, without its item lines, the log of a plain machine that steps
     // whole registers.
-    ensures plain { asked_by words.now ≡ Some Built.Run → is_complete result ≡ true → IfSome (S.left source.old) (λ bytes.
+    ensures plain { asked_by words.now ≡ Some Built.Run → is_complete result ≡ true
+        → IfSome (S.left source.old) (λ bytes.
         IsSteadyOpening (opening_of bytes (kinds_of (map standing adapters.old.items)))
         → WritesPlainLog bytes (kinds_of (map standing adapters.old.items)) (K.written sink.old) (K.written sink.new)) }
 
@@ -499,7 +450,8 @@ pub fn regrun<S: Source, K: Sink>(
     // After a source that failed, the sink has exactly the log of the lines of `run` that were taken whole.
     ensures at_fault { asked_by words.now ≡ Some Built.Run → result ≡ Status.SourceFault
         → IfSome (S.left source.old) (λ bytes.
-        BreaksOff bytes (map standing adapters.old.items) (S.left source.new) (K.written sink.old) (K.written sink.new)) }
+        BreaksOff bytes (map standing adapters.old.items) (S.left source.new)
+        (K.written sink.old) (K.written sink.new)) }
 
     // After a source that failed, `map` has written nothing: the sink is as before.
     ensures unwritten { asked_by words.now ≡ Some Built.Map → result ≡ Status.SourceFault → sink.new ≡ sink.old }

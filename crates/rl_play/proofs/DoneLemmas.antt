@@ -15,12 +15,12 @@ use Rattle.rl_log.specs.declared.status.Status.{Status}
 use Rattle.rl_log.specs.declared.refusal.LineRefusal.{LineRefusal}
 use Rattle.rl_play.specs.Done.{steps_on, script_steps, Does, DoesFirst}
 use Rattle.rl_log.specs.Endings.{added, both}
+use Rattle.rl_log.specs.Recording.{no_counts, with_event}
 use Rattle.rl_log.specs.Entry.{Entry, entry_of}
 use Rattle.rl_play.specs.Heard.{heard}
 use Rattle.rl_log.specs.Log.{comes_of, said, there}
 use Rattle.rl_play.specs.Played.{IsTurn, RanOn, Stopped}
 use Rattle.rl_play.specs.Recording.{IsDone, led_to, with_steps}
-use Rattle.rl_log.specs.Recording.{no_counts, with_event}
 use Rattle.rl_access.specs.World.{World, world, Step, IsAt}
 use Rattle.rl_play.proofs.PlayLemmas.{heard_said, hands_some, lines_more}
 use Rattle.rl_play.proofs.Traces.{IsTrace, done_none, trace_entry}

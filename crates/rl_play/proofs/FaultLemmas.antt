@@ -1,5 +1,5 @@
 -- What was told when a source failed.
-use Rattle.std.proofs.Common.{◌≡◌, ◌≢◌, ℕ, ◌+◌, ◌≤◌, Bool, true, false, if◌then◌else◌, List, [], ◌∷◌, ◌++◌, slice_range, Option, Some, None, IfSome, Result, refl, sym, ap, subst, ◌∙◌, append_assoc}
+use Rattle.std.proofs.Common.{◌≡◌, ◌≢◌, ℕ, ◌+◌, ◌≤◌, Bool, true, false, if◌then◌else◌, List, [], ◌∷◌, ◌++◌, slice_range, Option, Some, None, IfSome, Result, refl, sym, ap, subst, ◌∙◌, append_assoc, arith}
 use Rattle.std.specs.Io.KnownBytes.{Appends, Keeps, append_known, prepend_known}
 use Rattle.std.proofs.KnownBytes.{Appends-trans}
 use Rattle.std.proofs.lemmas.Bool.{true≢false}
@@ -20,6 +20,7 @@ use Rattle.rl_log.specs.declared.status.Status.TheVariants.{SourceFault, SinkFau
 use Rattle.rl_log.specs.declared.refusal.LineRefusal.{LineRefusal}
 use Rattle.rl_play.specs.Heard.{heard}
 use Rattle.rl_log.specs.Log.{comes_of, lines_text, said, text_on}
+use Rattle.rl_log.specs.Causes.{IsCaused}
 use Rattle.rl_play.specs.Played.{BreaksAfter, Breaks, IsTurn, RanOn}
 use Rattle.rl_access.specs.World.{World, world, IsAt}
 use Rattle.rl_play.proofs.BufferLemmas.{keeps_refl, keeps_then_appends}
@@ -155,3 +156,7 @@ pub written_out : (a b : Option (List ℕ)) (bytes : List ℕ) (start end : ℕ)
     (append_known b (slice_range bytes start end)) → end ≡ 0 → Keeps a b
 written_out a b bytes start end ordered h none =
     keeps_when_empty a b b (slice_range bytes start end) h (none_kept bytes start end ordered none) (keeps_refl b)
+
+-- a source that didn't fail is no cause
+pub no_source : (status : Status) (sink now : ℕ) → IsCaused status 0 0 sink now → status ≢ SourceFault
+no_source status sink now h is = omega (arith, h.source_fault is)

@@ -29,14 +29,14 @@ use Rattle.rl_log.specs.declared.status.Status.TheVariants.{Refused}
 use Rattle.rl_log.specs.declared.refusal.LineRefusal.{LineRefusal}
 use Rattle.rl_log.specs.declared.refusal.LineRefusal.TheVariants.{TooLong, TooManyLines}
 use Rattle.rl_log.specs.Endings.{end_status}
+use Rattle.rl_log.specs.Statuses.{is_complete}
+use Rattle.rl_log.specs.Telling.{Tells}
 use Rattle.rl_log.specs.Course.{nothing_done}
 use Rattle.rl_log.specs.Entry.{Entry, entry_of, plain}
 use Rattle.rl_log.specs.Log.{Ending, script_from, goes_on, comes_of, there, after_text, stops, said, said_by}
 use Rattle.rl_play.specs.Played.{coming, EndsAs, IsTurn, RanOn, Stopped, PassesTo, IsUnknown, IsLineRun}
 use Rattle.rl_log.specs.Recording.{with_events}
 use Rattle.rl_play.specs.Heard.{heard, handed}
-use Rattle.rl_log.specs.Statuses.{is_complete}
-use Rattle.rl_log.specs.Telling.{Tells}
 use Rattle.rl_log.specs.Texts.{end_text, refused_text}
 use Rattle.rl_access.specs.World.{World, world, IsAt}
 use Rattle.rl_play.proofs.BufferLemmas.{keeps_then_appends}

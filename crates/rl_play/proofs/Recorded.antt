@@ -12,6 +12,7 @@ use Rattle.rl_access.specs.Call.{Scene, scene, IsRefused, Performs}
 use Rattle.rl_access.specs.HandsOver.{Told, TakesAll, BreaksAtLast}
 use Rattle.rl_access.specs.Model.{ModelData}
 use Rattle.rl_access.specs.Rules.{Grant}
+use Rattle.rl_access.specs.Tally.{counted}
 use Rattle.rl_access.specs.Runs.{IsBurst, IsRun, IsRefusedRun, no_tally, counted_all}
 use Rattle.rl_seq.specs.Plan.{Plan, IsSequence}
 use Rattle.rl_report.specs.Event.{event_text}
@@ -246,4 +247,22 @@ module _ {R : Type 0} (written : R → Option (List ℕ)) (counts : R → Counts
   burst_recorded granted op ops m n a b errors later None now old rec r q = tt
   burst_recorded granted op ops m n a b errors later (Some d) now old rec r q =
       by_grant granted op ops (scene m a errors (Some d)) (scene n b later now) (world m a d) old rec r
+      (here m a errors d) q
+
+  burst_tally : {E : Type 0} (granted : Grant) (op : Op) (ops : List Op) (s new : Scene) (w : World) (old rec : R)
+      (r : Result Tally E) → IsWorld s w → IsBurst Takes Breaks old rec s new granted op ops r
+      → IfOk r (λ tally. tally ≡ counted_all no_tally (burst w granted op ops).told)
+  burst_tally granted op ops s new w old rec (Err e) h q = tt
+  burst_tally (Ok place) op ops s new w old rec (Ok tally) h q =
+      q.run.1 ∙ ap (counted_all no_tally) (runs_through ops q.told s new w h q.run.0).told_is
+  burst_tally (Err why) op ops s new w old rec (Ok tally) h q =
+      q.tally ∙ ap (counted no_tally) (refused_alone s new w op why q.event h q.refused).0
+
+  pub burst_counted : {E : Type 0} (granted : Grant) (op : Op) (ops : List Op) (m n : ModelData)
+      (a b : List Standing) (errors later : ℕ) (before now : Option State) (old rec : R) (r : Result Tally E)
+      → IsBurst Takes Breaks old rec (scene m a errors before) (scene n b later now) granted op ops r
+      → IfSome before (λ d. IfOk r (λ tally. tally ≡ counted_all no_tally (burst (world m a d) granted op ops).told))
+  burst_counted granted op ops m n a b errors later None now old rec r q = tt
+  burst_counted granted op ops m n a b errors later (Some d) now old rec r q =
+      burst_tally granted op ops (scene m a errors (Some d)) (scene n b later now) (world m a d) old rec r
       (here m a errors d) q

@@ -2,7 +2,9 @@ pub mod Commands
 pub mod Done
 pub mod Earlier
 pub mod Heard
+pub mod Job
 pub mod Moment
 pub mod Played
+pub mod Prelude
 pub mod Recording
 pub mod Told

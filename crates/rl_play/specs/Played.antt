@@ -1,5 +1,5 @@
 -- What was written and done of a line, and of a script, against what they come to.
-use Rattle.std.specs.Prelude.{◌≡◌, ℕ, ◌+◌, List, ◌++◌, true, false, Option, Some, None, IfSome, Result, Ok, Err}
+use Rattle.std.specs.Prelude.{◌≡◌, ℕ, ◌+◌, List, ◌++◌, true, false, Option, Some, None, IfSome, Result, Ok, Err, Bool}
 use Rattle.std.specs.Io.KnownBytes.{Appends, Keeps}
 use Rattle.rl_access.specs.Model.{ModelData}
 use Rattle.rl_bus.specs.declared.device.Failed.{Failed}
@@ -12,14 +12,16 @@ use Rattle.rl_log.specs.declared.counts.Counts.{Counts}
 use Rattle.rl_play.specs.declared.playing.Turn.{Turn}
 use Rattle.rl_play.specs.declared.playing.Turn.TheVariants.{Next, Stop}
 use Rattle.rl_log.specs.declared.status.Status.{Status}
+use Rattle.rl_log.specs.declared.status.Status.TheVariants.{SourceFault}
 use Rattle.rl_log.specs.declared.refusal.LineRefusal.{LineRefusal}
 use Rattle.rl_log.specs.declared.refusal.LineRefusal.TheVariants.{NoSuchName}
 use Rattle.rl_log.specs.Endings.{added}
+use Rattle.rl_log.specs.Recording.{no_counts, with_events}
 use Rattle.rl_log.specs.Entry.{Entry}
 use Rattle.rl_log.specs.Log.{Ending, script_from, lines_text, after_text, comes_of, stops}
+use Rattle.rl_play.specs.Done.{DoesFrom, DoesWithRest}
 use Rattle.rl_play.specs.Moment.{Moment, FromWorld}
 use Rattle.rl_play.specs.Recording.{IsDone}
-use Rattle.rl_log.specs.Recording.{no_counts, with_events}
 use Rattle.rl_log.specs.Statuses.{is_complete}
 use Rattle.rl_log.specs.Telling.{Tells}
 use Rattle.rl_access.specs.World.{World, world, IsAt}
@@ -189,3 +191,15 @@ abbrev pub BreaksAsRest : (number : ℕ) (before : Moment) (input : Option (List
     → Type 0
 BreaksAsRest number before input after rest =
     (left last : Option (List ℕ)) → BreaksFrom (number + 1) after rest left last → BreaksFrom number before input left last
+
+-- ---- the next line of a script
+
+-- It was read and run at one moment, and the script is the rest, or ended at it.
+pub record PlaysLine (number : ℕ) (before : Moment) (input : Option (List ℕ)) (after : Moment)
+    (rest left : Option (List ℕ)) (ended : Bool) (turn : Turn) : Type 0 where
+  pub next : turn ≡ Next → GoesOn number before input after rest
+  pub stop : (status : Status) → turn ≡ Stop status → Ends number before input after status
+  pub at_fault : turn ≡ Stop SourceFault → BreaksFrom number before input left after.text
+  pub later_fault : turn ≡ Next → ended ≡ false → BreaksAsRest number before input after rest
+  pub done_next : turn ≡ Next → DoesWithRest number before input after rest
+  pub done_stop : (status : Status) → turn ≡ Stop status → DoesFrom number before input after

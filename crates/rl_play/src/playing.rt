@@ -1,25 +1,7 @@
 // The lines of a script, one after another.
 ghost use Rattle.std.specs.Prelude.{◌≡◌, ◌≢◌, ◌≤◌, map, true, false, Ok, Err, MatchResult, IfOk, IfErr, IfSome, OnOk};
 ghost use Rattle.std.specs.Io.KnownBytes.{Keeps};
-ghost use Rattle.rl_bus.specs.Causes.{Rose};
-ghost use Rattle.rl_access.specs.Model.{IsReady, IsSameChip};
-ghost use Rattle.rl_log.specs.Causes.{IsCaused, NoneFailed};
-ghost use Rattle.rl_play.specs.Done.{DoesFrom, DoesFirstEvents, DoesWithRest};
-ghost use Rattle.rl_play.specs.Earlier.{KeepsEarlier};
-ghost use Rattle.rl_log.specs.Endings.{end_status, IsCounted, PlayEnds};
-ghost use Rattle.rl_log.specs.Log.{said_by};
-ghost use Rattle.rl_play.specs.Moment.{moment_of};
-ghost use Rattle.rl_play.specs.Played.{BreaksAsRest, BreaksFrom, Ends, GoesOn, TakesTurn, PlaysScript};
-ghost use Rattle.rl_play.specs.Heard.{heard};
-ghost use Rattle.rl_log.specs.Statuses.{is_complete};
-ghost use Rattle.rl_log.specs.Telling.{Tells};
-ghost use Rattle.rl_log.specs.Texts.{refused_text, end_text};
-ghost use Rattle.rl_play.specs.Told.{told};
-ghost use Rattle.rl_report.specs.Got.{Hands};
-ghost use Rattle.rl_script.specs.Reading.{read_of};
-ghost use Rattle.rl_script.specs.Said.{line_said};
-ghost use Rattle.rl_report.specs.Lines.{first_line};
-ghost use Rattle.rl_report.specs.Reading.{input_of, HoldsLine};
+ghost use Rattle.rl_play.specs.Prelude.{Rose, IsReady, IsSameChip, IsCaused, NoneFailed, DoesFrom, DoesFirstEvents, KeepsEarlier, end_status, IsCounted, PlayEnds, said_by, moment_of, BreaksFrom, Ends, PlaysLine, TakesTurn, PlaysScript, heard, is_complete, Tells, refused_text, end_text, told, Hands, read_of, line_said, first_line, input_of, HoldsLine};
 
 use crate::buffered::{Buffered, Earlier};
 use crate::line::run_line;
@@ -146,7 +128,8 @@ fn run_read<D: Device, L: Log>(
     ensures turn { TakesTurn number (said_by (read_of line.now))
         (moment_of standing D.state L.written model.old adapters.old.items device.old out.old counts.old)
         (moment_of standing D.state L.written model.new adapters.new.items device.new out.new counts.new) result }
-    ensures counted { (status : Status) → result ≡ Turn.Stop status → (status ≢ Status.Passed) × (status ≢ Status.Found) }
+    ensures counted { (status : Status) → result ≡ Turn.Stop status
+        → (status ≢ Status.Passed) × (status ≢ Status.Found) }
     ensures sink_later { L.faults out.old ≤ L.faults out.new }
     ensures cause { (status : Status) → result ≡ Turn.Stop status
         → IsCaused status 0 0 (L.faults out.old) (L.faults out.new) }
@@ -186,7 +169,8 @@ fn run_taken<D: Device, L: Log>(
     ensures turn { TakesTurn number (heard number got line.now)
         (moment_of standing D.state L.written model.old adapters.old.items device.old out.old counts.old)
         (moment_of standing D.state L.written model.new adapters.new.items device.new out.new counts.new) result }
-    ensures counted { (status : Status) → result ≡ Turn.Stop status → (status ≢ Status.Passed) × (status ≢ Status.Found) }
+    ensures counted { (status : Status) → result ≡ Turn.Stop status
+        → (status ≢ Status.Passed) × (status ≢ Status.Found) }
     ensures sink_later { L.faults out.old ≤ L.faults out.new }
     ensures cause { (status : Status) → result ≡ Turn.Stop status
         → IsCaused status 0 0 (L.faults out.old) (L.faults out.new) }
@@ -242,34 +226,13 @@ fn play_line<S: Source, D: Device, L: Log>(
     ensures going { result ≡ Turn.Next → lines.new.refused ≡ false }
     ensures again { result ≡ Turn.Stop Status.SourceFault → lines.new.refused ≡ false }
     ensures last { result ≡ Turn.Next → number ≤ 1000000 }
-    ensures next { result ≡ Turn.Next → GoesOn number
+    ensures plays { PlaysLine number
         (moment_of standing D.state L.written model.old adapters.old.items device.old out.old counts.old)
         (input_of lines.old (S.left source.old))
         (moment_of standing D.state L.written model.new adapters.new.items device.new out.new counts.new)
-        (input_of lines.new (S.left source.new)) }
-    ensures stop { (status : Status) → result ≡ Turn.Stop status → Ends number
-        (moment_of standing D.state L.written model.old adapters.old.items device.old out.old counts.old)
-        (input_of lines.old (S.left source.old))
-        (moment_of standing D.state L.written model.new adapters.new.items device.new out.new counts.new) status }
+        (input_of lines.new (S.left source.new)) (S.left source.new) lines.new.ended result }
     ensures ended { lines.old.ended ≡ true → lines.new.ended ≡ true }
     ensures unended { result ≡ Turn.Stop Status.SourceFault → lines.old.ended ≡ false }
-    ensures at_fault { result ≡ Turn.Stop Status.SourceFault → BreaksFrom number
-        (moment_of standing D.state L.written model.old adapters.old.items device.old out.old counts.old)
-        (input_of lines.old (S.left source.old)) (S.left source.new) (L.written out.new) }
-    ensures later_fault { result ≡ Turn.Next → lines.new.ended ≡ false → BreaksAsRest number
-        (moment_of standing D.state L.written model.old adapters.old.items device.old out.old counts.old)
-        (input_of lines.old (S.left source.old))
-        (moment_of standing D.state L.written model.new adapters.new.items device.new out.new counts.new)
-        (input_of lines.new (S.left source.new)) }
-    ensures done_next { result ≡ Turn.Next → DoesWithRest number
-        (moment_of standing D.state L.written model.old adapters.old.items device.old out.old counts.old)
-        (input_of lines.old (S.left source.old))
-        (moment_of standing D.state L.written model.new adapters.new.items device.new out.new counts.new)
-        (input_of lines.new (S.left source.new)) }
-    ensures done_stop { (status : Status) → result ≡ Turn.Stop status → DoesFrom number
-        (moment_of standing D.state L.written model.old adapters.old.items device.old out.old counts.old)
-        (input_of lines.old (S.left source.old))
-        (moment_of standing D.state L.written model.new adapters.new.items device.new out.new counts.new) }
     ensures flushed { result ≡ Turn.Stop Status.SourceFault → L.is_out out.new }
     ensures counted { (status : Status) → result ≡ Turn.Stop status → IsCounted status counts.new }
     ensures source_later { S.faults source.old ≤ S.faults source.new }
@@ -407,7 +370,8 @@ fn play_through<S: Source, K: Sink, D: Device, E: Earlier>(
     ensures counted { IsCounted result counts.new }
     ensures source_later { S.faults source.old ≤ S.faults source.new }
     ensures sink_later { K.faults sink.old ≤ K.faults sink.new }
-    ensures cause { IsCaused result (S.faults source.old) (S.faults source.new) (K.faults sink.old) (K.faults sink.new) }
+    ensures cause { IsCaused result
+        (S.faults source.old) (S.faults source.new) (K.faults sink.old) (K.faults sink.new) }
     ensures ends_kept { K.ends sink.new ≡ K.ends sink.old }
 {
     let mut out = Buffered::<K, E>::new(sink);
@@ -470,7 +434,8 @@ pub fn play<S: Source, K: Sink, D: Device>(
     // No fault is made up.
     ensures source_later { S.faults source.old ≤ S.faults source.new }
     ensures sink_later { K.faults sink.old ≤ K.faults sink.new }
-    ensures cause { IsCaused result (S.faults source.old) (S.faults source.new) (K.faults sink.old) (K.faults sink.new) }
+    ensures cause { IsCaused result
+        (S.faults source.old) (S.faults source.new) (K.faults sink.old) (K.faults sink.new) }
 
     ensures ends_kept { K.ends sink.new ≡ K.ends sink.old }
 {

@@ -1,8 +1,7 @@
 // The names in a line, as numbers of the model.
 ghost use Rattle.std.specs.Prelude.{◌≡◌, ◌<◌, true, false, length, IfSome};
-ghost use Rattle.rl_access.specs.Operation.{IsMapIn, HasNumbers};
+ghost use Rattle.rl_access.specs.Operation.{IsMapIn, HasNumbers, is_single};
 ghost use Rattle.rl_script.specs.Said.{item_said, line_said};
-ghost use Rattle.rl_access.specs.Operation.{is_single};
 ghost use Rattle.rl_log.specs.Named.{map_asked, reg_named, field_named, mem_named, block_named, block_asked, kind_named, op_named};
 ghost use Rattle.rl_play.specs.Commands.{is_on_bus, is_on_field, is_on_memory, is_memory_by_backdoor, is_off_bus};
 
@@ -60,9 +59,9 @@ fn kind_named(model: &Model, name: &IdentRef<'_>) -> Option<u32>
 
 // The operation of a line on a register by another driver.
 fn other_op(model: &Model, line: &ItemLine<'_>) -> Option<Op>
-    ensures named { is_on_bus line.now.item ≡ false → is_on_field line.now.item ≡ false → is_on_memory line.now.item ≡ false
-        → is_memory_by_backdoor line.now.item ≡ false → is_off_bus line.now.item ≡ false
-        → result ≡ op_named model.now (item_said line.now) }
+    ensures named { is_on_bus line.now.item ≡ false → is_on_field line.now.item ≡ false
+        → is_on_memory line.now.item ≡ false → is_memory_by_backdoor line.now.item ≡ false
+        → is_off_bus line.now.item ≡ false → result ≡ op_named model.now (item_said line.now) }
     ensures numbers { IfSome result (HasNumbers model.now.chip (length model.now.layout.maps)) }
     ensures single { IfSome result (λ op. is_single op ≡ true) }
 {
@@ -87,8 +86,9 @@ fn other_op(model: &Model, line: &ItemLine<'_>) -> Option<Op>
 
 // The operation of a line on a register by the backdoor or on the model alone.
 fn back_op(model: &Model, line: &ItemLine<'_>) -> Option<Op>
-    ensures named { is_on_bus line.now.item ≡ false → is_on_field line.now.item ≡ false → is_on_memory line.now.item ≡ false
-        → is_memory_by_backdoor line.now.item ≡ false → result ≡ op_named model.now (item_said line.now) }
+    ensures named { is_on_bus line.now.item ≡ false → is_on_field line.now.item ≡ false
+        → is_on_memory line.now.item ≡ false → is_memory_by_backdoor line.now.item ≡ false
+        → result ≡ op_named model.now (item_said line.now) }
     ensures numbers { IfSome result (HasNumbers model.now.chip (length model.now.layout.maps)) }
     ensures single { IfSome result (λ op. is_single op ≡ true) }
 {
@@ -129,8 +129,8 @@ fn back_op(model: &Model, line: &ItemLine<'_>) -> Option<Op>
 
 // The operation of a line on a memory by the backdoor.
 fn mem_back_op(model: &Model, line: &ItemLine<'_>) -> Option<Op>
-    ensures named { is_on_bus line.now.item ≡ false → is_on_field line.now.item ≡ false → is_on_memory line.now.item ≡ false
-        → result ≡ op_named model.now (item_said line.now) }
+    ensures named { is_on_bus line.now.item ≡ false → is_on_field line.now.item ≡ false
+        → is_on_memory line.now.item ≡ false → result ≡ op_named model.now (item_said line.now) }
     ensures numbers { IfSome result (HasNumbers model.now.chip (length model.now.layout.maps)) }
     ensures single { IfSome result (λ op. is_single op ≡ true) }
 {

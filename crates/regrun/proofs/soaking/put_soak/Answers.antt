@@ -1,8 +1,7 @@
 use Rattle.std.proofs.Common.{◌≡◌, Ok, Some, drop, refl}
 use Rattle.rl_report.specs.Opening.{separator_at}
 use Rattle.rl_report.specs.Reading.{input_of}
-use Rattle.rl_session.specs.Session.{behind}
-use Rattle.rl_session.specs.Session.{opening_of}
+use Rattle.rl_session.specs.Session.{behind, opening_of}
 use Rattle.rl_session.specs.Soak.{soak_text}
 use Rattle.regrun.specs.Telling.{Stops}
 use Rattle.rl_play.proofs.BufferLemmas.{keeps_refl}

@@ -1,6 +1,5 @@
 use Rattle.std.proofs.Common.{map, refl, sym, ◌∙◌}
 use Rattle.rl_log.specs.declared.status.Status.TheVariants.{Memory}
-use Rattle.rl_play.specs.Told.{told}
 use Rattle.rl_play.proofs.BufferLemmas.{keeps_refl}
 use Rattle.regrun.proofs.JudgedLemmas.{soaks_early, soak_told}
 use Rattle.regrun.proofs.TextLemmas.{quiet_cause}
@@ -9,12 +8,12 @@ use Rattle.regrun.proofs.soaking.soak_desc.Goals as goal
 pub returns-in_default-clause-tells : goal.returns-in_default-clause-tells
 returns-in_default-clause-tells g c =
     let here = (map (λ b. (goal.Adapter-dyn g (b.vtable, b.value)).standing b.value) c.args.adapters.now.items) in
-    let text = told g.K.Sink.written c.args.out.now in
+    let text = g.L.Sink.written c.args.out.now in
     soaks_early c.args.n _ c.args.desc here here Memory text text refl (keeps_refl text)
 
 pub returns-then-not-is_complete-clause-tells : goal.returns-then-not-is_complete-clause-tells
 returns-then-not-is_complete-clause-tells g c =
-    let text = told g.K.Sink.written c.args.out.now in
+    let text = g.L.Sink.written c.args.out.now in
     soaks_early c.args.n _ c.args.desc
     (map (λ b. (goal.Adapter-dyn g
     (b.vtable, b.value)).standing b.value) c.args.adapters.now.items) _ c.run_quietly-status.result text text

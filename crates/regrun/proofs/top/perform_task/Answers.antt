@@ -1,6 +1,16 @@
 use Rattle.std.proofs.Common.{refl}
-use Rattle.regrun.proofs.BreakLemmas.{no_source}
+use Rattle.rl_play.proofs.FaultLemmas.{no_source}
+use Rattle.regrun.proofs.TaskLemmas.{run_does, map_does, soak_does}
 use Rattle.regrun.proofs.top.perform_task.Goals as goal
 
-pub returns-in-Soak-clause-soak_unread : goal.returns-in-Soak-clause-soak_unread
-returns-in-Soak-clause-soak_unread g c = λ n soak. (refl, no_source _ _ _ c.put_soak.ensures.cause)
+pub returns-in-Run-clause-does : goal.returns-in-Run-clause-does
+returns-in-Run-clause-does g c =
+    let e = c.run.ensures in run_does _ _ _ _ _ _ c.in-Run.is e.tells e.plain e.at_fault e.kinds
+
+pub returns-in-Map-clause-does : goal.returns-in-Map-clause-does
+returns-in-Map-clause-does g c =
+    let e = c.show_layout.ensures in map_does _ _ _ _ _ _ c.in-Map.is e.tells e.none_found refl
+
+pub returns-in-Soak-clause-does : goal.returns-in-Soak-clause-does
+returns-in-Soak-clause-does g c =
+    let e = c.put_soak.ensures in soak_does _ _ _ _ _ _ _ c.in-Soak.is e.tells (no_source _ _ _ e.cause) e.kinds

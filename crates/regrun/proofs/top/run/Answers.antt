@@ -2,8 +2,7 @@ use Rattle.std.proofs.Common.{◌≡◌, ℕ, List, Ok, Err, Some, refl, ap, ◌
 use Rattle.rl_report.specs.Opening.{FindsHead, TakesNoHead, separator_at}
 use Rattle.rl_report.specs.Reading.{input_of}
 use Rattle.rl_log.specs.declared.status.Status.TheVariants.{SourceFault}
-use Rattle.rl_session.specs.Session.{behind}
-use Rattle.rl_session.specs.Session.{opening_of}
+use Rattle.rl_session.specs.Session.{behind, opening_of}
 use Rattle.regrun.specs.Telling.{Stops}
 use Rattle.rl_play.proofs.BufferLemmas.{keeps_refl}
 use Rattle.regrun.proofs.BreakLemmas.{off_in_head, off_in_script}

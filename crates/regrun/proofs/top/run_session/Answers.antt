@@ -1,6 +1,5 @@
 use Rattle.std.proofs.Common.{map, refl, ◌≡◌, true, false}
 use Rattle.rl_log.specs.declared.status.Status.TheVariants.{Memory}
-use Rattle.rl_play.specs.Told.{told}
 use Rattle.rl_play.proofs.BufferLemmas.{keeps_refl}
 use Rattle.regrun.proofs.BreakLemmas.{breaks_first}
 use Rattle.regrun.proofs.JudgedLemmas.{session_early, session_told}
@@ -9,7 +8,7 @@ use Rattle.regrun.proofs.top.run_session.Goals as goal
 pub returns-in_default-clause-tells : goal.returns-in_default-clause-tells
 returns-in_default-clause-tells g c =
     let here = (map (λ b. (goal.Adapter-dyn g (b.vtable, b.value)).standing b.value) c.args.adapters.now.items) in
-    let text = told g.K.Sink.written c.args.out.now in
+    let text = g.L.Sink.written c.args.out.now in
     session_early _ c.args.desc here here Memory text text refl (keeps_refl text)
 
 pub returns-clause-tells : goal.returns-clause-tells

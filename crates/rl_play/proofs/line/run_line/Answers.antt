@@ -10,5 +10,5 @@ returns-in_default-clause-run g c =
     let l = c.in-OnItem.item in
     let same : (w : World) → entry_of w (line_said c.args.line.now) ≡ op_entry w (line_said c.args.line.now) =
     λ w. rw c.in-OnItem.is (item_entry w l.item l.path l.first l.second l.map c.in_default.not-BurstRead) in
-    runs_as _ c.args.m.now _ _ _ _ (λ w. entry_of w (line_said c.args.line.now)) (λ w. op_entry w (line_said c.args.line.now))
+    runs_as _ c.args.model.now _ _ _ _ (λ w. entry_of w (line_said c.args.line.now)) (λ w. op_entry w (line_said c.args.line.now))
     _ _ _ _ _ same c.operation.ensures.run

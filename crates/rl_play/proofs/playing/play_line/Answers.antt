@@ -3,7 +3,7 @@ use Rattle.rl_report.specs.declared.lines.Got.TheVariants as got
 use Rattle.rl_log.specs.declared.status.Status.TheVariants.{SourceFault}
 use Rattle.rl_log.specs.Statuses.{is_complete}
 use Rattle.rl_play.proofs.EndingLemmas.{counted_none, counted_other}
-use Rattle.rl_play.proofs.FaultLemmas.{still_going, breaks_here, breaks_later}
+use Rattle.rl_play.proofs.FaultLemmas.{still_going, breaks_here, breaks_later, no_source}
 use Rattle.rl_play.proofs.DoneLemmas.{does_none, does_next, does_stop}
 use Rattle.rl_play.proofs.PlayLemmas.{early_stops, ends_at_end, next_passes, stop_ends}
 use Rattle.rl_play.proofs.playing.play_line.Goals as goal
@@ -13,33 +13,10 @@ returns-in-Err-clause-counted g c =
     λ status e. let same : c.in-Err.status ≡ status = cc in counted_none status _
     (subst (λ s. is_complete s ≡ false) same c.in-Err.ensures.broken)
 
-pub returns-in-Err-clause-stop : goal.returns-in-Err-clause-stop
-returns-in-Err-clause-stop g c =
-    λ status e. let same : c.in-Err.status ≡ status = cc in early_stops _ c.in-Err.status status _ _ _ _ _ _ same
-    c.in-Err.ensures.broken c.in-Err.ensures.told
-
-pub returns-then-is_end-clause-stop : goal.returns-then-is_end-clause-stop
-returns-then-is_end-clause-stop g c =
-    λ status e.
-    let same : c.end.result ≡ status = cc in
-    let is : c.in-Ok.got ≡ got.End = c.is_end.ensures.end c.if-is_end.true in
-    ends_at_end _ _ _ _ _ _ c.in-Ok.got c.take_line.new.lines _ c.end.result status _ _ _ is same c.in-Ok.ensures.handed
-    c.in-Ok.ensures.told c.end.ensures.tells
-
-pub returns-clause-next : goal.returns-clause-next
-returns-clause-next g c =
-    λ is.
-    let not_end : c.in-Ok.got ≢ got.End = c.is_end.ensures.more c.if-is_end.false in
-    next_passes _ _ _ _ _ _ _ _ _ _ c.in-Ok.got _ c.take_line.new.lines _ _ _ _ _ not_end
-    (c.run_taken.ensures.short is) c.in-Ok.ensures.handed c.line.ensures refl c.in-Ok.ensures.told
-    (rw is at c.run_taken.ensures.turn)
-
-pub returns-clause-stop : goal.returns-clause-stop
-returns-clause-stop g c =
-    λ status is.
-    let not_end : c.in-Ok.got ≢ got.End = c.is_end.ensures.more c.if-is_end.false in
-    stop_ends _ _ _ _ _ _ _ _ _ _ c.in-Ok.got _ c.take_line.new.lines _ _ status _ _ _ not_end c.in-Ok.ensures.handed
-    c.line.ensures refl c.in-Ok.ensures.told (rw is at c.run_taken.ensures.turn)
+pub returns-clause-counted : goal.returns-clause-counted
+returns-clause-counted g c = λ status is.
+    let n = c.run_taken.ensures.counted status is in
+    counted_other status _ n.0 n.1
 
 pub returns-in-Err-clause-unended : goal.returns-in-Err-clause-unended
 returns-in-Err-clause-unended g c =
@@ -47,42 +24,51 @@ returns-in-Err-clause-unended g c =
     let e = c.take_line.ensures in
     still_going _ _ e.ended (e.none_whole (c.in-Err.is ∙ ap Err fault)).1
 
-pub returns-in-Err-clause-at_fault : goal.returns-in-Err-clause-at_fault
-returns-in-Err-clause-at_fault g c =
-    λ is. let fault : c.in-Err.status ≡ SourceFault = cc in
+pub returns-in-Err-clause-plays : goal.returns-in-Err-clause-plays
+returns-in-Err-clause-plays g c =
     let e = c.take_line.ensures in
-    let err = c.in-Err.is ∙ ap Err fault in
-    breaks_here _ _ _ _ _ _ _ _ c.take_line.new.lines (e.none_lost err) (e.none_whole err) c.in-Err.ensures.told
+    record {
+      next = λ is. absurd (cc);
+      stop = λ status is. let same : c.in-Err.status ≡ status = cc in
+          early_stops _ c.in-Err.status status _ _ _ _ _ _ same c.in-Err.ensures.broken c.in-Err.ensures.told;
+      at_fault = λ is. let fault : c.in-Err.status ≡ SourceFault = cc in
+          let err = c.in-Err.is ∙ ap Err fault in
+          breaks_here _ _ _ _ _ _ _ _ c.take_line.new.lines (e.none_lost err) (e.none_whole err) c.in-Err.ensures.told;
+      later_fault = λ is. absurd (cc);
+      done_next = λ is. absurd (cc);
+      done_stop = λ status is. does_none _ _ _ _ _ _;
+    }
 
-pub returns-clause-later_fault : goal.returns-clause-later_fault
-returns-clause-later_fault g c =
-    λ is going left last f.
+pub returns-then-is_end-clause-plays : goal.returns-then-is_end-clause-plays
+returns-then-is_end-clause-plays g c =
+    let is_end : c.in-Ok.got ≡ got.End = c.is_end.ensures.end c.if-is_end.true in
+    record {
+      next = λ is. absurd (cc);
+      stop = λ status is. let same : c.end.result ≡ status = cc in
+          ends_at_end _ _ _ _ _ _ c.in-Ok.got c.take_line.new.lines _ c.end.result status _ _ _ is_end same
+          c.in-Ok.ensures.handed c.in-Ok.ensures.told c.end.ensures.tells;
+      at_fault = λ is. let fault : c.end.result ≡ SourceFault = cc in absurd (no_source _ _ _ c.end.ensures.cause fault);
+      later_fault = λ is. absurd (cc);
+      done_next = λ is. absurd (cc);
+      done_stop = λ status is. does_none _ _ _ _ _ _;
+    }
+
+pub returns-clause-plays : goal.returns-clause-plays
+returns-clause-plays g c =
     let not_end : c.in-Ok.got ≢ got.End = c.is_end.ensures.more c.if-is_end.false in
-    breaks_later _ _ _ _ _ _ _ _ _ _ c.in-Ok.got _ c.take_line.new.lines _ _ _ _ _ left last not_end
-    (c.run_taken.ensures.short is) c.in-Ok.ensures.handed c.line.ensures refl c.in-Ok.ensures.told
-    (rw is at c.run_taken.ensures.turn) going f
-
-pub returns-in-Err-clause-done_stop : goal.returns-in-Err-clause-done_stop
-returns-in-Err-clause-done_stop g c = λ status e. does_none _ _ _ _ _ _
-
-pub returns-then-is_end-clause-done_stop : goal.returns-then-is_end-clause-done_stop
-returns-then-is_end-clause-done_stop g c = λ status e. does_none _ _ _ _ _ _
-
-pub returns-clause-done_stop : goal.returns-clause-done_stop
-returns-clause-done_stop g c =
-    λ status is.
-    let not_end : c.in-Ok.got ≢ got.End = c.is_end.ensures.more c.if-is_end.false in
-    does_stop _ _ _ _ _ _ _ _ _ _ c.in-Ok.got _ c.take_line.new.lines _ _ status _ _ not_end c.in-Ok.ensures.handed
-    c.line.ensures refl (rw is at c.run_taken.ensures.turn)
-
-pub returns-clause-done_next : goal.returns-clause-done_next
-returns-clause-done_next g c =
-    λ is total last standings state f.
-    let not_end : c.in-Ok.got ≢ got.End = c.is_end.ensures.more c.if-is_end.false in
-    does_next _ _ _ total _ _ last _ _ standings _ _ state _ c.in-Ok.got _ c.take_line.new.lines _ _ _ _ not_end
-    (c.run_taken.ensures.short is) c.in-Ok.ensures.handed c.line.ensures refl (rw is at c.run_taken.ensures.turn) f
-
-pub returns-clause-counted : goal.returns-clause-counted
-returns-clause-counted g c = λ status is.
-    let n = c.run_taken.ensures.counted status is in
-    counted_other status _ n.0 n.1
+    let handed = c.in-Ok.ensures.handed in
+    let told = c.in-Ok.ensures.told in
+    let r = c.run_taken.ensures in
+    record {
+      next = λ is. next_passes _ _ _ _ _ _ _ _ _ _ c.in-Ok.got _ c.take_line.new.lines _ _ _ _ _ not_end
+          (r.short is) handed c.line.ensures refl told (rw is at r.turn);
+      stop = λ status is. stop_ends _ _ _ _ _ _ _ _ _ _ c.in-Ok.got _ c.take_line.new.lines _ _ status _ _ _ not_end
+          handed c.line.ensures refl told (rw is at r.turn);
+      at_fault = λ is. absurd (no_source _ _ _ (r.cause _ is) refl);
+      later_fault = λ is going left last f. breaks_later _ _ _ _ _ _ _ _ _ _ c.in-Ok.got _ c.take_line.new.lines
+          _ _ _ _ _ left last not_end (r.short is) handed c.line.ensures refl told (rw is at r.turn) going f;
+      done_next = λ is total last standings state f. does_next _ _ _ total _ _ last _ _ standings _ _ state _ c.in-Ok.got
+          _ c.take_line.new.lines _ _ _ _ not_end (r.short is) handed c.line.ensures refl (rw is at r.turn) f;
+      done_stop = λ status is. does_stop _ _ _ _ _ _ _ _ _ _ c.in-Ok.got _ c.take_line.new.lines _ _ status _ _ not_end
+          handed c.line.ensures refl (rw is at r.turn);
+    }

@@ -35,25 +35,25 @@ loop-number-preserved g c =
       in_range = omega (arith, last);
       source_later = omega (arith, e.source_later, i.source_later);
       sink_later = omega (arith, e.sink_later, i.sink_later);
-      going_on = passes_both _ _ _ _ _ _ i.going_on (e.next c.in-Next.is);
+      going_on = passes_both _ _ _ _ _ _ i.going_on (e.plays.next c.in-Next.is);
       unended = λ ended. i.unended (still_going _ _ e.ended ended);
       breaking = λ ended left last h. i.breaking (still_going _ _ e.ended ended) left last
-          (e.later_fault c.in-Next.is ended left last h);
+          (e.plays.later_fault c.in-Next.is ended left last h);
       doing = λ total last standings state h. i.doing total last standings state
-          (e.done_next c.in-Next.is total last standings state h);
+          (e.plays.done_next c.in-Next.is total last standings state h);
       ends_kept = e.ends_kept ∙ i.ends_kept;
       same_target = e.same_target ∙ i.same_target;
     }
 
 pub returns-in-Stop-clause-log : goal.returns-in-Stop-clause-log
 returns-in-Stop-clause-log g c =
-    ends_both _ _ _ _ _ _ _ _ _ _ c.loop-number.invariant.going_on (c.play_line.ensures.stop _ c.in-Stop.is)
+    ends_both _ _ _ _ _ _ _ _ _ _ c.loop-number.invariant.going_on (c.play_line.ensures.plays.stop _ c.in-Stop.is)
 
 pub returns-in-Stop-clause-at_fault : goal.returns-in-Stop-clause-at_fault
 returns-in-Stop-clause-at_fault g c = λ is.
     let e = c.play_line.ensures in
     let stop = c.in-Stop.is ∙ ap Stop is in
-    c.loop-number.invariant.breaking (e.unended stop) _ _ (e.at_fault stop)
+    c.loop-number.invariant.breaking (e.unended stop) _ _ (e.plays.at_fault stop)
 
 pub returns-in-Stop-clause-flushed : goal.returns-in-Stop-clause-flushed
 returns-in-Stop-clause-flushed g c = λ is. c.play_line.ensures.flushed (c.in-Stop.is ∙ ap Stop is)
@@ -63,7 +63,7 @@ returns-in-Stop-clause-unended g c =
     λ is. c.loop-number.invariant.unended (c.play_line.ensures.unended (c.in-Stop.is ∙ ap Stop is))
 
 pub returns-in-Stop-clause-done : goal.returns-in-Stop-clause-done
-returns-in-Stop-clause-done g c = c.loop-number.invariant.doing _ _ _ _ (c.play_line.ensures.done_stop _ c.in-Stop.is)
+returns-in-Stop-clause-done g c = c.loop-number.invariant.doing _ _ _ _ (c.play_line.ensures.plays.done_stop _ c.in-Stop.is)
 
 pub returns-in-Stop-clause-again : goal.returns-in-Stop-clause-again
 returns-in-Stop-clause-again g c = λ is. c.play_line.ensures.again (c.in-Stop.is ∙ ap Stop is)
