@@ -9,7 +9,7 @@ use Rattle.rl_seq.specs.declared.sequence.Sequence.{Sequence}
 use Rattle.rl_seq.specs.declared.sequence.Sequence.TheVariants.{HwReset, BitBash, Access, Shared, MemWalk}
 use Rattle.rl_seq.specs.Choice.{is_bit_compared}
 use Rattle.rl_seq.specs.Plan.{Plan, stop, step, look, followed_by, only_if, each_below}
-use Rattle.rl_seq.specs.Sequences.{map_at, bash_once, bash_bit, check_other, fill, check_filled, write_number, settle_before, check_last, walk_location, items_of, at_place, visit, visit_all, walk}
+use Rattle.rl_seq.specs.Sequences.{map_at, check_at, bash_once, bash_bit, check_other, fill, check_filled, write_number, settle_before, check_last, walk_location, items_of, at_place, visit, visit_all, walk}
 use Rattle.rl_plain.specs.Calls.{PlanHasNumbers, PlansHaveNumbers}
 
 -- ---- plans of plans
@@ -59,7 +59,7 @@ at_place_numbers Access c l reg place ok inside there =
 at_place_numbers Shared c l reg place ok inside there =
     λ m chip layout. (
       (inside, in_map l place ok there),
-      each c l (length l.places) (check_other l reg place) (λ other here. chosen c l _ _ ((inside, in_map l other ok here), tt)),
+      each c l (length l.places) (check_other l reg place) (λ other here. chosen c l _ (check_at l reg other) ((inside, in_map l other ok here), tt)),
     )
 at_place_numbers MemWalk c l mem place ok inside there =
     each c l (memory_size c mem) (walk_location c mem (map_at l place)) (λ k low. walked c l mem (map_at l place) k inside (in_map l place ok there))
@@ -69,8 +69,9 @@ at_place_numbers MemWalk c l mem place ok inside there =
 numbers : (which : Sequence) (c : ChipData) (l : LayoutData) (block : Option ℕ) → IsSound l → PlanHasNumbers c l (walk which c l block)
 numbers which c l block ok =
     each c l (items_of which c) (visit_all which c l block)
-    (λ number inside. chosen c l _ _ (each c l (length l.places) (visit which c l number)
-    (λ place there. chosen c l _ _ (at_place_numbers which c l number place ok inside there))))
+    (λ number inside. chosen c l _ (each_below (length l.places) (visit which c l number))
+    (each c l (length l.places) (visit which c l number)
+    (λ place there. chosen c l _ (at_place which c l number place) (at_place_numbers which c l number place ok inside there))))
 
 pub plans_have_numbers : PlansHaveNumbers
 plans_have_numbers c l block sound ok = record {

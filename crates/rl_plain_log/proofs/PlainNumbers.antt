@@ -20,7 +20,7 @@ use Rattle.rl_script.specs.declared.line.Sequence.TheVariants.{HwReset, BitBash,
 use Rattle.rl_seq.specs.declared.sequence.Sequence.{Sequence as Walk}
 use Rattle.rl_seq.specs.declared.sequence.Sequence.TheVariants as over
 use Rattle.rl_seq.specs.Plan.{Plan, stop, step, look, followed_by, only_if, each_below}
-use Rattle.rl_seq.specs.Sequences.{map_at, bash_once, bash_bit, check_other, fill, check_filled, settle_before, check_last, walk_location, items_of, at_place, visit, visit_all, walk, hw_reset_plan, bit_bash_plan, access_test_plan, shared_access_plan, mem_walk_plan}
+use Rattle.rl_seq.specs.Sequences.{map_at, check_at, bash_once, bash_bit, check_other, fill, check_filled, settle_before, check_last, walk_location, items_of, at_place, visit, visit_all, walk, hw_reset_plan, bit_bash_plan, access_test_plan, shared_access_plan, mem_walk_plan}
 use Rattle.rl_log.specs.Entry.{plan_of}
 use Rattle.rl_log.specs.Named.{number_of, reg_named, mem_named, field_named, kind_named, map_asked, with_number, with_map, op_named}
 
@@ -173,7 +173,7 @@ module _ (c : ChipData) (l : LayoutData) (chip : IsSound c) (layout : IsLayout l
   place_numbers over.Shared reg place lr lp =
       λ m. (
         (lr, map_low place lp),
-        below (length l.places) (check_other l reg place) (λ other lo. where_chosen _ _ ((lr, map_low other lo), tt)),
+        below (length l.places) (check_other l reg place) (λ other lo. where_chosen _ (check_at l reg other) ((lr, map_low other lo), tt)),
       )
   place_numbers over.MemWalk mem place li lp =
       below (memory_size c mem) (walk_location c mem (map_at l place))
