@@ -139,7 +139,7 @@ other_same c reg q old new r no_step sound l other built f = record {
 
 -- ---- other registers of the device
 
-other_bits : (c : ChipData) (d : State) (reg q : ℕ) (step : Step) (r : Register) (count : ℕ) → (q ≡ reg → ⊥) → slice_index (device_after c d reg step r count).bits q ≡ slice_index d.bits q
+pub other_bits : (c : ChipData) (d : State) (reg q : ℕ) (step : Step) (r : Register) (count : ℕ) → (q ≡ reg → ⊥) → slice_index (device_after c d reg step r count).bits q ≡ slice_index d.bits q
 other_bits c d reg q (write_step chosen word) r count other = get_or-set_other d.bits reg q (wstep (fields_of c reg) chosen word r).bits 0 other
 other_bits c d reg q (read_step chosen) r count other = get_or-set_other d.bits reg q (rstep (fields_of c reg) chosen r).bits 0 other
 other_bits c d reg q no_step r count other = refl

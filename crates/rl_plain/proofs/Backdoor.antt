@@ -109,11 +109,11 @@ agree_deposit s new a reg v mirror told is inside here others spent =
       gathered = subst (λ (x : ModelData). IsNothingGathered x.gathered) (sym is) a.gathered;
     }
 
-raw_here : (c : ChipData) (reg value : ℕ) (m : MirrorData) → reg < length m.mirrored → mirrored_of (predict_raw c reg value m) reg ≡ owned (fields_of c reg) value
+pub raw_here : (c : ChipData) (reg value : ℕ) (m : MirrorData) → reg < length m.mirrored → mirrored_of (predict_raw c reg value m) reg ≡ owned (fields_of c reg) value
 unfolding predict_raw
 raw_here c reg value m l = get_or-set_same m.mirrored reg (owned (fields_of c reg) value) 0 l
 
-raw_other : (c : ChipData) (reg value q : ℕ) (m : MirrorData) → (q ≡ reg → ⊥) → mirrored_of (predict_raw c reg value m) q ≡ mirrored_of m q
+pub raw_other : (c : ChipData) (reg value q : ℕ) (m : MirrorData) → (q ≡ reg → ⊥) → mirrored_of (predict_raw c reg value m) q ≡ mirrored_of m q
 unfolding predict_raw
 raw_other c reg value q m other = get_or-set_other m.mirrored reg q (owned (fields_of c reg) value) 0 other
 
@@ -194,7 +194,7 @@ held_by s reg ok a inside =
     }
 
 -- a deposit, in the device and in the model
-raw_agrees : (s new : Scene) (a : Agree s) (reg value : ℕ) → IsModel s.model → reg < length s.model.chip.regs → new.device ≡ Some (poked a.device (cell.Reg reg) value) →
+pub raw_agrees : (s new : Scene) (a : Agree s) (reg value : ℕ) → IsModel s.model → reg < length s.model.chip.regs → new.device ≡ Some (poked a.device (cell.Reg reg) value) →
     new.model ≡ record s.model { mirror = predict_raw s.model.chip reg value s.model.mirror } → Agree new
 raw_agrees s new a reg value ok inside told is =
     let c = s.model.chip in

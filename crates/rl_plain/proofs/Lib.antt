@@ -27,3 +27,7 @@ pub mod Machines
 pub mod FirstOnes
 pub mod PlainCourses
 pub mod PlanNumbers
+pub mod Believed
+pub mod Masters
+pub mod BrokenCourses
+pub mod Alike

@@ -46,7 +46,7 @@ step_error c l p op = never_error c l p op (grant (seen c l p) op)
 same_on : (m n o : ModelData) → IsSameChip m n → IsSameChip n o → IsSameChip m o
 same_on m n o a b = record { chip = b.chip ∙ a.chip; layout = b.layout ∙ a.layout }
 
-one_more : (s mid new : Scene) (t : Told) (told : List Told) (p : Machine) (op : Op) (rest : Machine → Course) →
+pub one_more : (s mid new : Scene) (t : Told) (told : List Told) (p : Machine) (op : Op) (rest : Machine → Course) →
     let done = machine_step s.model.chip s.model.layout p op in
     IsPlainAfter s.model mid t.event done → IsPlainCourse mid new told (rest done.machine) → IsPlainCourse s new (t ∷ told) (then_on done rest)
 one_more s mid new t told p op rest first more =
@@ -58,7 +58,7 @@ one_more s mid new t told p op rest first more =
       events = ap (λ e. e ∷ map (λ (t : Told). without_items t.event) told) first.event_is ∙ ap (λ es. done.event ∷ es) more.events;
     }
 
-nothing_more : (s new : Scene) (p : Machine) → new ≡ s → IsModel s.model → IsMachineOf s p → IsPlainCourse s new [] (record { events = []; machine = p })
+pub nothing_more : (s new : Scene) (p : Machine) → new ≡ s → IsModel s.model → IsMachineOf s p → IsPlainCourse s new [] (record { events = []; machine = p })
 nothing_more s new p same ok is = record {
   machine = subst (λ x. IsMachineOf x p) (sym same) is;
   model = subst (λ (x : Scene). IsModel x.model) (sym same) ok;
@@ -72,11 +72,11 @@ going_on : (A B : Type 0) (b : Bool) → b ≡ false → MatchBool b A B → B
 going_on A B true e m = absurd (cc)
 going_on A B false e m = m
 
-through_nil : (c : ChipData) (l : LayoutData) (p : Machine) → through c l p [] ≡ record { events = []; machine = p }
+pub through_nil : (c : ChipData) (l : LayoutData) (p : Machine) → through c l p [] ≡ record { events = []; machine = p }
 unfolding through
 through_nil c l p = refl
 
-through_cons : (c : ChipData) (l : LayoutData) (p : Machine) (op : Op) (ops : List Op) → through c l p (op ∷ ops) ≡ then_on (machine_step c l p op) (λ after. through c l after ops)
+pub through_cons : (c : ChipData) (l : LayoutData) (p : Machine) (op : Op) (ops : List Op) → through c l p (op ∷ ops) ≡ then_on (machine_step c l p op) (λ after. through c l after ops)
 unfolding through
 through_cons c l p op ops = refl
 

@@ -1,5 +1,5 @@
 -- Each call on a device without flaws is the plain machine's.
-use Rattle.std.specs.Prelude.{◌≡◌, ℕ, ◌<◌, List, [], ◌∷◌, length, map, All, slice_index, Option, Some, Ok, Err, sum_by}
+use Rattle.std.specs.Prelude.{◌≡◌, ℕ, ◌<◌, List, [], ◌∷◌, length, map, take, All, slice_index, Option, Some, Ok, Err, sum_by}
 use Rattle.rl_bus.specs.Setup.{location}
 use Rattle.rl_bus.specs.State.{State, first_state}
 use Rattle.rl_model.specs.Rows.{ChipData}
@@ -18,12 +18,12 @@ use Rattle.rl_access.specs.HandsOver.{Told}
 use Rattle.rl_access.specs.Model.{ModelData, IsModel, IsSameChip}
 use Rattle.rl_access.specs.Operation.{location_size, IsMapIn, HasNumbers}
 use Rattle.rl_access.specs.Rules.{Grant, memory_size}
-use Rattle.rl_access.specs.Runs.{RunsThrough, writes_of, reads_of}
-use Rattle.rl_seq.specs.Plan.{Plan, stop, step, look, Runs}
+use Rattle.rl_access.specs.Runs.{RunsInto, RunsThrough, writes_of, reads_of}
+use Rattle.rl_seq.specs.Plan.{Plan, stop, step, look, Breaks, Runs}
 use Rattle.rl_seq.specs.Sequences.{hw_reset_plan, bit_bash_plan, access_test_plan, shared_access_plan, mem_walk_plan}
 use Rattle.rl_plain.specs.Agree.{HasNoVolatile, Agree}
 use Rattle.rl_plain.specs.Machine.{Machine, seen, first_machine, refused_at, machine_step}
-use Rattle.rl_plain.specs.Courses.{Course, through, along, burst}
+use Rattle.rl_plain.specs.Courses.{Course, through, along, first_along, burst}
 
 -- the event without its items
 abbrev pub without_items : Event → Event
@@ -147,7 +147,23 @@ PlanIsPlain =
     → PlanHasNumbers s.model.chip s.model.layout plan → IsModel s.model → IsMachineOf s p → Runs plan s told new
     → IsPlainCourse s new told (along s.model.chip s.model.layout p plan)
 
--- an operation that is refused as a whole, for whatever cause
+-- ---- a recorder that fails at an event: what is told is the first of the operations, and is the machine's too
+
+abbrev pub BrokenRunIsPlain : Type 0
+BrokenRunIsPlain =
+    (s new : Scene) (ops : List Op) (told : List Told) (p : Machine)
+    → All (HasNumbers s.model.chip (length s.model.layout.maps)) ops → IsModel s.model → IsMachineOf s p
+    → RunsInto s ops told new
+    → IsPlainCourse s new told (through s.model.chip s.model.layout p (take (length told) ops))
+
+abbrev pub BrokenPlanIsPlain : Type 0
+BrokenPlanIsPlain =
+    (s new : Scene) (plan : Plan) (told : List Told) (p : Machine)
+    → PlanHasNumbers s.model.chip s.model.layout plan → IsModel s.model → IsMachineOf s p → Breaks plan s told new
+    → IsPlainCourse s new told (first_along s.model.chip s.model.layout p (length told) plan)
+
+-- ---- an operation that is refused as a whole, for whatever cause
+
 abbrev pub RefusedIsPlain : Type 0
 RefusedIsPlain =
     (s new : Scene) (op : Op) (why : Refused) (event : Event) (p : Machine)

@@ -1,5 +1,5 @@
 -- Operations of the plain machine one after another.
-use Rattle.std.specs.Prelude.{List, [], ◌∷◌, Ok, Err}
+use Rattle.std.specs.Prelude.{ℕ, zero, suc, List, [], ◌∷◌, Ok, Err}
 use Rattle.rl_model.specs.Rows.{ChipData}
 use Rattle.rl_map.specs.Layout.{LayoutData}
 use Rattle.rl_access.specs.declared.event.Event.{Event}
@@ -28,6 +28,13 @@ unfoldable pub along : ChipData → LayoutData → Machine → Plan → Course
 along c l p stop = record { events = []; machine = p }
 along c l p (step op plan) = then_on (machine_step c l p op) (λ after. along c l after plan)
 along c l p (look f) = along c l p (f (seen c l p))
+
+-- as many of them, from the first on
+unfoldable pub first_along : ChipData → LayoutData → Machine → (count : ℕ) → Plan → Course
+first_along c l p count stop = record { events = []; machine = p }
+first_along c l p zero (step op plan) = record { events = []; machine = p }
+first_along c l p (suc count) (step op plan) = then_on (machine_step c l p op) (λ after. first_along c l after count plan)
+first_along c l p count (look f) = first_along c l p count (f (seen c l p))
 
 -- an operation that is refused as a whole, or done as those that it stands for
 abbrev pub burst : ChipData → LayoutData → Machine → Grant → Op → List Op → Course

@@ -2,8 +2,12 @@
 ghost use Rattle.rl_plain.specs.Agree.{AccessKeepsAgreement, BackdoorKeepsAgreement, HardwareKeepsAgreement};
 ghost use Rattle.rl_plain.specs.Agree.{MemoryAccessKeepsAgreement, MemoryBackdoorKeepsAgreement, NewOnesAgree};
 ghost use Rattle.rl_plain.specs.Agree.{ResetKeepsAgreement, WishKeepsAgreement};
+ghost use Rattle.rl_plain.specs.Alike.{AlikeLayoutsStepAlike};
+ghost use Rattle.rl_plain.specs.Believed.{AccessIsBelieved, DepositIsBelieved, WriteIsStored};
+ghost use Rattle.rl_plain.specs.Calls.{BrokenPlanIsPlain, BrokenRunIsPlain};
 ghost use Rattle.rl_plain.specs.Calls.{BurstIsPlain, BurstsHaveNumbers, CallIsPlain, CallKeepsModel, FirstOnesArePlain};
 ghost use Rattle.rl_plain.specs.Calls.{PlanIsPlain, PlansHaveNumbers, RefusedIsPlain, RegisterCallIsPlain, RunIsPlain};
+ghost use Rattle.rl_plain.specs.Masters.{OtherStepsCommute};
 ghost use Rattle.rl_plain.specs.OneStep.{AccessIsStep};
 
 /// An access over the bus is one step of its register: of all its fields, or in a narrow access of its one
@@ -102,4 +106,42 @@ pub fn plans_have_numbers()
 /// An operation that is refused as a whole changes nothing, and its event is the machine's.
 pub fn refused_is_plain()
     ensures { RefusedIsPlain }
+{}
+
+/// From a device and a model that agree, an access over the bus that isn't refused takes its step in what is believed
+/// of its register, and leaves what is believed of every other one.
+pub fn access_is_believed()
+    ensures { AccessIsBelieved }
+{}
+
+/// A write that was done leaves just its value in a register that has one field alone, an RW one from bit 0 on.
+pub fn write_is_stored()
+    ensures { WriteIsStored }
+{}
+
+/// A deposit in a register of the device that the model takes over leaves both in agreement.
+pub fn deposit_is_believed()
+    ensures { DepositIsBelieved }
+{}
+
+/// Accesses of other masters to different registers may come in either order: the machine is then the same, and so is
+/// the event of each.
+pub fn other_steps_commute()
+    ensures { OtherStepsCommute }
+{}
+
+/// Where a recorder fails at an event of a burst, the operations up to that one are the machine's.
+pub fn broken_run_is_plain()
+    ensures { BrokenRunIsPlain }
+{}
+
+/// So are those of a plan.
+pub fn broken_plan_is_plain()
+    ensures { BrokenPlanIsPlain }
+{}
+
+/// The machine looks at a layout only through the places of an item, their maps and rights, which roots are explicit,
+/// and which accesses are narrow: layouts that are alike in these give the same steps and events.
+pub fn alike_layouts_step_alike()
+    ensures { AlikeLayoutsStepAlike }
 {}
