@@ -1,0 +1,4 @@
+pub mod Agree
+pub mod Bank
+pub mod Indexed
+pub mod Window
