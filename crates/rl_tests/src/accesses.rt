@@ -23,7 +23,7 @@ const APB: ApbAdapter = ApbAdapter {
 };
 
 // The model of a description.
-fn opened(alloc: Global, text: &[u8], kinds: &[AdapterKind]) -> Result<Model, Fail>
+pub(crate) fn opened(alloc: Global, text: &[u8], kinds: &[AdapterKind]) -> Result<Model, Fail>
     requires { length kinds.now < 2 ^ 32 }
     ensures { IfOk result (λ model. model.layout.kinds ≡ kinds.now) }
 {
