@@ -30,7 +30,8 @@ placed_ok : (o : Option ℕ) (place : ℕ) → placed o ≡ Ok place → o ≡ S
 placed_ok None place e = absurd (cc)
 placed_ok (Some p) place e = cc
 
-right_ok : (l : LayoutData) (write : Bool) (g : Grant) (place : ℕ) → with_right l write g ≡ Ok place → (g ≡ Ok place) × (has_right (place_at l place).rights write ≡ true)
+right_ok : (l : LayoutData) (write : Bool) (g : Grant) (place : ℕ) → with_right l write g ≡ Ok place →
+    (g ≡ Ok place) × (has_right (place_at l place).rights write ≡ true)
 right_ok l write (Ok p) place e =
     let both = only_ok (Ok p) (has_right (place_at l p).rights write) NoRight place e in
     let first : Ok p ≡ Ok place = both.0 in
@@ -38,7 +39,8 @@ right_ok l write (Ok p) place e =
     (first, subst (λ n. has_right (place_at l n).rights write ≡ true) same both.1)
 right_ok l write (Err first) place e = absurd (cc)
 
-watch_ok : (l : LayoutData) (g : Grant) (place : ℕ) → with_watch l g ≡ Ok place → (g ≡ Ok place) × ((port_at l (place_at l place).port).explicit ≡ true)
+watch_ok : (l : LayoutData) (g : Grant) (place : ℕ) → with_watch l g ≡ Ok place →
+    (g ≡ Ok place) × ((port_at l (place_at l place).port).explicit ≡ true)
 watch_ok l (Ok p) place e =
     let both = only_ok (Ok p) (port_at l (place_at l p).port).explicit NotObserved place e in
     let first : Ok p ≡ Ok place = both.0 in
@@ -70,7 +72,8 @@ pub record IsGranted (m : ModelData) (reg : ℕ) (map value : Option ℕ) (place
   pub right : has_right (place_at m.layout place).rights (is_some value) ≡ true
   pub fits : unwrap_or value 0 < 256 ^ size_of m.chip reg
 
-watched : (m : ModelData) (reg : ℕ) (map value : Option ℕ) (place : ℕ) → watched_way m reg map (is_some value) ≡ Ok place → unwrap_or value 0 < 256 ^ size_of m.chip reg → IsGranted m reg map value place
+watched : (m : ModelData) (reg : ℕ) (map value : Option ℕ) (place : ℕ) → watched_way m reg map (is_some value) ≡ Ok place →
+    unwrap_or value 0 < 256 ^ size_of m.chip reg → IsGranted m reg map value place
 watched m reg map value place e fits =
     let l = m.layout in
     let right = right_ok l (is_some value) (with_watch l (placed (place_of l (item.Reg reg) map))) place e in
@@ -81,7 +84,8 @@ watched m reg map value place e fits =
 below : (a b : ℕ) → ltb a b ≡ true → a < b
 below a b e = grind (arith, nat_tests)
 
-pub granted_is : (m : ModelData) (reg : ℕ) (map value : Option ℕ) (place : ℕ) → grant m (op_with reg map value) ≡ Ok place → IsGranted m reg map value place
+pub granted_is : (m : ModelData) (reg : ℕ) (map value : Option ℕ) (place : ℕ) → grant m (op_with reg map value) ≡ Ok place →
+    IsGranted m reg map value place
 granted_is m reg map None place e = watched m reg map None place e (zero_fits 256 (size_of m.chip reg) (omega arith))
 granted_is m reg map (Some value) place e =
     let both = only_ok (watched_way m reg map true) (nat_lt value (256 ^ size_of m.chip reg)) TooWide place e in
@@ -90,15 +94,18 @@ granted_is m reg map (Some value) place e =
 pub register_place : (l : LayoutData) (reg place : ℕ) → IsPlaceIn l (item.Reg reg) place → IsRegisterPlace l place
 register_place l reg place at = record { inside = at.inside; register = subst IsRegister (sym at.item_is) tt }
 
-pub granted_size : (m : ModelData) (reg : ℕ) (map value : Option ℕ) (place : ℕ) → IsModel m → IsGranted m reg map value place → (place_at m.layout place).bytes ≡ size_of m.chip reg
+pub granted_size : (m : ModelData) (reg : ℕ) (map value : Option ℕ) (place : ℕ) → IsModel m → IsGranted m reg map value place →
+    (place_at m.layout place).bytes ≡ size_of m.chip reg
 granted_size m reg map value place ok at = place_size m (item.Reg reg) place ok at.there
 
-pub granted_value : (m : ModelData) (reg : ℕ) (map value : Option ℕ) (place : ℕ) → IsModel m → IsGranted m reg map value place → unwrap_or value 0 < 256 ^ (place_at m.layout place).bytes
+pub granted_value : (m : ModelData) (reg : ℕ) (map value : Option ℕ) (place : ℕ) → IsModel m → IsGranted m reg map value place →
+    unwrap_or value 0 < 256 ^ (place_at m.layout place).bytes
 granted_value m reg map value place ok at = subst (λ n. unwrap_or value 0 < 256 ^ n) (sym (granted_size m reg map value place ok at)) at.fits
 
 -- ---- a model whose predictor saw an item
 
-grant_observing : (m : ModelData) (item : TraceItem) (reg : ℕ) (map value : Option ℕ) (place : ℕ) → grant m (op_with reg map value) ≡ Ok place → grant (observing m item) (op_with reg map value) ≡ Ok place
+grant_observing : (m : ModelData) (item : TraceItem) (reg : ℕ) (map value : Option ℕ) (place : ℕ) → grant m (op_with reg map value) ≡ Ok place →
+    grant (observing m item) (op_with reg map value) ≡ Ok place
 grant_observing m item reg map None place e = e
 grant_observing m item reg map (Some value) place e = e
 

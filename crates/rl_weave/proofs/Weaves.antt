@@ -1,5 +1,6 @@
 -- What is added to a weave, and what a step leaves of it.
-use Rattle.std.proofs.Common.{◌≡◌, ◌⊎◌, ℕ, zero, suc, ◌+◌, ◌<◌, ◌≤◌, Bool, true, false, not, ◌||◌, ◌==◌, nat_lt, eqb, ltb, cond, eq-eqb, eqb-true, List, [], ◌∷◌, ◌++◌, length, get_or, set, filter, All, Option, Some, None, refl, sym, ap, ◌∙◌, subst, inl, inr, arith}
+use Rattle.std.proofs.Common.{◌≡◌, ◌⊎◌, ℕ, zero, suc, ◌+◌, ◌<◌, ◌≤◌, Bool, true, false, not, ◌||◌, ◌==◌, nat_lt, eqb, ltb, cond, eq-eqb, eqb-true}
+use Rattle.std.proofs.Common.{List, [], ◌∷◌, ◌++◌, length, get_or, set, filter, All, Option, Some, None, refl, sym, ap, ◌∙◌, subst, inl, inr, arith}
 use Rattle.std.specs.Prelude.{position, AllPairs, Contains, count_by}
 use Rattle.std.specs.List.{position_or_len}
 use Rattle.std.proofs.lemmas.Bool.{cases_eq, cases_lt}
@@ -47,7 +48,8 @@ still_left accesses v k h = record {
   short = subst (λ (u : Woven). length u.items < u.words) (sym (get_or_append_left accesses (v ∷ []) no_woven k h.inside)) h.short;
 }
 
-pub weave_appended : (w : WeaveData) (v : Woven) → IsWeave w → length w.accesses < 64 → All (λ u. u.access.reg ≡ v.access.reg → ⊥) w.accesses → length v.items < v.words → IsWeave (appended w v)
+pub weave_appended : (w : WeaveData) (v : Woven) → IsWeave w → length w.accesses < 64 → All (λ u. u.access.reg ≡ v.access.reg → ⊥) w.accesses →
+    length v.items < v.words → IsWeave (appended w v)
 weave_appended w v ok room apart short = record {
   few = omega (arith, length_push w.accesses v, room);
   apart = all_pairs_push (λ u x. u.access.reg ≡ x.access.reg → ⊥) w.accesses v ok.apart apart;
@@ -90,7 +92,9 @@ set_here accesses which v inside short = record {
   short = subst (λ (u : Woven). length u.items < u.words) (sym (get_or-set_same accesses which v no_woven inside)) short;
 }
 
-reg_kept : (accesses : List Woven) (which : ℕ) (v : Woven) (k : ℕ) (d : Woven) → which < length accesses → v.access.reg ≡ (woven_at accesses which).access.reg → k < length accesses → (get_or (set accesses which v) k d).access.reg ≡ (get_or accesses k d).access.reg
+reg_kept : (accesses : List Woven) (which : ℕ) (v : Woven) (k : ℕ) (d : Woven) → which < length accesses →
+    v.access.reg ≡ (woven_at accesses which).access.reg → k < length accesses →
+    (get_or (set accesses which v) k d).access.reg ≡ (get_or accesses k d).access.reg
 reg_kept accesses which v k d inside same low =
     elim (cases_eq k which) [
       | inl here ↦
@@ -102,14 +106,16 @@ reg_kept accesses which v k d inside same low =
       | inr other ↦ ap (λ (u : Woven). u.access.reg) (get_or-set_other accesses which k v d other)
     ]
 
-pub regs_apart : (accesses : List Woven) (which : ℕ) (v : Woven) → which < length accesses → v.access.reg ≡ (woven_at accesses which).access.reg → AllPairs (λ u x. u.access.reg ≡ x.access.reg → ⊥) accesses →
+pub regs_apart : (accesses : List Woven) (which : ℕ) (v : Woven) → which < length accesses → v.access.reg ≡ (woven_at accesses which).access.reg →
+    AllPairs (λ u x. u.access.reg ≡ x.access.reg → ⊥) accesses →
     AllPairs (λ u x. u.access.reg ≡ x.access.reg → ⊥) (set accesses which v)
 regs_apart accesses which v inside same apart i j d low high e =
     let within : j < length accesses = subst (λ n. j < n) (length-set accesses which v) high in
     apart i j d low within (sym (reg_kept accesses which v i d inside same (omega (arith, low, within))) ∙ e ∙ reg_kept accesses which v j d inside same within)
 
 -- it goes on
-pub weave_kept : (w : WeaveData) (which : ℕ) (v : Woven) → IsWeave w → which < length w.accesses → v.access.reg ≡ (woven_at w.accesses which).access.reg → length v.items < v.words →
+pub weave_kept : (w : WeaveData) (which : ℕ) (v : Woven) → IsWeave w → which < length w.accesses →
+    v.access.reg ≡ (woven_at w.accesses which).access.reg → length v.items < v.words →
     IsWeave (record { accesses = set w.accesses which v; still_open = w.still_open; fresh = false })
 weave_kept w which v ok inside same short = record {
   few = subst (λ n. n ≤ 64) (sym (length-set w.accesses which v)) ok.few;
@@ -124,7 +130,8 @@ weave_kept w which v ok inside same short = record {
 }
 
 -- it is over
-pub weave_closed : (w : WeaveData) (which : ℕ) (v : Woven) → IsWeave w → which < length w.accesses → v.access.reg ≡ (woven_at w.accesses which).access.reg →
+pub weave_closed : (w : WeaveData) (which : ℕ) (v : Woven) → IsWeave w → which < length w.accesses →
+    v.access.reg ≡ (woven_at w.accesses which).access.reg →
     IsWeave (record { accesses = set w.accesses which v; still_open = without which w.still_open; fresh = false })
 weave_closed w which v ok inside same = record {
   few = subst (λ n. n ≤ 64) (sym (length-set w.accesses which v)) ok.few;
@@ -138,19 +145,23 @@ weave_closed w which v ok inside same = record {
 
 -- ---- what a step leaves, by whether it was the last one of its access
 
-pub stepped_over : (w : WeaveData) (which : ℕ) (v u : Woven) (item : TraceItem) (left : List ℕ) → v ≡ woven_at w.accesses which → is_over v item ≡ true → u ≡ record v { items = [] } → left ≡ without which w.still_open →
+pub stepped_over : (w : WeaveData) (which : ℕ) (v u : Woven) (item : TraceItem) (left : List ℕ) → v ≡ woven_at w.accesses which →
+    is_over v item ≡ true → u ≡ record v { items = [] } → left ≡ without which w.still_open →
     weave (set w.accesses which u) left ≡ stepped w which item
 stepped_over w which v u item left here over is opens =
     let x = woven_at w.accesses which in
     ap (λ (y : Woven). weave (set w.accesses which y) left) (is ∙ ap (λ (y : Woven). let z : Woven = record y { items = [] } in z) here)
     ∙ ap (weave (set w.accesses which (record x { items = [] }))) opens
-    ∙ ap (λ t. weave (set w.accesses which (record x { items = cond t [] (x.items ++ item ∷ []) })) (cond t (without which w.still_open) w.still_open)) (sym (sym (ap (λ y. is_over y item) here) ∙ over))
+    ∙ ap (λ t. weave (set w.accesses which (record x { items = cond t [] (x.items ++ item ∷ []) })) (cond t (without which w.still_open) w.still_open))
+    (sym (sym (ap (λ y. is_over y item) here) ∙ over))
 
 -- each access is on the model, with the items that it then has
-pub on_kept : (m : ModelData) (accesses : List Woven) (which : ℕ) (v : Woven) → All (IsWovenOn m) accesses → IsWovenOn m v → All (IsWovenOn m) (set accesses which v)
+pub on_kept : (m : ModelData) (accesses : List Woven) (which : ℕ) (v : Woven) → All (IsWovenOn m) accesses → IsWovenOn m v →
+    All (IsWovenOn m) (set accesses which v)
 on_kept m accesses which v all on = All-set (IsWovenOn m) accesses which v on all
 
-pub on_with : (m : ModelData) (v : Woven) (items : List TraceItem) → IsWovenOn m v → All (ItemFits m.layout) items → IsWovenOn m (record v { items = items })
+pub on_with : (m : ModelData) (v : Woven) (items : List TraceItem) → IsWovenOn m v → All (ItemFits m.layout) items →
+    IsWovenOn m (record v { items = items })
 on_with m v items on fit = record { numbers = on.numbers; granted = on.granted; words = on.words; items = fit }
 
 pub at_index : (accesses : List Woven) (which : ℕ) (v : Woven) → which < length accesses → v ≡ get_or accesses which v → v ≡ woven_at accesses which
@@ -163,7 +174,8 @@ pub record IsFound (m : ModelData) (w : WeaveData) (which : ℕ) (v : Woven) : T
   pub on : IsWovenOn m v
   pub short : length v.items < v.words
 
-pub is_found : (m : ModelData) (w : WeaveData) (which : ℕ) (v : Woven) → IsWeave w → Contains w.still_open which → All (IsWovenOn m) w.accesses → v ≡ get_or w.accesses which v → IsFound m w which v
+pub is_found : (m : ModelData) (w : WeaveData) (which : ℕ) (v : Woven) → IsWeave w → Contains w.still_open which → All (IsWovenOn m) w.accesses →
+    v ≡ get_or w.accesses which v → IsFound m w which v
 is_found m w which v ok there all e =
     let left = at_open w which ok there in
     let here = at_index w.accesses which v left.inside e in
@@ -179,7 +191,8 @@ or_second true b e = absurd cc
 or_second false b e = e
 
 -- an access that isn't over has a word left
-pub not_over : (v : Woven) (item : TraceItem) (items : List TraceItem) → length v.items < v.words → is_over v item ≡ false → items ≡ v.items ++ item ∷ [] → length items < v.words
+pub not_over : (v : Woven) (item : TraceItem) (items : List TraceItem) → length v.items < v.words → is_over v item ≡ false →
+    items ≡ v.items ++ item ∷ [] → length items < v.words
 not_over v item items short going is =
     let long : length items ≡ length v.items + 1 = ap length is ∙ length_push v.items item in
     by (cases_eq (length v.items + 1) v.words) long
