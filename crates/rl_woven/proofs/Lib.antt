@@ -1,0 +1,9 @@
+pub mod Words
+pub mod Lasts
+pub mod Moves
+pub mod Halves
+pub mod Courses
+pub mod Orders
+pub mod Once
+pub mod Commuting
+pub mod AnyOrder
