@@ -179,25 +179,25 @@ other_comes : (g : Weaving) (line : Line) → is_blank line ≡ false
     → taken_in g line ≡ joins g (adding_line g.weave g.world.model line)
 other_comes g line is = ap (λ b. if b then Ok (group g) else joins g (adding_line g.weave g.world.model line)) is
 
-pub blank_goes : {T E : Type 0} (st : Option State) (number : ℕ) (w v : WeaveData) (m n : ModelData) (a b : List Standing)
+pub blank_goes : (T E : Type 0) (st : Option State) (number : ℕ) (w v : WeaveData) (m n : ModelData) (a b : List Standing)
     (after : Option State) (x y : ℕ) (old new : Option (List ℕ)) (counts now : Counts) (line : Line) (u : T)
     → is_blank line ≡ true
     → IfSome st (λ d. IsPart {T = T} {E = E} (group (weaving w (world m a d) x counts)) old (set v n b after y new now) (Ok u))
     → IfSome st (λ d. IsTurn number (comes_of (weaving w (world m a d) x counts) (Ok line)) (weaving w (world m a d) x counts)
     old (set v n b after y new now) Next)
-blank_goes None number w v m n a b after x y old new counts now line u is h = tt
-blank_goes (Some d) number w v m n a b after x y old new counts now line u is h =
+blank_goes T E None number w v m n a b after x y old new counts now line u is h = tt
+blank_goes T E (Some d) number w v m n a b after x y old new counts now line u is h =
     let g = weaving w (world m a d) x counts in
     record { part = group g; is = blank_comes g line is; text = h.whole; left = h.left }
 
-pub blank_breaks : {T E : Type 0} (st : Option State) (number : ℕ) (w v : WeaveData) (m n : ModelData) (a b : List Standing)
+pub blank_breaks : (T E : Type 0) (st : Option State) (number : ℕ) (w v : WeaveData) (m n : ModelData) (a b : List Standing)
     (after : Option State) (x y : ℕ) (old new : Option (List ℕ)) (counts now : Counts) (line : Line) (e : E)
     → is_blank line ≡ true
     → IfSome st (λ d. IsPart {T = T} {E = E} (group (weaving w (world m a d) x counts)) old (set v n b after y new now) (Err e))
     → IfSome st (λ d. IsTurn number (comes_of (weaving w (world m a d) x counts) (Ok line)) (weaving w (world m a d) x counts)
     old (set v n b after y new now) (Stop SinkFault))
-blank_breaks None number w v m n a b after x y old new counts now line e is h = tt
-blank_breaks (Some d) number w v m n a b after x y old new counts now line e is h =
+blank_breaks T E None number w v m n a b after x y old new counts now line e is h = tt
+blank_breaks T E (Some d) number w v m n a b after x y old new counts now line e is h =
     let g = weaving w (world m a d) x counts in
     let comes = blank_comes g line is in
     record {
@@ -234,10 +234,10 @@ line_refused w m a x counts line why is added d =
 
 -- ---- the end of a script
 
-finished_so : {T E : Type 0} (p : Part) (status : Status) (old mid new : Option (List ℕ)) (s : Setting) (u : T)
+finished_so : (T E : Type 0) (p : Part) (status : Status) (old mid new : Option (List ℕ)) (s : Setting) (u : T)
     → IsPart {T = T} {E = E} p old s (Ok u) → mid ≡ s.text → Tells status (end_status s.counts) mid new (end_text s.counts)
     → EndsAs (finished p) status old new s.counts s.model s.adapters s.device
-finished_so p status old mid new s u h same t =
+finished_so T E p status old mid new s u h same t =
     let counts = h.left.counts_are in
     let told : Tells status (end_status p.after.counts) s.text new (end_text p.after.counts) =
     subst (λ c. Tells status (end_status c) s.text new (end_text c)) counts
@@ -252,21 +252,21 @@ finished_so p status old mid new s u h same t =
       part = front_after old s.text new p.text (end_text p.after.counts) h.whole told.part;
     }
 
-pub group_finishes : {T E : Type 0} (st : Option State) (w v : WeaveData) (m n : ModelData) (a b : List Standing)
+pub group_finishes : (T E : Type 0) (st : Option State) (w v : WeaveData) (m n : ModelData) (a b : List Standing)
     (after : Option State) (x y : ℕ) (old mid new : Option (List ℕ)) (counts now : Counts) (status : Status) (u : T)
     → IfSome st (λ d. IsPart {T = T} {E = E} (group (weaving w (world m a d) x counts)) old (set v n b after y mid now) (Ok u))
     → Tells status (end_status now) mid new (end_text now)
     → IfSome st (λ d. EndsAs (finished (group (weaving w (world m a d) x counts))) status old new now n b after)
-group_finishes None w v m n a b after x y old mid new counts now status u h t = tt
-group_finishes (Some d) w v m n a b after x y old mid new counts now status u h t =
-    finished_so (group (weaving w (world m a d) x counts)) status old mid new (set v n b after y mid now) u h refl t
+group_finishes T E None w v m n a b after x y old mid new counts now status u h t = tt
+group_finishes T E (Some d) w v m n a b after x y old mid new counts now status u h t =
+    finished_so T E (group (weaving w (world m a d) x counts)) status old mid new (set v n b after y mid now) u h refl t
 
-pub group_breaks : {T E : Type 0} (st : Option State) (w v : WeaveData) (m n : ModelData) (a b : List Standing)
+pub group_breaks : (T E : Type 0) (st : Option State) (w v : WeaveData) (m n : ModelData) (a b : List Standing)
     (after : Option State) (x y : ℕ) (old new : Option (List ℕ)) (counts now : Counts) (e : E)
     → IfSome st (λ d. IsPart {T = T} {E = E} (group (weaving w (world m a d) x counts)) old (set v n b after y new now) (Err e))
     → IfSome st (λ d. EndsAs (finished (group (weaving w (world m a d) x counts))) SinkFault old new now n b after)
-group_breaks None w v m n a b after x y old new counts now e h = tt
-group_breaks (Some d) w v m n a b after x y old new counts now e h =
+group_breaks T E None w v m n a b after x y old new counts now e h = tt
+group_breaks T E (Some d) w v m n a b after x y old new counts now e h =
     let p = group (weaving w (world m a d) x counts) in
     record {
       whole = λ c. absurd (true≢false (sym c));

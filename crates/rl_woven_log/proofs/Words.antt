@@ -1,6 +1,8 @@
 -- Word by word through a group.
-use Rattle.std.proofs.Common.{◌≡◌, ℕ, zero, suc, ◌+◌, ◌-◌, ◌<◌, ◌==◌, Bool, true, false, if◌then◌else◌, List, [], ◌∷◌, ◌++◌, length, Some, None, Ok, Err, OnOk, OnErr, IfSome, slice_get, get_or, refl, sym, ap, subst, ◌∙◌, append_assoc, append-nil, arith}
+use Rattle.std.proofs.Common.{◌≡◌, IsErr, ℕ, zero, suc, ◌+◌, ◌-◌, ◌<◌, ◌==◌, Bool, true, false, if◌then◌else◌, List, [], ◌∷◌, ◌++◌, length, Some, None, Ok, Err, OnOk, OnErr, IfSome, slice_get, get_or, refl, sym, ap, subst, ◌∙◌, append_assoc, append-nil, arith}
 use Rattle.std.proofs.KnownBytes.{Appends-nil, Appends-trans}
+use Rattle.std.proofs.lemmas.Bool.{true≢false}
+use Rattle.std.proofs.lemmas.Bool.Decides.{nat_tests}
 use Rattle.std.proofs.lemmas.List.Elements.{All-push}
 use Rattle.std.proofs.lemmas.Option.{get_or_from_slice_get}
 use Rattle.std.specs.declared.option.Option.{Option}
@@ -188,10 +190,10 @@ whole_next most left g now text whole some =
     ∙ ap (λ l. record (words left p.after) { text = l })
     (sym (append_assoc text p.text (words left p.after).text))
 
-pub sent_more : {T E : Type 0} (most left : ℕ) (g : Weaving) (old : Option (List ℕ)) (s after : Setting) (x : T)
+pub sent_more : (T E : Type 0) (most left : ℕ) (g : Weaving) (old : Option (List ℕ)) (s after : Setting) (x : T)
     → Sent most g (suc left) old s → (length s.weave.still_open == 0) ≡ false
     → IfSome s.device (λ d. IsPart {T = T} {E = E} (word_drawn (weaving_at s d)) s.text after (Ok x)) → Sent most g left old after
-sent_more most left g old s after x h some word =
+sent_more T E most left g old s after x h some word =
     let p = word_drawn h.now in
     let part = part_now s after h.now (Ok x) h.at word in
     record {
@@ -202,11 +204,11 @@ sent_more most left g old s after x h some word =
       written = Appends-trans old s.text after.text h.text p.text h.written part.whole;
     }
 
-pub sent_stops : {T E : Type 0} (most left : ℕ) (g : Weaving) (old : Option (List ℕ)) (s after : Setting) (e : E)
+pub sent_stops : (T E : Type 0) (most left : ℕ) (g : Weaving) (old : Option (List ℕ)) (s after : Setting) (e : E)
     → Sent most g (suc left) old s → (length s.weave.still_open == 0) ≡ false
     → IfSome s.device (λ d. IsPart {T = T} {E = E} (word_drawn (weaving_at s d)) s.text after (Err e))
     → IsPart {T = T} {E = E} (words most g) old after (Err e)
-sent_stops most left g old s after e h some word =
+sent_stops T E most left g old s after e h some word =
     let p = word_drawn h.now in
     let part = part_now s after h.now (Err e) h.at word in
     let whole = whole_next most left g h.now h.text h.whole (open_at s h.now false h.at some) in
@@ -218,31 +220,31 @@ sent_stops most left g old s after e h some word =
           (front_after old s.text after.text h.text p.text h.written part.part));
     }
 
-sent_over : {T E : Type 0} (most left : ℕ) (g : Weaving) (old : Option (List ℕ)) (s : Setting) (x : T) (h : Sent most g left old s)
+sent_over : (T E : Type 0) (most left : ℕ) (g : Weaving) (old : Option (List ℕ)) (s : Setting) (x : T) (h : Sent most g left old s)
     → words left h.now ≡ nothing h.now → IsPart {T = T} {E = E} (words most g) old s (Ok x)
-sent_over most left g old s x h none =
+sent_over T E most left g old s x h none =
     let is : words most g ≡ record (nothing h.now) { text = h.text } =
     h.whole ∙ ap (prepended h.text) none ∙ ap (λ l. record (nothing h.now) { text = l }) (append-nil h.text) in
-    subst (λ p. IsPart p old s (Ok x)) (sym is) (record { whole = h.written; left = h.at; part = tt })
+    subst (λ p. IsPart {T = T} {E = E} p old s (Ok x)) (sym is) (record { whole = h.written; left = h.at; part = tt })
 
 -- no access is open
-pub sent_all : {T E : Type 0} (most left : ℕ) (g : Weaving) (old : Option (List ℕ)) (s : Setting) (x : T)
+pub sent_all : (T E : Type 0) (most left : ℕ) (g : Weaving) (old : Option (List ℕ)) (s : Setting) (x : T)
     → Sent most g left old s → (length s.weave.still_open == 0) ≡ true → IsPart {T = T} {E = E} (words most g) old s (Ok x)
-sent_all most left g old s x h none =
-    sent_over most left g old s x h (none_next left h.now (open_at s h.now true h.at none))
+sent_all T E most left g old s x h none =
+    sent_over T E most left g old s x h (none_next left h.now (open_at s h.now true h.at none))
 
 -- no more words are sent
-pub sent_most : {T E : Type 0} (most : ℕ) (g : Weaving) (old : Option (List ℕ)) (s : Setting) (x : T)
+pub sent_most : (T E : Type 0) (most : ℕ) (g : Weaving) (old : Option (List ℕ)) (s : Setting) (x : T)
     → Sent most g 0 old s → IsPart {T = T} {E = E} (words most g) old s (Ok x)
 unfolding words
-sent_most most g old s x h = sent_over most 0 g old s x h refl
+sent_most T E most g old s x h = sent_over T E most 0 g old s x h refl
 
 -- ---- a group
 
-pub group_ends : {T E : Type 0} (old text : Option (List ℕ)) (g : Weaving) (v u : WeaveData) (n : ModelData) (b : List Standing)
+pub group_ends : (T E : Type 0) (old text : Option (List ℕ)) (g : Weaving) (v u : WeaveData) (n : ModelData) (b : List Standing)
     (after : Option State) (y : ℕ) (now : Counts) (x : T) → u ≡ empty → IsPart {T = T} {E = E} (words 512 g) old (set v n b after y text now) (Ok x)
     → IsPart {T = T} {E = E} (group g) old (set u n b after y text now) (Ok x)
-group_ends old text g v u n b after y now x is h = record {
+group_ends T E old text g v u n b after y now x is h = record {
   whole = h.whole;
   left = record {
     weave_is = is;
@@ -253,67 +255,72 @@ group_ends old text g v u n b after y now x is h = record {
   part = tt;
 }
 
-pub group_done : {T E : Type 0} (st : Option State) (old text : Option (List ℕ)) (w v u : WeaveData) (m n : ModelData)
+pub group_done : (T E : Type 0) (st : Option State) (old text : Option (List ℕ)) (w v u : WeaveData) (m n : ModelData)
     (a b : List Standing) (after : Option State) (z y : ℕ) (counts now : Counts) (x : T) → u ≡ empty
     → IfSome st (λ d. IsPart {T = T} {E = E} (words 512 (weaving w (world m a d) z counts)) old (set v n b after y text now) (Ok x))
     → IfSome st (λ d. IsPart {T = T} {E = E} (group (weaving w (world m a d) z counts)) old (set u n b after y text now) (Ok x))
-group_done None old text w v u m n a b after z y counts now x is h = tt
-group_done (Some d) old text w v u m n a b after z y counts now x is h =
-    group_ends old text (weaving w (world m a d) z counts) v u n b after y now x is h
+group_done T E None old text w v u m n a b after z y counts now x is h = tt
+group_done T E (Some d) old text w v u m n a b after z y counts now x is h =
+    group_ends T E old text (weaving w (world m a d) z counts) v u n b after y now x is h
 
-pub group_fails : {T E : Type 0} (st : Option State) (old text : Option (List ℕ)) (w v : WeaveData) (m n : ModelData)
+pub group_fails : (T E : Type 0) (st : Option State) (old text : Option (List ℕ)) (w v : WeaveData) (m n : ModelData)
     (a b : List Standing) (after : Option State) (z y : ℕ) (counts now : Counts) (e : E)
     → IfSome st (λ d. IsPart {T = T} {E = E} (words 512 (weaving w (world m a d) z counts)) old (set v n b after y text now) (Err e))
     → IfSome st (λ d. IsPart {T = T} {E = E} (group (weaving w (world m a d) z counts)) old (set v n b after y text now) (Err e))
-group_fails None old text w v m n a b after z y counts now e h = tt
-group_fails (Some d) old text w v m n a b after z y counts now e h = record { whole = tt; left = tt; part = h.part }
+group_fails T E None old text w v m n a b after z y counts now e h = tt
+group_fails T E (Some d) old text w v m n a b after z y counts now e h = record { whole = tt; left = tt; part = h.part }
 
 -- ---- what the code tests
 
 pub none_open : (n m : ℕ) → n ≡ m → n ≡ 0 → (m == 0) ≡ true
-none_open n zero e z = refl
-none_open n (suc m) e z = absurd (omega arith)
+none_open n m e z = grind (arith, nat_tests)
 
 pub some_open : (n m : ℕ) → n ≡ m → 0 < n → (m == 0) ≡ false
-some_open n zero e z = absurd (omega arith)
-some_open n (suc m) e z = refl
+some_open n m e z = grind (arith, nat_tests)
 
-pub words_next : {T E : Type 0} (st : Option State) (w : WeaveData) (m : ModelData) (a : List Standing) (x : ℕ) (counts : Counts)
+pub words_next : (T E : Type 0) (st : Option State) (w : WeaveData) (m : ModelData) (a : List Standing) (x : ℕ) (counts : Counts)
     (most left less : ℕ) (old : Option (List ℕ)) (s after : Setting) (u : T) → left ≡ suc less
     → IfSome st (λ d. Sent most (weaving w (world m a d) x counts) left old s) → (length s.weave.still_open == 0) ≡ false
     → IfSome s.device (λ d. IsPart {T = T} {E = E} (word_drawn (weaving_at s d)) s.text after (Ok u))
     → IfSome st (λ d. Sent most (weaving w (world m a d) x counts) less old after)
-words_next None w m a x counts most left less old s after u is h some part = tt
-words_next (Some d) w m a x counts most left less old s after u is h some part =
+words_next T E None w m a x counts most left less old s after u is h some part = tt
+words_next T E (Some d) w m a x counts most left less old s after u is h some part =
     let g = weaving w (world m a d) x counts in
-    sent_more most less g old s after u (subst (λ k. Sent most g k old s) is h) some part
+    sent_more T E most less g old s after u (subst (λ k. Sent most g k old s) is h) some part
 
-pub words_stop : {T E : Type 0} (st : Option State) (w : WeaveData) (m : ModelData) (a : List Standing) (x : ℕ) (counts : Counts)
-    (most left less : ℕ) (old : Option (List ℕ)) (s after : Setting) (e : E) → left ≡ suc less
-    → IfSome st (λ d. Sent most (weaving w (world m a d) x counts) left old s) → (length s.weave.still_open == 0) ≡ false
+err_part : {R F : Type 0} (p : Part) (old : Option (List ℕ)) (s : Setting) (r : Result R F) → IsErr r
+    → AppendsFront old s.text p.text → IsPart p old s r
+err_part p old s (Ok x) is f = absurd (true≢false (sym is))
+err_part p old s (Err e) is f = record { whole = tt; left = tt; part = f }
+
+pub words_stop : (T E : Type 0) {R F : Type 0} (st : Option State) (w : WeaveData) (m : ModelData) (a : List Standing) (x : ℕ)
+    (counts : Counts) (most left less : ℕ) (old : Option (List ℕ)) (s after : Setting) (e : E) (r : Result R F) → IsErr r
+    → left ≡ suc less → IfSome st (λ d. Sent most (weaving w (world m a d) x counts) left old s)
+    → (length s.weave.still_open == 0) ≡ false
     → IfSome s.device (λ d. IsPart {T = T} {E = E} (word_drawn (weaving_at s d)) s.text after (Err e))
-    → IfSome st (λ d. IsPart {T = T} {E = E} (words most (weaving w (world m a d) x counts)) old after (Err e))
-words_stop None w m a x counts most left less old s after e is h some part = tt
-words_stop (Some d) w m a x counts most left less old s after e is h some part =
+    → IfSome st (λ d. IsPart (words most (weaving w (world m a d) x counts)) old after r)
+words_stop T E None w m a x counts most left less old s after e r failed is h some part = tt
+words_stop T E (Some d) w m a x counts most left less old s after e r failed is h some part =
     let g = weaving w (world m a d) x counts in
-    sent_stops most less g old s after e (subst (λ k. Sent most g k old s) is h) some part
+    err_part (words most g) old after r failed
+    (sent_stops T E most less g old s after e (subst (λ k. Sent most g k old s) is h) some part).part
 
-pub words_all : {T E : Type 0} (st : Option State) (w : WeaveData) (m : ModelData) (a : List Standing) (x : ℕ) (counts : Counts)
+pub words_all : (T E : Type 0) (st : Option State) (w : WeaveData) (m : ModelData) (a : List Standing) (x : ℕ) (counts : Counts)
     (most left : ℕ) (old : Option (List ℕ)) (s : Setting) (u : T)
     → IfSome st (λ d. Sent most (weaving w (world m a d) x counts) left old s) → (length s.weave.still_open == 0) ≡ true
     → IfSome st (λ d. IsPart {T = T} {E = E} (words most (weaving w (world m a d) x counts)) old s (Ok u))
-words_all None w m a x counts most left old s u h none = tt
-words_all (Some d) w m a x counts most left old s u h none =
-    sent_all most left (weaving w (world m a d) x counts) old s u h none
+words_all T E None w m a x counts most left old s u h none = tt
+words_all T E (Some d) w m a x counts most left old s u h none =
+    sent_all T E most left (weaving w (world m a d) x counts) old s u h none
 
-pub words_most : {T E : Type 0} (st : Option State) (w : WeaveData) (m : ModelData) (a : List Standing) (x : ℕ) (counts : Counts)
+pub words_most : (T E : Type 0) (st : Option State) (w : WeaveData) (m : ModelData) (a : List Standing) (x : ℕ) (counts : Counts)
     (most left : ℕ) (old : Option (List ℕ)) (s : Setting) (u : T) → left ≡ 0
     → IfSome st (λ d. Sent most (weaving w (world m a d) x counts) left old s)
     → IfSome st (λ d. IsPart {T = T} {E = E} (words most (weaving w (world m a d) x counts)) old s (Ok u))
-words_most None w m a x counts most left old s u is h = tt
-words_most (Some d) w m a x counts most left old s u is h =
+words_most T E None w m a x counts most left old s u is h = tt
+words_most T E (Some d) w m a x counts most left old s u is h =
     let g = weaving w (world m a d) x counts in
-    sent_most most g old s u (subst (λ k. Sent most g k old s) is h)
+    sent_most T E most g old s u (subst (λ k. Sent most g k old s) is h)
 
 -- ---- the text of a step
 

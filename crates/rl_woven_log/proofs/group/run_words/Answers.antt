@@ -21,7 +21,7 @@ loop-k-preserved g c =
       ready = e.ready;
       parts = record { chip = e.parts.chip ∙ i.parts.chip; layout = e.parts.layout ∙ i.parts.layout };
       weave = e.weave;
-      sent = words_next _ _ _ _ _ _ 512 (512 - c.loop-k.k) (512 - (c.loop-k.k + 1)) _ (set _ _ _ _ _ _ _) _ _ (omega arith) i.sent
+      sent = words_next _ _ _ _ _ _ _ _ 512 (512 - c.loop-k.k) (512 - (c.loop-k.k + 1)) _ (set _ _ _ _ _ _ _) _ _ (omega arith) i.sent
           (some_open _ _ c.open_count.ensures.count (omega (arith, c.if-open_count-eq0.false))) e.writes;
       later = omega (arith, e.cause.later);
       ends_kept = e.ends_kept ∙ i.ends_kept;
@@ -30,15 +30,15 @@ loop-k-preserved g c =
 
 pub returns-then-open_count-eq0-clause-writes : goal.returns-then-open_count-eq0-clause-writes
 returns-then-open_count-eq0-clause-writes g c =
-    words_all _ _ _ _ _ _ 512 _ _ (set _ _ _ _ _ _ _) _ c.loop-k.invariant.sent
+    words_all _ _ _ _ _ _ _ _ 512 _ _ (set _ _ _ _ _ _ _) _ c.loop-k.invariant.sent
     (none_open _ _ c.open_count.ensures.count (omega (arith, c.if-open_count-eq0.true)))
 
 pub returns-in_err-run_word-clause-writes : goal.returns-in_err-run_word-clause-writes
 returns-in_err-run_word-clause-writes g c =
-    words_stop _ _ _ _ _ _ 512 (512 - c.loop-k.k) (512 - (c.loop-k.k + 1)) _ (set _ _ _ _ _ _ _) _ _ (omega arith)
+    words_stop _ _ _ _ _ _ _ _ 512 (512 - c.loop-k.k) (512 - (c.loop-k.k + 1)) _ (set _ _ _ _ _ _ _) _ _ _ c.from_residual.ensures.0 (omega arith)
     c.loop-k.invariant.sent (some_open _ _ c.open_count.ensures.count (omega (arith, c.if-open_count-eq0.false)))
     c.in_err-run_word.ensures.writes
 
 pub returns-clause-writes : goal.returns-clause-writes
 returns-clause-writes g c =
-    words_most _ _ _ _ _ _ 512 (512 - c.loop-k.k) _ (set _ _ _ _ _ _ _) _ (omega arith) c.loop-k.invariant.sent
+    words_most _ _ _ _ _ _ _ _ 512 (512 - c.loop-k.k) _ (set _ _ _ _ _ _ _) _ (omega arith) c.loop-k.invariant.sent
