@@ -43,9 +43,10 @@ for session in "$here"/*.session "$here"/../examples/*.regrun; do
     check "$(basename "$name")" "$session" "$name.log" "$status" "${words[@]}"
 done
 
-# The log of an example, run again as a script: without the lines of sequences and refused bursts it is the same log.
+# The log of an example of run, run again as a script: without the lines of sequences and refused bursts it is the same.
 for session in "$here"/../examples/*.regrun; do
     name=${session%.*}
+    [ -e "$name.words" ] && continue
     sed -f "$here/../examples/replay.sed" "$name.log" > "$tmp/script"
     { sed '/^---$/q' "$session"; cat "$tmp/script"; } > "$tmp/in"
     count=$(wc -l < "$tmp/script")

@@ -24,6 +24,10 @@ use Rattle.rl_session.specs.Soak.{soak_line_text, soak_text, mirror_sum}
 use Rattle.rl_log.specs.Statuses.{is_complete}
 use Rattle.rl_log.specs.Telling.{Tells}
 use Rattle.rl_access.specs.World.{IsAt, world}
+use Rattle.rl_play.specs.Moment.{moment}
+use Rattle.rl_woven_log.specs.Judged.{woven_by, woven_judged, woven_script_judged}
+use Rattle.rl_woven_log.specs.Turns.{WeavesScript}
+use Rattle.rl_woven_log.specs.WeaveLog.{counting, weave_log, woven_from}
 use Rattle.rl_play.proofs.EndingLemmas.{tells_none, tells_front, tells_later, front_of_none, incomplete, not_sink_fault, tells_written}
 
 -- ---- what was told
@@ -239,6 +243,76 @@ pub played_of : (o : Option Ending) (status : Status) (old new : Option (List �
 played_of None status old new counts m a st h = tt
 played_of (Some e) status old new counts m a st h =
     λ c. let o = h.whole c in record { status_is = o.status_is; counts_are = o.counts_are; after = o.after }
+
+-- ---- `weave`
+
+pub weaves_early : (n : ℕ) (left : Option (List ℕ)) (adapters : List Standing) (status : Status) (old new : Option (List ℕ))
+    (now : List Standing) → is_complete status ≡ false → Keeps old new
+    → IfSome left (λ bytes. IsJudged (woven_judged n bytes adapters) status old new now)
+weaves_early n None adapters status old new now early h = tt
+weaves_early n (Some bytes) adapters status old new now early h =
+    told_early (woven_judged n bytes adapters) status old new now early h
+
+pub weaves_stopped : (n : ℕ) (left : Option (List ℕ)) (adapters : List Standing) (status : Status)
+    (old new : Option (List ℕ)) → IfSome left (λ bytes. Stops (opening_of bytes (kinds_of adapters)) status old new)
+    → IfSome left (λ bytes. IsJudged (woven_judged n bytes adapters) status old new adapters)
+weaves_stopped n None adapters status old new s = tt
+weaves_stopped n (Some bytes) adapters status old new s =
+    told_stops (λ o. woven_by n o bytes adapters) (opening_of bytes (kinds_of adapters)) status old new adapters
+    (λ line. refl) s
+
+woven_told : (n : ℕ) (input : Option (List ℕ)) (rest : List ℕ) (desc : DescData) (status : Status)
+    (old new : Option (List ℕ)) (adapters now : List Standing) → input ≡ Some rest
+    → IfSome input (λ bytes. IsJudged (woven_script_judged n desc bytes adapters) status old new now)
+    → IsJudged (woven_script_judged n desc rest adapters) status old new now
+woven_told n input rest desc status old new adapters now is h =
+    subst (λ o. IfSome o (λ bytes. IsJudged (woven_script_judged n desc bytes adapters) status old new now)) is h
+
+pub weaves_opened : (n : ℕ) (left input : Option (List ℕ)) (adapters now : List Standing) (desc : DescData) (status : Status)
+    (old mid new : Option (List ℕ)) → IfSome left (λ bytes. opening_of bytes (kinds_of adapters) ≡ Ok desc)
+    → IfSome left (λ bytes. input ≡ Some (behind (separator_at bytes) bytes)) → Keeps old mid
+    → IfSome input (λ bytes. IsJudged (woven_script_judged n desc bytes adapters) status mid new now)
+    → IfSome left (λ bytes. IsJudged (woven_judged n bytes adapters) status old new now)
+weaves_opened n None input adapters now desc status old mid new is rest same t = tt
+weaves_opened n (Some bytes) input adapters now desc status old mid new is rest same t =
+    let told = woven_told n input (behind (separator_at bytes) bytes) desc status mid new adapters now rest t in
+    subst (λ o. IsJudged (woven_by n o bytes adapters) status old new now) (sym is)
+    (told_later (woven_by n (Ok desc) bytes adapters) status old mid new now same told)
+
+weave_started : (n : ℕ) (bytes : List ℕ) (desc : DescData) (adapters : List Standing) (m : ModelData) (st : State)
+    (counts : Counts) → counts ≡ no_counts → IsAt m adapters (Some st) (first_world desc adapters)
+    → woven_from 1 (counting n counts (world m adapters st)) (lines_of bytes)
+    ≡ weave_log n (first_world desc adapters) (lines_of bytes)
+weave_started n bytes desc adapters m st counts none h =
+    ap (λ c. woven_from 1 (counting n c (world m adapters st)) (lines_of bytes)) none
+    ∙ ap (λ m. woven_from 1 (counting n no_counts (world m adapters st)) (lines_of bytes)) h.model_is
+    ∙ ap (λ st. woven_from 1 (counting n no_counts (world (first_world desc adapters).model adapters st)) (lines_of bytes))
+    (some_is h.device_is)
+  where
+    some_is : {x y : State} → Some x ≡ Some y → x ≡ y
+    some_is e = cc
+
+pub weave_early : (n : ℕ) (input : Option (List ℕ)) (desc : DescData) (adapters now : List Standing) (status : Status)
+    (old new : Option (List ℕ)) → is_complete status ≡ false → Keeps old new
+    → IfSome input (λ bytes. IsJudged (woven_script_judged n desc bytes adapters) status old new now)
+weave_early n None desc adapters now status old new early h = tt
+weave_early n (Some bytes) desc adapters now status old new early h =
+    told_early (woven_script_judged n desc bytes adapters) status old new now early h
+
+pub weave_told : (n : ℕ) (input : Option (List ℕ)) (desc : DescData) (adapters now : List Standing) (m k : ModelData)
+    (st : State) (after : Option State) (counts last : Counts) (status : Status) (old new : Option (List ℕ))
+    → counts ≡ no_counts → IsAt m adapters (Some st) (first_world desc adapters)
+    → WeavesScript n (moment m adapters (Some st) old counts) input (moment k now after new last) status
+    → IfSome input (λ bytes. IsJudged (woven_script_judged n desc bytes adapters) status old new now)
+weave_told n None desc adapters now m k st after counts last status old new none here h = tt
+weave_told n (Some bytes) desc adapters now m k st after counts last status old new none here h =
+    let e = weave_log n (first_world desc adapters) (lines_of bytes) in
+    let ends : EndsAs e status old new last k now after = subst (λ e. EndsAs e status old new last k now after)
+    (weave_started n bytes desc adapters m st counts none here) h in
+    record {
+      tells = record { whole = λ c. let o = ends.whole c in (o.status_is, o.text); part = ends.part };
+      adapters_are = λ c. (ends.whole c).after.adapters_are;
+    }
 
 -- ---- what is written in the end
 

@@ -10,7 +10,8 @@ use Rattle.rl_play.proofs.FaultLemmas.{same_status}
 use Rattle.rl_plain_log.specs.PlainLog.{IsPlainLog}
 use Rattle.rl_session.specs.Judged.{judged, map_judged, soak_judged}
 use Rattle.regrun.specs.declared.words.Built.{Built}
-use Rattle.regrun.specs.declared.words.Built.TheVariants.{Run, Map, Soak}
+use Rattle.regrun.specs.declared.words.Built.TheVariants.{Run, Map, Soak, Weave}
+use Rattle.rl_woven_log.specs.Judged.{woven_judged}
 use Rattle.regrun.specs.Output.{Output, WritesJudged, BreaksOff}
 use Rattle.regrun.specs.Task.{Does}
 use Rattle.regrun.proofs.BreakLemmas.{off_written}
@@ -30,6 +31,7 @@ run_does task status input left before after is run plain fault kinds = record {
   map_status = λ t. absurd (cc);
   soak = λ n t. absurd (cc);
   soak_status = λ n t. absurd (cc);
+  weave = λ n t. absurd (cc);
   kinds = kinds;
 }
 
@@ -44,6 +46,7 @@ map_does task status input left before after is map none_found kinds = record {
   map_status = λ t. none_found;
   soak = λ n t. absurd (cc);
   soak_status = λ n t. absurd (cc);
+  weave = λ n t. absurd (cc);
   kinds = kinds;
 }
 
@@ -58,6 +61,22 @@ soak_does task n status input left before after is soak unread kinds = record {
   map_status = λ t. absurd (cc);
   soak = λ k t. let same : n ≡ k = cc in rw (← same) soak;
   soak_status = λ k t. unread;
+  weave = λ k t. absurd (cc);
+  kinds = kinds;
+}
+
+pub weave_does : (task : Built) (n : ℕ) (status : Status) (input left : Option (List ℕ)) (before after : Output)
+    → task ≡ Weave n → IfSome input (λ bytes. WritesJudged (woven_judged n bytes) status before after)
+    → kinds_of after.adapters ≡ kinds_of before.adapters → Does task status input left before after
+weave_does task n status input left before after is weave kinds = record {
+  run = λ t. absurd (cc);
+  plain = λ t. absurd (cc);
+  at_fault = λ t. absurd (cc);
+  map = λ t. absurd (cc);
+  map_status = λ t. absurd (cc);
+  soak = λ k t. absurd (cc);
+  soak_status = λ k t. absurd (cc);
+  weave = λ k t. let same : n ≡ k = cc in rw (← same) weave;
   kinds = kinds;
 }
 
@@ -80,5 +99,6 @@ does_written task status result input left old told new kept before after same k
   map_status = λ t is. d.map_status t (sym (same (λ e. let f : Found ≡ SinkFault = sym is ∙ e in absurd (cc))) ∙ is);
   soak = λ n t. judged_written (soak_judged n before) status result old told new kept after same keeps held whole (d.soak n t);
   soak_status = λ n t is. d.soak_status n t (same_status status result same is);
+  weave = λ n t. all_written input (λ bytes. woven_judged n bytes before) status result old told new kept after same keeps held whole (d.weave n t);
   kinds = d.kinds;
 }

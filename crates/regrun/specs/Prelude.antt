@@ -24,3 +24,5 @@ pub use Rattle.rl_session.specs.Judged.{judged, map_judged, script_judged, soak_
 pub use Rattle.rl_session.specs.Refusals.{description_refused_text}
 pub use Rattle.rl_session.specs.Session.{behind, head_of, opening_after, opening_of}
 pub use Rattle.rl_session.specs.Soak.{soak_line_text}
+pub use Rattle.rl_play.specs.Moment.{moment_of}
+pub use Rattle.rl_woven_log.specs.Judged.{woven_judged, woven_script_judged}

@@ -7,7 +7,8 @@ use Rattle.rl_log.specs.Statuses.{is_complete}
 use Rattle.rl_session.specs.Judged.{judged, map_judged, soak_judged}
 use Rattle.rl_plain_log.specs.PlainLog.{IsPlainLog}
 use Rattle.regrun.specs.declared.words.Built.{Built}
-use Rattle.regrun.specs.declared.words.Built.TheVariants.{Run, Map, Soak}
+use Rattle.regrun.specs.declared.words.Built.TheVariants.{Run, Map, Soak, Weave}
+use Rattle.rl_woven_log.specs.Judged.{woven_judged}
 use Rattle.regrun.specs.Output.{Output, WritesJudged, BreaksOff}
 
 pub record Does (task : Built) (status : Status) (input left : Option (List ℕ)) (before after : Output) : Type 0 where
@@ -22,4 +23,6 @@ pub record Does (task : Built) (status : Status) (input left : Option (List ℕ)
   -- `soak` writes its line, and reads no source
   pub soak : (n : ℕ) → task ≡ Soak n → WritesJudged (soak_judged n) status before after
   pub soak_status : (n : ℕ) → task ≡ Soak n → status ≢ SourceFault
+  -- `weave` writes the log with its words drawn from the number on
+  pub weave : (n : ℕ) → task ≡ Weave n → IfSome input (λ bytes. WritesJudged (woven_judged n bytes) status before after)
   pub kinds : kinds_of after.adapters ≡ kinds_of before.adapters

@@ -26,13 +26,13 @@ task_of (word ∷ []) = task_named word
 task_of (word ∷ number ∷ []) = numbered_task word (number_of number)
 task_of (word ∷ number ∷ other ∷ others) = None
 
--- what is built of it: not `weave`
+-- what is built of it
 abbrev pub built : Option Task → Option Built
 built None = None
 built (Some Run) = Some is.Run
 built (Some Map) = Some is.Map
 built (Some (Soak n)) = Some (is.Soak n)
-built (Some (Weave n)) = None
+built (Some (Weave n)) = Some (is.Weave n)
 
 abbrev pub task_built : List (List ℕ) → Option Built
 task_built words = built (task_of words)

@@ -3,6 +3,7 @@
 
 mod soaking;
 mod top;
+mod weaving;
 mod words;
 
 pub use rl_log::{Counts, Status};

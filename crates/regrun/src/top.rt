@@ -2,9 +2,10 @@
 ghost use Rattle.std.specs.Prelude.{◌≡◌, ◌≢◌, ℕ, ◌≤◌, ◌<◌, ◌^◌, ◌↔◌, List, [], None, Some, Ok, Err, map, length, true, false, OnOk, IfOk, IfErr, IfSome};
 ghost use Rattle.std.specs.Io.KnownBytes.{Keeps};
 ghost use Rattle.std.specs.declared.option.Option.{Option};
-ghost use Rattle.regrun.specs.Prelude.{IsModel, Rose, Standing, kinds_of, IsCaused, NoneFailed, KeepsEarlier, judged, map_judged, script_judged, soak_judged, output_of, BreaksOff, WritesJudged, Does, behind, first_world, IsPlainLog, IsSteadyOpening, WritesPlainLog, BreaksAfter, description_refused_text, head_of, opening_after, opening_of, is_complete, Tells, Stops, told, asked_by, AdapterKind, layout_text, IsBuiltWith, separator_at, FindsHead, TakesNoHead, input_of, AreFlawsOf};
+ghost use Rattle.regrun.specs.Prelude.{IsModel, Rose, Standing, kinds_of, IsCaused, NoneFailed, KeepsEarlier, judged, map_judged, script_judged, soak_judged, woven_judged, output_of, BreaksOff, WritesJudged, Does, behind, first_world, IsPlainLog, IsSteadyOpening, WritesPlainLog, BreaksAfter, description_refused_text, head_of, opening_after, opening_of, is_complete, Tells, Stops, told, asked_by, AdapterKind, layout_text, IsBuiltWith, separator_at, FindsHead, TakesNoHead, input_of, AreFlawsOf};
 
 use crate::soaking::put_soak;
+use crate::weaving::weave;
 use crate::words::{Built, task_built};
 use rl_bus::{Adapter, Adapters};
 use rl_desc::{Desc, DescFault};
@@ -370,6 +371,7 @@ fn perform_task<S: Source, L: Log>(
         Built::Run => run(alloc, source, out, adapters),
         Built::Map => show_layout(alloc, source, out, adapters),
         Built::Soak(n) => put_soak(alloc, n, out, adapters),
+        Built::Weave(n) => weave(alloc, n, source, out, adapters),
     }
 }
 
@@ -405,10 +407,11 @@ fn run_task<S: Source, K: Sink, E: Earlier>(
 /// Does all that the program does, by its words.
 ///
 /// `run` reads a session from the source and writes its log to the sink; `map` reads a description and writes where
-/// its items stand; `soak` and a number makes a session from the number, runs it and writes one line. The device is
-/// made from the session, with the flaws that it declares. The adapter of each root map is the first of its name.
-/// A source that fails ends the call with `SourceFault`, and a sink that fails with `SinkFault`. The output is
-/// finished once, where the last line was written. `weave` isn't built yet, and is answered as other words are.
+/// its items stand; `soak` and a number makes a session from the number, runs it and writes one line; `weave` and a number
+/// runs a session of other masters' accesses group by group, with the words of each group drawn by a generator that
+/// begins at the number. The device is made from the session, with the flaws that it declares. The adapter of each
+/// root map is the first of its name. A source that fails ends the call with `SourceFault`, and a sink that fails with
+/// `SinkFault`. The output is finished once, where the last line was written.
 pub fn regrun<S: Source, K: Sink>(
     alloc: Global,
     words: &[String],
@@ -446,6 +449,14 @@ pub fn regrun<S: Source, K: Sink>(
         → WritesJudged (soak_judged n) result
         (output_of K.written standing sink.old adapters.old.items)
         (output_of K.written standing sink.new adapters.new.items) }
+
+    // Where the source tells its bytes, `weave` writes the log of the session with its words drawn from the number on,
+    // and answers its status: the adapters then stand as its items leave them. After any fault, and where memory ran out,
+    // it wrote a front of that.
+    ensures weave { (n : ℕ) → asked_by words.now ≡ Some (Built.Weave n) → IfSome (S.left source.old) (λ bytes.
+        WritesJudged (woven_judged n bytes) result
+        (output_of K.written standing sink.old adapters.old.items)
+        (output_of K.written standing sink.new adapters.new.items)) }
 
     // After a source that failed, the sink has exactly the log of the lines of `run` that were taken whole.
     ensures at_fault { asked_by words.now ≡ Some Built.Run → result ≡ Status.SourceFault

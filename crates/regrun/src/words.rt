@@ -60,6 +60,7 @@ pub(crate) enum Built {
     Run,
     Map,
     Soak(u64),
+    Weave(u64),
 }
 
 // What is built of what the words ask for.
@@ -70,6 +71,7 @@ pub(crate) fn task_built(words: &[String]) -> Option<Built>
         Some(Task::Run) => Some(Built::Run),
         Some(Task::Map) => Some(Built::Map),
         Some(Task::Soak(n)) => Some(Built::Soak(n)),
-        Some(Task::Weave(_)) | None => None,
+        Some(Task::Weave(n)) => Some(Built::Weave(n)),
+        None => None,
     }
 }

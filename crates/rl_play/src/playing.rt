@@ -17,15 +17,17 @@ use std::marker::Brand;
 
 const MOST_LINES: u64 = 1_000_000;
 
-// What comes of a line.
+/// What comes of a line.
 #[derive(Clone, Copy)]
-enum Turn {
+pub enum Turn {
+    /// The script goes on.
     Next,
+    /// It ended, with this status.
     Stop(Status),
 }
 
-// Takes the next line. What was written before is out before the source is read.
-fn take_line<S: Source, L: Log>(
+/// Takes the next line. What was written before is out before the source is read.
+pub fn take_line<S: Source, L: Log>(
     lines: &mut LineReader,
     source: &mut S,
     out: &mut L,
@@ -78,8 +80,8 @@ fn status_at_end(counts: &Counts) -> Status
     }
 }
 
-// Ends a script whose lines were all run.
-fn end<L: Log>(counts: &Counts, out: &mut L) -> Status
+/// Ends a script whose lines were all run.
+pub fn end<L: Log>(counts: &Counts, out: &mut L) -> Status
     ensures tells { Tells result (end_status counts.now) (L.written out.old) (L.written out.new) (end_text counts.now) }
     ensures counted { IsCounted result counts.now }
     ensures sink_later { L.faults out.old ≤ L.faults out.new }
@@ -191,14 +193,16 @@ fn run_taken<D: Device, L: Log>(
     run_read(number, line, &read, model, device, adapters, out, counts)
 }
 
-fn is_too_long(got: Got) -> bool
+/// Whether a line has more than 4,096 bytes.
+pub fn is_too_long(got: Got) -> bool
     ensures long { result ≡ true → got ≡ Got.TooLong }
     ensures short { result ≡ false → got ≢ Got.TooLong }
 {
     matches!(got, Got::TooLong)
 }
 
-fn is_end(got: Got) -> bool
+/// Whether there is no further line.
+pub fn is_end(got: Got) -> bool
     ensures end { result ≡ true → got ≡ Got.End }
     ensures more { result ≡ false → got ≢ Got.End }
 {

@@ -8,8 +8,8 @@ ghost use Rattle.rl_play.specs.Commands.{is_on_bus, is_on_field, is_on_memory, i
 use rl_access::{Model, Op};
 use rl_script::{IdentRef, Item, ItemLine, LineRef, PathRef};
 
-// The map that is asked for, if one is. None where it isn't there.
-pub(crate) fn map_asked(model: &Model, name: &Option<IdentRef<'_>>) -> Option<Option<u32>>
+/// The map that is asked for, if one is. None where it isn't there.
+pub fn map_asked(model: &Model, name: &Option<IdentRef<'_>>) -> Option<Option<u32>>
     ensures named { result ≡ map_asked model.now.layout name.now }
     ensures in_range { IfSome result (IsMapIn (length model.now.layout.maps)) }
 {
@@ -36,7 +36,8 @@ fn field_at(model: &Model, path: &PathRef<'_>) -> Option<u32>
     model.chip().field_by_path(path.text())
 }
 
-pub(crate) fn mem_at(model: &Model, path: &PathRef<'_>) -> Option<u32>
+/// The memory of a path, if it is there.
+pub fn mem_at(model: &Model, path: &PathRef<'_>) -> Option<u32>
     ensures named { result ≡ mem_named model.now.chip path.now }
     ensures in_range { IfSome result (λ n. n < length model.now.chip.mems) }
 {
@@ -275,8 +276,8 @@ fn item_op(model: &Model, line: &ItemLine<'_>) -> Option<Op>
     }
 }
 
-// The operation of a line, if its names are there.
-pub(crate) fn op_of(model: &Model, line: &LineRef<'_>) -> Option<Op>
+/// The operation of a line, if its names are there.
+pub fn op_of(model: &Model, line: &LineRef<'_>) -> Option<Op>
     ensures named { result ≡ op_named model.now (line_said line.now) }
     ensures numbers { IfSome result (HasNumbers model.now.chip (length model.now.layout.maps)) }
     ensures single { IfSome result (λ op. is_single op ≡ true) }
@@ -290,8 +291,8 @@ pub(crate) fn op_of(model: &Model, line: &LineRef<'_>) -> Option<Op>
     }
 }
 
-// The block that a sequence goes over: none stands for the whole chip. None where it isn't there.
-pub(crate) fn block_asked(model: &Model, path: &Option<PathRef<'_>>) -> Option<Option<u32>>
+/// The block that a sequence goes over: none stands for the whole chip. None where it isn't there.
+pub fn block_asked(model: &Model, path: &Option<PathRef<'_>>) -> Option<Option<u32>>
     ensures named { result ≡ block_asked model.now.chip path.now }
     ensures in_range { IfSome result (λ block. IfSome block (λ b. b < model.now.chip.blocks)) }
 {

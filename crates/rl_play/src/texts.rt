@@ -29,8 +29,8 @@ fn reason(refusal: LineRefusal) -> &'static [u8]
     }
 }
 
-// Why a line that doesn't read is refused, or none where memory ran out.
-pub(crate) fn refusal_of(fault: LineFault) -> Option<LineRefusal>
+/// Why a line that doesn't read is refused, or none where memory ran out.
+pub fn refusal_of(fault: LineFault) -> Option<LineRefusal>
     ensures refusal { fault ≢ LineFault.Memory → result ≡ Some (refused_by fault) }
     ensures memory { fault ≡ LineFault.Memory → result ≡ None }
 {
@@ -47,8 +47,8 @@ pub(crate) fn refusal_of(fault: LineFault) -> Option<LineRefusal>
     }
 }
 
-// Writes that a line was refused.
-pub(crate) fn put_line_refused<K: Sink>(
+/// Writes that a line was refused.
+pub fn put_line_refused<K: Sink>(
     sink: &mut K,
     number: u64,
     refusal: LineRefusal,

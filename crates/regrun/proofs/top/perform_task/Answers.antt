@@ -1,6 +1,6 @@
 use Rattle.std.proofs.Common.{refl}
 use Rattle.rl_play.proofs.FaultLemmas.{no_source}
-use Rattle.regrun.proofs.TaskLemmas.{run_does, map_does, soak_does}
+use Rattle.regrun.proofs.TaskLemmas.{run_does, map_does, soak_does, weave_does}
 use Rattle.regrun.proofs.top.perform_task.Goals as goal
 
 pub returns-in-Run-clause-does : goal.returns-in-Run-clause-does
@@ -14,3 +14,7 @@ returns-in-Map-clause-does g c =
 pub returns-in-Soak-clause-does : goal.returns-in-Soak-clause-does
 returns-in-Soak-clause-does g c =
     let e = c.put_soak.ensures in soak_does _ _ _ _ _ _ _ c.in-Soak.is e.tells (no_source _ _ _ e.cause) e.kinds
+
+pub returns-in-Weave-clause-does : goal.returns-in-Weave-clause-does
+returns-in-Weave-clause-does g c =
+    let e = c.weave.ensures in weave_does _ _ _ _ _ _ _ c.in-Weave.is e.tells e.kinds

@@ -21,6 +21,12 @@ returns-clause-soak g c = λ n asked.
     let is : c.in-Some.task ≡ built.Soak n = cc in
     c.run_task.ensures.does.soak n is
 
+pub returns-clause-weave : goal.returns-clause-weave
+returns-clause-weave g c = λ n asked.
+    let found = sym c.in-Some.is ∙ c.task_built.ensures ∙ asked in
+    let is : c.in-Some.task ≡ built.Weave n = cc in
+    c.run_task.ensures.does.weave n is
+
 pub returns-clause-at_fault : goal.returns-clause-at_fault
 returns-clause-at_fault g c = λ asked is.
     let found = sym c.in-Some.is ∙ c.task_built.ensures ∙ asked in

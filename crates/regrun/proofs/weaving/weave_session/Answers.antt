@@ -1,0 +1,15 @@
+use Rattle.std.proofs.Common.{map, refl}
+use Rattle.rl_log.specs.declared.status.Status.TheVariants.{Memory}
+use Rattle.rl_play.proofs.BufferLemmas.{keeps_refl}
+use Rattle.regrun.proofs.JudgedLemmas.{weave_early, weave_told}
+use Rattle.regrun.proofs.weaving.weave_session.Goals as goal
+
+pub returns-in_default-clause-tells : goal.returns-in_default-clause-tells
+returns-in_default-clause-tells g c =
+    let here = (map (λ b. (goal.Adapter-dyn g (b.vtable, b.value)).standing b.value) c.args.adapters.now.items) in
+    let text = g.L.Sink.written c.args.out.now in
+    weave_early c.args.n _ c.args.desc here here Memory text text refl (keeps_refl text)
+
+pub returns-clause-tells : goal.returns-clause-tells
+returns-clause-tells g c =
+    weave_told c.args.n _ c.args.desc _ _ _ _ _ _ _ _ _ _ _ c.new-counts.ensures (c.in-Ok.ensures.first _) c.weave_lines.ensures.log

@@ -1,0 +1,44 @@
+use Rattle.std.proofs.Common.{◌+◌, ◌-◌, arith, refl, ◌∙◌}
+use Rattle.rl_woven_log.proofs.Words.{begun, none_open, set, some_open, words_all, words_most, words_next, words_stop}
+use Rattle.rl_woven_log.proofs.group.run_words.Goals as goal
+
+pub loop-k-init : goal.loop-k-init
+loop-k-init g c = record {
+  ready = c.requires.ready;
+  parts = record { chip = refl; layout = refl };
+  weave = c.requires.weave;
+  sent = begun 512 (set _ _ _ _ _ _ _) _ refl;
+  later = omega arith;
+  ends_kept = refl;
+  same_target = refl;
+}
+
+pub loop-k-preserved : goal.loop-k-preserved
+loop-k-preserved g c =
+    let i = c.loop-k.invariant in
+    let e = c.in_ok-run_word.ensures in
+    record {
+      ready = e.ready;
+      parts = record { chip = e.parts.chip ∙ i.parts.chip; layout = e.parts.layout ∙ i.parts.layout };
+      weave = e.weave;
+      sent = words_next _ _ _ _ _ _ _ _ 512 (512 - c.loop-k.k) (512 - (c.loop-k.k + 1)) _ (set _ _ _ _ _ _ _) _ _ (omega arith) i.sent
+          (some_open _ _ c.open_count.ensures.count (omega (arith, c.if-open_count-eq0.false))) e.writes;
+      later = omega (arith, e.cause.later);
+      ends_kept = e.ends_kept ∙ i.ends_kept;
+      same_target = e.same_target ∙ i.same_target;
+    }
+
+pub returns-then-open_count-eq0-clause-writes : goal.returns-then-open_count-eq0-clause-writes
+returns-then-open_count-eq0-clause-writes g c =
+    words_all _ _ _ _ _ _ _ _ 512 _ _ (set _ _ _ _ _ _ _) _ c.loop-k.invariant.sent
+    (none_open _ _ c.open_count.ensures.count (omega (arith, c.if-open_count-eq0.true)))
+
+pub returns-in_err-run_word-clause-writes : goal.returns-in_err-run_word-clause-writes
+returns-in_err-run_word-clause-writes g c =
+    words_stop _ _ _ _ _ _ _ _ 512 (512 - c.loop-k.k) (512 - (c.loop-k.k + 1)) _ (set _ _ _ _ _ _ _) _ _ _ c.from_residual.ensures.0 (omega arith)
+    c.loop-k.invariant.sent (some_open _ _ c.open_count.ensures.count (omega (arith, c.if-open_count-eq0.false)))
+    c.in_err-run_word.ensures.writes
+
+pub returns-clause-writes : goal.returns-clause-writes
+returns-clause-writes g c =
+    words_most _ _ _ _ _ _ _ _ 512 (512 - c.loop-k.k) _ (set _ _ _ _ _ _ _) _ (omega arith) c.loop-k.invariant.sent

@@ -1,0 +1,20 @@
+-- What `weave` writes of a session, how it ends, and how the adapters stand afterwards.
+use Rattle.std.specs.Prelude.{ℕ, List, Result, Ok, Err}
+use Rattle.rl_bus.specs.Standing.{Standing, kinds_of}
+use Rattle.rl_desc.specs.Data.{DescData}
+use Rattle.rl_report.specs.Lines.{lines_of}
+use Rattle.rl_session.specs.Judged.{Judged, refused, ending_judged, first_world}
+use Rattle.rl_session.specs.Session.{opening_of, script_of}
+use Rattle.rl_woven_log.specs.WeaveLog.{weave_log}
+
+-- a script, from the first world of a description on
+abbrev pub woven_script_judged : (n : ℕ) → DescData → (script : List ℕ) → List Standing → Judged
+woven_script_judged n desc script adapters = ending_judged (weave_log n (first_world desc adapters) (lines_of script))
+
+abbrev pub woven_by : (n : ℕ) → Result DescData (List ℕ) → List ℕ → List Standing → Judged
+woven_by n (Ok desc) bytes adapters = ending_judged (weave_log n (first_world desc adapters) (script_of bytes))
+woven_by n (Err line) bytes adapters = refused line adapters
+
+-- the log of a session whose draws begin at n
+abbrev pub woven_judged : (n : ℕ) → List ℕ → List Standing → Judged
+woven_judged n bytes adapters = woven_by n (opening_of bytes (kinds_of adapters)) bytes adapters

@@ -1,0 +1,92 @@
+-- What was written of a line and of a script, against what they come to.
+use Rattle.std.specs.Prelude.{◌≡◌, ℕ, ◌+◌, List, false, Option, Some, None, IfSome, Result, Ok, Err}
+use Rattle.std.specs.Io.KnownBytes.{Appends}
+use Rattle.rl_access.specs.World.{World, world}
+use Rattle.rl_bus.specs.State.{State}
+use Rattle.rl_log.specs.declared.refusal.LineRefusal.{LineRefusal}
+use Rattle.rl_log.specs.declared.status.Status.{Status}
+use Rattle.rl_log.specs.Log.{Ending}
+use Rattle.rl_log.specs.Statuses.{is_complete}
+use Rattle.rl_play.specs.declared.playing.Turn.{Turn}
+use Rattle.rl_play.specs.declared.playing.Turn.TheVariants.{Next, Stop}
+use Rattle.rl_play.specs.Played.{EndsAs, PassesTo}
+use Rattle.rl_report.specs.Lines.{lines_of}
+use Rattle.rl_report.specs.Pieces.{AppendsFront}
+use Rattle.rl_script.specs.declared.line.Line.{Line}
+use Rattle.rl_weave.specs.Weave.{empty}
+use Rattle.rl_woven_log.specs.declared.refusal.WovenRefusal.{WovenRefusal}
+use Rattle.rl_woven_log.specs.Setting.{Setting, weaving_at, IsAtWeaving}
+use Rattle.rl_play.specs.Moment.{Moment}
+use Rattle.rl_woven_log.specs.WeaveLog.{Weaving, Part, comes_of, finished, group, stops, woven_from}
+
+-- it came to its last line, or a front of its text was written
+abbrev pub EndsSo : Ending → Status → (old : Option (List ℕ)) → (after : Setting) → Type 0
+EndsSo e status old after = EndsAs e status old after.text after.counts after.model after.adapters after.device
+
+-- ---- a turn
+
+-- the line was taken in, and its text written
+pub record WentOn (comes : Result Part WovenRefusal) (old : Option (List ℕ)) (after : Setting) : Type 0 where
+  pub part : Part
+  pub is : comes ≡ Ok part
+  pub text : Appends old after.text part.text
+  pub left : IsAtWeaving after part.after
+
+-- the script ended at it
+pub record Stopped (number : ℕ) (comes : Result Part WovenRefusal) (g : Weaving) (status : Status)
+    (old : Option (List ℕ)) (after : Setting) : Type 0 where
+  pub refused : (why : WovenRefusal) → comes ≡ Err why → EndsSo (stops number why g) status old after
+  pub broken : (p : Part) → comes ≡ Ok p → (is_complete status ≡ false) × AppendsFront old after.text p.text
+
+abbrev pub IsTurn : (number : ℕ) → Result Part WovenRefusal → Weaving → (old : Option (List ℕ)) → (after : Setting)
+    → Turn → Type 0
+IsTurn number comes g old after Next = WentOn comes old after
+IsTurn number comes g old after (Stop status) = Stopped number comes g status old after
+
+-- the line of that number, which says this, was taken in, or the script ended at it
+abbrev pub Takes : (number : ℕ) → (says : Result Line LineRefusal) → (before after : Setting) → Turn → Type 0
+Takes number says before after turn = IfSome before.device (λ d.
+    IsTurn number (comes_of (weaving_at before d) says) (weaving_at before d) before.text after turn)
+
+-- ---- a script
+
+-- what the lines of an input come to, where the device tells its state and the source its bytes
+abbrev pub coming : (number : ℕ) → Setting → (device : Option State) → (input : Option (List ℕ)) → Option Ending
+coming number s (Some d) (Some bytes) = Some (woven_from number (weaving_at s d) (lines_of bytes))
+coming number s (Some d) None = None
+coming number s None input = None
+
+abbrev pub to_come : (number : ℕ) → Setting → (input : Option (List ℕ)) → Option Ending
+to_come number s input = coming number s s.device input
+
+-- one line was taken in, and the script is the rest
+abbrev pub GoesOn : (number : ℕ) (before : Setting) (input : Option (List ℕ)) (after : Setting) (rest : Option (List ℕ)) → Type 0
+GoesOn number before input after rest =
+    IfSome (to_come number before input) (λ e. PassesTo e (to_come (number + 1) after rest) before.text after.text)
+
+-- the script ended, with its whole log, or with a front of it
+abbrev pub Ends : (number : ℕ) → (before : Setting) → (input : Option (List ℕ)) → (after : Setting) → Status → Type 0
+Ends number before input after status =
+    IfSome (to_come number before input) (λ e. EndsSo e status before.text after)
+
+-- the last group was run, and the last line was written
+abbrev pub EndsGroup : (before after : Setting) → Status → Type 0
+EndsGroup before after status = IfSome before.device (λ d.
+    EndsSo (finished (group (weaving_at before d))) status before.text after)
+
+-- no access yet, and the generator begins at n
+abbrev pub first_setting : (n : ℕ) → Moment → Setting
+first_setting n before = record {
+  weave = empty;
+  model = before.model;
+  adapters = before.adapters;
+  device = before.device;
+  drawing = n;
+  text = before.text;
+  counts = before.counts;
+}
+
+-- a whole script came to its last line, or a front of its log was written
+abbrev pub WeavesScript : (n : ℕ) → (before : Moment) → (input : Option (List ℕ)) → (after : Moment) → Status → Type 0
+WeavesScript n before input after status = IfSome (to_come 1 (first_setting n before) input) (λ e.
+    EndsAs e status before.text after.text after.counts after.model after.adapters after.device)

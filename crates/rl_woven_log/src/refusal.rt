@@ -1,0 +1,71 @@
+//! Why a line of a woven script is refused.
+ghost use Rattle.std.specs.Prelude.{◌≡◌};
+ghost use Rattle.rl_bus.specs.Causes.{HasCause};
+ghost use Rattle.rl_report.specs.Pieces.{Puts};
+ghost use Rattle.rl_woven_log.specs.Refusals.{further_reason, refused_so_text, refused_woven_text};
+
+use itoa::Buffer;
+use rl_log::LineRefusal;
+use rl_play::put_line_refused;
+use rl_report::{Failed, Sink, put_pieces};
+use rl_weave::WeaveFault;
+
+/// Why a line of a woven script is refused, in the order in which the causes are tested.
+#[derive(Clone, Copy, Debug, PartialEq, Eq)]
+pub enum WovenRefusal {
+    /// It is refused in any script.
+    Line(LineRefusal),
+    /// A command other than `other-write` and `other-read`.
+    NotWoven,
+    /// The access isn't added to its group.
+    Access(WeaveFault),
+}
+
+fn further_reason(fault: WeaveFault) -> &'static [u8]
+    ensures { result.now ≡ further_reason fault }
+{
+    match fault {
+        WeaveFault::TooMany => b"too many in group",
+        WeaveFault::NotPlaced => b"not placed",
+        WeaveFault::NotObserved => b"not observed",
+        WeaveFault::NoRight => b"no right",
+        WeaveFault::TooWide => b"too wide",
+        WeaveFault::SameRegister { .. } => b"same register",
+    }
+}
+
+/// Writes that a line was refused for this reason.
+fn put_refused_so<K: Sink>(sink: &mut K, number: u64, reason: &[u8]) -> Result<(), Failed>
+    ensures bytes { Puts (K.written sink.old) (K.written sink.new) (refused_so_text number reason.now) result }
+    ensures cause { HasCause (K.faults sink.old) (K.faults sink.new) result }
+    ensures ends_kept { K.ends sink.new ≡ K.ends sink.old }
+    ensures same_target { K.target sink.new ≡ K.target sink.old }
+{
+    let mut buffer = Buffer::new();
+    let pieces: [&[u8]; 5] = [
+        b"refused line ",
+        buffer.format(number).as_bytes(),
+        b": ",
+        reason,
+        b"\n",
+    ];
+    put_pieces(sink, &pieces)
+}
+
+/// Writes that a line was refused.
+pub(crate) fn put_woven_refused<K: Sink>(
+    sink: &mut K,
+    number: u64,
+    refusal: WovenRefusal,
+) -> Result<(), Failed>
+    ensures bytes { Puts (K.written sink.old) (K.written sink.new) (refused_woven_text number refusal) result }
+    ensures cause { HasCause (K.faults sink.old) (K.faults sink.new) result }
+    ensures ends_kept { K.ends sink.new ≡ K.ends sink.old }
+    ensures same_target { K.target sink.new ≡ K.target sink.old }
+{
+    match refusal {
+        WovenRefusal::Line(refusal) => put_line_refused(sink, number, refusal),
+        WovenRefusal::NotWoven => put_refused_so(sink, number, b"not woven"),
+        WovenRefusal::Access(fault) => put_refused_so(sink, number, further_reason(fault)),
+    }
+}
