@@ -19,8 +19,6 @@ mod parts;
 #[cfg(test)]
 mod sessions;
 #[cfg(test)]
-mod talk;
-#[cfg(test)]
 mod watching;
 #[cfg(test)]
 mod words;

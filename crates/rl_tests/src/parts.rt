@@ -5,7 +5,7 @@ use regrun::{Counts, Status, play, regrun};
 use rl_access::Model;
 use rl_bus::{Adapter, AdapterKind, Adapters, PlainAdapter, kind_of};
 use rl_desc::{Desc, read_description};
-use rl_report::{Head, LineReader, MemSink, MemSource, Sink, Source};
+use rl_report::{Head, LineReader, MemSink, MemSource};
 use std::alloc::{AllocError, Global};
 use std::test::Fail;
 
@@ -58,53 +58,6 @@ fn an_adapter_is_used_by_its_name(rt: HostRuntime) -> Result<(), Fail> {
     Ok(())
 }
 
-// Two adapters of one name, which have sent items before.
-fn two_of_a_name(alloc: Global) -> Result<Adapters, Fail>
-    ensures { IfOk result (λ adapters. length (map standing adapters.items) < 2 ^ 32) }
-{
-    let first = PlainAdapter {
-        next_tag: 40,
-        trail: 0,
-    };
-    let second = PlainAdapter {
-        next_tag: 500,
-        trail: 0,
-    };
-    let mut adapters: Adapters = Vec::new(alloc);
-    adapters.push(Box::new(alloc, first)?)?;
-    adapters.push(Box::new(alloc, second)?)?;
-    Ok(adapters)
-}
-
-const WRITE: &[u8] =
-    b"[[reg]]\nname = 'a'\nbytes = 4\nfield = [{name = 'v', lsb = 0, width = 32, policy = 'RW'}]\n[[map]]\nname = 'bus'\nbytes = 2\n[[place]]\nmap = 'bus'\nitem = 'a'\n---\nwrite a 0x11223344\n";
-
-const WRITE_LOG: &[u8] =
-    b"write a 0x11223344 @bus: ok mirror 0x11223344\n  bus w 0x0 0x3344 11 #40 ok\n  bus w 0x2 0x1122 11 #41 ok\nend: 1 events, 0 differences, 0 bus errors\n";
-
-fn try_first(
-    alloc: Global,
-    words: &[String],
-    source: &mut MemSource,
-    sink: &mut MemSink,
-) -> Result<Status, Fail> {
-    let mut adapters = two_of_a_name(alloc)?;
-    Ok(regrun(alloc, words, source, sink, &mut adapters))
-}
-
-#[test]
-fn the_first_adapter_of_a_name_is_used(rt: HostRuntime) -> Result<(), Fail> {
-    let alloc = rt.alloc();
-    let mut words = Vec::new(alloc);
-    words.push(String::from_str(alloc, "run")?)?;
-    let mut source = MemSource::new(WRITE.to_vec(alloc)?, 64, Vec::new(alloc));
-    let mut sink = MemSink::new(alloc, 64, 4096, Vec::new(alloc))?;
-    let status = try_first(alloc, &words, &mut source, &mut sink)?;
-    assert_eq!(rt; status, Status::Passed);
-    assert_eq!(rt; sink.written(), WRITE_LOG);
-    Ok(())
-}
-
 const REGISTER: &[u8] =
     b"[[reg]]\nname = 'a'\nbytes = 4\nfield = [{name = 'v', lsb = 0, width = 32, policy = 'RW'}]\n[[map]]\nname = 'bus'\nbytes = 2\n[[place]]\nmap = 'bus'\nitem = 'a'\n";
 
@@ -130,7 +83,7 @@ fn opened(alloc: Global, kind: AdapterKind) -> Result<Model, Fail>
 }
 
 // A reader that is past the separator.
-fn reader<S: Source>(alloc: Global, source: &mut S) -> Result<LineReader, Fail>
+fn reader(alloc: Global, source: &mut MemSource) -> Result<LineReader, Fail>
     ensures { IfOk result (λ lines. (lines.found ≡ true) × (lines.refused ≡ false)) }
 {
     let mut lines = LineReader::build(alloc)?;
@@ -142,10 +95,10 @@ fn reader<S: Source>(alloc: Global, source: &mut S) -> Result<LineReader, Fail>
 }
 
 // Plays the lines on a device that fails each third transfer.
-pub(crate) fn try_play<S: Source, K: Sink>(
+fn try_play(
     alloc: Global,
-    source: &mut S,
-    sink: &mut K,
+    source: &mut MemSource,
+    sink: &mut MemSink,
     counts: &mut Counts,
 ) -> Result<Status, Fail> {
     let mut adapters = plain_adapter(alloc)?;
@@ -207,64 +160,5 @@ fn a_device_that_tells_nothing(rt: HostRuntime) -> Result<(), Fail> {
     assert_eq!(rt; status, Status::Found);
     assert_eq!(rt; sink.written(), want(rt.alloc())?.as_bytes());
     assert_eq!(rt; counts, all);
-    Ok(())
-}
-
-// Plays up to a fault of the source, and then goes on with the same reader.
-fn try_play_on(
-    alloc: Global,
-    source: &mut MemSource,
-    sink: &mut MemSink,
-    counts: &mut Counts,
-) -> Result<Status, Fail> {
-    let mut adapters = plain_adapter(alloc)?;
-    let kind = kind_of(&adapters, 0);
-    let mut model = opened(alloc, kind)?;
-    let mut lines = reader(alloc, source)?;
-    let mut device = Wavering::new();
-    let status = play(
-        alloc,
-        &mut model,
-        &mut device,
-        &mut adapters,
-        &mut lines,
-        source,
-        sink,
-        counts,
-    );
-    if status != Status::SourceFault {
-        return Ok(status);
-    }
-    Ok(play(
-        alloc,
-        &mut model,
-        &mut device,
-        &mut adapters,
-        &mut lines,
-        source,
-        sink,
-        counts,
-    ))
-}
-
-const SHOWN: &[u8] =
-    b"show a: ok desired 0x00000000 mirror 0x00000000\nshow a: ok desired 0x00000000 mirror 0x00000000\nshow a: ok desired 0x00000000 mirror 0x00000000\nend: 2 events, 0 differences, 0 bus errors\n";
-
-// The source fails in the midst of a line. The next call goes on with that line, and counts its own events alone.
-#[test]
-fn a_script_goes_on_after_a_fault(rt: HostRuntime) -> Result<(), Fail> {
-    let alloc = rt.alloc();
-    let mut counts = Counts {
-        events: 0,
-        differences: 0,
-        errors: 0,
-    };
-    let script = b"---\nshow a\nshow a\nshow a\n".to_vec(alloc)?;
-    let mut source = MemSource::new(script, 7, vec![in alloc; 2]?);
-    let mut sink = MemSink::new(alloc, 64, 4096, Vec::new(alloc))?;
-    let status = try_play_on(alloc, &mut source, &mut sink, &mut counts)?;
-    assert_eq!(rt; status, Status::Passed);
-    assert_eq!(rt; sink.written(), SHOWN);
-    assert_eq!(rt; counts.events, 3);
     Ok(())
 }
