@@ -1,5 +1,6 @@
 -- The fields of a register of a chip.
-use Rattle.std.proofs.Common.{◌≡◌, ◌⊎◌, ℕ, ◌+◌, ◌*◌, ◌<◌, ◌≤◌, ◌-◌, ◌^◌, true, false, length, drop, slice_get, Option, Some, None, option_map, IsSomeAnd, refl, sym, ap, ◌∙◌, inl, inr, arith, length-take-le, length-drop}
+use Rattle.std.proofs.Common.{◌≡◌, ◌⊎◌, ℕ, ◌+◌, ◌*◌, ◌<◌, ◌≤◌, ◌-◌, ◌^◌, true, false, length, drop, slice_get, Option, Some, None, option_map, IsSomeAnd, refl, sym, ap, ◌∙◌, inl, inr, arith}
+use Rattle.std.proofs.Common.{length-take-le, length-drop}
 use Rattle.std.specs.Prelude.{nat_le, nat_lt}
 use Rattle.std.specs.List.{list_any}
 use Rattle.std.specs.Option.{option_map_or}
@@ -166,7 +167,8 @@ field_list c reg sound l = record {
     inside : (k : ℕ) → k < length (fields_of c reg) → (field_in (fields_of c reg) k).shape.lsb + (field_in (fields_of c reg) k).shape.width ≤ 8 * size_of c reg
     inside k place = rw (field_in-fields_of c reg k sound l place) (rw (own k place) at ((seat k place).inside))
 
-    apart : (i j b : ℕ) → i < length (fields_of c reg) → j < length (fields_of c reg) → covers (field_in (fields_of c reg) i).shape b ≡ true → covers (field_in (fields_of c reg) j).shape b ≡ true → i ≡ j
+    apart : (i j b : ℕ) → i < length (fields_of c reg) → j < length (fields_of c reg) → covers (field_in (fields_of c reg) i).shape b ≡ true → covers (field_in (fields_of c reg) j).shape b ≡ true →
+        i ≡ j
     apart i j b li lj in_i in_j =
         let e : first_of c reg + i ≡ first_of c reg + j = apart_fields c (first_of c reg + i) (first_of c reg + j) b sound (within i li) (within j lj) (own i li ∙ sym (own j lj))
         (rw (field_in-fields_of c reg i sound l li) at in_i) (rw (field_in-fields_of c reg j sound l lj) at in_j) in

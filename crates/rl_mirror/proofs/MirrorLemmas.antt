@@ -1,5 +1,6 @@
 -- The mirror after a call.
-use Rattle.std.proofs.Common.{◌≡◌, ℕ, ◌+◌, ◌-◌, ◌*◌, ◌<◌, ◌≤◌, ◌^◌, Bool, true, false, cond, eqb, List, length, map, set, get_or, replicate, Option, Some, None, refl, sym, ap, subst, ◌∙◌, inl, inr, arith}
+use Rattle.std.proofs.Common.{◌≡◌, ℕ, ◌+◌, ◌-◌, ◌*◌, ◌<◌, ◌≤◌, ◌^◌, Bool, true, false, cond, eqb, List, length, map, set, get_or, replicate, Option, Some, None, refl, sym, ap, subst, ◌∙◌, inl, inr}
+use Rattle.std.proofs.Common.{arith}
 use Rattle.std.specs.Prelude.{nat_le, nat_lt, Vec}
 use Rattle.std.specs.Vec.{with_items}
 use Rattle.std.specs.List.{range_with_len}
@@ -25,7 +26,8 @@ use Rattle.rl_mirror.specs.Effect.{effect_bit}
 use Rattle.rl_model.specs.Fields.{field_of, first_of, count_of, size_of, fields_of, field_in, policy_in, place_at}
 use Rattle.rl_mirror.specs.Fields.{word_by_field, owned}
 use Rattle.rl_mirror.specs.Mirror.{MirrorData, mirrored_of, desired_of, is_spent, marks_in, IsValueOf, IsMirrorOf}
-use Rattle.rl_mirror.specs.Prediction.{written, predict_write, predict_read, predict_raw, learned_by_write, learned_by_read, spent_after, after_reset, reset, blank, set as set_field, update_word, update_word_of, neutral_word, neutral_around}
+use Rattle.rl_mirror.specs.Prediction.{written, predict_write, predict_read, predict_raw, learned_by_write, learned_by_read, spent_after, after_reset, reset, blank, set as set_field, update_word}
+use Rattle.rl_mirror.specs.Prediction.{update_word_of, neutral_word, neutral_around}
 
 -- what an effect makes of the fields of a set, with other bits kept
 abbrev pub laid_over : ChipData → (reg : ℕ) → List Bool → (fields : ℕ) → Effect → (kept : ℕ) → ℕ
@@ -249,13 +251,15 @@ set_built c n v m sound l built = record {
     value = put_is_value c n wish (desired_of m (field_of c n).shape.reg) sound l (built.desired (field_of c n).shape.reg (seated c n sound l).reg)
 
 pub around_is : (c : ChipData) (n v : ℕ) (m : MirrorData) (mirrored word result : ℕ) (spent : List Bool) → mirrored ≡ mirrored_of m (field_of c n).shape.reg
-    → word ≡ word_by_field (fields_of c (field_of c n).shape.reg) (λ k b. effect_bit (Neutral mirrored) (policy_in (fields_of c (field_of c n).shape.reg) k) (marks_in c spent (field_of c n).shape.reg k) b)
+    → word ≡ word_by_field (fields_of c (field_of c n).shape.reg) (λ k b. effect_bit (Neutral mirrored) (policy_in (fields_of c (field_of c n).shape.reg) k) (marks_in c spent (field_of c n).shape.reg
+    k) b)
     → result ≡ from_bits 64 (put_bit (field_of c n).shape.lsb (field_of c n).shape.width (bit v) (bit word))
     → result ≡ neutral_around c n v m
 unfolding neutral_around neutral_word
 around_is c n v m mirrored word result spent is_mirrored e f = f ∙ rw (e, is_mirrored) refl
 
-pub blank_is : (c : ChipData) (mirrored desired : List ℕ) (spent : List Bool) → mirrored ≡ replicate (length c.regs) 0 → desired ≡ replicate (length c.regs) 0 → spent ≡ replicate (length c.fields) false
+pub blank_is : (c : ChipData) (mirrored desired : List ℕ) (spent : List Bool) → mirrored ≡ replicate (length c.regs) 0 → desired ≡ replicate (length c.regs) 0 →
+    spent ≡ replicate (length c.fields) false
     → record { mirrored = mirrored; desired = desired; spent = spent } ≡ blank c
 blank_is c mirrored desired spent e f g = rw (e, f, g) refl
 

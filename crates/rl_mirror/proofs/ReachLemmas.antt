@@ -1,5 +1,6 @@
 -- Desired values stay in reach.
-use Rattle.std.proofs.Common.{◌≡◌, ◌⊎◌, ℕ, ◌+◌, ◌-◌, ◌*◌, ◌<◌, ◌≤◌, ◌^◌, Bool, true, false, ◌&&◌, ◌||◌, cond, eqb, List, length, set, get_or, replicate, Option, Some, None, IsTrue, ne_eqb, refl, sym, ap, subst, ◌∙◌, inl, inr, arith}
+use Rattle.std.proofs.Common.{◌≡◌, ◌⊎◌, ℕ, ◌+◌, ◌-◌, ◌*◌, ◌<◌, ◌≤◌, ◌^◌, Bool, true, false, ◌&&◌, ◌||◌, cond, eqb, List, length, set, get_or, replicate, Option, Some, None, IsTrue, ne_eqb, refl, sym}
+use Rattle.std.proofs.Common.{ap, subst, ◌∙◌, inl, inr, arith}
 use Rattle.std.specs.Prelude.{nat_le, nat_lt}
 use Rattle.std.specs.Option.{option_map_or}
 use Rattle.std.proofs.lemmas.Bool.{cond-true, cond-false, cases_Bool, cases_eq, eqb-true, and_parts, and_from, le-leb, lt-ltb, false_from_ne_true, leb-true, ltb-true, false≢true}
@@ -17,7 +18,8 @@ use Rattle.rl_model.specs.Chip.{IsSound, value_for}
 use Rattle.rl_model.specs.Fields.{field_of, first_of, size_of, fields_of, field_in, policy_in, covers, place_at}
 use Rattle.rl_mirror.specs.Fields.{word_by_field, part_of, owned}
 use Rattle.rl_mirror.specs.Mirror.{MirrorData, mirrored_of, desired_of, is_spent, marks_in, IsMirrorOf}
-use Rattle.rl_mirror.specs.Prediction.{learned_bit, reset_bit, learned_by_write, learned_by_read, after_reset, is_spent_by, spent_after, predict_write, predict_read, predict_raw, reset, blank, fresh, set as set_field, update_word, update_word_of}
+use Rattle.rl_mirror.specs.Prediction.{learned_bit, reset_bit, learned_by_write, learned_by_read, after_reset, is_spent_by, spent_after, predict_write, predict_read, predict_raw, reset, blank, fresh}
+use Rattle.rl_mirror.specs.Prediction.{set as set_field, update_word, update_word_of}
 use Rattle.rl_mirror.specs.Reachable.{IsSettled, IsReached, IsReachable, after_update, UpdateBrings}
 use Rattle.rl_mirror.proofs.PlaceLemmas.{IsFieldList, is_place, covers_is}
 use Rattle.rl_mirror.proofs.FieldLemmas.{seated, field_list, apart_fields}
@@ -74,11 +76,13 @@ Steps c old new n =
 cleared_reach : (p : Policy) (m d s t : Bool) → (t ≡ s) ⊎ (t ≡ false) → IsTrue (is_reached p m d s) → IsTrue (is_reached p m d t)
 cleared_reach p m d s t mark h = elim mark [ inl same ↦ rw same h | inr none ↦ rw none (keeps_reach.fresh p m d s h) ]
 
-kept_reached : (c : ChipData) (old new : MirrorData) (n : ℕ) → IsKept (field_of c n).shape (mirrored_of old (field_of c n).shape.reg) (desired_of old (field_of c n).shape.reg) (mirrored_of new (field_of c n).shape.reg) (desired_of new (field_of c n).shape.reg) (is_spent old n) (is_spent new n)
+kept_reached : (c : ChipData) (old new : MirrorData) (n : ℕ) → IsKept (field_of c n).shape (mirrored_of old (field_of c n).shape.reg) (desired_of old (field_of c n).shape.reg) (mirrored_of new
+    (field_of c n).shape.reg) (desired_of new (field_of c n).shape.reg) (is_spent old n) (is_spent new n)
     → IsReached c old n → IsReached c new n
 kept_reached c old new n k h b in_it =
     rw (k.mirrored b in_it, k.desired b in_it)
-    (cleared_reach (field_of c n).shape.policy (bit (mirrored_of old (field_of c n).shape.reg) b) (bit (desired_of old (field_of c n).shape.reg) b) (is_spent old n) (is_spent new n) k.mark (h b in_it))
+    (cleared_reach (field_of c n).shape.policy (bit (mirrored_of old (field_of c n).shape.reg) b) (bit (desired_of old (field_of c n).shape.reg) b) (is_spent old n) (is_spent new n) k.mark
+    (h b in_it))
 
 -- a field with one value is reached
 settled_reached : (c : ChipData) (m : MirrorData) (n : ℕ) → is_one_sided (field_of c n).shape.policy ≡ false → IsSettled c m n → IsReached c m n
@@ -132,7 +136,8 @@ not_both false = refl
 
 pub write_reach : (c : ChipData) (reg word fields : ℕ) (m : MirrorData) → IsSound c → reg < length c.regs → IsMirrorOf c m → IsReachable c m → IsReachable c (predict_write c reg word fields m)
 unfolding predict_write learned_by_write
-write_reach c reg word fields m sound lr built = keeps c m (predict_write c reg word fields m) (one_register c m reg (value (mirrored_of m reg)) (value (desired_of m reg)) (spent_after c reg fields m.spent) built lr others own)
+write_reach c reg word fields m sound lr built = keeps c m (predict_write c reg word fields m) (one_register c m reg (value (mirrored_of m reg)) (value (desired_of m reg)) (spent_after c reg fields
+    m.spent) built lr others own)
   where
     part : (kept k b : ℕ) → Bool
     part kept k b = cond (bit fields k) (after_write (policy_in (fields_of c reg) k) (bit (mirrored_of m reg) b) (bit word b) (marks_in c m.spent reg k)) (bit kept b)
@@ -156,8 +161,10 @@ write_reach c reg word fields m sound lr built = keeps c m (predict_write c reg 
         elim (cases_Bool (bit fields (n - first_of c reg))) [
           | inl chosen ↦
               let k = n - first_of c reg in
-              let made : (b kept : ℕ) → covers (field_of c n).shape b ≡ true → bit (value kept) b ≡ after_write (policy_in (fields_of c reg) k) (bit (mirrored_of m reg) b) (bit word b) (marks_in c m.spent reg k) = λ b kept in_it.
-              at n b kept l same in_it ∙ cond-true (bit fields k) (after_write (policy_in (fields_of c reg) k) (bit (mirrored_of m reg) b) (bit word b) (marks_in c m.spent reg k)) (bit kept b) chosen in
+              let made : (b kept : ℕ) → covers (field_of c n).shape b ≡ true → bit (value kept) b ≡ after_write (policy_in (fields_of c reg) k) (bit (mirrored_of m reg) b) (bit word b)
+              (marks_in c m.spent reg k) = λ b kept in_it.
+              at n b kept l same in_it ∙ cond-true (bit fields k) (after_write (policy_in (fields_of c reg) k) (bit (mirrored_of m reg) b) (bit word b) (marks_in c m.spent reg k)) (bit kept b) chosen
+              in
               inl (λ b in_it. made b (desired_of m reg) in_it ∙ sym (made b (mirrored_of m reg) in_it))
           | inr left ↦ inr (record {
             mirrored = λ b in_it. at n b (mirrored_of m reg) l same in_it ∙ rw left refl;
@@ -168,7 +175,8 @@ write_reach c reg word fields m sound lr built = keeps c m (predict_write c reg 
 
 pub read_reach : (c : ChipData) (reg read fields : ℕ) (m : MirrorData) → IsSound c → reg < length c.regs → IsMirrorOf c m → IsReachable c m → IsReachable c (predict_read c reg read fields m)
 unfolding predict_read learned_by_read
-read_reach c reg read fields m sound lr built = keeps c m (predict_read c reg read fields m) (one_register c m reg (value (mirrored_of m reg)) (value (desired_of m reg)) m.spent built lr (λ n l other. refl) own)
+read_reach c reg read fields m sound lr built = keeps c m (predict_read c reg read fields m) (one_register c m reg (value (mirrored_of m reg)) (value (desired_of m reg)) m.spent built lr
+    (λ n l other. refl) own)
   where
     part : (kept k b : ℕ) → Bool
     part kept k b = cond (bit fields k) (learned_bit (policy_in (fields_of c reg) k) (bit read b) (bit kept b)) (bit kept b)
@@ -211,7 +219,8 @@ read_reach c reg read fields m sound lr built = keeps c m (predict_read c reg re
 pub raw_reach : (c : ChipData) (reg value : ℕ) (m : MirrorData) → reg < length c.regs → IsMirrorOf c m → IsReachable c m → IsReachable c (predict_raw c reg value m)
 unfolding predict_raw
 raw_reach c reg value m lr built =
-    keeps c m (predict_raw c reg value m) (one_register c m reg (owned (fields_of c reg) value) (owned (fields_of c reg) value) m.spent built lr (λ n l other. refl) (λ n l same. inl (λ b in_it. refl)))
+    keeps c m (predict_raw c reg value m) (one_register c m reg (owned (fields_of c reg) value) (owned (fields_of c reg) value) m.spent built lr (λ n l other. refl) (λ n l same. inl
+    (λ b in_it. refl)))
 
 -- ---- resets
 
@@ -235,7 +244,8 @@ reset_reach c kind m sound built = keeps c m (reset c kind m) steps
         ∙ field_bit c n b (part reg (get_or values reg 0)) sound l in_it
         ∙ ap (λ (f : FieldSeen). reset_bit f kind b (bit (get_or values reg 0) b)) (place_of c n sound l).field
 
-    mark_at : (n : ℕ) → n < length m.spent → (t : Bool) → (get_or (cond t (replicate (length m.spent) false) m.spent) n false ≡ is_spent m n) ⊎ (get_or (cond t (replicate (length m.spent) false) m.spent) n false ≡ false)
+    mark_at : (n : ℕ) → n < length m.spent → (t : Bool) → (get_or (cond t (replicate (length m.spent) false) m.spent) n false ≡ is_spent m n) ⊎ (get_or (cond t (replicate (length m.spent) false)
+        m.spent) n false ≡ false)
     mark_at n l true = inr (get_or-replicate (length m.spent) n false false l)
     mark_at n l false = inl refl
 
@@ -244,7 +254,8 @@ reset_reach c kind m sound built = keeps c m (reset c kind m) steps
       where
         by : (o : Option ℕ) → value_for kind (field_of c n).resets ≡ o → Steps c m (reset c kind m) n
         by (Some v) has =
-            let made : (values : List ℕ) (b : ℕ) → length values ≡ length c.regs → covers (field_of c n).shape b ≡ true → bit (get_or (values_after c kind values) (field_of c n).shape.reg 0) b ≡ bit v (b - (field_of c n).shape.lsb) = λ values b long in_it.
+            let made : (values : List ℕ) (b : ℕ) → length values ≡ length c.regs → covers (field_of c n).shape b ≡ true → bit (get_or (values_after c kind values) (field_of c n).shape.reg 0) b ≡ bit
+            v (b - (field_of c n).shape.lsb) = λ values b long in_it.
             bit_at_field values n b long l in_it
             ∙ ap (λ (o : Option ℕ). option_map_or (λ v. bit v (b - (field_of c n).shape.lsb)) o (bit (get_or values (field_of c n).shape.reg 0) b)) has in
             inl (λ b in_it. made m.desired b built.wishes in_it ∙ sym (made m.mirrored b built.registers in_it))
@@ -270,7 +281,8 @@ pub set_reach : (c : ChipData) (field v : ℕ) (m : MirrorData) → IsSound c �
 unfolding set_field
 set_reach c field v m sound lf built was = record {
   reached = λ n l two. elim (cases_eq n field) [
-    | inl same ↦ subst (λ (k : ℕ). IsReached c (set_field c field v m) k) (sym same) (own (λ b in_it. keeps_reach.set p (old_m b) (old_d b) (wish b) s (subst (λ (k : ℕ). IsReached c m k) same (was.reached n l two) b in_it)))
+    | inl same ↦ subst (λ (k : ℕ). IsReached c (set_field c field v m) k) (sym same) (own (λ b in_it. keeps_reach.set p (old_m b) (old_d b) (wish b) s (subst (λ (k : ℕ). IsReached c m k) same
+        (was.reached n l two) b in_it)))
     | inr other ↦ kept_reached c m (set_field c field v m) n (kept n l other) (was.reached n l two)
   ];
   one_sided = λ n l one. elim (cases_eq n field) [
@@ -323,7 +335,8 @@ set_reach c field v m sound lf built was = record {
     own h b in_it = subst (λ (d : Bool). IsTrue (is_reached p (old_m b) d s)) (sym (set_bit b in_it)) (h b in_it)
 
     kept : (n : ℕ) → n < length c.fields → (n ≡ field → ⊥)
-        → IsKept (field_of c n).shape (mirrored_of m (field_of c n).shape.reg) (desired_of m (field_of c n).shape.reg) (mirrored_of m (field_of c n).shape.reg) (get_or (set m.desired f.reg new_d) (field_of c n).shape.reg 0) (is_spent m n) (is_spent m n)
+        → IsKept (field_of c n).shape (mirrored_of m (field_of c n).shape.reg) (desired_of m (field_of c n).shape.reg) (mirrored_of m (field_of c n).shape.reg) (get_or (set m.desired f.reg new_d)
+        (field_of c n).shape.reg 0) (is_spent m n) (is_spent m n)
     kept n l other = record {
       mirrored = λ b in_it. refl;
       desired = λ b in_it.
@@ -347,15 +360,19 @@ same_part f x y agree = from_bits-same f.width (λ i. bit x (f.lsb + i)) (λ i. 
 
 -- a bit that is written by its update word
 updated_bit : (c : ChipData) (m : MirrorData) (n kept b : ℕ) → IsSound c → n < length c.fields → IsReached c m n → covers (field_of c n).shape b ≡ true
-    → bit (learned_by_write (fields_of c (field_of c n).shape.reg) (bit (2 ^ 64 - 1)) (marks_in c m.spent (field_of c n).shape.reg) (mirrored_of m (field_of c n).shape.reg) (update_word_of c (field_of c n).shape.reg m) kept) b
+    → bit (learned_by_write (fields_of c (field_of c n).shape.reg) (bit (2 ^ 64 - 1)) (marks_in c m.spent (field_of c n).shape.reg) (mirrored_of m (field_of c n).shape.reg) (update_word_of c
+    (field_of c n).shape.reg m) kept) b
     ≡ bit (desired_of m (field_of c n).shape.reg) b
 unfolding learned_by_write update_word_of update_word
 updated_bit c m n kept b sound l h in_it =
     field_bit c n b (λ k b. cond (bit (2 ^ 64 - 1) k) (wrote k b) (bit kept b)) sound l in_it
     ∙ cond-true (bit (2 ^ 64 - 1) at) (wrote at b) (bit kept b) (bit-max at (omega (arith, place.place, list.few)))
-    ∙ ap (λ t. after_write (policy_in fs at) (bit (mirrored_of m reg) b) t (marks_in c m.spent reg at)) (field_bit c n b (λ k b. update_bit (policy_in fs k) (bit (desired_of m reg) b) (bit (mirrored_of m reg) b)) sound l in_it)
-    ∙ ap (λ (g : FieldSeen). after_write g.shape.policy (bit (mirrored_of m reg) b) (update_bit g.shape.policy (bit (desired_of m reg) b) (bit (mirrored_of m reg) b)) (marks_in c m.spent reg at)) place.field
-    ∙ ap (λ k. after_write (field_of c n).shape.policy (bit (mirrored_of m reg) b) (update_bit (field_of c n).shape.policy (bit (desired_of m reg) b) (bit (mirrored_of m reg) b)) (is_spent m k)) place.number
+    ∙ ap (λ t. after_write (policy_in fs at) (bit (mirrored_of m reg) b) t (marks_in c m.spent reg at)) (field_bit c n b (λ k b. update_bit (policy_in fs k) (bit (desired_of m reg) b)
+    (bit (mirrored_of m reg) b)) sound l in_it)
+    ∙ ap (λ (g : FieldSeen). after_write g.shape.policy (bit (mirrored_of m reg) b) (update_bit g.shape.policy (bit (desired_of m reg) b) (bit (mirrored_of m reg) b)) (marks_in c m.spent reg at))
+    place.field
+    ∙ ap (λ k. after_write (field_of c n).shape.policy (bit (mirrored_of m reg) b) (update_bit (field_of c n).shape.policy (bit (desired_of m reg) b) (bit (mirrored_of m reg) b)) (is_spent m k))
+    place.number
     ∙ (update_reaches (field_of c n).shape.policy (bit (mirrored_of m reg) b) (bit (desired_of m reg) b) (is_spent m n)).1 (h b in_it)
   where
     reg : ℕ

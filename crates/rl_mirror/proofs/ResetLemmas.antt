@@ -24,7 +24,8 @@ fits_from width kind (r ∷ rs) v none found =
     by false small rest e = rest e
 
 -- what the chip answers of a field's reset values
-pub reset_answer : (c : ChipData) (n kind : ℕ) (o : Option ℕ) → n < length c.fields → o ≡ option_and_then (λ f. value_for kind f.resets) (slice_get c.fields n) → o ≡ value_for kind (field_of c n).resets
+pub reset_answer : (c : ChipData) (n kind : ℕ) (o : Option ℕ) → n < length c.fields → o ≡ option_and_then (λ f. value_for kind f.resets) (slice_get c.fields n) →
+    o ≡ value_for kind (field_of c n).resets
 reset_answer c n kind o l is = is ∙ ap (option_and_then (λ (f : FieldSeen). value_for kind f.resets)) (slice_get-get_or c.fields n no_field l)
 
 pub reset_fits : (c : ChipData) (n kind v : ℕ) → IsSound c → n < length c.fields → value_for kind (field_of c n).resets ≡ Some v → v < 2 ^ (field_of c n).shape.width

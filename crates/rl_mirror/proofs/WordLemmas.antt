@@ -24,7 +24,8 @@ pub is_word_by_field : (fs : List FieldSeen) (part : ℕ → ℕ → Bool) (n : 
 unfolding word_by_field
 is_word_by_field fs part n fits same = is_from_bits 64 n (λ b. option_map_or (λ k. part k b) (place_at fs b) false) fits same
 
-pub word_by_field-same : (fs : List FieldSeen) (p q : ℕ → ℕ → Bool) → ((k b : ℕ) → k < length fs → b < 64 → covers (field_in fs k).shape b ≡ true → p k b ≡ q k b) → word_by_field fs p ≡ word_by_field fs q
+pub word_by_field-same : (fs : List FieldSeen) (p q : ℕ → ℕ → Bool) → ((k b : ℕ) → k < length fs → b < 64 → covers (field_in fs k).shape b ≡ true → p k b ≡ q k b) →
+    word_by_field fs p ≡ word_by_field fs q
 unfolding word_by_field
 word_by_field-same fs p q same = from_bits-same 64 (λ b. option_map_or (λ k. p k b) (place_at fs b) false) (λ b. option_map_or (λ k. q k b) (place_at fs b) false) (λ b l. by b l (place_at fs b) refl)
   where
@@ -37,7 +38,8 @@ unfolding word_by_field
 word_of_64 fs part = from_bits-lt 64 (λ b. option_map_or (λ k. part k b) (place_at fs b) false)
 
 pub owned-word_by_field : (fs : List FieldSeen) (part : ℕ → ℕ → Bool) → owned fs (word_by_field fs part) ≡ word_by_field fs part
-owned-word_by_field fs part = sym (is_word_by_field fs (λ k b. bit (word_by_field fs part) b) (word_by_field fs part) (word_of_64 fs part) (λ b l. bit-word_by_field fs part b l ∙ by b l (place_at fs b) refl))
+owned-word_by_field fs part = sym (is_word_by_field fs (λ k b. bit (word_by_field fs part) b) (word_by_field fs part) (word_of_64 fs part) (λ b l. bit-word_by_field fs part b l ∙ by b l
+    (place_at fs b) refl))
   where
     by : (b : ℕ) → b < 64 → (o : Option ℕ) → place_at fs b ≡ o → option_map_or (λ k. part k b) o false ≡ option_map_or (λ k. bit (word_by_field fs part) b) o false
     by b l None at = refl

@@ -156,7 +156,8 @@ pub(crate) fn assembled(chip: &Chip, reg: u32, spent: &[bool], effect: Effect) -
     requires { reg < length chip.now.regs }
     ensures sound { IsSound chip.now }
     ensures held { IsValueOf chip.now reg result }
-    ensures value { result ≡ word_by_field (fields_of chip.now reg) (λ k b. effect_bit effect (policy_in (fields_of chip.now reg) k) (marks_in chip.now spent.now reg k) b) }
+    ensures value { result ≡ word_by_field (fields_of chip.now reg)
+        (λ k b. effect_bit effect (policy_in (fields_of chip.now reg) k) (marks_in chip.now spent.now reg k) b) }
 {
     overlaid(chip, reg, spent, u64::MAX, effect, 0)
 }

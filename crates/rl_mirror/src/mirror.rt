@@ -4,7 +4,8 @@ ghost use Rattle.rl_mirror.specs.Compared.{differ};
 ghost use Rattle.rl_model.specs.Fields.{field_of, size_of, count_of, fields_of};
 ghost use Rattle.rl_mirror.specs.Mirror.{mirrored_of, desired_of, is_spent, marks_in, IsMirrorOf, HasNoWish};
 ghost use Rattle.rl_mirror.specs.Reachable.{IsReachable};
-ghost use Rattle.rl_mirror.specs.Prediction.{written, predict_write, predict_read, predict_raw, reset, set, fresh, needs_update, update_word_of, neutral_around};
+ghost use Rattle.rl_mirror.specs.Prediction.{written, predict_write, predict_read, predict_raw, reset, set, fresh};
+ghost use Rattle.rl_mirror.specs.Prediction.{needs_update, update_word_of, neutral_around};
 
 use crate::effect::Effect;
 use crate::fields::{assembled, differing, numbered_field, overlaid, owned, spend, wished};

@@ -16,7 +16,8 @@ fn with_reset(chip: &Chip, reg: u32, k: u32, kind: u32, word: u64) -> u64
     requires reg { reg < length chip.now.regs }
     requires field { k < length (fields_of chip.now reg) }
     requires kind { kind < length chip.now.kinds }
-    ensures { result ≡ from_bits 64 (λ b. if covers (field_in (fields_of chip.now reg) k).shape b then reset_bit (field_in (fields_of chip.now reg) k) kind b (bit word b) else bit word b) }
+    ensures { result ≡ from_bits 64 (λ b. if covers (field_in (fields_of chip.now reg) k).shape b
+        then reset_bit (field_in (fields_of chip.now reg) k) kind b (bit word b) else bit word b) }
 {
     let field = field_at(chip, reg, k);
     match chip.reset_of(field_number(chip, reg, k), kind) {
@@ -43,9 +44,12 @@ fn after_reset(chip: &Chip, reg: u32, kind: u32, value: u64) -> u64
 pub(crate) fn reset_all(chip: &Chip, kind: u32, values: &mut [u64])
     requires kind { kind < length chip.now.kinds }
     requires count { length values.old ≡ length chip.now.regs }
-    requires owned { (reg : ℕ) → reg < length chip.now.regs → get_or values.old reg 0 ≡ owned (fields_of chip.now reg) (get_or values.old reg 0) }
+    requires owned { (reg : ℕ) → reg < length chip.now.regs →
+        get_or values.old reg 0 ≡ owned (fields_of chip.now reg) (get_or values.old reg 0) }
     ensures sound { IsSound chip.now }
-    ensures value { values.new ≡ map (λ reg. after_reset (fields_of chip.now reg) kind (get_or values.old reg 0)) (range_with_len 0 (length values.old)) }
+    ensures value { values.new ≡
+        map (λ reg. after_reset (fields_of chip.now reg) kind (get_or values.old reg 0))
+        (range_with_len 0 (length values.old)) }
 {
     for reg in 0..chip.regs() {
         values[reg as usize] = after_reset(chip, reg, kind, values[reg as usize]);

@@ -1,5 +1,6 @@
 -- What the bytes of a whole or of a narrow access reach.
-use Rattle.std.proofs.Common.{◌≡◌, ℕ, zero, suc, ◌+◌, ◌-◌, ◌*◌, ◌/◌, ◌<◌, ◌≤◌, Bool, true, false, not, ◌&&◌, ◌||◌, eqb, ltb, leb, List, [], ◌∷◌, length, get_or, Option, Some, None, option_map, refl, sym, ap, ◌∙◌, subst, arith, eq-eqb, eqb-true}
+use Rattle.std.proofs.Common.{◌≡◌, ℕ, zero, suc, ◌+◌, ◌-◌, ◌*◌, ◌/◌, ◌<◌, ◌≤◌, Bool, true, false, not, ◌&&◌, ◌||◌, eqb, ltb, leb, List, [], ◌∷◌, length, get_or, Option, Some, None, option_map, refl}
+use Rattle.std.proofs.Common.{sym, ap, ◌∙◌, subst, arith, eq-eqb, eqb-true}
 use Rattle.std.specs.List.{list_any, range_with_len}
 use Rattle.std.proofs.lemmas.Bool.Decides.{nat_tests}
 use Rattle.std.proofs.lemmas.Option.{slice_get_within}
@@ -157,7 +158,8 @@ same_tests false true f g = g refl
 same_tests false false f g = refl
 
 -- the bytes of a narrow field have the bits of no other field
-narrow_bytes : (c : ChipData) (field reg b k : ℕ) → (field_at c field).reg ≡ reg → first_of c reg ≤ field → has_neighbour c field ≡ false → IsPlaced c reg b k → touches (field_at c field) (b / 8) ≡ eqb k (field - first_of c reg)
+narrow_bytes : (c : ChipData) (field reg b k : ℕ) → (field_at c field).reg ≡ reg → first_of c reg ≤ field → has_neighbour c field ≡ false → IsPlaced c reg b k →
+    touches (field_at c field) (b / 8) ≡ eqb k (field - first_of c reg)
 narrow_bytes c field reg b k is low lone p =
     let f = field_at c field in
     let m = first_of c reg in
@@ -174,7 +176,8 @@ narrow_bytes c field reg b k is low lone p =
     let same : m + k ≡ field = omega (arith, low, eqb-true k (field - m) e) in
     ap (λ n. touches (field_at c n) (b / 8)) (sym same) ∙ own)
 
-narrow_sends : (c : ChipData) (l : LayoutData) (place field value : ℕ) (write : Bool) → field < length c.fields → is_narrow c l field place write ≡ true → IsPlaceOf c l place (field_at c field).reg write →
+narrow_sends : (c : ChipData) (l : LayoutData) (place field value : ℕ) (write : Bool) → field < length c.fields → is_narrow c l field place write ≡ true → IsPlaceOf c l place (field_at c field).reg
+    write →
     Sends c l place (field_at c field).reg (bytes_of_field (field_at c field)) value write (only (field - first_of c (field_at c field).reg))
 narrow_sends c l place field value write there is at =
     let f = field_at c field in
@@ -199,7 +202,8 @@ narrow_sends c l place field value write there is at =
       reach = λ b k low e.
           let p = placed c reg b k at.chip h e in
           touch b low (field_inside c l place reg b k write at p) ∙ narrow_bytes c field reg b k refl (omega (arith, fits.0, h.first)) narrow.lone p;
-      some = some_sent bytes f.lsb (sent_words bytes words) (touch f.lsb (omega (arith, fits.2, wide, found.bytes_is, here.row.most)) first_in ∙ own_byte f.lsb f.width f.lsb (first_within f.lsb f.width wide));
+      some = some_sent bytes f.lsb (sent_words bytes words) (touch f.lsb (omega (arith, fits.2, wide, found.bytes_is, here.row.most)) first_in ∙ own_byte f.lsb f.width f.lsb (first_within f.lsb
+          f.width wide));
     }
   where
     first_within : (lsb width : ℕ) → 1 ≤ width → is_within lsb width lsb ≡ true
@@ -207,8 +211,10 @@ narrow_sends c l place field value write there is at =
 
 pub narrow_write_is_step : NarrowWriteIsStep
 narrow_write_is_step c l s place field value r there is at ready holds =
-    write_is_step c l s place (field_at c field).reg (bytes_of_field (field_at c field)) value (only (field - first_of c (field_at c field).reg)) r (narrow_sends c l place field value true there is at) ready holds
+    write_is_step c l s place (field_at c field).reg (bytes_of_field (field_at c field)) value (only (field - first_of c (field_at c field).reg)) r (narrow_sends c l place field value true there is
+    at) ready holds
 
 pub narrow_read_is_step : NarrowReadIsStep
 narrow_read_is_step c l s place field r there is at ready holds =
-    read_is_step c l s place (field_at c field).reg (bytes_of_field (field_at c field)) (only (field - first_of c (field_at c field).reg)) r (narrow_sends c l place field 0 false there is at) ready holds
+    read_is_step c l s place (field_at c field).reg (bytes_of_field (field_at c field)) (only (field - first_of c (field_at c field).reg)) r (narrow_sends c l place field 0 false there is at) ready
+    holds

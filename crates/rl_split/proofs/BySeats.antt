@@ -1,5 +1,6 @@
 -- The value of an access by the seats of the item's bytes.
-use Rattle.std.proofs.Common.{◌≡◌, ℕ, zero, suc, ◌+◌, ◌*◌, ◌/◌, ◌%◌, ◌<◌, ◌≤◌, ◌⊎◌, inl, inr, Bool, true, false, not, ◌&&◌, ◌||◌, cond, eqb, List, [], ◌∷◌, length, map, get_or, Option, Some, None, is_some, refl, sym, ap, ◌∙◌, subst, arith, eq-eqb, eqb-true, ◌-◌, ◌^◌}
+use Rattle.std.proofs.Common.{◌≡◌, ℕ, zero, suc, ◌+◌, ◌*◌, ◌/◌, ◌%◌, ◌<◌, ◌≤◌, ◌⊎◌, inl, inr, Bool, true, false, not, ◌&&◌, ◌||◌, cond, eqb, List, [], ◌∷◌, length, map, get_or, Option, Some, None}
+use Rattle.std.proofs.Common.{is_some, refl, sym, ap, ◌∙◌, subst, arith, eq-eqb, eqb-true, ◌-◌, ◌^◌}
 use Rattle.std.specs.Prelude.{slice_index, IsBitSet}
 use Rattle.std.specs.List.{position_or_len}
 use Rattle.std.proofs.lemmas.Bool.{cases_lt}
@@ -19,7 +20,8 @@ use Rattle.rl_map.specs.Layout.{LayoutData, place_at, seat_at, place_seats, path
 use Rattle.rl_map.specs.Partition.{has_bit, have_bit, AreParts, number_of}
 use Rattle.rl_map.specs.Seat.{seat_of}
 use Rattle.rl_map.specs.Words.{lanes_of, no_seat, no_word}
-use Rattle.rl_split.specs.Access.{IsChoice, lanes_for, has_chosen, sent_words, joined_bit, joined, orders_of, sent_of, chosen_lanes, enabled_lanes, word_of, carries_lanes, kind_of, bus_bytes_of, op_of, ops_of}
+use Rattle.rl_split.specs.Access.{IsChoice, lanes_for, has_chosen, sent_words, joined_bit, joined, orders_of, sent_of, chosen_lanes, enabled_lanes, word_of, carries_lanes, kind_of, bus_bytes_of}
+use Rattle.rl_split.specs.Access.{op_of, ops_of}
 use Rattle.rl_split.specs.Seats.{number_at, ValueIsBySeats, no_op, OperationsAreBySeats}
 use Rattle.rl_bus.proofs.LaneLemmas.{found_lane}
 use Rattle.rl_map.proofs.Reaching.{some_has}
@@ -50,7 +52,8 @@ next_index : (a p : ℕ) (rest : List ℕ) → slice_index (a ∷ rest) (1 + p) 
 next_index a p rest = let same : 1 + p ≡ suc p = omega arith in ap (slice_index (a ∷ rest)) same
 
 -- a bit that a word has comes from the answer to this word
-from_word : (chosen b : ℕ) (ws : List Word) (n : ℕ) (answers : List ℕ) → n < length ws → Ascending ws → AreParts ws → has_bit (get_or ws n no_word) b ≡ true → bit chosen (b / 8) ≡ true → length answers ≡ length (sent_words chosen ws) →
+from_word : (chosen b : ℕ) (ws : List Word) (n : ℕ) (answers : List ℕ) → n < length ws → Ascending ws → AreParts ws → has_bit (get_or ws n no_word) b ≡ true → bit chosen (b / 8) ≡ true →
+    length answers ≡ length (sent_words chosen ws) →
     joined_bit chosen (sent_words chosen ws) answers b ≡ spread_bit (lanes_for chosen (get_or ws n no_word)) (bit (slice_index answers (place_in chosen ws (get_or ws n no_word).order))) b
 from_word chosen b [] n answers l up parts has on long = absurd (omega (arith, l))
 from_word chosen b (v ∷ vs) zero answers l up parts has on long = by (has_chosen chosen v) refl answers long
@@ -85,9 +88,11 @@ from_word chosen b (v ∷ vs) (suc n) answers l up parts has on long =
     differs = later_order v.order (get_or vs n no_word).order (up 0 (suc n) (omega arith) l)
 
     by : (t : Bool) (answers : List ℕ) → length answers ≡ length (cond t (v ∷ sent_words chosen vs) (sent_words chosen vs)) →
-        ((rest : List ℕ) → length rest ≡ length (sent_words chosen vs) → joined_bit chosen (sent_words chosen vs) rest b ≡ spread_bit (lanes_for chosen (get_or vs n no_word)) (bit (slice_index rest (place_in chosen vs (get_or vs n no_word).order))) b) →
+        ((rest : List ℕ) → length rest ≡ length (sent_words chosen vs) → joined_bit chosen (sent_words chosen vs) rest b ≡ spread_bit (lanes_for chosen (get_or vs n no_word))
+        (bit (slice_index rest (place_in chosen vs (get_or vs n no_word).order))) b) →
         joined_bit chosen (cond t (v ∷ sent_words chosen vs) (sent_words chosen vs)) answers b
-        ≡ spread_bit (lanes_for chosen (get_or vs n no_word)) (bit (slice_index answers (position_or_len (λ o. eqb o (get_or vs n no_word).order) (map (λ (w : Word). w.order) (cond t (v ∷ sent_words chosen vs) (sent_words chosen vs)))))) b
+        ≡ spread_bit (lanes_for chosen (get_or vs n no_word)) (bit (slice_index answers (position_or_len (λ o. eqb o (get_or vs n no_word).order) (map (λ (w : Word). w.order)
+        (cond t (v ∷ sent_words chosen vs) (sent_words chosen vs)))))) b
     by true [] long more = absurd (omega (arith, long))
     by true (a ∷ rest) long more =
         ap (λ t. t || joined_bit chosen (sent_words chosen vs) rest b) (none_spread (lanes_for chosen v) (bit a) b not_reached)
@@ -114,10 +119,12 @@ record IsSeated (l : LayoutData) (place index byte : ℕ) : Type 0 where
   byte_is : slice_index (get_or (words_of l place index) number no_word).bytes (seat_at l place index byte).lane ≡ byte
   order_is : (get_or (words_of l place index) number no_word).order ≡ (seat_at l place index byte).order
   address_is : (get_or (words_of l place index) number no_word).address ≡ (seat_at l place index byte).address
-  only_lane : (lane : ℕ) → lane < 8 → bit (get_or (words_of l place index) number no_word).lanes lane ≡ true → slice_index (get_or (words_of l place index) number no_word).bytes lane ≡ byte → lane ≡ (seat_at l place index byte).lane
+  only_lane : (lane : ℕ) → lane < 8 → bit (get_or (words_of l place index) number no_word).lanes lane ≡ true → slice_index (get_or (words_of l place index) number no_word).bytes lane ≡ byte →
+      lane ≡ (seat_at l place index byte).lane
 
 seat_is : (l : LayoutData) (place index byte : ℕ) → byte < (place_at l place).bytes → get_or (place_seats l place index) byte no_seat ≡ seat_at l place index byte
-seat_is l place index byte inside = get_or-map-range_with_len (seat_of (path_of l place) (base_of l place) (location_of (place_at l place) index)) 0 (place_at l place).bytes byte byte no_seat inside (omega arith)
+seat_is l place index byte inside = get_or-map-range_with_len (seat_of (path_of l place) (base_of l place) (location_of (place_at l place) index)) 0 (place_at l place).bytes byte byte no_seat inside
+    (omega arith)
 
 seated : (l : LayoutData) (place index byte : ℕ) → IsHere l place index → byte < (place_at l place).bytes → IsSeated l place index byte
 seated l place index byte here inside =
@@ -147,7 +154,8 @@ seated l place index byte here inside =
     }
 
 -- the lane that carries the byte
-lane_is : (s : Lanes) (j lane : ℕ) → lane < 8 → bit s.enabled lane ≡ true → slice_index s.bytes lane ≡ j → ((k : ℕ) → k < 8 → bit s.enabled k ≡ true → slice_index s.bytes k ≡ j → k ≡ lane) → lane_below 8 s j ≡ Some lane
+lane_is : (s : Lanes) (j lane : ℕ) → lane < 8 → bit s.enabled lane ≡ true → slice_index s.bytes lane ≡ j → ((k : ℕ) → k < 8 → bit s.enabled k ≡ true → slice_index s.bytes k ≡ j → k ≡ lane) →
+    lane_below 8 s j ≡ Some lane
 lane_is s j lane low on is only = by (lane_below 8 s j) refl (lane_there 8 lane s j low on is)
   where
     by : (o : Option ℕ) → lane_below 8 s j ≡ o → is_some o ≡ true → o ≡ Some lane
@@ -157,7 +165,8 @@ lane_is s j lane low on is only = by (lane_below 8 s j) refl (lane_there 8 lane 
 byte_place : (byte i : ℕ) → i < 8 → ((8 * byte + i) / 8 ≡ byte) × ((8 * byte + i) % 8 ≡ i)
 byte_place byte i l = (omega (arith, l), omega (arith, l))
 
-chosen_spread : (chosen : ℕ) (w : Word) (answer byte i lane : ℕ) → i < 8 → bit chosen byte ≡ true → lane_below 8 (lanes_of w) byte ≡ Some lane → spread_bit (lanes_for chosen w) (bit answer) (8 * byte + i) ≡ bit answer (8 * lane + i)
+chosen_spread : (chosen : ℕ) (w : Word) (answer byte i lane : ℕ) → i < 8 → bit chosen byte ≡ true → lane_below 8 (lanes_of w) byte ≡ Some lane → spread_bit (lanes_for chosen w) (bit answer)
+    (8 * byte + i) ≡ bit answer (8 * lane + i)
 chosen_spread chosen w answer byte i lane low on is =
     let at = byte_place byte i low in
     ap (λ q. bit_in (lane_below 8 (lanes_for chosen w) q) (bit answer) ((8 * byte + i) % 8)) at.0
@@ -166,7 +175,8 @@ chosen_spread chosen w answer byte i lane low on is =
     ∙ ap (λ t. bit_in (cond t (lane_below 8 (lanes_of w) byte) None) (bit answer) i) on
     ∙ ap (λ o. bit_in o (bit answer) i) is
 
-bit-joined : (l : LayoutData) (place index chosen : ℕ) (answers : List ℕ) (b : ℕ) → b < 64 → bit (joined l place index chosen answers) b ≡ joined_bit chosen (sent_words chosen (words_of l place index)) answers b
+bit-joined : (l : LayoutData) (place index chosen : ℕ) (answers : List ℕ) (b : ℕ) → b < 64 → bit (joined l place index chosen answers) b ≡ joined_bit chosen (sent_words chosen (words_of l place
+    index)) answers b
 unfolding joined sent_of
 bit-joined l place index chosen answers b low = bit-from_bits 64 (joined_bit chosen (sent_words chosen (words_of l place index)) answers) b low
 
@@ -189,7 +199,8 @@ inside_choice chosen bytes byte choice e = by (cases_lt byte bytes)
     by (inl l) = l
     by (inr l) = absurd (clash (bit chosen byte) (bit-above chosen bytes byte choice.within l) e)
 
-chosen_one : (l : LayoutData) (place index chosen : ℕ) (answers : List ℕ) (byte i : ℕ) → IsHere l place index → length answers ≡ length (orders_of l place index chosen) → byte < (place_at l place).bytes → byte < 8 → i < 8 → bit chosen byte ≡ true →
+chosen_one : (l : LayoutData) (place index chosen : ℕ) (answers : List ℕ) (byte i : ℕ) → IsHere l place index → length answers ≡ length (orders_of l place index chosen) →
+    byte < (place_at l place).bytes → byte < 8 → i < 8 → bit chosen byte ≡ true →
     bit (joined l place index chosen answers) (8 * byte + i) ≡ bit (slice_index answers (number_at l place index chosen byte)) (8 * (seat_at l place index byte).lane + i)
 chosen_one l place index chosen answers byte i here long inside small low e =
     let words = words_of l place index in
@@ -208,7 +219,8 @@ chosen_one l place index chosen answers byte i here long inside small low e =
 pub value_is_by_seats : ValueIsBySeats
 value_is_by_seats l place index chosen answers sound loc choice long byte i small low = by (bit chosen byte) refl
   where
-    by : (t : Bool) → bit chosen byte ≡ t → bit (joined l place index chosen answers) (8 * byte + i) ≡ (t && bit (slice_index answers (number_at l place index chosen byte)) (8 * (seat_at l place index byte).lane + i))
+    by : (t : Bool) → bit chosen byte ≡ t → bit (joined l place index chosen answers) (8 * byte + i) ≡ (t && bit (slice_index answers (number_at l place index chosen byte))
+        (8 * (seat_at l place index byte).lane + i))
     by true e = chosen_one l place index chosen answers byte i (is_here l place index sound loc) long (inside_choice chosen (place_at l place).bytes byte choice e) small low e
     by false e =
         bit-joined l place index chosen answers (8 * byte + i) (omega (arith, small, low))
@@ -225,15 +237,18 @@ place_among sent order = position_or_len (λ o. eqb o order) (map (λ (w : Word)
 
 -- a word that is sent stands among those that are
 found_in : (chosen : ℕ) (ws : List Word) (n : ℕ) → n < length ws → Ascending ws → has_chosen chosen (get_or ws n no_word) ≡ true →
-    (place_among (sent_words chosen ws) (get_or ws n no_word).order < length (sent_words chosen ws)) × (get_or (sent_words chosen ws) (place_among (sent_words chosen ws) (get_or ws n no_word).order) no_word ≡ get_or ws n no_word)
+    (place_among (sent_words chosen ws) (get_or ws n no_word).order < length (sent_words chosen ws)) × (get_or (sent_words chosen ws) (place_among (sent_words chosen ws) (get_or ws n no_word).order)
+    no_word ≡ get_or ws n no_word)
 found_in chosen [] n l up on = absurd (omega (arith, l))
 found_in chosen (v ∷ vs) zero l up on = by (has_chosen chosen v) on
   where
-    first : (t : Bool) → eqb v.order v.order ≡ t → t ≡ true → (cond (not t) (1 + place_among (sent_words chosen vs) v.order) 0 < length (v ∷ sent_words chosen vs)) × (get_or (v ∷ sent_words chosen vs) (cond (not t) (1 + place_among (sent_words chosen vs) v.order) 0) no_word ≡ v)
+    first : (t : Bool) → eqb v.order v.order ≡ t → t ≡ true → (cond (not t) (1 + place_among (sent_words chosen vs) v.order) 0 < length (v ∷ sent_words chosen vs)) × (get_or (v ∷ sent_words chosen
+        vs) (cond (not t) (1 + place_among (sent_words chosen vs) v.order) 0) no_word ≡ v)
     first true e h = (omega arith, refl)
     first false e h = cc
 
-    by : (t : Bool) → t ≡ true → (place_among (cond t (v ∷ sent_words chosen vs) (sent_words chosen vs)) v.order < length (cond t (v ∷ sent_words chosen vs) (sent_words chosen vs))) × (get_or (cond t (v ∷ sent_words chosen vs) (sent_words chosen vs)) (place_among (cond t (v ∷ sent_words chosen vs) (sent_words chosen vs)) v.order) no_word ≡ v)
+    by : (t : Bool) → t ≡ true → (place_among (cond t (v ∷ sent_words chosen vs) (sent_words chosen vs)) v.order < length (cond t (v ∷ sent_words chosen vs) (sent_words chosen vs))) ×
+        (get_or (cond t (v ∷ sent_words chosen vs) (sent_words chosen vs)) (place_among (cond t (v ∷ sent_words chosen vs) (sent_words chosen vs)) v.order) no_word ≡ v)
     by true e = first (eqb v.order v.order) refl (eq-eqb v.order v.order refl)
     by false e = cc
 found_in chosen (v ∷ vs) (suc n) l up on =
@@ -245,14 +260,18 @@ found_in chosen (v ∷ vs) (suc n) l up on =
     next : (p : ℕ) → get_or (v ∷ sent_words chosen vs) (1 + p) no_word ≡ get_or (sent_words chosen vs) p no_word
     next p = let same : 1 + p ≡ suc p = omega arith in ap (λ k. get_or (v ∷ sent_words chosen vs) k no_word) same
 
-    later : (t : Bool) (p : ℕ) → t ≡ false → p < length (sent_words chosen vs) → get_or (sent_words chosen vs) p no_word ≡ get_or vs n no_word → (cond (not t) (1 + p) 0 < length (v ∷ sent_words chosen vs)) × (get_or (v ∷ sent_words chosen vs) (cond (not t) (1 + p) 0) no_word ≡ get_or vs n no_word)
+    later : (t : Bool) (p : ℕ) → t ≡ false → p < length (sent_words chosen vs) → get_or (sent_words chosen vs) p no_word ≡ get_or vs n no_word →
+        (cond (not t) (1 + p) 0 < length (v ∷ sent_words chosen vs)) × (get_or (v ∷ sent_words chosen vs) (cond (not t) (1 + p) 0) no_word ≡ get_or vs n no_word)
     later true p e m h = cc
     later false p e m h = (omega (arith, m), next p ∙ h)
 
-    by : (t : Bool) → (place_among (sent_words chosen vs) (get_or vs n no_word).order < length (sent_words chosen vs)) × (get_or (sent_words chosen vs) (place_among (sent_words chosen vs) (get_or vs n no_word).order) no_word ≡ get_or vs n no_word) →
+    by : (t : Bool) → (place_among (sent_words chosen vs) (get_or vs n no_word).order < length (sent_words chosen vs)) × (get_or (sent_words chosen vs) (place_among (sent_words chosen vs)
+        (get_or vs n no_word).order) no_word ≡ get_or vs n no_word) →
         (place_among (cond t (v ∷ sent_words chosen vs) (sent_words chosen vs)) (get_or vs n no_word).order < length (cond t (v ∷ sent_words chosen vs) (sent_words chosen vs)))
-        × (get_or (cond t (v ∷ sent_words chosen vs) (sent_words chosen vs)) (place_among (cond t (v ∷ sent_words chosen vs) (sent_words chosen vs)) (get_or vs n no_word).order) no_word ≡ get_or vs n no_word)
-    by true h = later (eqb v.order (get_or vs n no_word).order) (place_among (sent_words chosen vs) (get_or vs n no_word).order) (later_order v.order (get_or vs n no_word).order (up 0 (suc n) (omega arith) l)) h.0 h.1
+        × (get_or (cond t (v ∷ sent_words chosen vs) (sent_words chosen vs)) (place_among (cond t (v ∷ sent_words chosen vs) (sent_words chosen vs)) (get_or vs n no_word).order) no_word ≡ get_or vs n
+        no_word)
+    by true h = later (eqb v.order (get_or vs n no_word).order) (place_among (sent_words chosen vs) (get_or vs n no_word).order) (later_order v.order (get_or vs n no_word).order (up 0 (suc n)
+        (omega arith) l)) h.0 h.1
     by false h = h
 
 bit_chosen : (chosen : ℕ) (w : Word) (byte lane : ℕ) → lane < 8 → bit w.lanes lane ≡ true → slice_index w.bytes lane ≡ byte → bit chosen byte ≡ true → bit (chosen_lanes chosen w) lane ≡ true
@@ -266,7 +285,8 @@ some_chosen chosen w lane e = by (eqb (chosen_lanes chosen w) 0) refl
     by true q = absurd (clash (bit (chosen_lanes chosen w) lane) (ap (λ n. bit n lane) (eqb-true (chosen_lanes chosen w) 0 q) ∙ bit-zero lane) e)
     by false q = refl
 
-lane_enabled : (carried : Bool) (n chosen : ℕ) (w : Word) (lane : ℕ) → w.lanes < 2 ^ n → bit w.lanes lane ≡ true → bit (chosen_lanes chosen w) lane ≡ true → bit (enabled_lanes carried n chosen w) lane ≡ true
+lane_enabled : (carried : Bool) (n chosen : ℕ) (w : Word) (lane : ℕ) → w.lanes < 2 ^ n → bit w.lanes lane ≡ true → bit (chosen_lanes chosen w) lane ≡ true →
+    bit (enabled_lanes carried n chosen w) lane ≡ true
 lane_enabled true n chosen w lane low on e = e
 lane_enabled false n chosen w lane low on e = by (cases_lt lane n)
   where
@@ -304,6 +324,7 @@ operations_are_by_seats l place index chosen value write sound loc choice byte e
     record {
       number_in = omega (arith, inside, length-map sent op);
       address = ap (λ (o : BusOp). o.address) is ∙ s.address_is;
-      lane = ap (λ (o : BusOp). bit o.lanes seat.lane) is ∙ lane_enabled (carries_lanes (kind_of l place) write) (bus_bytes_of l place) chosen w seat.lane (here.words.on s.number no_word s.number_in).enabled s.on lit;
+      lane = ap (λ (o : BusOp). bit o.lanes seat.lane) is ∙ lane_enabled (carries_lanes (kind_of l place) write) (bus_bytes_of l place) chosen w seat.lane (here.words.on s.number no_word
+          s.number_in).enabled s.on lit;
       bits = λ i low. ap (λ (o : BusOp). bit o.word (8 * seat.lane + i)) is ∙ bits_carried chosen value write w byte seat.lane i s.lane_in low lit s.byte_is;
     }

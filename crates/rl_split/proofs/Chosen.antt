@@ -76,7 +76,8 @@ sent_touches chosen (w ∷ ws) b = by (has_chosen chosen w) refl (chosen_bit cho
     shared true false false = refl
     shared false t c = refl
 
-    by : (s : Bool) → has_chosen chosen w ≡ s → lane_bit (lanes_for chosen w) b ≡ (has_bit w b && bit chosen (b / 8)) → are_touched (lanes_for chosen) (sent_words chosen ws) b ≡ (have_bit ws b && bit chosen (b / 8)) →
+    by : (s : Bool) → has_chosen chosen w ≡ s → lane_bit (lanes_for chosen w) b ≡ (has_bit w b && bit chosen (b / 8)) → are_touched (lanes_for chosen) (sent_words chosen ws) b ≡ (have_bit ws b && bit
+        chosen (b / 8)) →
         are_touched (lanes_for chosen) (cond s (w ∷ sent_words chosen ws) (sent_words chosen ws)) b ≡ ((has_bit w b || have_bit ws b) && bit chosen (b / 8))
     by true e own rest =
         ap (λ t. t || are_touched (lanes_for chosen) (sent_words chosen ws) b) own

@@ -12,7 +12,8 @@ use Rattle.rl_bus.specs.declared.table.WordRow.{WordRow}
 use Rattle.rl_bus.specs.Bits.{bit_written, mark_written, bit_answered, bit_left}
 use Rattle.rl_bus.specs.Setup.{Setup, Flaws, policy_at, names_bit, held, or_else, is_deaf, is_of, is_named}
 use Rattle.rl_bus.specs.Spread.{spread_bit, lane_bit, gathered_bit, lanes_in}
-use Rattle.rl_bus.specs.State.{State, counted, word_at, is_faulty, shown_bit, word_shown, after_reading, after_writing, after_word, after_touch, answer_at, beats_on, beats_back, state_after, answer_of}
+use Rattle.rl_bus.specs.State.{State, counted, word_at, is_faulty, shown_bit, word_shown, after_reading, after_writing, after_word, after_touch, answer_at, beats_on, beats_back, state_after}
+use Rattle.rl_bus.specs.State.{answer_of}
 use Rattle.rl_split.specs.Law.{no_flaws}
 
 -- ---- what no flaw does
@@ -73,13 +74,21 @@ pub record Meets (s : State) (port : ℕ) (op : BusOp) (cell : Cell) (lanes : La
   pub cell_is : row.cell ≡ cell
   pub lanes_are : lanes_in row.lanes op.lanes ≡ lanes
 
-pub touched : (s : State) (port : ℕ) (op : BusOp) (cell : Cell) (lanes : Lanes) (m : Meets s port op cell lanes) → state_after s port op ≡ record (after_word (counted s) op m.row) { beats = beats_on s port op }
+pub touched : (s : State) (port : ℕ) (op : BusOp) (cell : Cell) (lanes : Lanes) (m : Meets s port op cell lanes) → state_after s port op ≡ record (after_word (counted s) op m.row) {
+  beats = beats_on
+      s port op;
+}
 unfolding state_after
 touched s port op cell lanes m =
     ap (after_touch (counted s) port op) m.found
-    ∙ ap (λ t. cond t (record (counted s) { beats = beats_back (counted s) m.row.place }) (record (after_word (counted s) op m.row) { beats = beats_on s port op })) (not_faulty (counted s) port op m.flawless m.width)
+    ∙ ap (λ t. cond t (record (counted s) { beats = beats_back (counted s) m.row.place }) (record (after_word (counted s) op m.row) { beats = beats_on s port op })) (not_faulty (counted s) port op
+    m.flawless m.width)
 
-pub answered : (s : State) (port : ℕ) (op : BusOp) (cell : Cell) (lanes : Lanes) (m : Meets s port op cell lanes) → answer_of s port op ≡ record { word = cond op.write 0 (word_shown (counted s) op m.row); failed = false }
+pub answered : (s : State) (port : ℕ) (op : BusOp) (cell : Cell) (lanes : Lanes) (m : Meets s port op cell lanes) → answer_of s port op ≡ record {
+  word = cond op.write 0 (word_shown (counted s) op
+      m.row);
+  failed = false;
+}
 unfolding answer_of
 answered s port op cell lanes m =
     ap (answer_at (counted s) port op) m.found
@@ -91,7 +100,8 @@ writes_word : (s : State) (op : BusOp) (reg : ℕ) (row : WordRow) (lanes : Lane
       marks = set s.marks reg (marks_written s.setup reg lanes (slice_index s.marks reg));
     }
 writes_word s op reg row lanes e write cell same =
-    ap (λ t. cond (not t) (after_reading s (lane_bit (lanes_in row.lanes op.lanes)) row.cell) (cond (is_deaf s.setup row.cell) s (after_writing s (spread_bit (lanes_in row.lanes op.lanes) (bit op.word)) (lane_bit (lanes_in row.lanes op.lanes)) row.cell))) write
+    ap (λ t. cond (not t) (after_reading s (lane_bit (lanes_in row.lanes op.lanes)) row.cell) (cond (is_deaf s.setup row.cell) s (after_writing s (spread_bit (lanes_in row.lanes op.lanes)
+    (bit op.word)) (lane_bit (lanes_in row.lanes op.lanes)) row.cell))) write
     ∙ ap (λ t. cond t s (after_writing s (spread_bit (lanes_in row.lanes op.lanes) (bit op.word)) (lane_bit (lanes_in row.lanes op.lanes)) row.cell)) (not_deaf s.setup row.cell e)
     ∙ ap (after_writing s (spread_bit (lanes_in row.lanes op.lanes) (bit op.word)) (lane_bit (lanes_in row.lanes op.lanes))) cell
     ∙ ap (λ l. after_writing s (spread_bit l (bit op.word)) (lane_bit l) (Reg reg)) same
@@ -109,7 +119,8 @@ write_answers s port reg op lanes m write =
 reads_word : (s : State) (op : BusOp) (reg : ℕ) (row : WordRow) (lanes : Lanes) → s.setup.flaws ≡ no_flaws → op.write ≡ false → row.cell ≡ Reg reg → lanes_in row.lanes op.lanes ≡ lanes →
     after_word s op row ≡ record s { bits = set s.bits reg (bits_left s.setup reg lanes (slice_index s.bits reg)) }
 reads_word s op reg row lanes e write cell same =
-    ap (λ t. cond (not t) (after_reading s (lane_bit (lanes_in row.lanes op.lanes)) row.cell) (cond (is_deaf s.setup row.cell) s (after_writing s (spread_bit (lanes_in row.lanes op.lanes) (bit op.word)) (lane_bit (lanes_in row.lanes op.lanes)) row.cell))) write
+    ap (λ t. cond (not t) (after_reading s (lane_bit (lanes_in row.lanes op.lanes)) row.cell) (cond (is_deaf s.setup row.cell) s (after_writing s (spread_bit (lanes_in row.lanes op.lanes)
+    (bit op.word)) (lane_bit (lanes_in row.lanes op.lanes)) row.cell))) write
     ∙ ap (after_reading s (lane_bit (lanes_in row.lanes op.lanes))) cell
     ∙ ap (λ l. after_reading s (lane_bit l) (Reg reg)) same
     ∙ ap (λ n. record s { bits = set s.bits reg n }) (held_plain s.setup reg _ e)
@@ -119,7 +130,11 @@ read_meets s port reg op lanes m write =
     touched s port op (Reg reg) lanes m
     ∙ ap (λ (x : State). record x { beats = beats_on s port op }) (reads_word (counted s) op reg m.row lanes m.flawless write m.cell_is m.lanes_are)
 
-pub read_answers : (s : State) (port reg : ℕ) (op : BusOp) (lanes : Lanes) → Meets s port op (Reg reg) lanes → op.write ≡ false → answer_of s port op ≡ record { word = bits_shown s.setup reg lanes (slice_index s.bits reg); failed = false }
+pub read_answers : (s : State) (port reg : ℕ) (op : BusOp) (lanes : Lanes) → Meets s port op (Reg reg) lanes → op.write ≡ false → answer_of s port op ≡ record {
+  word = bits_shown s.setup reg lanes
+      (slice_index s.bits reg);
+  failed = false;
+}
 read_answers s port reg op lanes m write =
     answered s port op (Reg reg) lanes m
     ∙ ap (λ t. record { word = cond t 0 (word_shown (counted s) op m.row); failed = false }) write

@@ -1,5 +1,6 @@
 -- The operations of an access to a location of a memory.
-use Rattle.std.proofs.Common.{◌≡◌, ℕ, ◌*◌, ◌/◌, ◌^◌, ◌<◌, ◌≤◌, Bool, true, false, not, ◌&&◌, ◌||◌, cond, ltb, List, [], ◌∷◌, ◌++◌, length, map, set, refl, sym, ap, ◌∙◌, subst, arith, append_assoc, append-nil, length-set}
+use Rattle.std.proofs.Common.{◌≡◌, ℕ, ◌*◌, ◌/◌, ◌^◌, ◌<◌, ◌≤◌, Bool, true, false, not, ◌&&◌, ◌||◌, cond, ltb, List, [], ◌∷◌, ◌++◌, length, map, set, refl, sym, ap, ◌∙◌, subst, arith, append_assoc}
+use Rattle.std.proofs.Common.{append-nil, length-set}
 use Rattle.std.specs.Prelude.{All, slice_index}
 use Rattle.std.proofs.lemmas.Bool.Decides.{nat_tests}
 use Rattle.std.proofs.lemmas.List.{set-set, set-get_or, get_or-set_same, length-map}
@@ -47,16 +48,19 @@ after_store s port at op lanes = record s {
 abbrev after_load : State → (port : ℕ) → BusOp → State
 after_load s port op = record s { beats = beats_on s port op; items = next_count s.items }
 
-stores_word : (s : State) (op : BusOp) (mem index : ℕ) (row : WordRow) (lanes : Lanes) → s.setup.flaws ≡ no_flaws → (mem_of s.setup mem).writable ≡ true → op.write ≡ true → row.cell ≡ Loc mem index → lanes_in row.lanes op.lanes ≡ lanes →
+stores_word : (s : State) (op : BusOp) (mem index : ℕ) (row : WordRow) (lanes : Lanes) → s.setup.flaws ≡ no_flaws → (mem_of s.setup mem).writable ≡ true → op.write ≡ true → row.cell ≡ Loc mem index →
+    lanes_in row.lanes op.lanes ≡ lanes →
     after_word s op row ≡ record s { locations = set s.locations (location s.setup mem index) (stored_in lanes op.word (slice_index s.locations (location s.setup mem index))) }
 stores_word s op mem index row lanes e open_to write cell same =
-    ap (λ t. cond (not t) (after_reading s (lane_bit (lanes_in row.lanes op.lanes)) row.cell) (cond (is_deaf s.setup row.cell) s (after_writing s (spread_bit (lanes_in row.lanes op.lanes) (bit op.word)) (lane_bit (lanes_in row.lanes op.lanes)) row.cell))) write
+    ap (λ t. cond (not t) (after_reading s (lane_bit (lanes_in row.lanes op.lanes)) row.cell) (cond (is_deaf s.setup row.cell) s (after_writing s (spread_bit (lanes_in row.lanes op.lanes)
+    (bit op.word)) (lane_bit (lanes_in row.lanes op.lanes)) row.cell))) write
     ∙ ap (λ t. cond t s (after_writing s (spread_bit (lanes_in row.lanes op.lanes) (bit op.word)) (lane_bit (lanes_in row.lanes op.lanes)) row.cell)) (not_deaf s.setup row.cell e)
     ∙ ap (after_writing s (spread_bit (lanes_in row.lanes op.lanes) (bit op.word)) (lane_bit (lanes_in row.lanes op.lanes))) cell
     ∙ ap (λ l. after_writing s (spread_bit l (bit op.word)) (lane_bit l) (Loc mem index)) same
     ∙ ap (λ t. cond t (record s { locations = set s.locations (location s.setup mem index) (stored_in lanes op.word (slice_index s.locations (location s.setup mem index))) }) s) open_to
 
-store_meets : (s : State) (port mem index : ℕ) (op : BusOp) (lanes : Lanes) → Meets s port op (Loc mem index) lanes → (mem_of s.setup mem).writable ≡ true → op.write ≡ true → state_after s port op ≡ after_store s port (location s.setup mem index) op lanes
+store_meets : (s : State) (port mem index : ℕ) (op : BusOp) (lanes : Lanes) → Meets s port op (Loc mem index) lanes → (mem_of s.setup mem).writable ≡ true → op.write ≡ true →
+    state_after s port op ≡ after_store s port (location s.setup mem index) op lanes
 store_meets s port mem index op lanes m open_to write =
     touched s port op (Loc mem index) lanes m
     ∙ ap (λ (x : State). record x { beats = beats_on s port op }) (stores_word (counted s) op mem index m.row lanes m.flawless open_to write m.cell_is m.lanes_are)
@@ -67,7 +71,8 @@ store_answers s port mem index op lanes m write =
 
 loads_word : (s : State) (op : BusOp) (mem index : ℕ) (row : WordRow) → op.write ≡ false → row.cell ≡ Loc mem index → after_word s op row ≡ s
 loads_word s op mem index row write cell =
-    ap (λ t. cond (not t) (after_reading s (lane_bit (lanes_in row.lanes op.lanes)) row.cell) (cond (is_deaf s.setup row.cell) s (after_writing s (spread_bit (lanes_in row.lanes op.lanes) (bit op.word)) (lane_bit (lanes_in row.lanes op.lanes)) row.cell))) write
+    ap (λ t. cond (not t) (after_reading s (lane_bit (lanes_in row.lanes op.lanes)) row.cell) (cond (is_deaf s.setup row.cell) s (after_writing s (spread_bit (lanes_in row.lanes op.lanes)
+    (bit op.word)) (lane_bit (lanes_in row.lanes op.lanes)) row.cell))) write
     ∙ ap (after_reading s (lane_bit (lanes_in row.lanes op.lanes))) cell
 
 load_meets : (s : State) (port mem index : ℕ) (op : BusOp) (lanes : Lanes) → Meets s port op (Loc mem index) lanes → op.write ≡ false → state_after s port op ≡ after_load s port op
@@ -78,7 +83,8 @@ load_meets s port mem index op lanes m write =
 abbrev pub shown_in : Lanes → ℕ → ℕ
 shown_in lanes x = from_bits 64 (gathered_bit lanes (bit x))
 
-load_answers : (s : State) (port mem index : ℕ) (op : BusOp) (lanes : Lanes) → Meets s port op (Loc mem index) lanes → op.write ≡ false → answer_of s port op ≡ read_answer (shown_in lanes (slice_index s.locations (location s.setup mem index)))
+load_answers : (s : State) (port mem index : ℕ) (op : BusOp) (lanes : Lanes) → Meets s port op (Loc mem index) lanes → op.write ≡ false → answer_of s port op ≡ read_answer (shown_in lanes
+    (slice_index s.locations (location s.setup mem index)))
 load_answers s port mem index op lanes m write =
     answered s port op (Loc mem index) lanes m
     ∙ ap (λ t. read_answer (cond t 0 (word_shown (counted s) op m.row))) write
@@ -95,7 +101,8 @@ stored_twice : (l t v w x : Bool) → (l ≡ true → (v ≡ w) × (t ≡ false)
 stored_twice true t v w x once = ap (λ t. cond t w v) (once refl).1 ∙ (once refl).0
 stored_twice false t v w x once = refl
 
-store_bits : (op : Word → BusOp) (lanes : Word → Lanes) (value : ℕ) (ws : List Word) (x : ℕ) → CarryInParts lanes op value ws → (b : ℕ) → b < 64 → bit (store_all op lanes x ws) b ≡ cond (are_touched lanes ws b) (bit value b) (bit x b)
+store_bits : (op : Word → BusOp) (lanes : Word → Lanes) (value : ℕ) (ws : List Word) (x : ℕ) → CarryInParts lanes op value ws → (b : ℕ) → b < 64 → bit (store_all op lanes x ws) b ≡ cond
+    (are_touched lanes ws b) (bit value b) (bit x b)
 store_bits op lanes value [] x parts b low = refl
 store_bits op lanes value (w ∷ ws) x parts b low =
     store_bits op lanes value ws (stored_in (lanes w) (op w).word x) parts.1 b low
@@ -114,7 +121,8 @@ joins true t x a first none = ap (λ t. a || (t && x)) (first refl).1 ∙ or_fal
     or_false false = refl
 joins false t x a first none = ap (λ a. a || (t && x)) (none refl)
 
-load_bits : (chosen : ℕ) (ws : List Word) (x : ℕ) → AreSplit (lanes_for chosen) ws → (b : ℕ) → joined_bit chosen ws (map (λ w. shown_in (lanes_for chosen w) x) ws) b ≡ (are_touched (lanes_for chosen) ws b && bit x b)
+load_bits : (chosen : ℕ) (ws : List Word) (x : ℕ) → AreSplit (lanes_for chosen) ws → (b : ℕ) → joined_bit chosen ws (map (λ w. shown_in (lanes_for chosen w) x) ws) b ≡ (are_touched (lanes_for chosen)
+    ws b && bit x b)
 load_bits chosen [] x parts b = refl
 load_bits chosen (w ∷ ws) x parts b =
     let lanes = lanes_for chosen w in
@@ -137,7 +145,8 @@ none_stored : (s : State) (port at : ℕ) (op : Word → BusOp) → ((p a : ℕ)
 none_stored s port at op none = record { answers = refl; setup = refl; bits = refl; marks = refl; locations = sym (set-get_or s.locations at 0); items = count_none s.items; beats = none }
 
 one_stored : (s : State) (port at : ℕ) (op : Word → BusOp) (lanes : Word → Lanes) (w : Word) (rest : List Word) (x : ℕ) →
-    state_after s port (op w) ≡ after_store s port at (op w) (lanes w) → answer_of s port (op w) ≡ read_answer 0 → Stored (after_store s port at (op w) (lanes w)) port at op rest x → Stored s port at op (w ∷ rest) x
+    state_after s port (op w) ≡ after_store s port at (op w) (lanes w) → answer_of s port (op w) ≡ read_answer 0 → Stored (after_store s port at (op w) (lanes w)) port at op rest x →
+    Stored s port at op (w ∷ rest) x
 one_stored s port at op lanes w rest x step answer run = record {
   answers = ap (λ a. a ∷ answers_of (state_after s port (op w)) port (map op rest)) answer ∙ ap (λ y. read_answer 0 ∷ answers_of y port (map op rest)) step ∙ ap (λ xs. read_answer 0 ∷ xs) run.answers;
   setup = ap (λ y. (state_after_all y port (map op rest)).setup) step ∙ run.setup;
@@ -154,8 +163,10 @@ Turn t port write mem index row op lanes sent w = IsTurn t port write (Loc mem i
 same_place : (s : State) (t : Setup) (mem index : ℕ) → s.setup ≡ t → location s.setup mem index ≡ location t mem index
 same_place s t mem index e = ap (λ u. location u mem index) e
 
-stores_run : (t : Setup) (port mem index : ℕ) (row : Word → WordRow) (op : Word → BusOp) (lanes : Word → Lanes) (sent : List Word) → t.flaws ≡ no_flaws → (mem_of t mem).writable ≡ true → ((w : Word) → (op w).write ≡ true) →
-    (done rest : List Word) (s : State) → All (Turn t port true mem index row op lanes sent) rest → sent ≡ done ++ rest → s.setup ≡ t → Stands s port sent done → location t mem index < length s.locations →
+stores_run : (t : Setup) (port mem index : ℕ) (row : Word → WordRow) (op : Word → BusOp) (lanes : Word → Lanes) (sent : List Word) → t.flaws ≡ no_flaws → (mem_of t mem).writable ≡ true →
+    ((w : Word) → (op w).write ≡ true) →
+    (done rest : List Word) (s : State) → All (Turn t port true mem index row op lanes sent) rest → sent ≡ done ++ rest → s.setup ≡ t → Stands s port sent done →
+    location t mem index < length s.locations →
     Stored s port (location t mem index) op rest (store_all op lanes (slice_index s.locations (location t mem index)) rest)
 stores_run t port mem index row op lanes sent plain open_to write done [] s each is same stands inside =
     none_stored s port (location t mem index) op (last_stands s port sent (subst (Stands s port sent) (sym (is ∙ append-nil done)) stands))
@@ -182,9 +193,11 @@ record Loaded (s : State) (port : ℕ) (op : Word → BusOp) (lanes : Word → L
   beats : (p a : ℕ) → (state_after_all s port (map op rest)).beats p a ≡ 0
 
 one_loaded : (s : State) (port : ℕ) (op : Word → BusOp) (lanes : Word → Lanes) (w : Word) (rest : List Word) (x : ℕ) →
-    state_after s port (op w) ≡ after_load s port (op w) → answer_of s port (op w) ≡ read_answer (shown_in (lanes w) x) → Loaded (after_load s port (op w)) port op lanes rest x → Loaded s port op lanes (w ∷ rest) x
+    state_after s port (op w) ≡ after_load s port (op w) → answer_of s port (op w) ≡ read_answer (shown_in (lanes w) x) → Loaded (after_load s port (op w)) port op lanes rest x →
+    Loaded s port op lanes (w ∷ rest) x
 one_loaded s port op lanes w rest x step answer run = record {
-  answers = ap (λ a. a ∷ answers_of (state_after s port (op w)) port (map op rest)) answer ∙ ap (λ y. read_answer (shown_in (lanes w) x) ∷ answers_of y port (map op rest)) step ∙ ap (λ xs. read_answer (shown_in (lanes w) x) ∷ xs) run.answers;
+  answers = ap (λ a. a ∷ answers_of (state_after s port (op w)) port (map op rest)) answer ∙ ap (λ y. read_answer (shown_in (lanes w) x) ∷ answers_of y port (map op rest)) step ∙ ap
+      (λ xs. read_answer (shown_in (lanes w) x) ∷ xs) run.answers;
   setup = ap (λ y. (state_after_all y port (map op rest)).setup) step ∙ run.setup;
   bits = ap (λ y. (state_after_all y port (map op rest)).bits) step ∙ run.bits;
   marks = ap (λ y. (state_after_all y port (map op rest)).marks) step ∙ run.marks;
@@ -197,7 +210,16 @@ loads_run : (t : Setup) (port mem index : ℕ) (row : Word → WordRow) (op : Wo
     (done rest : List Word) (s : State) → All (Turn t port false mem index row op lanes sent) rest → sent ≡ done ++ rest → s.setup ≡ t → Stands s port sent done →
     Loaded s port op lanes rest (slice_index s.locations (location t mem index))
 loads_run t port mem index row op lanes sent plain read done [] s each is same stands =
-    record { answers = refl; setup = refl; bits = refl; marks = refl; locations = refl; items = count_none s.items; beats = last_stands s port sent (subst (Stands s port sent) (sym (is ∙ append-nil done)) stands) }
+    record {
+      answers = refl;
+      setup = refl;
+      bits = refl;
+      marks = refl;
+      locations = refl;
+      items = count_none s.items;
+      beats = last_stands s port sent (subst (Stands s port sent)
+          (sym (is ∙ append-nil done)) stands);
+    }
 loads_run t port mem index row op lanes sent plain read done (w ∷ rest) s each is same stands =
     let x = slice_index s.locations (location t mem index) in
     let turn = all_head (Turn t port false mem index row op lanes sent) w rest each in
@@ -217,10 +239,12 @@ here_of c l place mem index write at = is_here l place index at.layout (record {
 cells_of : (l : LayoutData) (place mem index : ℕ) → (row_at l place).item ≡ item.Mem mem → (w : Word) → (row_of l place index w).cell ≡ Loc mem index
 cells_of l place mem index is w = ap (λ i. cell_of i index) is
 
-all_touched : (l : LayoutData) (place index b : ℕ) → IsHere l place index → are_touched (lanes_for (all_bytes (row_at l place).bytes)) (sent_words (all_bytes (row_at l place).bytes) (words_of l place index)) b ≡ ltb (b / 8) (row_at l place).bytes
+all_touched : (l : LayoutData) (place index b : ℕ) → IsHere l place index → are_touched (lanes_for (all_bytes (row_at l place).bytes)) (sent_words (all_bytes (row_at l place).bytes) (words_of l place
+    index)) b ≡ ltb (b / 8) (row_at l place).bytes
 all_touched l place index b here =
     let bytes = (row_at l place).bytes in
-    sent_touches (all_bytes bytes) (words_of l place index) b ∙ ap (λ t. t && bit (all_bytes bytes) (b / 8)) (here.words.reach b) ∙ ap (λ t. ltb (b / 8) bytes && t) (bit-mask bytes (b / 8)) ∙ twice (ltb (b / 8) bytes)
+    sent_touches (all_bytes bytes) (words_of l place index) b ∙ ap (λ t. t && bit (all_bytes bytes) (b / 8)) (here.words.reach b) ∙ ap (λ t. ltb (b / 8) bytes && t) (bit-mask bytes (b / 8)) ∙ twice
+    (ltb (b / 8) bytes)
   where
     twice : (t : Bool) → (t && t) ≡ t
     twice true = refl
@@ -259,7 +283,8 @@ memory_write_is_store c l s place mem index value at ready has open_to small =
     let old = slice_index s.locations (location t mem index) in
     let old_fits : old < 256 ^ bytes = subst (λ n. slice_index s.locations n < 256 ^ bytes) spot has.fits in
     let run = stores_run t port mem index (row_of l place index) op lanes sent (flawless c l) (ap (λ u. (mem_of u mem).writable) (sym ready.setup) ∙ open_to) (λ w. refl) [] sent s
-    (turns c l place index chosen value true (Loc mem index) here at.right (cells_of l place mem index at.item) (all_reached l place index true here)) refl ready.setup (first_stands s port sent ready.beats)
+    (turns c l place index chosen value true (Loc mem index) here at.right (cells_of l place mem index at.item) (all_reached l place index true here)) refl ready.setup (first_stands s port sent
+    ready.beats)
     (subst (λ n. n < length s.locations) spot has.inside) in
     let is_value : store_all op lanes old sent ≡ value =
     same_from_bits 64 _ _ (store_small op lanes sent old (below_all bytes old here.row.most old_fits)) (below_all bytes value here.row.most small)
@@ -270,7 +295,8 @@ memory_write_is_store c l s place mem index value at ready has open_to small =
     record {
       answers = run.answers ∙ answers_alike l place chosen value sent;
       state = same_state after (record s { locations = set s.locations (location s.setup mem index) value; items = counted_on (length (map op sent)) s.items })
-          run.setup run.bits run.marks (run.locations ∙ ap (set s.locations (location t mem index)) is_value ∙ ap (λ n. set s.locations n value) (sym spot)) (λ p a. run.beats p a ∙ sym (ready.beats p a))
+          run.setup run.bits run.marks (run.locations ∙ ap (set s.locations (location t mem index)) is_value ∙ ap (λ n. set s.locations n value) (sym spot)) (λ p a. run.beats p a ∙ sym
+          (ready.beats p a))
           (run.items ∙ ap (λ n. counted_on n s.items) (sym (length-map sent op)));
       ready = record { setup = run.setup ∙ ready.setup; beats = run.beats; bits = ap length run.bits ∙ ready.bits; marks = ap length run.marks ∙ ready.marks };
     }
@@ -290,7 +316,8 @@ memory_read_is_load c l s place mem index at ready has =
     let old = slice_index s.locations (location t mem index) in
     let old_fits : old < 256 ^ bytes = subst (λ n. slice_index s.locations n < 256 ^ bytes) spot has.fits in
     let run = loads_run t port mem index (row_of l place index) op lanes sent (flawless c l) (λ w. refl) [] sent s
-    (turns c l place index chosen 0 false (Loc mem index) here at.right (cells_of l place mem index at.item) (all_reached l place index false here)) refl ready.setup (first_stands s port sent ready.beats) in
+    (turns c l place index chosen 0 false (Loc mem index) here at.right (cells_of l place mem index at.item) (all_reached l place index false here)) refl ready.setup (first_stands s port sent
+    ready.beats) in
     let words = map (λ w. shown_in (lanes w) old) sent in
     let is_value : from_bits 64 (joined_bit chosen sent words) ≡ old =
     sym (is_from_bits 64 old _ (below_all bytes old here.row.most old_fits)
@@ -299,7 +326,8 @@ memory_read_is_load c l s place mem index at ready has =
     let after = state_after_all s port (map op sent) in
     record {
       answers = subst (All (λ a. a.failed ≡ false)) (sym run.answers) (none_failed words);
-      value_is = ap (λ answers. from_bits 64 (joined_bit chosen sent (map (λ (a : Answer). a.word) answers))) run.answers ∙ ap (λ xs. from_bits 64 (joined_bit chosen sent xs)) (words_back words) ∙ is_value ∙ ap (slice_index s.locations) (sym spot);
+      value_is = ap (λ answers. from_bits 64 (joined_bit chosen sent (map (λ (a : Answer). a.word) answers))) run.answers ∙ ap (λ xs. from_bits 64 (joined_bit chosen sent xs)) (words_back words) ∙
+          is_value ∙ ap (slice_index s.locations) (sym spot);
       state = same_state after (record s { items = counted_on (length (map op sent)) s.items }) run.setup run.bits run.marks run.locations (λ p a. run.beats p a ∙ sym (ready.beats p a))
           (run.items ∙ ap (λ n. counted_on n s.items) (sym (length-map sent op)));
       ready = record { setup = run.setup ∙ ready.setup; beats = run.beats; bits = ap length run.bits ∙ ready.bits; marks = ap length run.marks ∙ ready.marks };

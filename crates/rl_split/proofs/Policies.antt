@@ -1,5 +1,6 @@
 -- The policy of a bit in a device without flaws is that of the field that it belongs to.
-use Rattle.std.proofs.Common.{◌≡◌, ℕ, zero, suc, ◌+◌, ◌-◌, ◌<◌, ◌≤◌, Bool, true, false, not, ◌&&◌, cond, eqb, ltb, leb, List, [], ◌∷◌, length, get_or, take, drop, map, Option, Some, None, option_map, refl, sym, ap, ◌∙◌, subst, arith, eq-eqb, eqb-true, min, length-take, length-drop}
+use Rattle.std.proofs.Common.{◌≡◌, ℕ, zero, suc, ◌+◌, ◌-◌, ◌<◌, ◌≤◌, Bool, true, false, not, ◌&&◌, cond, eqb, ltb, leb, List, [], ◌∷◌, length, get_or, take, drop, map, Option, Some, None, option_map}
+use Rattle.std.proofs.Common.{refl, sym, ap, ◌∙◌, subst, arith, eq-eqb, eqb-true, min, length-take, length-drop}
 use Rattle.std.specs.Prelude.{position, find, slice_get, IsSomeAnd}
 use Rattle.std.specs.List.{position_or_len}
 use Rattle.std.specs.Option.{option_map_or}
@@ -30,7 +31,8 @@ position-cons {X} p x xs = by (p x)
     shifted true n = let same : 1 + n ≡ suc n = omega arith in ap Some same
     shifted false n = refl
 
-    by : (t : Bool) → cond (ltb (cond (not t) (1 + position_or_len p xs) 0) (suc (length xs))) (Some (cond (not t) (1 + position_or_len p xs) 0)) None ≡ cond t (Some 0) (option_map suc (position p xs))
+    by : (t : Bool) → cond (ltb (cond (not t) (1 + position_or_len p xs) 0) (suc (length xs))) (Some (cond (not t) (1 + position_or_len p xs) 0)) None ≡ cond t (Some 0) (option_map suc
+        (position p xs))
     by true = ap (λ t. cond t (Some 0) None) (first_below (length xs))
     by false =
         ap (λ t. cond t (Some (1 + position_or_len p xs)) None) (next_below (position_or_len p xs) (length xs))
@@ -45,7 +47,8 @@ at_position {X} {A} p g d (x ∷ xs) = ap (option_map (λ n. g (get_or (x ∷ xs
     more None = refl
     more (Some n) = refl
 
-    by : (t : Bool) → option_map (λ n. g (get_or xs n d)) (position p xs) ≡ option_map g (find p xs) → option_map (λ n. g (get_or (x ∷ xs) n d)) (cond t (Some 0) (option_map suc (position p xs))) ≡ option_map g (cond t (Some x) (find p xs))
+    by : (t : Bool) → option_map (λ n. g (get_or xs n d)) (position p xs) ≡ option_map g (find p xs) → option_map (λ n. g (get_or (x ∷ xs) n d)) (cond t (Some 0) (option_map suc (position p xs))) ≡
+        option_map g (cond t (Some x) (find p xs))
     by true h = refl
     by false h = more (position p xs) ∙ h
 
@@ -127,11 +130,13 @@ has_row c reg r e = record {
 pub field_fits : (c : ChipData) (i : ℕ) (d : FieldSeen) → IsSoundChip c → i < length c.fields → FieldFits c i (get_or c.fields i d)
 field_fits c i d sound l = sound.each_field i (get_or c.fields i d) (slice_get-get_or c.fields i d l)
 
-pub in_row : (c : ChipData) (reg i : ℕ) (d : FieldSeen) → IsSoundChip c → (h : HasRow c reg) → i < length c.fields → (get_or c.fields i d).shape.reg ≡ reg → IsFieldOf i (get_or c.fields i d).shape h.row
+pub in_row : (c : ChipData) (reg i : ℕ) (d : FieldSeen) → IsSoundChip c → (h : HasRow c reg) → i < length c.fields → (get_or c.fields i d).shape.reg ≡ reg → IsFieldOf i (get_or c.fields i d).shape
+    h.row
 in_row c reg i d sound h l e =
     some_and (slice_get c.regs (get_or c.fields i d).shape.reg) (IsFieldOf i (get_or c.fields i d).shape) h.row (ap (slice_get c.regs) e ∙ h.row_is) (field_fits c i d sound l).0
 
-pub of_row : (c : ChipData) (reg i : ℕ) (d : FieldSeen) → IsSoundChip c → (h : HasRow c reg) → i < length c.fields → first_of c reg ≤ i → i < first_of c reg + count_of c reg → (get_or c.fields i d).shape.reg ≡ reg
+pub of_row : (c : ChipData) (reg i : ℕ) (d : FieldSeen) → IsSoundChip c → (h : HasRow c reg) → i < length c.fields → first_of c reg ≤ i → i < first_of c reg + count_of c reg →
+    (get_or c.fields i d).shape.reg ≡ reg
 of_row c reg i d sound h l low high =
     sound.owned reg i h.row (get_or c.fields i d) h.row_is (slice_get-get_or c.fields i d l) (omega (arith, h.first, low)) (omega (arith, h.first, h.count, high))
 
@@ -157,7 +162,8 @@ policy_mapped None = refl
 policy_mapped (Some f) = refl
 
 -- in a device without flaws each bit has the policy of the field that it belongs to
-pub policy_by_place : (c : ChipData) (l : LayoutData) (reg b : ℕ) → IsSoundChip c → HasRow c reg → policy_at (setup_of c l no_flaws) reg b ≡ option_map (policy_in (fields_of c reg)) (place_at (fields_of c reg) b)
+pub policy_by_place : (c : ChipData) (l : LayoutData) (reg b : ℕ) → IsSoundChip c → HasRow c reg → policy_at (setup_of c l no_flaws) reg b ≡ option_map (policy_in (fields_of c reg))
+    (place_at (fields_of c reg) b)
 unfolding setup_of fields_of place_at
 policy_by_place c l reg b sound h =
     let t = setup_of c l no_flaws in
@@ -165,7 +171,8 @@ policy_by_place c l reg b sound h =
     ∙ at_position (λ f. covers f reg b) (λ f. f.policy) no_row t.fields
     ∙ ap (option_map (λ f. f.policy)) (find_mapped field_row (λ f. covers f reg b) c.fields)
     ∙ policy_mapped (find (λ f. covers (field_row f) reg b) c.fields)
-    ∙ ap (option_map (λ (f : FieldSeen). f.shape.policy)) (find_together (λ f. eqb f.shape.reg reg) (λ f. is_within f.shape.lsb f.shape.width b) (first_of c reg) (count_of c reg) c.fields (fields_together c reg sound h))
+    ∙ ap (option_map (λ (f : FieldSeen). f.shape.policy)) (find_together (λ f. eqb f.shape.reg reg) (λ f. is_within f.shape.lsb f.shape.width b) (first_of c reg) (count_of c reg) c.fields
+    (fields_together c reg sound h))
     ∙ sym (at_position (λ f. is_within f.shape.lsb f.shape.width b) (λ f. f.shape.policy) no_field (take (count_of c reg) (drop (first_of c reg) c.fields)))
 
 -- ---- the field that a bit belongs to

@@ -1,5 +1,6 @@
 -- The operations of a read, one after another, over the bits of one register.
-use Rattle.std.proofs.Common.{◌≡◌, ℕ, ◌/◌, ◌%◌, ◌<◌, ◌^◌, is_some, Bool, true, false, ◌&&◌, ◌||◌, List, [], ◌∷◌, ◌++◌, length, map, set, Option, Some, None, refl, sym, ap, ◌∙◌, subst, append_assoc, append-nil}
+use Rattle.std.proofs.Common.{◌≡◌, ℕ, ◌/◌, ◌%◌, ◌<◌, ◌^◌, is_some, Bool, true, false, ◌&&◌, ◌||◌, List, [], ◌∷◌, ◌++◌, length, map, set, Option, Some, None, refl, sym, ap, ◌∙◌, subst, append_assoc}
+use Rattle.std.proofs.Common.{append-nil}
 use Rattle.std.specs.Prelude.{All, slice_index}
 use Rattle.std.proofs.lemmas.List.{set-set, set-get_or, get_or-set_same, length-set}
 use Rattle.rl_policy.specs.Bits.{bit}
@@ -53,7 +54,8 @@ take_small t reg lanes [] x low = low
 take_small t reg lanes (w ∷ ws) x low = take_small t reg lanes ws (bits_left t reg (lanes w) x) (from_bits-lt 64 _)
 
 -- one bit of the joined value, by whether its byte stands in the first word
-joins : (o : Option Policy) (l t x a : Bool) → (l ≡ true → (a ≡ bit_answered o x) × (t ≡ false)) → (l ≡ false → a ≡ false) → (a || (t && bit_answered o (bit_left o x l))) ≡ ((l || t) && bit_answered o x)
+joins : (o : Option Policy) (l t x a : Bool) → (l ≡ true → (a ≡ bit_answered o x) × (t ≡ false)) → (l ≡ false → a ≡ false) → (a || (t && bit_answered o (bit_left o x l))) ≡ ((l || t) && bit_answered
+    o x)
 joins o true t x a first none = ap (λ t. a || (t && bit_answered o (bit_left o x true))) (first refl).1 ∙ or_false a ∙ (first refl).0
   where
     or_false : (a : Bool) → (a || false) ≡ a
@@ -112,7 +114,8 @@ one_took : (s : State) (port reg : ℕ) (op : Word → BusOp) (lanes : Word → 
     state_after s port (op w) ≡ after_read s port reg (op w) (lanes w) → answer_of s port (op w) ≡ read_answer word →
     Took (after_read s port reg (op w) (lanes w)) port reg op rest words x → Took s port reg op (w ∷ rest) (word ∷ words) x
 one_took s port reg op lanes w rest words word x step answer run = record {
-  answers = ap (λ a. a ∷ answers_of (state_after s port (op w)) port (map op rest)) answer ∙ ap (λ x. read_answer word ∷ answers_of x port (map op rest)) step ∙ ap (λ xs. read_answer word ∷ xs) run.answers;
+  answers = ap (λ a. a ∷ answers_of (state_after s port (op w)) port (map op rest)) answer ∙ ap (λ x. read_answer word ∷ answers_of x port (map op rest)) step ∙ ap (λ xs. read_answer word ∷ xs)
+      run.answers;
   setup = ap (λ x. (state_after_all x port (map op rest)).setup) step ∙ run.setup;
   bits = ap (λ x. (state_after_all x port (map op rest)).bits) step ∙ run.bits ∙ set-set s.bits reg _ x;
   marks = ap (λ x. (state_after_all x port (map op rest)).marks) step ∙ run.marks;

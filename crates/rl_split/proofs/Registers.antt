@@ -27,7 +27,8 @@ pub record IsInside (c : ChipData) (f : Field) : Type 0 where
   pub inside : f.lsb + f.width ≤ 64
   pub last : row.first + row.count ≤ length c.fields
 
-row_there : (c : ChipData) (n : ℕ) (o : Option RegRow) → IsSoundChip c → n < length c.fields → slice_get c.regs (field_at c n).reg ≡ o → IsSomeAnd o (IsFieldOf n (field_at c n)) → IsInside c (field_at c n)
+row_there : (c : ChipData) (n : ℕ) (o : Option RegRow) → IsSoundChip c → n < length c.fields → slice_get c.regs (field_at c n).reg ≡ o → IsSomeAnd o (IsFieldOf n (field_at c n)) →
+    IsInside c (field_at c n)
 row_there c n None sound l is h = absurd h
 row_there c n (Some r) sound l is h =
     let fits = sound.each_reg (field_at c n).reg r is in
@@ -104,7 +105,8 @@ neighbour_found c field other first count f n low high differs shares =
         by true e = absurd (h (eqb-true a b e))
         by false e = refl
 
-pub none_further : (p : ℕ → Bool) (first other : ℕ) → first ≤ other → list_any p (range_with_len first (other - first)) ≡ false → p other ≡ false → list_any p (range_with_len first (other + 1 - first)) ≡ false
+pub none_further : (p : ℕ → Bool) (first other : ℕ) → first ≤ other → list_any p (range_with_len first (other - first)) ≡ false → p other ≡ false →
+    list_any p (range_with_len first (other + 1 - first)) ≡ false
 none_further p first other low none e =
     let n = other - first in
     let more : other + 1 - first ≡ suc n = omega (arith, low) in
@@ -113,4 +115,5 @@ none_further p first other low none e =
 
 pub none_neighbour : (c : ChipData) (field first count : ℕ) → first ≡ first_of c (field_at c field).reg → count ≡ count_of c (field_at c field).reg →
     list_any (is_neighbour c field) (range_with_len first count) ≡ false → false ≡ has_neighbour c field
-none_neighbour c field first count f n none = sym none ∙ ap (λ m. list_any (is_neighbour c field) (range_with_len m count)) f ∙ ap (λ m. list_any (is_neighbour c field) (range_with_len (first_of c (field_at c field).reg) m)) n
+none_neighbour c field first count f n none = sym none ∙ ap (λ m. list_any (is_neighbour c field) (range_with_len m count)) f ∙ ap (λ m. list_any (is_neighbour c field) (range_with_len (first_of c
+    (field_at c field).reg) m)) n

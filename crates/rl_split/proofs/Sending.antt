@@ -1,5 +1,6 @@
 -- The words that an access sends, over a device of the layout.
-use Rattle.std.proofs.Common.{◌≡◌, ℕ, zero, suc, ◌-◌, ◌*◌, ◌/◌, ◌^◌, ◌<◌, ◌≤◌, ◌⊎◌, inl, inr, Bool, true, false, not, ◌&&◌, cond, eqb, ltb, List, [], ◌∷◌, length, get_or, map, Some, is_some, refl, sym, ap, ◌∙◌, subst, arith, eq-eqb, eqb-true}
+use Rattle.std.proofs.Common.{◌≡◌, ℕ, zero, suc, ◌-◌, ◌*◌, ◌/◌, ◌^◌, ◌<◌, ◌≤◌, ◌⊎◌, inl, inr, Bool, true, false, not, ◌&&◌, cond, eqb, ltb, List, [], ◌∷◌, length, get_or, map, Some, is_some, refl}
+use Rattle.std.proofs.Common.{sym, ap, ◌∙◌, subst, arith, eq-eqb, eqb-true}
 use Rattle.std.specs.Prelude.{All, slice_index, filter, bit_and}
 use Rattle.std.proofs.lemmas.Bool.{cases_lt}
 use Rattle.std.proofs.lemmas.Bool.Decides.{nat_tests}
@@ -133,7 +134,8 @@ chosen_below chosen w n low width =
 -- and the word's lanes are among all
 lanes_within : (n x : ℕ) → IsWidth n → x < 2 ^ n → bit_and (2 ^ n - 1) x ≡ x
 lanes_within n x width low =
-    same_from_bits 64 _ _ (and_of_64 (2 ^ n - 1) x (all_small n width)) (omega (arith, small_lanes n x width low)) (λ i l. bit-and (2 ^ n - 1) x i ∙ ap (λ t. t && bit x i) (bit-mask n i) ∙ by i (cases_lt i n))
+    same_from_bits 64 _ _ (and_of_64 (2 ^ n - 1) x (all_small n width)) (omega (arith, small_lanes n x width low)) (λ i l. bit-and (2 ^ n - 1) x i ∙ ap (λ t. t && bit x i) (bit-mask n i) ∙ by i
+    (cases_lt i n))
   where
     by : (i : ℕ) → (i < n) ⊎ (n ≤ i) → (ltb i n && bit x i) ≡ bit x i
     by i (inl l) = let e : ltb i n ≡ true = grind (arith, nat_tests) in ap (λ t. t && bit x i) e
@@ -162,7 +164,8 @@ lane_there (suc n) l s j low on is = by (bit s.enabled n && eqb (slice_index s.b
     by false q (inr above) more = let h = here (omega arith) in absurd (false_true (bit s.enabled n && eqb (slice_index s.bytes n) j) q h)
 
 -- each enabled lane carries a byte of the item
-pub byte_in : (ws : List Word) (bytes k l : ℕ) → ((b : ℕ) → have_bit ws b ≡ ltb (b / 8) bytes) → k < length ws → l < 8 → bit (get_or ws k no_word).lanes l ≡ true → slice_index (get_or ws k no_word).bytes l < bytes
+pub byte_in : (ws : List Word) (bytes k l : ℕ) → ((b : ℕ) → have_bit ws b ≡ ltb (b / 8) bytes) → k < length ws → l < 8 → bit (get_or ws k no_word).lanes l ≡ true →
+    slice_index (get_or ws k no_word).bytes l < bytes
 byte_in ws bytes k l reach inside low on =
     let w = get_or ws k no_word in
     let j = slice_index w.bytes l in
@@ -211,7 +214,8 @@ whole_lanes : (l : LayoutData) (place index k : ℕ) → IsHere l place index �
 whole_lanes l place index k here inside =
     let words = words_of l place index in
     let bytes = (place_at l place).bytes in
-    all_chosen (get_or words k no_word) bytes (small_lanes (bus_bytes_of l place) _ here.port.width (word_lanes l place index k here inside)) (λ j low on. byte_in words bytes k j here.words.reach inside low on)
+    all_chosen (get_or words k no_word) bytes (small_lanes (bus_bytes_of l place) _ here.port.width (word_lanes l place index k here inside)) (λ j low on. byte_in words bytes k j here.words.reach
+    inside low on)
 
 -- where all bytes are chosen, each word is sent
 pub whole_sent : (l : LayoutData) (place index : ℕ) → IsHere l place index → sent_words (all_bytes (place_at l place).bytes) (words_of l place index) ≡ words_of l place index
@@ -219,7 +223,11 @@ whole_sent l place index here =
     let words = words_of l place index in
     let bytes = (place_at l place).bytes in
     filter_all (has_chosen (all_bytes bytes)) words
-    (all_numbered (λ w. has_chosen (all_bytes bytes) w ≡ true) words no_word (λ k inside. some_chosen (chosen_lanes (all_bytes bytes) (get_or words k no_word)) (omega (arith, whole_lanes l place index k here inside, (here.words.on k no_word inside).some))))
+    (all_numbered (λ w. has_chosen (all_bytes bytes) w ≡ true) words no_word (λ k inside. some_chosen (chosen_lanes (all_bytes bytes) (get_or words k no_word)) (omega (
+      arith,
+      whole_lanes l place index k here inside,
+      (here.words.on k no_word inside).some,
+    ))))
   where
     some_chosen : (x : ℕ) → 0 < x → not (eqb x 0) ≡ true
     some_chosen x low = grind (arith, nat_tests)
@@ -231,19 +239,23 @@ all_reached l place index write here =
     let n = bus_bytes_of l place in
     record {
       lanes = all_numbered (λ w. bit_and (enabled_lanes (carries_lanes (kind_of l place) write) n (all_bytes bytes) w) w.lanes ≡ chosen_lanes (all_bytes bytes) w) words no_word
-          (λ k inside. either (carries_lanes (kind_of l place) write) (get_or words k no_word) bytes n here.port.width (word_lanes l place index k here inside) (whole_lanes l place index k here inside));
+          (λ k inside. either (carries_lanes (kind_of l place) write) (get_or words k no_word) bytes n here.port.width (word_lanes l place index k here inside) (whole_lanes l place index k here
+          inside));
       alike = subst (λ ws. All (IsAlike words ws) ws) (sym (whole_sent l place index here)) (λ k d inside. refl);
     }
   where
-    either : (carried : Bool) (w : Word) (bytes n : ℕ) → IsWidth n → w.lanes < 2 ^ n → chosen_lanes (all_bytes bytes) w ≡ w.lanes → bit_and (cond carried (chosen_lanes (all_bytes bytes) w) (2 ^ n - 1)) w.lanes ≡ chosen_lanes (all_bytes bytes) w
+    either : (carried : Bool) (w : Word) (bytes n : ℕ) → IsWidth n → w.lanes < 2 ^ n → chosen_lanes (all_bytes bytes) w ≡ w.lanes → bit_and (cond carried (chosen_lanes (all_bytes bytes) w)
+        (2 ^ n - 1)) w.lanes ≡ chosen_lanes (all_bytes bytes) w
     either true w bytes n width low same = chosen_within (all_bytes bytes) w
     either false w bytes n width low same = lanes_within n w.lanes width low ∙ sym same
 
-pub narrow_reached : (l : LayoutData) (place index chosen : ℕ) (write : Bool) → IsHere l place index → (place_at l place).fifo ≡ false → carries_lanes (kind_of l place) write ≡ true → Reached l place index chosen write
+pub narrow_reached : (l : LayoutData) (place index chosen : ℕ) (write : Bool) → IsHere l place index → (place_at l place).fifo ≡ false → carries_lanes (kind_of l place) write ≡ true →
+    Reached l place index chosen write
 narrow_reached l place index chosen write here fifo carried =
     let words = words_of l place index in
     record {
-      lanes = λ k d inside. ap (λ t. bit_and (cond t (chosen_lanes chosen (get_or words k d)) (all_lanes (bus_bytes_of l place))) (get_or words k d).lanes) carried ∙ chosen_within chosen (get_or words k d);
+      lanes = λ k d inside. ap (λ t. bit_and (cond t (chosen_lanes chosen (get_or words k d)) (all_lanes (bus_bytes_of l place))) (get_or words k d).lanes) carried ∙ chosen_within chosen
+          (get_or words k d);
       alike = alike_apart chosen words (here.words.alone fifo);
     }
 
@@ -259,8 +271,10 @@ abbrev lanes : ℕ → List ℕ → Lanes
 lanes enabled bytes = record { enabled = enabled; bytes = bytes }
 
 -- each operation of the access is a turn of its word
-pub turns : (c : ChipData) (l : LayoutData) (place index chosen value : ℕ) (write : Bool) (cell : Cell) → IsHere l place index → has_right (place_at l place).rights write ≡ true → ((w : Word) → (row_of l place index w).cell ≡ cell) → Reached l place index chosen write →
-    All (IsTurn (setup_of c l no_flaws) (place_at l place).port write cell (row_of l place index) (op_of l place chosen value write) (lanes_for chosen) (sent_words chosen (words_of l place index))) (sent_words chosen (words_of l place index))
+pub turns : (c : ChipData) (l : LayoutData) (place index chosen value : ℕ) (write : Bool) (cell : Cell) → IsHere l place index → has_right (place_at l place).rights write ≡ true → ((w : Word) →
+    (row_of l place index w).cell ≡ cell) → Reached l place index chosen write →
+    All (IsTurn (setup_of c l no_flaws) (place_at l place).port write cell (row_of l place index) (op_of l place chosen value write) (lanes_for chosen) (sent_words chosen (words_of l place index)))
+    (sent_words chosen (words_of l place index))
 turns c l place index chosen value write cell here right cells reached =
     let words = words_of l place index in
     let port = (place_at l place).port in
@@ -274,7 +288,9 @@ turns c l place index chosen value write cell here right cells reached =
       address = refl;
       write_is = refl;
       width = port_width c l port here.row.port_in;
-      rows = All-filter (has_chosen chosen) (λ w. words_at t port w.address write ≡ map (row_of l place index) (words_with w.address words)) words stood k d inside ∙ ap (map (row_of l place index)) (reached.alike k d inside);
+      rows = All-filter (has_chosen chosen) (λ w. words_at t port w.address write ≡ map (row_of l place index) (words_with w.address words)) words stood k d inside ∙ ap (map (row_of l place index))
+          (reached.alike k d inside);
       cell_is = cells w;
-      lanes_are = ap (λ e. lanes e w.bytes) (All-filter (has_chosen chosen) (λ w. bit_and (enabled_lanes (carries_lanes (kind_of l place) write) (bus_bytes_of l place) chosen w) w.lanes ≡ chosen_lanes chosen w) words reached.lanes k d inside);
+      lanes_are = ap (λ e. lanes e w.bytes) (All-filter (has_chosen chosen) (λ w. bit_and (enabled_lanes (carries_lanes (kind_of l place) write) (bus_bytes_of l place) chosen w) w.lanes ≡
+          chosen_lanes chosen w) words reached.lanes k d inside);
     }

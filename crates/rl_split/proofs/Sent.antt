@@ -1,5 +1,6 @@
 -- The words of an access that are sent, one after another.
-use Rattle.std.proofs.Common.{◌≡◌, ℕ, zero, suc, ◌+◌, ◌-◌, ◌*◌, ◌/◌, ◌%◌, ◌^◌, ◌<◌, ◌≤◌, ◌⊎◌, inl, inr, Bool, true, false, not, ◌&&◌, ◌||◌, cond, eqb, ltb, List, [], ◌∷◌, ◌++◌, length, get_or, take, map, Some, refl, sym, ap, ◌∙◌, arith, rules, eqb-true, append-nil, drop, min, length-take, length-append}
+use Rattle.std.proofs.Common.{◌≡◌, ℕ, zero, suc, ◌+◌, ◌-◌, ◌*◌, ◌/◌, ◌%◌, ◌^◌, ◌<◌, ◌≤◌, ◌⊎◌, inl, inr, Bool, true, false, not, ◌&&◌, ◌||◌, cond, eqb, ltb, List, [], ◌∷◌, ◌++◌, length, get_or, take}
+use Rattle.std.proofs.Common.{map, Some, refl, sym, ap, ◌∙◌, arith, rules, eqb-true, append-nil, drop, min, length-take, length-append}
 use Rattle.std.specs.Prelude.{All, slice_get, slice_index, IsFalse, bit_or}
 use Rattle.std.proofs.Math.Pow.{pow_mono}
 use Rattle.std.proofs.Math.Nat.{pow-suc, div-lt_iff_lt-mul}
@@ -56,11 +57,13 @@ is_left_out chosen w lanes is none = let e : chosen_lanes chosen w ≡ 0 = sym (
 abbrev pub Pair : Type 0
 Pair = BusOp × ℕ
 
-pub pairs_more : (f : Word → Pair) (chosen k : ℕ) (ws : List Word) (w : Word) (now next : List Pair) → slice_get ws k ≡ Some w → has_chosen chosen w ≡ true → now ≡ map f (sent_words chosen (take k ws)) → next ≡ now ++ f w ∷ [] → next ≡ map f (sent_words chosen (take (k + 1) ws))
+pub pairs_more : (f : Word → Pair) (chosen k : ℕ) (ws : List Word) (w : Word) (now next : List Pair) → slice_get ws k ≡ Some w → has_chosen chosen w ≡ true →
+    now ≡ map f (sent_words chosen (take k ws)) → next ≡ now ++ f w ∷ [] → next ≡ map f (sent_words chosen (take (k + 1) ws))
 pairs_more f chosen k ws w now next e on is more =
     more ∙ ap (λ ps. ps ++ f w ∷ []) is ∙ sym (map-append f (sent_words chosen (take k ws)) (w ∷ [])) ∙ ap (map f) (sym (one_more chosen k ws w e on))
 
-pub pairs_same : (f : Word → Pair) (chosen k : ℕ) (ws : List Word) (w : Word) (now : List Pair) → slice_get ws k ≡ Some w → has_chosen chosen w ≡ false → now ≡ map f (sent_words chosen (take k ws)) → now ≡ map f (sent_words chosen (take (k + 1) ws))
+pub pairs_same : (f : Word → Pair) (chosen k : ℕ) (ws : List Word) (w : Word) (now : List Pair) → slice_get ws k ≡ Some w → has_chosen chosen w ≡ false → now ≡ map f (sent_words chosen (take k ws)) →
+    now ≡ map f (sent_words chosen (take (k + 1) ws))
 pairs_same f chosen k ws w now e off is = is ∙ ap (map f) (sym (no_more chosen k ws w e off))
 
 pub firsts : (op : Word → BusOp) (ws : List Word) → map (λ (p : Pair). p.0) (map (λ w. (op w, w.order)) ws) ≡ map op ws
@@ -127,7 +130,8 @@ pub below_bits : (k : ℕ) (f : ℕ → Bool) → k ≤ 64 → ((b : ℕ) → b 
 below_bits k f most off =
     let top : 2 ^ k ≤ 2 ^ 64 = pow_mono {i = k} {j = 64} most in
     let small = from_bits-lt k f in
-    let same : from_bits 64 f ≡ from_bits k f = same_from_bits 64 (from_bits 64 f) (from_bits k f) (from_bits-lt 64 f) (omega (arith, top, small)) (λ b l. bit-from_bits 64 f b l ∙ by b l (cases_lt b k)) in
+    let same : from_bits 64 f ≡ from_bits k f = same_from_bits 64 (from_bits 64 f) (from_bits k f) (from_bits-lt 64 f) (omega (arith, top, small)) (λ b l. bit-from_bits 64 f b l ∙ by b l
+    (cases_lt b k)) in
     rw same small
   where
     by : (b : ℕ) → b < 64 → (b < k) ⊎ (k ≤ b) → f b ≡ bit (from_bits k f) b
@@ -147,7 +151,8 @@ gathered_small : (n : ℕ) (s : Lanes) (f : ℕ → Bool) → IsWidth n → s.en
 gathered_small n s f width low =
     rw (pow-bytes n) (below_bits (8 * n) (gathered_bit s f) (omega (arith, width_most n width)) (λ b l high. lane_off s f b (bit-above s.enabled n (b / 8) low (omega (arith, high)))))
 
-word_only : (n : ℕ) (s : Lanes) (f : ℕ → Bool) (lanes : ℕ) → IsWidth n → s.enabled < 2 ^ n → ((i : ℕ) → bit lanes i ≡ false → bit s.enabled i ≡ false) → HasOnlyLanes n lanes (from_bits 64 (gathered_bit s f))
+word_only : (n : ℕ) (s : Lanes) (f : ℕ → Bool) (lanes : ℕ) → IsWidth n → s.enabled < 2 ^ n → ((i : ℕ) → bit lanes i ≡ false → bit s.enabled i ≡ false) →
+    HasOnlyLanes n lanes (from_bits 64 (gathered_bit s f))
 word_only n s f lanes width low within =
     only_lanes n lanes (from_bits 64 (gathered_bit s f)) (gathered_small n s f width low) (λ b e. by b e (cases_lt b 64))
   where
@@ -217,7 +222,8 @@ all_of_map {A} {B} P Q f (x ∷ xs) each h i d l = at i d l (all_of_map P Q f xs
     at zero d l more = each x (h 0 x (omega arith))
     at (suc i) d l more = more i d (omega (arith, l))
 
-pub ops_fit : (l : LayoutData) (place index chosen value : ℕ) (write : Bool) → IsHere l place index → All (Fits (kind_of l place)) (map (op_of l place chosen value write) (sent_words chosen (words_of l place index)))
+pub ops_fit : (l : LayoutData) (place index chosen value : ℕ) (write : Bool) → IsHere l place index → All (Fits (kind_of l place)) (map (op_of l place chosen value write) (sent_words chosen
+    (words_of l place index)))
 ops_fit l place index chosen value write here =
     all_of_map (IsWordOn (kind_of l place) (bus_bytes_of l place)) (Fits (kind_of l place)) (op_of l place chosen value write) (sent_words chosen (words_of l place index))
     (λ w on. op_fits (kind_of l place) (bus_bytes_of l place) chosen value write w here.port.width here.port.wide on)
@@ -225,7 +231,8 @@ ops_fit l place index chosen value write here =
 
 -- ---- the value
 
-joined_push : (chosen : ℕ) (ws : List Word) (answers : List ℕ) (w : Word) (answer b : ℕ) → length answers ≡ length ws → joined_bit chosen (ws ++ w ∷ []) (answers ++ answer ∷ []) b ≡ (joined_bit chosen ws answers b || spread_bit (lanes_for chosen w) (bit answer) b)
+joined_push : (chosen : ℕ) (ws : List Word) (answers : List ℕ) (w : Word) (answer b : ℕ) → length answers ≡ length ws → joined_bit chosen (ws ++ w ∷ []) (answers ++ answer ∷ []) b ≡
+    (joined_bit chosen ws answers b || spread_bit (lanes_for chosen w) (bit answer) b)
 joined_push chosen [] [] w answer b e = or_false (spread_bit (lanes_for chosen w) (bit answer) b)
   where
     or_false : (t : Bool) → (t || false) ≡ t
@@ -242,7 +249,8 @@ joined_push chosen (v ∷ ws) (x ∷ answers) w answer b e =
     or_assoc false b c = refl
 
 -- one answer more
-pub value_more : (chosen : ℕ) (ws : List Word) (answers : List ℕ) (w : Word) (answer value bits more : ℕ) → length answers ≡ length ws → value ≡ from_bits 64 (joined_bit chosen ws answers) → bits ≡ from_bits 64 (spread_bit (lanes_for chosen w) (bit answer)) →
+pub value_more : (chosen : ℕ) (ws : List Word) (answers : List ℕ) (w : Word) (answer value bits more : ℕ) → length answers ≡ length ws → value ≡ from_bits 64 (joined_bit chosen ws answers) →
+    bits ≡ from_bits 64 (spread_bit (lanes_for chosen w) (bit answer)) →
     more < 2 ^ 64 → ((b : ℕ) → bit more b ≡ (bit value b || bit bits b)) → more ≡ from_bits 64 (joined_bit chosen (ws ++ w ∷ []) (answers ++ answer ∷ []))
 value_more chosen ws answers w answer value bits more long is spread small each =
     is_from_bits 64 more _ small
@@ -269,7 +277,8 @@ none_joined chosen (w ∷ ws) (x ∷ answers) b e =
     or_second false y e = e
 
 -- the value has the item's bytes
-pub joined_small : (chosen bytes : ℕ) (ws : List Word) (answers : List ℕ) → bytes ≤ 8 → ((b : ℕ) → have_bit ws b ≡ ltb (b / 8) bytes) → from_bits 64 (joined_bit chosen (sent_words chosen ws) answers) < 256 ^ bytes
+pub joined_small : (chosen bytes : ℕ) (ws : List Word) (answers : List ℕ) → bytes ≤ 8 → ((b : ℕ) → have_bit ws b ≡ ltb (b / 8) bytes) → from_bits 64 (joined_bit chosen (sent_words chosen ws) answers)
+    < 256 ^ bytes
 joined_small chosen bytes ws answers most reach =
     rw (pow-bytes bytes) (below_bits (8 * bytes) (joined_bit chosen (sent_words chosen ws) answers) (omega (arith, most))
     (λ b l high. none_joined chosen (sent_words chosen ws) answers b (sent_touches chosen ws b ∙ ap (λ t. t && bit chosen (b / 8)) (reach b ∙ past b high))))
@@ -297,7 +306,8 @@ none_left (x ∷ xs) h = absurd (omega (arith, h))
 
 pub all_sent : (chosen k : ℕ) (ws : List Word) → length (sent_words chosen ws) ≤ length (sent_words chosen (take k ws)) → sent_words chosen (take k ws) ≡ sent_words chosen ws
 all_sent chosen k ws h =
-    let whole : sent_words chosen ws ≡ sent_words chosen (take k ws) ++ sent_words chosen (drop k ws) = ap (sent_words chosen) (sym (take-append-drop k ws)) ∙ filter-append (has_chosen chosen) (take k ws) (drop k ws) in
+    let whole : sent_words chosen ws ≡ sent_words chosen (take k ws) ++ sent_words chosen (drop k ws) = ap (sent_words chosen) (sym (take-append-drop k ws)) ∙ filter-append (has_chosen chosen)
+    (take k ws) (drop k ws) in
     let none = none_left (sent_words chosen (drop k ws)) (omega (arith, h, ap length whole, length-append (sent_words chosen (take k ws)) (sent_words chosen (drop k ws)))) in
     sym (whole ∙ ap (λ xs. sent_words chosen (take k ws) ++ xs) none ∙ append-nil (sent_words chosen (take k ws)))
 

@@ -1,5 +1,6 @@
 -- The operations of an access are one step of its register, for any chosen bytes that are those of a set of fields.
-use Rattle.std.proofs.Common.{◌≡◌, ℕ, zero, suc, ◌^◌, ◌<◌, Bool, true, false, ◌&&◌, ◌||◌, cond, List, [], ◌∷◌, length, map, set, get_or, Option, Some, None, option_map, refl, sym, ap, ◌∙◌, subst, arith, length-set}
+use Rattle.std.proofs.Common.{◌≡◌, ℕ, zero, suc, ◌^◌, ◌<◌, Bool, true, false, ◌&&◌, ◌||◌, cond, List, [], ◌∷◌, length, map, set, get_or, Option, Some, None, option_map, refl, sym, ap, ◌∙◌, subst}
+use Rattle.std.proofs.Common.{arith, length-set}
 use Rattle.std.specs.Prelude.{All, slice_index}
 use Rattle.std.proofs.Math.Path.{fun_ext}
 use Rattle.std.proofs.lemmas.List.{get_or-set_same, length-map}
@@ -41,11 +42,13 @@ marked_by_place fields chosen spent None m t reach mark = refl
 marked_by_place fields chosen spent (Some k) m t reach mark =
     ap (λ t. m || (t && spends_mark (policy_in fields k))) (reach k refl) ∙ ap (λ m. m || (chosen k && spends_mark (policy_in fields k))) (mark k refl)
 
-left_by_place : (fields : List FieldSeen) (chosen : ℕ → Bool) (o : Option ℕ) (x t : Bool) → ((k : ℕ) → o ≡ Some k → t ≡ chosen k) → bit_left (option_map (policy_in fields) o) x t ≡ left_bit fields chosen o x
+left_by_place : (fields : List FieldSeen) (chosen : ℕ → Bool) (o : Option ℕ) (x t : Bool) → ((k : ℕ) → o ≡ Some k → t ≡ chosen k) → bit_left (option_map (policy_in fields) o) x t ≡ left_bit fields
+    chosen o x
 left_by_place fields chosen None x t reach = refl
 left_by_place fields chosen (Some k) x t reach = ap (λ t. cond t (after_read (policy_in fields k) x) x) (reach k refl)
 
-shown_by_place : (fields : List FieldSeen) (chosen : ℕ → Bool) (o : Option ℕ) (x t : Bool) → ((k : ℕ) → o ≡ Some k → t ≡ chosen k) → (t && bit_answered (option_map (policy_in fields) o) x) ≡ shown_bit fields chosen o x
+shown_by_place : (fields : List FieldSeen) (chosen : ℕ → Bool) (o : Option ℕ) (x t : Bool) → ((k : ℕ) → o ≡ Some k → t ≡ chosen k) → (t && bit_answered (option_map (policy_in fields) o) x) ≡
+    shown_bit fields chosen o x
 shown_by_place fields chosen None x t reach = never t
   where
     never : (t : Bool) → (t && false) ≡ false
@@ -60,7 +63,8 @@ pub record Sends (c : ChipData) (l : LayoutData) (place reg bytes value : ℕ) (
   pub sound : IsSoundChip c
   pub row : HasRow c reg
   pub inside : reg < length c.regs
-  pub turns : All (IsTurn (setup_of c l no_flaws) (row_at l place).port write (Reg reg) (row_of l place 0) (op_of l place bytes value write) (lanes_for bytes) (sent_words bytes (words_of l place 0))) (sent_words bytes (words_of l place 0))
+  pub turns : All (IsTurn (setup_of c l no_flaws) (row_at l place).port write (Reg reg) (row_of l place 0) (op_of l place bytes value write) (lanes_for bytes) (sent_words bytes (words_of l place 0)))
+      (sent_words bytes (words_of l place 0))
   pub split : AreSplit (lanes_for bytes) (sent_words bytes (words_of l place 0))
   pub reach : (b k : ℕ) → b < 64 → place_at (fields_of c reg) b ≡ Some k → are_touched (lanes_for bytes) (sent_words bytes (words_of l place 0)) b ≡ chosen k
   pub some : 0 < length (sent_words bytes (words_of l place 0))
@@ -104,7 +108,8 @@ unfolding marks_with
 bit-marks_with fields spent m b low = bit-from_bits 64 _ b low
 
 written_bits : (c : ChipData) (l : LayoutData) (s : State) (place reg bytes value : ℕ) (chosen : ℕ → Bool) (r : Register) → Sends c l place reg bytes value true chosen → Holds c s reg r →
-    (put_all (setup_of c l no_flaws) reg (op_of l place bytes value true) (lanes_for bytes) (held_at s reg) (sent_words bytes (words_of l place 0))).bits ≡ (wstep (fields_of c reg) chosen value r).bits
+    (put_all (setup_of c l no_flaws) reg (op_of l place bytes value true) (lanes_for bytes) (held_at s reg) (sent_words bytes (words_of l place 0))).bits ≡ (wstep (fields_of c reg) chosen value
+    r).bits
 unfolding wstep
 written_bits c l s place reg bytes value chosen r sends holds =
     let t = setup_of c l no_flaws in
@@ -120,7 +125,8 @@ written_bits c l s place reg bytes value chosen r sends holds =
     ∙ written_by_place fields chosen r.spent (place_at fields b) (bit r.bits b) (bit m b) (bit value b) (touched b) (λ k e. sends.reach b k low e) (λ k e. holds.marks b k low e))
 
 written_marks : (c : ChipData) (l : LayoutData) (s : State) (place reg bytes value : ℕ) (chosen : ℕ → Bool) (r : Register) → Sends c l place reg bytes value true chosen → Holds c s reg r →
-    (put_all (setup_of c l no_flaws) reg (op_of l place bytes value true) (lanes_for bytes) (held_at s reg) (sent_words bytes (words_of l place 0))).marks ≡ marks_with (fields_of c reg) (wstep (fields_of c reg) chosen value r).spent (slice_index s.marks reg)
+    (put_all (setup_of c l no_flaws) reg (op_of l place bytes value true) (lanes_for bytes) (held_at s reg) (sent_words bytes (words_of l place 0))).marks ≡ marks_with (fields_of c reg)
+    (wstep (fields_of c reg) chosen value r).spent (slice_index s.marks reg)
 unfolding wstep marks_with
 written_marks c l s place reg bytes value chosen r sends holds =
     let t = setup_of c l no_flaws in
@@ -143,11 +149,13 @@ holds_stepped c s reg count r inside marked = record {
       ∙ ap (λ o. marked_bit r.spent o (bit (slice_index s.marks reg) b)) e;
 }
 
-pub answers_alike : (l : LayoutData) (place bytes value : ℕ) (ws : List Word) → map (λ (w : Word). let a : Answer = record { word = 0; failed = false } in a) ws ≡ map written_answer (map (op_of l place bytes value true) ws)
+pub answers_alike : (l : LayoutData) (place bytes value : ℕ) (ws : List Word) → map (λ (w : Word). let a : Answer = record { word = 0; failed = false } in a) ws ≡ map written_answer
+    (map (op_of l place bytes value true) ws)
 answers_alike l place bytes value [] = refl
 answers_alike l place bytes value (w ∷ ws) = ap (λ xs. written_answer (op_of l place bytes value true w) ∷ xs) (answers_alike l place bytes value ws)
 
-pub write_is_step : (c : ChipData) (l : LayoutData) (s : State) (place reg bytes value : ℕ) (chosen : ℕ → Bool) (r : Register) → Sends c l place reg bytes value true chosen → IsReady c l s → Holds c s reg r →
+pub write_is_step : (c : ChipData) (l : LayoutData) (s : State) (place reg bytes value : ℕ) (chosen : ℕ → Bool) (r : Register) → Sends c l place reg bytes value true chosen → IsReady c l s →
+    Holds c s reg r →
     IsWrite c l s place reg chosen value r (ops_of l place 0 bytes value true)
 unfolding ops_of sent_of
 write_is_step c l s place reg bytes value chosen r sends ready holds =
@@ -158,7 +166,8 @@ write_is_step c l s place reg bytes value chosen r sends ready holds =
     let next = wstep (fields_of c reg) chosen value r in
     let inside : reg < length s.bits = omega (arith, ready.bits, sends.inside) in
     let marked : reg < length s.marks = omega (arith, ready.marks, sends.inside) in
-    let run = writes_run t port reg (row_of l place 0) op (lanes_for bytes) sent (flawless c l) (λ w. refl) [] sent s sends.turns refl ready.setup (first_stands s port sent ready.beats) inside marked in
+    let run = writes_run t port reg (row_of l place 0) op (lanes_for bytes) sent (flawless c l) (λ w. refl) [] sent s sends.turns refl ready.setup (first_stands s port sent ready.beats) inside marked
+    in
     let after = state_after_all s port (map op sent) in
     let stepped = after_wstep c s reg next (length (map op sent)) in
     let is : after ≡ stepped =
@@ -245,7 +254,8 @@ read_is_step c l s place reg bytes chosen r sends ready holds =
     same_state after stepped run.setup bits run.marks run.locations (λ p a. run.beats p a ∙ sym (ready.beats p a)) (run.items ∙ ap (λ n. counted_on n s.items) (sym (length-map sent op))) in
     record {
       answers = subst (All (λ a. a.failed ≡ false)) (sym run.answers) (none_failed _);
-      value_is = ap (λ answers. joined l place 0 bytes (map (λ (a : Answer). a.word) answers)) run.answers ∙ ap (joined l place 0 bytes) (words_back _) ∙ value_shown c l s place reg bytes chosen r sends holds;
+      value_is = ap (λ answers. joined l place 0 bytes (map (λ (a : Answer). a.word) answers)) run.answers ∙ ap (joined l place 0 bytes) (words_back _) ∙ value_shown c l s place reg bytes chosen r
+          sends holds;
       state = is;
       holds = record {
         bits = ap (λ xs. slice_index xs reg) bits ∙ get_or-set_same s.bits reg next.bits 0 inside;

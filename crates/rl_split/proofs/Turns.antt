@@ -41,7 +41,8 @@ count_append : (a : ℕ) (xs ys : List Word) → count_at a (xs ++ ys) ≡ count
 count_append a [] ys = omega arith
 count_append a (x ∷ xs) ys = by (eqb x.address a) (count_append a xs ys)
   where
-    by : (t : Bool) → count_at a (xs ++ ys) ≡ count_at a xs + count_at a ys → length (cond t (x ∷ words_with a (xs ++ ys)) (words_with a (xs ++ ys))) ≡ length (cond t (x ∷ words_with a xs) (words_with a xs)) + count_at a ys
+    by : (t : Bool) → count_at a (xs ++ ys) ≡ count_at a xs + count_at a ys → length (cond t (x ∷ words_with a (xs ++ ys)) (words_with a (xs ++ ys))) ≡ length (cond t (x ∷ words_with a xs)
+        (words_with a xs)) + count_at a ys
     by true h = omega (arith, h)
     by false h = h
 
@@ -57,7 +58,8 @@ word_behind row [] w ys = ap (λ t. slice_get (map row (cond t (w ∷ words_with
 word_behind row (x ∷ xs) w ys = by (eqb x.address w.address) (word_behind row xs w ys)
   where
     by : (t : Bool) → slice_get (map row (words_with w.address (xs ++ w ∷ ys))) (count_at w.address xs) ≡ Some (row w) →
-        slice_get (map row (cond t (x ∷ words_with w.address (xs ++ w ∷ ys)) (words_with w.address (xs ++ w ∷ ys)))) (length (cond t (x ∷ words_with w.address xs) (words_with w.address xs))) ≡ Some (row w)
+        slice_get (map row (cond t (x ∷ words_with w.address (xs ++ w ∷ ys)) (words_with w.address (xs ++ w ∷ ys)))) (length (cond t (x ∷ words_with w.address xs) (words_with w.address xs))) ≡ Some
+        (row w)
     by true h = h
     by false h = h
 
@@ -136,7 +138,8 @@ none_more n = omega arith
 
 -- the beats after it
 pub turn_moves : (s next : State) (t : Setup) (port : ℕ) (write : Bool) (cell : Cell) (row : Word → WordRow) (op : Word → BusOp) (lanes : Word → Lanes) (sent done rest : List Word) (w : Word) →
-    s.setup ≡ t → IsTurn t port write cell row op lanes sent w → sent ≡ done ++ w ∷ rest → Stands s port sent done → ((p a : ℕ) → next.beats p a ≡ beats_on s port (op w) p a) → Stands next port sent (done ++ w ∷ [])
+    s.setup ≡ t → IsTurn t port write cell row op lanes sent w → sent ≡ done ++ w ∷ rest → Stands s port sent done → ((p a : ℕ) → next.beats p a ≡ beats_on s port (op w) p a) →
+    Stands next port sent (done ++ w ∷ [])
 turn_moves s next t port write cell row op lanes sent done rest w same turn is stands moves = record {
   at = λ p a.
       moves p a
@@ -160,7 +163,8 @@ turn_moves s next t port write cell row op lanes sent done rest w same turn is s
     one_more : (a : ℕ) → a ≡ w.address → count_at a (done ++ w ∷ []) ≡ count_at w.address done + 1
     one_more a e = ap (λ a. count_at a (done ++ w ∷ [])) e ∙ count_append w.address done (w ∷ []) ∙ ap (λ n. count_at w.address done + n) (own w)
 
-    here : (p a : ℕ) → p ≡ port → a ≡ w.address → wrapped (length (words_at s.setup port (op w).address (op w).write)) (s.beats port (op w).address + 1) ≡ wrapped (count_at a sent) (count_at a (done ++ w ∷ []))
+    here : (p a : ℕ) → p ≡ port → a ≡ w.address → wrapped (length (words_at s.setup port (op w).address (op w).write)) (s.beats port (op w).address + 1) ≡ wrapped (count_at a sent) (count_at a
+        (done ++ w ∷ []))
     here p a q e =
         ap (λ n. wrapped n (s.beats port (op w).address + 1)) total
         ∙ ap (λ n. wrapped (count_at w.address sent) (n + 1)) beat

@@ -1,5 +1,6 @@
 -- Words of an access beside others that are half done.
-use Rattle.std.proofs.Common.{◌≡◌, ℕ, zero, suc, ◌+◌, ◌<◌, ◌≤◌, Bool, true, false, ◌&&◌, cond, eqb, ltb, List, [], ◌∷◌, ◌++◌, length, get_or, map, take, drop, refl, sym, ap, ◌∙◌, subst, arith, eqb-true, append_assoc, append-nil}
+use Rattle.std.proofs.Common.{◌≡◌, ℕ, zero, suc, ◌+◌, ◌<◌, ◌≤◌, Bool, true, false, ◌&&◌, cond, eqb, ltb, List, [], ◌∷◌, ◌++◌, length, get_or, map, take, drop, refl, sym, ap, ◌∙◌, subst, arith}
+use Rattle.std.proofs.Common.{eqb-true, append_assoc, append-nil}
 use Rattle.std.specs.Prelude.{All, slice_index, slice_get}
 use Rattle.rl_policy.specs.Bits.{bit}
 use Rattle.std.proofs.lemmas.Bool.Decides.{nat_tests}
@@ -59,7 +60,8 @@ apart_beat p a port address x y apart = by (eqb p port) (eqb a address) refl ref
     by true false e f = refl
     by false u e f = refl
 
-met_write : (s : State) (port reg : ℕ) (op : BusOp) (lanes : Lanes) → reg < length s.bits → reg < length s.marks → Met s (after_write s port reg op lanes) port reg true op lanes (record { word = 0; failed = false })
+met_write : (s : State) (port reg : ℕ) (op : BusOp) (lanes : Lanes) → reg < length s.bits → reg < length s.marks → Met s (after_write s port reg op lanes) port reg true op lanes
+    (record { word = 0; failed = false })
 met_write s port reg op lanes inside marked = record {
   answer_is = refl;
   bits = get_or-set_same s.bits reg _ 0 inside;
@@ -76,7 +78,11 @@ met_write s port reg op lanes inside marked = record {
   };
 }
 
-met_read : (s : State) (port reg : ℕ) (op : BusOp) (lanes : Lanes) → reg < length s.bits → Met s (after_read s port reg op lanes) port reg false op lanes (record { word = bits_shown s.setup reg lanes (slice_index s.bits reg); failed = false })
+met_read : (s : State) (port reg : ℕ) (op : BusOp) (lanes : Lanes) → reg < length s.bits → Met s (after_read s port reg op lanes) port reg false op lanes (record {
+  word = bits_shown s.setup reg lanes
+      (slice_index s.bits reg);
+  failed = false;
+})
 met_read s port reg op lanes inside = record {
   answer_is = refl;
   bits = get_or-set_same s.bits reg _ 0 inside;
@@ -145,14 +151,16 @@ words_sent l place = sent_words (chosen_of l place) (words_of l place 0)
 
 -- what is known of the next word
 record IsNext (c : ChipData) (l : LayoutData) (begun : State) (place reg value : ℕ) (write : Bool) (k : ℕ) (w : Word) (rest : List Word) : Type 0 where
-  turn : IsTurn (setup_of c l no_flaws) (row_at l place).port write (cell.Reg reg) (row_of l place 0) (op_of l place (chosen_of l place) value write) (lanes_for (chosen_of l place)) (words_sent l place) w
+  turn : IsTurn (setup_of c l no_flaws) (row_at l place).port write (cell.Reg reg) (row_of l place 0) (op_of l place (chosen_of l place) value write) (lanes_for (chosen_of l place))
+      (words_sent l place) w
   split : words_sent l place ≡ take k (words_sent l place) ++ w ∷ rest
   stood : Stood (setup_of c l no_flaws) (row_at l place).port (words_sent l place) (take k (words_sent l place)) (length c.regs) (length c.regs) (alone l begun place value write k)
   op_is : whole_op l place value write k ≡ op_of l place (chosen_of l place) value write w
   number_in : k < length (words_of l place 0)
   word_is : w ≡ get_or (words_of l place 0) k no_word
 
-next_word : (c : ChipData) (l : LayoutData) (begun : State) (place reg value : ℕ) (write : Bool) (k : ℕ) → IsPlaceOf c l place reg write → IsReady c l begun → k < length (whole_ops l place value write) →
+next_word : (c : ChipData) (l : LayoutData) (begun : State) (place reg value : ℕ) (write : Bool) (k : ℕ) → IsPlaceOf c l place reg write → IsReady c l begun →
+    k < length (whole_ops l place value write) →
     IsNext c l begun place reg value write k (get_or (words_sent l place) k no_word) (drop (k + 1) (words_sent l place))
 unfolding ops_of sent_of
 next_word c l begun place reg value write k at ready low =
@@ -170,7 +178,10 @@ next_word c l begun place reg value write k at ready low =
       split = sym (take-append-drop k sent) ∙ ap (λ ws. take k sent ++ ws) (drop_more sent k no_word inside);
       stood =
           subst (λ ops. Stood t port sent (take k sent) n n (state_after_all begun port ops)) (sym (take-map op k sent))
-          (stood_at t port reg write (row_of l place 0) op (lanes_for (chosen_of l place)) sent n n (flawless c l) sends.inside sends.inside k [] sent begun sends.turns refl first (omega (arith, inside)));
+          (stood_at t port reg write (row_of l place 0) op (lanes_for (chosen_of l place)) sent n n (flawless c l) sends.inside sends.inside k [] sent begun sends.turns refl first (omega (
+            arith,
+            inside,
+          )));
       op_is = get_or-map op sent k no_word no_op inside;
       number_in = subst (λ ws. k < length ws) all inside;
       word_is = ap (λ ws. get_or ws k no_word) all;
@@ -190,7 +201,8 @@ alone_more l begun place value write k low =
 -- ---- beside others
 
 -- a word is met wherever the chip, the layout and the beat of its address are the same
-meets_as : (s x : State) (port : ℕ) (op : BusOp) (cell : Cell) (lanes : Lanes) → s.setup ≡ x.setup → s.beats port op.address ≡ x.beats port op.address → Meets x port op cell lanes → Meets s port op cell lanes
+meets_as : (s x : State) (port : ℕ) (op : BusOp) (cell : Cell) (lanes : Lanes) → s.setup ≡ x.setup → s.beats port op.address ≡ x.beats port op.address → Meets x port op cell lanes →
+    Meets s port op cell lanes
 meets_as s x port op cell lanes same beat m = record {
   flawless = ap (λ (u : Setup). u.flaws) same ∙ m.flawless;
   width = m.width ∙ ap (λ (u : Setup). slice_index u.ports port) (sym same);
@@ -203,7 +215,8 @@ meets_as s x port op cell lanes same beat m = record {
 abbrev beat_by : Bool → (total beat old : ℕ) → ℕ
 beat_by hit total beat old = cond hit (cond (ltb (beat + 1) total) (beat + 1) 0) old
 
-beats_same : (s x : State) (port : ℕ) (op : BusOp) (a : ℕ) → s.setup ≡ x.setup → s.beats port op.address ≡ x.beats port op.address → s.beats port a ≡ x.beats port a → beats_on s port op port a ≡ beats_on x port op port a
+beats_same : (s x : State) (port : ℕ) (op : BusOp) (a : ℕ) → s.setup ≡ x.setup → s.beats port op.address ≡ x.beats port op.address → s.beats port a ≡ x.beats port a →
+    beats_on s port op port a ≡ beats_on x port op port a
 beats_same s x port op a same beat old =
     let hit = eqb port port && eqb a op.address in
     ap (λ (u : Setup). beat_by hit (length (words_at u port op.address op.write)) (s.beats port op.address) (s.beats port a)) same
@@ -226,10 +239,12 @@ record IsMet (c : ChipData) (l : LayoutData) (begun s : State) (place reg value 
   beat : s.beats (row_at l place).port w.address ≡ count_at w.address (take k (words_sent l place))
   here : Met s (state_after s (row_at l place).port (op_of l place (chosen_of l place) value write w)) (row_at l place).port reg write (op_of l place (chosen_of l place) value write w)
       (lanes_for (chosen_of l place) w) (answer_of s (row_at l place).port (op_of l place (chosen_of l place) value write w))
-  there : Met (alone l begun place value write k) (state_after (alone l begun place value write k) (row_at l place).port (op_of l place (chosen_of l place) value write w)) (row_at l place).port reg write (op_of l place (chosen_of l place) value write w)
+  there : Met (alone l begun place value write k) (state_after (alone l begun place value write k) (row_at l place).port (op_of l place (chosen_of l place) value write w)) (row_at l place).port reg
+      write (op_of l place (chosen_of l place) value write w)
       (lanes_for (chosen_of l place) w) (answer_of (alone l begun place value write k) (row_at l place).port (op_of l place (chosen_of l place) value write w))
 
-is_met : (c : ChipData) (l : LayoutData) (begun s : State) (place reg value : ℕ) (write : Bool) (k : ℕ) → IsPlaceOf c l place reg write → IsReady c l begun → IsDevice c l s → k < length (whole_ops l place value write) →
+is_met : (c : ChipData) (l : LayoutData) (begun s : State) (place reg value : ℕ) (write : Bool) (k : ℕ) → IsPlaceOf c l place reg write → IsReady c l begun → IsDevice c l s →
+    k < length (whole_ops l place value write) →
     IsUnderWay l begun s place reg value write k → IsMet c l begun s place reg value write k (get_or (words_sent l place) k no_word) (drop (k + 1) (words_sent l place))
 is_met c l begun s place reg value write k at ready device low under =
     let sent = words_sent l place in
@@ -245,7 +260,8 @@ is_met c l begun s place reg value write k at ready device low under =
     let address : Occupies l port w.address place 0 =
     record { location = (here_of c l place reg write at).location; port_is = refl; number = k; number_in = n.number_in; address_is = ap (λ (v : Word). v.address) (sym n.word_is) } in
     let beat : s.beats port w.address ≡ x.beats port w.address = under.beats w.address address in
-    let meets : Meets x port (op w) (cell.Reg reg) (lanes w) = turn_meets x t port write (cell.Reg reg) (row_of l place 0) op lanes sent (take k sent) rest w n.stood.setup (flawless c l) n.turn n.split n.stood.stands in
+    let meets : Meets x port (op w) (cell.Reg reg) (lanes w) = turn_meets x t port write (cell.Reg reg) (row_of l place 0) op lanes sent (take k sent) rest w n.stood.setup (flawless c l) n.turn
+    n.split n.stood.stands in
     record {
       next = n;
       setup = device.setup;
@@ -311,13 +327,15 @@ both_true true b e = (refl, e)
 both_true false b e = absurd cc
 
 -- the place of the register isn't that of another one
-apart_places : (c : ChipData) (l : LayoutData) (place other reg its_reg : ℕ) (write its_write : Bool) → IsPlaceOf c l place reg write → IsPlaceOf c l other its_reg its_write → (its_reg ≡ reg → ⊥) → place ≡ other → ⊥
+apart_places : (c : ChipData) (l : LayoutData) (place other reg its_reg : ℕ) (write its_write : Bool) → IsPlaceOf c l place reg write → IsPlaceOf c l other its_reg its_write → (its_reg ≡ reg → ⊥) →
+    place ≡ other → ⊥
 apart_places c l place other reg its_reg write its_write at its apart same = apart (reg_same (sym its.item ∙ ap (λ p. (row_at l p).item) (sym same) ∙ at.item))
   where
     reg_same : item.Reg its_reg ≡ item.Reg reg → its_reg ≡ reg
     reg_same e = cc
 
-stays : (c : ChipData) (l : LayoutData) (begun s : State) (place reg value : ℕ) (write : Bool) (k : ℕ) (w : Word) (rest : List Word) → IsPlaceOf c l place reg write → IsMet c l begun s place reg value write k w rest →
+stays : (c : ChipData) (l : LayoutData) (begun s : State) (place reg value : ℕ) (write : Bool) (k : ℕ) (w : Word) (rest : List Word) → IsPlaceOf c l place reg write →
+    IsMet c l begun s place reg value write k w rest →
     (other p a : ℕ) → Occupies l p a other 0 → ((row_at l place).fifo ≡ true → p ≡ (row_at l place).port → a ≡ w.address → ⊥) →
     (fifo : Bool) → (row_at l place).fifo ≡ fifo → (state_after s (row_at l place).port (op_of l place (chosen_of l place) value write w)).beats p a ≡ s.beats p a
 stays c l begun s place reg value write k w rest at m other p a has owned true is =
@@ -329,7 +347,8 @@ stays c l begun s place reg value write k w rest at m other p a has owned false 
     let op = op_of l place (chosen_of l place) value write w in
     let here = here_of c l place reg write at in
     let lone : words_with w.address (words_sent l place) ≡ w ∷ [] =
-    ap (words_with w.address) (whole_sent l place 0 here) ∙ ap (λ (v : Word). words_with v.address words) m.next.word_is ∙ alone_at words k (here.words.alone is) m.next.number_in ∙ ap (λ v. v ∷ []) (sym m.next.word_is) in
+    ap (words_with w.address) (whole_sent l place 0 here) ∙ ap (λ (v : Word). words_with v.address words) m.next.word_is ∙ alone_at words k (here.words.alone is) m.next.number_in ∙ ap (λ v. v ∷ [])
+    (sym m.next.word_is) in
     let total : length (words_at s.setup port op.address op.write) ≡ 1 =
     ap (λ (u : Setup). length (words_at u port w.address write)) m.setup ∙ ap length m.next.turn.rows ∙ length-map (words_with w.address (words_sent l place)) (row_of l place 0) ∙ ap length lone in
     let done : count_at w.address (take k (words_sent l place)) < count_at w.address (words_sent l place) = left_over (words_sent l place) (take k (words_sent l place)) rest w m.next.split in
@@ -358,7 +377,8 @@ others_stay_under_way c l begun s place reg value write k at ready device low un
 
 -- ---- all words
 
-whole_alone : (l : LayoutData) (begun : State) (place value : ℕ) (write : Bool) → alone l begun place value write (length (whole_ops l place value write)) ≡ state_after_all begun (row_at l place).port (whole_ops l place value write)
+whole_alone : (l : LayoutData) (begun : State) (place value : ℕ) (write : Bool) → alone l begun place value write (length (whole_ops l place value write)) ≡ state_after_all begun
+    (row_at l place).port (whole_ops l place value write)
 whole_alone l begun place value write =
     let ops = whole_ops l place value write in
     ap (state_after_all begun (row_at l place).port) (take_all (length ops) ops (omega arith))

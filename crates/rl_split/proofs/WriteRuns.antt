@@ -53,7 +53,8 @@ put_bits t reg op lanes value [] h parts b low = none_bit (policy_at t reg b) (b
 put_bits t reg op lanes value (w ∷ ws) h parts b low =
     put_bits t reg op lanes value ws (put t reg op lanes h w) parts.1 b low
     ∙ ap (λ x. bit_written (policy_at t reg b) x (bit (put t reg op lanes h w).marks b) (bit value b) (are_touched lanes ws b)) (bit-from_bits 64 _ b low)
-    ∙ ap (λ s. bit_written (policy_at t reg b) (bit_written (policy_at t reg b) (bit h.bits b) (bit h.marks b) (spread_bit (lanes w) (bit (op w).word) b) (lane_bit (lanes w) b)) s (bit value b) (are_touched lanes ws b)) (bit-from_bits 64 _ b low)
+    ∙ ap (λ s. bit_written (policy_at t reg b) (bit_written (policy_at t reg b) (bit h.bits b) (bit h.marks b) (spread_bit (lanes w) (bit (op w).word) b) (lane_bit (lanes w) b)) s (bit value b)
+    (are_touched lanes ws b)) (bit-from_bits 64 _ b low)
     ∙ two_bits (policy_at t reg b) (bit h.bits b) (bit h.marks b) (spread_bit (lanes w) (bit (op w).word) b) (bit value b) (lane_bit (lanes w) b) (are_touched lanes ws b) (parts.0 b)
 
 pub put_marks : (t : Setup) (reg : ℕ) (op : Word → BusOp) (lanes : Word → Lanes) (ws : List Word) (h : Held) (b : ℕ) → b < 64 →
@@ -113,7 +114,8 @@ one_wrote : (s : State) (port reg : ℕ) (op : Word → BusOp) (lanes : Word →
 one_wrote s port reg op lanes w rest h step answer run =
     let next = after_write s port reg (op w) (lanes w) in
     record {
-      answers = ap (λ a. a ∷ answers_of (state_after s port (op w)) port (map op rest)) answer ∙ ap (λ x. written_answer w ∷ answers_of x port (map op rest)) step ∙ ap (λ xs. written_answer w ∷ xs) run.answers;
+      answers = ap (λ a. a ∷ answers_of (state_after s port (op w)) port (map op rest)) answer ∙ ap (λ x. written_answer w ∷ answers_of x port (map op rest)) step ∙ ap (λ xs. written_answer w ∷ xs)
+          run.answers;
       setup = ap (λ x. (state_after_all x port (map op rest)).setup) step ∙ run.setup;
       bits = ap (λ x. (state_after_all x port (map op rest)).bits) step ∙ run.bits ∙ set-set s.bits reg _ h.bits;
       marks = ap (λ x. (state_after_all x port (map op rest)).marks) step ∙ run.marks ∙ set-set s.marks reg _ h.marks;

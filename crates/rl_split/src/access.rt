@@ -26,7 +26,8 @@ fn operation(
 ) -> BusOp
     requires bytes { bus_bytes ≤ 8 }
     requires lanes { AreInCell lanes.now }
-    ensures { (chosen : ℕ) → lanes.now ≡ lanes_for chosen word.now → result ≡ op_for kind.now bus_bytes chosen value write word.now }
+    ensures { (chosen : ℕ) → lanes.now ≡ lanes_for chosen word.now
+        → result ≡ op_for kind.now bus_bytes chosen value write word.now }
 {
     BusOp {
         write,

@@ -3,9 +3,11 @@
 //! The items of an access to a register, over any path of maps, widths and byte orders, are together one
 //! step of the register: of all its fields, or in a narrow access of one. No item fails, and nothing else
 //! changes. So it is on every device without flaws whose beats are all 0 and that has one mark per field.
-ghost use Rattle.rl_split.specs.Law.{WholeWriteIsStep, WholeReadIsStep, NarrowWriteIsStep, NarrowReadIsStep, MemoryWriteIsStore, MemoryReadIsLoad};
+ghost use Rattle.rl_split.specs.Law.{WholeWriteIsStep, WholeReadIsStep, NarrowWriteIsStep, NarrowReadIsStep};
+ghost use Rattle.rl_split.specs.Law.{MemoryWriteIsStore, MemoryReadIsLoad};
 ghost use Rattle.rl_split.specs.Seats.{OperationsAreBySeats, ValueIsBySeats};
-ghost use Rattle.rl_split.specs.UnderWay.{NoneSentIsUnderWay, NextWordGoesOn, OthersStayUnderWay, AllSentIsWrite, AllSentIsRead};
+ghost use Rattle.rl_split.specs.UnderWay.{NoneSentIsUnderWay, NextWordGoesOn, OthersStayUnderWay};
+ghost use Rattle.rl_split.specs.UnderWay.{AllSentIsWrite, AllSentIsRead};
 
 /// Each chosen byte is carried by one operation, at the address and the lane of its seat.
 pub fn operations_are_by_seats()

@@ -22,9 +22,18 @@ impl Model for Kept {
 
     ghost Value = { BusOp × ℕ };
 
-    ghost view = { λ k. (record { write = k.write; address = k.address; word = k.word; lanes = k.lanes; bytes = k.bytes }, k.order) };
+    ghost view = { λ k.
+        (record { write = k.write; address = k.address; word = k.word; lanes = k.lanes; bytes = k.bytes }, k.order) };
 
-    ghost inverse = { λ p. record { address = p.0.address; word = p.0.word; order = p.1; lanes = p.0.lanes; bytes = p.0.bytes; write = p.0.write } };
+    ghost inverse = { λ p.
+        record {
+          address = p.0.address;
+          word = p.0.word;
+          order = p.1;
+          lanes = p.0.lanes;
+          bytes = p.0.bytes;
+          write = p.0.write;
+        } };
 }
 
 impl Kept {

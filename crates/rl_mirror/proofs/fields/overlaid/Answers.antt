@@ -25,7 +25,8 @@ loop-k-preserved c =
             fits = omega (arith, w.word-is);
             bits = λ b l.
                 ap (λ (n : ℕ). bit n b) w.word-is
-                ∙ taken _ fs k b c.field_at-field.result (part b) (bit c.args.kept b) _ _ _ _ (field_list c.args.chip.now c.args.reg c.field_count-k-end.ensures.sound c.requires.reg) place c.field_at-field.ensures.field
+                ∙ taken _ fs k b c.field_at-field.result (part b) (bit c.args.kept b) _ _ _ _ (field_list c.args.chip.now c.args.reg c.field_count-k-end.ensures.sound c.requires.reg) place
+                c.field_at-field.ensures.field
                 (w.window.ensures b l) (w.replaced-word.ensures b l) (w.on-by.ensures b l ∙ rw (chosen, policy, w.mark_at.ensures) refl) (c.loop-k.invariant.bits b l);
           }
       | else-has_field w ↦
@@ -34,7 +35,8 @@ loop-k-preserved c =
             fits = omega (arith, w.word-is, c.loop-k.invariant.fits);
             bits = λ b l.
                 ap (λ (n : ℕ). bit n b) w.word-is ∙ c.loop-k.invariant.bits b l
-                ∙ so_far-skip k (part b) (place_at fs b) (bit c.args.kept b) (ap (λ t. cond t (effect_bit c.args.effect (policy_in fs k) (marks_in c.args.chip.now c.args.spent.now c.args.reg k) b) (bit c.args.kept b)) left);
+                ∙ so_far-skip k (part b) (place_at fs b) (bit c.args.kept b) (ap (λ t. cond t (effect_bit c.args.effect (policy_in fs k) (marks_in c.args.chip.now c.args.spent.now c.args.reg k) b)
+                (bit c.args.kept b)) left);
           }
     ]
 

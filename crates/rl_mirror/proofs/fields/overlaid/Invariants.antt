@@ -10,5 +10,6 @@ abbrev pub invariant-loop-k : goal.invariant-loop-k
 invariant-loop-k l = record {
   fits : l.word < 2 ^ 64;
   bits : (b : ℕ) → b < 64
-      → bit l.word b ≡ so_far l.k (λ k. cond (bit l.fields k) (effect_bit l.effect (policy_in (fields_of l.chip l.reg) k) (marks_in l.chip l.spent l.reg k) b) (bit l.kept b)) (place_at (fields_of l.chip l.reg) b) (bit l.kept b);
+      → bit l.word b ≡ so_far l.k (λ k. cond (bit l.fields k) (effect_bit l.effect (policy_in (fields_of l.chip l.reg) k) (marks_in l.chip l.spent l.reg k) b) (bit l.kept b))
+      (place_at (fields_of l.chip l.reg) b) (bit l.kept b);
 }

@@ -13,7 +13,8 @@ put-requires-clause-v_fits c =
     let n = c.field_number.result in
     let is : field_in (fields_of chip c.args.reg) c.args.k ≡ field_of chip n =
     field_in-fields_of chip c.args.reg c.args.k c.in-Some.ensures.sound c.requires.reg c.requires.field ∙ ap (field_of chip) (sym c.field_number.ensures.number) in
-    let found : value_for c.args.kind (field_of chip n).resets ≡ Some c.in-Some.value = sym (reset_answer chip n c.args.kind (Some c.in-Some.value) c.field_number.ensures.within c.in-Some.ensures.value) in
+    let found : value_for c.args.kind (field_of chip n).resets ≡ Some c.in-Some.value = sym (reset_answer chip n c.args.kind (Some c.in-Some.value) c.field_number.ensures.within
+    c.in-Some.ensures.value) in
     let width : c.field_at-field.result.width ≡ (field_of chip n).shape.width = ap (λ (f : Field). f.width) c.field_at-field.ensures.field ∙ ap (λ (f : FieldSeen). f.shape.width) is in
     rw width (reset_fits chip n c.args.kind c.in-Some.value c.in-Some.ensures.sound c.field_number.ensures.within found)
 

@@ -22,20 +22,43 @@ loop-sent-init c = record { count = refl; value = is_from_bits 64 0 _ (omega ari
 pub word-word-requires-clause-number : goal.word-word-requires-clause-number
 word-word-requires-clause-number c =
     let words = words_of c.args.layout.now c.args.place c.args.index in
-    room_left c.args.chosen c.loop-sent.k words (omega (arith, c.loop-sent.invariant.count, c.loop-sent-test.true, c.len.ensures, total c.args.layout.now c.args.place c.args.index c.args.chosen c.args.words.now c.requires.words))
+    room_left c.args.chosen c.loop-sent.k words (omega (
+      arith,
+      c.loop-sent.invariant.count,
+      c.loop-sent-test.true,
+      c.len.ensures,
+      total c.args.layout.now c.args.place c.args.index c.args.chosen
+          c.args.words.now c.requires.words,
+    ))
 
 pub overflow_add-k : goal.overflow_add-k
 overflow_add-k c =
     let l = c.args.layout.now in
     let words = words_of l c.args.place c.args.index in
     let here = is_here l c.args.place c.args.index c.places.ensures.sound c.requires.location in
-    omega (arith, here.words.few, room_left c.args.chosen c.loop-sent.k words (omega (arith, c.loop-sent.invariant.count, c.loop-sent-test.true, c.len.ensures, total l c.args.place c.args.index c.args.chosen c.args.words.now c.requires.words)))
+    omega (
+      arith,
+      here.words.few,
+      room_left c.args.chosen c.loop-sent.k words (omega (
+        arith,
+        c.loop-sent.invariant.count,
+        c.loop-sent-test.true,
+        c.len.ensures,
+        total l c.args.place c.args.index c.args.chosen c.args.words.now c.requires.words,
+      )),
+    )
 
 pub loop-sent-smaller : goal.loop-sent-smaller
 loop-sent-smaller c =
     let l = c.args.layout.now in
     let words = words_of l c.args.place c.args.index in
-    let room : c.loop-sent.k < length words = room_left c.args.chosen c.loop-sent.k words (omega (arith, c.loop-sent.invariant.count, c.loop-sent-test.true, c.len.ensures, total l c.args.place c.args.index c.args.chosen c.args.words.now c.requires.words)) in
+    let room : c.loop-sent.k < length words = room_left c.args.chosen c.loop-sent.k words (omega (
+      arith,
+      c.loop-sent.invariant.count,
+      c.loop-sent-test.true,
+      c.len.ensures,
+      total l c.args.place c.args.index c.args.chosen c.args.words.now c.requires.words,
+    )) in
     omega (arith, room)
 
 pub loop-sent-preserved : goal.loop-sent-preserved
@@ -60,7 +83,8 @@ loop-sent-preserved c =
             count = omega (arith, v.sent-is, was.count, ap length more, length_push so_far w);
             value = v.value-is
                 ∙ value_more chosen so_far (take sent answers) w v.word.result c.loop-sent.value v.spread-value.result (bit_or c.loop-sent.value v.spread-value.result) long was.value bits
-                (or_small c.loop-sent.value v.spread-value.result (omega (arith, c.loop-sent.auto.value-fits)) (omega (arith, v.spread-value.type_inv))) (λ b. bit-or c.loop-sent.value v.spread-value.result b)
+                (or_small c.loop-sent.value v.spread-value.result (omega (arith, c.loop-sent.auto.value-fits)) (omega (arith, v.spread-value.type_inv))) (λ b. bit-or c.loop-sent.value
+                v.spread-value.result b)
                 ∙ ap (λ ws. from_bits 64 (joined_bit chosen ws (take sent answers ++ v.word.result ∷ []))) (sym more)
                 ∙ ap (λ xs. from_bits 64 (joined_bit chosen (sent_words chosen (take (k + 1) words)) xs)) (sym next ∙ ap (λ n. take n answers) (sym v.sent-is));
           }
@@ -68,7 +92,8 @@ loop-sent-preserved c =
           let same = no_more chosen k words w c.word-word.ensures.word (is_left_out chosen w c.lanes_for-lanes.result c.lanes_for-lanes.ensures v.if-lanes-ne0.false) in
           record {
             count = v.sent-is ∙ was.count ∙ ap length (sym same);
-            value = v.value-is ∙ was.value ∙ ap (λ ws. from_bits 64 (joined_bit chosen ws (take sent answers))) (sym same) ∙ ap (λ n. from_bits 64 (joined_bit chosen (sent_words chosen (take (k + 1) words)) (take n answers))) (sym v.sent-is);
+            value = v.value-is ∙ was.value ∙ ap (λ ws. from_bits 64 (joined_bit chosen ws (take sent answers))) (sym same) ∙ ap (λ n. from_bits 64 (joined_bit chosen (sent_words chosen
+                (take (k + 1) words)) (take n answers))) (sym v.sent-is);
           }
     ]
 

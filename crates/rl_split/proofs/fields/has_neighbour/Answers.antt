@@ -11,13 +11,25 @@ pub overflow_add-other-end : goal.overflow_add-other-end
 overflow_add-other-end c =
     let chip = c.args.chip.now in
     let own = c.field_at-own in
-    omega (arith, first_is chip own.result.reg c.first_field-first.result c.first_field-first.ensures.value, count_is chip own.result.reg c.field_count.result c.field_count.ensures.value, own.ensures.row, own.ensures.few)
+    omega (
+      arith,
+      first_is chip own.result.reg c.first_field-first.result c.first_field-first.ensures.value,
+      count_is chip own.result.reg c.field_count.result c.field_count.ensures.value,
+      own.ensures.row,
+      own.ensures.few,
+    )
 
 pub field_at-requires : goal.field_at-requires
 field_at-requires c =
     let chip = c.args.chip.now in
     let own = c.field_at-own in
-    omega (arith, first_is chip own.result.reg c.first_field-first.result c.first_field-first.ensures.value, count_is chip own.result.reg c.field_count.result c.field_count.ensures.value, own.ensures.row, c.loop-other-test.true)
+    omega (
+      arith,
+      first_is chip own.result.reg c.first_field-first.result c.first_field-first.ensures.value,
+      count_is chip own.result.reg c.field_count.result c.field_count.ensures.value,
+      own.ensures.row,
+      c.loop-other-test.true,
+    )
 
 pub returns-then-share_byte : goal.returns-then-share_byte
 returns-then-share_byte c =

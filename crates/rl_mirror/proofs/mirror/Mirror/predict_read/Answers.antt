@@ -24,4 +24,5 @@ returns-clause-value c =
 
 pub returns-clause-reach : goal.returns-clause-reach
 returns-clause-reach c was =
-    subst (λ (m : MirrorData). IsReachable c.args.chip.now m) (sym (returns-clause-value c)) (read_reach c.args.chip.now c.args.reg c.args.value c.args.fields c.args.self.now c.overlaid-known.ensures.sound c.requires.reg c.requires.built was)
+    subst (λ (m : MirrorData). IsReachable c.args.chip.now m) (sym (returns-clause-value c)) (read_reach c.args.chip.now c.args.reg c.args.value c.args.fields c.args.self.now
+    c.overlaid-known.ensures.sound c.requires.reg c.requires.built was)

@@ -21,7 +21,13 @@ returns-clause-value c =
     let mirrored : c.index-mirrored.result.now ≡ mirrored_of m reg = get_or_read_under m.mirrored reg (length m.mirrored) c.index-mirrored.result.now 0 c.index-mirrored.ensures in_mirrored refl in
     let desired : c.index-desired.result.now ≡ desired_of m reg = get_or_read_under m.desired reg (length m.desired) c.index-desired.result.now 0 c.index-desired.ensures in_desired refl in
     let long : length c.spend.new.spent ≡ c.self.inside.spent.len =
-    omega (arith, ap (λ (xs : List Bool). length xs) c.spend.ensures, length-spent_after chip reg c.args.fields c.deref_mut.result.now, ap (λ (xs : List Bool). length xs) c.deref_mut.ensures.value, c.self.inside.spent.ok.0) in
+    omega (
+      arith,
+      ap (λ (xs : List Bool). length xs) c.spend.ensures,
+      length-spent_after chip reg c.args.fields c.deref_mut.result.now,
+      ap (λ (xs : List Bool). length xs) c.deref_mut.ensures.value,
+      c.self.inside.spent.ok.0,
+    ) in
     write_is chip reg c.args.value c.args.fields m c.index-mirrored.result.now c.index-desired.result.now c.overlaid-known.result c.wished-wish.result
     c.deref.result.now c.deref-2.result.now c.deref_mut.result.now (with_items c.self.inside.spent c.spend.new.spent).items
     mirrored desired c.deref.ensures.value c.deref-2.ensures.value c.deref_mut.ensures.value c.overlaid-known.ensures.value c.wished-wish.ensures.value
@@ -30,4 +36,5 @@ returns-clause-value c =
 
 pub returns-clause-reach : goal.returns-clause-reach
 returns-clause-reach c was =
-    subst (λ (m : MirrorData). IsReachable c.args.chip.now m) (sym (returns-clause-value c)) (write_reach c.args.chip.now c.args.reg c.args.value c.args.fields c.args.self.now c.overlaid-known.ensures.sound c.requires.reg c.requires.built was)
+    subst (λ (m : MirrorData). IsReachable c.args.chip.now m) (sym (returns-clause-value c)) (write_reach c.args.chip.now c.args.reg c.args.value c.args.fields c.args.self.now
+    c.overlaid-known.ensures.sound c.requires.reg c.requires.built was)

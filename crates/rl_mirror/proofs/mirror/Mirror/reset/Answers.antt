@@ -20,7 +20,8 @@ returns-then-kind-eq0-clause-value c =
 
 pub returns-then-kind-eq0-clause-built : goal.returns-then-kind-eq0-clause-built
 returns-then-kind-eq0-clause-built c =
-    subst (λ (m : MirrorData). IsMirrorOf c.args.chip.now m) (sym (returns-then-kind-eq0-clause-value c)) (reset_built c.args.chip.now c.args.kind c.args.self.now c.reset_all.ensures.sound c.requires.built)
+    subst (λ (m : MirrorData). IsMirrorOf c.args.chip.now m) (sym (returns-then-kind-eq0-clause-value c)) (reset_built c.args.chip.now c.args.kind c.args.self.now c.reset_all.ensures.sound
+    c.requires.built)
 
 pub returns-else-kind-eq0-clause-value : goal.returns-else-kind-eq0-clause-value
 returns-else-kind-eq0-clause-value c =
@@ -33,12 +34,15 @@ returns-else-kind-eq0-clause-value c =
 
 pub returns-else-kind-eq0-clause-built : goal.returns-else-kind-eq0-clause-built
 returns-else-kind-eq0-clause-built c =
-    subst (λ (m : MirrorData). IsMirrorOf c.args.chip.now m) (sym (returns-else-kind-eq0-clause-value c)) (reset_built c.args.chip.now c.args.kind c.args.self.now c.reset_all.ensures.sound c.requires.built)
+    subst (λ (m : MirrorData). IsMirrorOf c.args.chip.now m) (sym (returns-else-kind-eq0-clause-value c)) (reset_built c.args.chip.now c.args.kind c.args.self.now c.reset_all.ensures.sound
+    c.requires.built)
 
 pub returns-then-kind-eq0-clause-reach : goal.returns-then-kind-eq0-clause-reach
 returns-then-kind-eq0-clause-reach c was =
-    subst (λ (m : MirrorData). IsReachable c.args.chip.now m) (sym (returns-then-kind-eq0-clause-value c)) (reset_reach c.args.chip.now c.args.kind c.args.self.now c.reset_all.ensures.sound c.requires.built was)
+    subst (λ (m : MirrorData). IsReachable c.args.chip.now m) (sym (returns-then-kind-eq0-clause-value c)) (reset_reach c.args.chip.now c.args.kind c.args.self.now c.reset_all.ensures.sound
+    c.requires.built was)
 
 pub returns-else-kind-eq0-clause-reach : goal.returns-else-kind-eq0-clause-reach
 returns-else-kind-eq0-clause-reach c was =
-    subst (λ (m : MirrorData). IsReachable c.args.chip.now m) (sym (returns-else-kind-eq0-clause-value c)) (reset_reach c.args.chip.now c.args.kind c.args.self.now c.reset_all.ensures.sound c.requires.built was)
+    subst (λ (m : MirrorData). IsReachable c.args.chip.now m) (sym (returns-else-kind-eq0-clause-value c)) (reset_reach c.args.chip.now c.args.kind c.args.self.now c.reset_all.ensures.sound
+    c.requires.built was)
