@@ -36,7 +36,8 @@ put_small lsb width bytes v w inside most e =
     let low : from_bits 64 f < 2 ^ (8 * bytes) = below_by_bits 64 (8 * bytes) (from_bits 64 f) (from_bits-lt 64 f) (omega arith) none in
     subst (λ n. n < 256 ^ bytes) (sym e) (subst (λ n. from_bits 64 f < n) (bytes_bits bytes) low)
 
-pub alone_valid : (m : ModelData) (field place : ℕ) (f : Field) (chosen fields v w : ℕ) → IsModel m → f ≡ (field_of m.chip field).shape → f.reg < length m.chip.regs → IsFieldIn (size_of m.chip f.reg) f
+pub alone_valid : (m : ModelData) (field place : ℕ) (f : Field) (chosen fields v w : ℕ) → IsModel m → f ≡ (field_of m.chip field).shape → f.reg < length m.chip.regs →
+    IsFieldIn (size_of m.chip f.reg) f
     → IsPlaceFor m (item.Reg (reg_of m.chip field)) place → chosen ≡ bytes_of_field f → w ≡ from_bits 64 (put_bit f.lsb f.width (bit v) (bit 0))
     → IsAccessOn m (record { reg = f.reg; place = place; chosen = chosen; fields = fields; value = w })
 alone_valid m field place f chosen fields v w ok e inside within there is_chosen is_value =

@@ -1,5 +1,5 @@
 -- A call that sent nothing performed its operation.
-use Rattle.std.proofs.Common.{◌≡◌, ℕ, ◌≤◌, Bool, true, false, if◌then◌else◌, List, [], Option, None, Some, option_map, Ok, refl, sym, ap, ◌∙◌, subst, arith}
+use Rattle.std.proofs.Common.{◌≡◌, ℕ, ◌≤◌, Bool, true, false, if◌then◌else◌, List, [], Option, None, Some, option_map, Ok, Err, refl, sym, ap, ◌∙◌, subst, arith}
 use Rattle.std.proofs.lemmas.List.{set-get_or}
 use Rattle.rl_bus.specs.Standing.{Standing, standing_at, nobody}
 use Rattle.rl_bus.specs.State.{State, poked, hw_set, reset_by}
@@ -14,14 +14,17 @@ use Rattle.rl_access.specs.declared.event.End.TheVariants as end
 use Rattle.rl_access.specs.declared.event.Event.{Event}
 use Rattle.rl_access.specs.declared.event.Op.{Op}
 use Rattle.rl_access.specs.declared.event.Op.TheVariants as op
+use Rattle.rl_access.specs.declared.event.Refused.{Refused}
 use Rattle.rl_access.specs.declared.trace.TraceItem.{TraceItem}
+use Rattle.rl_model.specs.declared.rows.Item.TheVariants as item
 use Rattle.rl_access.specs.Backdoor.{IsFound, IsReadBehind}
 use Rattle.rl_access.specs.Items.{AreItemsOf, HasCauses, items_of, state_after_all, moved_on_by_all, port_for, adapter_for}
 use Rattle.rl_access.specs.Model.{ModelData}
 use Rattle.rl_access.specs.Operation.{reg_of}
-use Rattle.rl_access.specs.Rules.{Grant, quiet, taking_raw, every_field, owned_of, back_written, back_value, back_left, back_outcome, grant, named, sends, outcome, Outcome, register_event, memory_event, event_at, event_of, found_by, device_after}
+use Rattle.rl_access.specs.Rules.{Grant, quiet, taking_raw, every_field, owned_of, back_written, back_value, back_left, back_outcome, grant, named, sends, outcome, Outcome, register_event}
+use Rattle.rl_access.specs.Rules.{memory_event, event_at, event_of, refused_event, found_by, device_after, by_backdoor}
 use Rattle.rl_access.specs.Call.{scene, Performs}
-use Rattle.rl_access.proofs.Performed.{performs_done}
+use Rattle.rl_access.proofs.Performed.{performs_done, performs_refused}
 
 -- ---- done
 
@@ -83,7 +86,8 @@ as_it_was (Some d) = refl
 -- ---- the backdoor of a register
 
 pub poke_performs : (m new : ModelData) (errors later : ℕ) (told after : Option State) (reg value place : ℕ) (items : List TraceItem) (event : Event) → grant m (op.Poke reg value) ≡ Ok place
-    → after ≡ option_map (λ d. poked d (cell.Reg reg) value) told → new ≡ taking_raw m reg value → items ≡ [] → event ≡ register_event (op.Poke reg value) reg items (quiet end.Done new) → errors ≤ later
+    → after ≡ option_map (λ d. poked d (cell.Reg reg) value) told → new ≡ taking_raw m reg value → items ≡ [] → event ≡ register_event (op.Poke reg value) reg items (quiet end.Done new) →
+    errors ≤ later
     → (adapters : List Standing) → Performs (scene m adapters errors told) (scene new adapters later after) (op.Poke reg value) event
 poke_performs m new errors later told after reg value place items event granted goes taken empty is_event causes =
     quiet_performs m new errors later told after (op.Poke reg value) place 0 event granted refl
@@ -101,23 +105,34 @@ peek_performs m new errors told reg value place items event granted f taken empt
     (told_event (op.Peek reg) reg items (quiet (end.Value value) new) (quiet (end.Value (owned_of m reg f.sampled)) (taking_raw m reg (owned_of m reg f.sampled))) event is_event empty same)
     now (omega arith) f.found (as_it_was told)
 
-pub back_write_performs : (m new : ModelData) (errors later : ℕ) (told after : Option State) (reg value found word place : ℕ) (items : List TraceItem) (event : Event) → grant m (op.BackWrite reg value) ≡ Ok place
+pub back_write_performs : (m new : ModelData) (errors later : ℕ) (told after : Option State) (reg value found word place : ℕ) (items : List TraceItem) (event : Event) →
+    grant m (op.BackWrite reg value) ≡ Ok place
     → IsFound m told reg found → word ≡ written (fields_of m.chip reg) (marks_in m.chip m.mirror.spent reg) found value
-    → after ≡ option_map (λ d. poked d (cell.Reg reg) word) told → new ≡ taking_raw m reg word → items ≡ [] → event ≡ register_event (op.BackWrite reg value) reg items (quiet end.Done new) → errors ≤ later
+    → after ≡ option_map (λ d. poked d (cell.Reg reg) word) told → new ≡ taking_raw m reg word → items ≡ [] → event ≡ register_event (op.BackWrite reg value) reg items (quiet end.Done new) →
+    errors ≤ later
     → (adapters : List Standing) → Performs (scene m adapters errors told) (scene new adapters later after) (op.BackWrite reg value) event
 back_write_performs m new errors later told after reg value found word place items event granted f is_word goes taken empty is_event causes =
     let is : word ≡ back_written m reg value f.sampled = is_word ∙ ap (λ b. written (fields_of m.chip reg) (marks_in m.chip m.mirror.spent reg) b value) f.value_is in
     let now : new ≡ taking_raw m reg (back_written m reg value f.sampled) = taken ∙ ap (taking_raw m reg) is in
     quiet_performs m new errors later told after (op.BackWrite reg value) place f.sampled event granted refl
-    (told_event (op.BackWrite reg value) reg items (quiet end.Done new) (quiet end.Done (taking_raw m reg (back_written m reg value f.sampled))) event is_event empty (ended_with end.Done new (taking_raw m reg (back_written m reg value f.sampled)) now))
+    (told_event (op.BackWrite reg value) reg items (quiet end.Done new) (quiet end.Done (taking_raw m reg (back_written m reg value f.sampled))) event is_event empty (ended_with end.Done new
+    (taking_raw m reg (back_written m reg value f.sampled)) now))
     now causes f.found (subst (λ w. after ≡ option_map (λ d. poked d (cell.Reg reg) w) told) is goes)
 
 -- what is read is shown, and what the read leaves is deposited
-pub read_behind : (m new : ModelData) (told after : Option State) (check : Bool) (reg bits value left marked : ℕ) → IsFound m told reg bits → value ≡ shown (fields_of m.chip reg) bits → left ≡ left_by_read (fields_of m.chip reg) bits
-    → after ≡ option_map (λ d. poked d (cell.Reg reg) left) told → marked ≡ (if check then differ m.chip reg value m.mirror else 0) → new ≡ record m { mirror = predict_read m.chip reg value every_field m.mirror }
+pub read_behind : (m new : ModelData) (told after : Option State) (check : Bool) (reg bits value left marked : ℕ) → IsFound m told reg bits → value ≡ shown (fields_of m.chip reg) bits →
+    left ≡ left_by_read (fields_of m.chip reg) bits
+    → after ≡ option_map (λ d. poked d (cell.Reg reg) left) told → marked ≡ (if check then differ m.chip reg value m.mirror else 0) → new ≡ record m {
+      mirror = predict_read m.chip reg value
+          every_field m.mirror;
+    }
     → IsReadBehind m new told after check reg value marked
 read_behind m new told after check reg bits value left marked f is_value is_left goes is_marked is_new =
-    let made : ℕ → Outcome = λ v. record { end = end.Value v; model = record m { mirror = predict_read m.chip reg v every_field m.mirror }; differ = if check then differ m.chip reg v m.mirror else 0 } in
+    let made : ℕ → Outcome = λ v. record {
+      end = end.Value v;
+      model = record m { mirror = predict_read m.chip reg v every_field m.mirror };
+      differ = if check then differ m.chip reg v m.mirror else 0;
+    } in
     let now : value ≡ back_value m reg f.sampled = is_value ∙ ap (shown (fields_of m.chip reg)) f.value_is in
     let after_it : left ≡ back_left m reg f.sampled = is_left ∙ ap (left_by_read (fields_of m.chip reg)) f.value_is in
     record {
@@ -130,20 +145,58 @@ read_behind m new told after check reg bits value left marked f is_value is_left
     }
 
 pub back_read_performs : (m new : ModelData) (errors later : ℕ) (told after : Option State) (reg value differ place : ℕ) (items : List TraceItem) (event : Event) → grant m (op.BackRead reg) ≡ Ok place
-    → IsReadBehind m new told after false reg value differ → items ≡ [] → event ≡ register_event (op.BackRead reg) reg items (record { end = end.Value value; model = new; differ = differ }) → errors ≤ later
+    → IsReadBehind m new told after false reg value differ → items ≡ [] → event ≡ register_event (op.BackRead reg) reg items (record { end = end.Value value; model = new; differ = differ }) →
+    errors ≤ later
     → (adapters : List Standing) → Performs (scene m adapters errors told) (scene new adapters later after) (op.BackRead reg) event
 back_read_performs m new errors later told after reg value differ place items event granted r empty is_event causes =
     quiet_performs m new errors later told after (op.BackRead reg) place r.sampled event granted refl
     (told_event (op.BackRead reg) reg items (record { end = end.Value value; model = new; differ = differ }) (back_outcome m false reg r.sampled) event is_event empty r.outcome)
     (ap (λ (o : Outcome). o.model) r.outcome) causes r.found r.goes
 
-pub back_check_performs : (m new : ModelData) (errors later : ℕ) (told after : Option State) (reg value differ place : ℕ) (items : List TraceItem) (event : Event) → grant m (op.BackCheck reg) ≡ Ok place
-    → IsReadBehind m new told after true reg value differ → items ≡ [] → event ≡ register_event (op.BackCheck reg) reg items (record { end = end.Value value; model = new; differ = differ }) → errors ≤ later
+pub back_check_performs : (m new : ModelData) (errors later : ℕ) (told after : Option State) (reg value differ place : ℕ) (items : List TraceItem) (event : Event) →
+    grant m (op.BackCheck reg) ≡ Ok place
+    → IsReadBehind m new told after true reg value differ → items ≡ [] → event ≡ register_event (op.BackCheck reg) reg items (record { end = end.Value value; model = new; differ = differ }) →
+    errors ≤ later
     → (adapters : List Standing) → Performs (scene m adapters errors told) (scene new adapters later after) (op.BackCheck reg) event
 back_check_performs m new errors later told after reg value differ place items event granted r empty is_event causes =
     quiet_performs m new errors later told after (op.BackCheck reg) place r.sampled event granted refl
     (told_event (op.BackCheck reg) reg items (record { end = end.Value value; model = new; differ = differ }) (back_outcome m true reg r.sampled) event is_event empty r.outcome)
     (ap (λ (o : Outcome). o.model) r.outcome) causes r.found r.goes
+
+-- a read, or a check
+abbrev pub reading : Bool → (reg : ℕ) → Op
+reading check reg = if check then op.BackCheck reg else op.BackRead reg
+
+pub reading_performs : (check : Bool) (m new : ModelData) (errors later : ℕ) (told after : Option State) (named_as : Op) (reg value differ place : ℕ)
+    (items : List TraceItem) (event : Event) → named_as ≡ reading check reg → by_backdoor m (item.Reg reg) ≡ Ok place
+    → IsReadBehind m new told after check reg value differ → items ≡ []
+    → event ≡ register_event named_as reg items (record { end = end.Value value; model = new; differ = differ }) → errors ≤ later
+    → (adapters : List Standing) → Performs (scene m adapters errors told) (scene new adapters later after) (reading check reg) event
+reading_performs true m new errors later told after named_as reg value differ place items event names granted r empty is_event causes =
+    let o : Outcome = record { end = end.Value value; model = new; differ = differ } in
+    back_check_performs m new errors later told after reg value differ place items event granted r empty
+    (is_event ∙ ap (λ x. register_event x reg items o) names) causes
+reading_performs false m new errors later told after named_as reg value differ place items event names granted r empty is_event causes =
+    let o : Outcome = record { end = end.Value value; model = new; differ = differ } in
+    back_read_performs m new errors later told after reg value differ place items event granted r empty
+    (is_event ∙ ap (λ x. register_event x reg items o) names) causes
+
+reading_granted : (m : ModelData) (check : Bool) (reg : ℕ) → grant m (reading check reg) ≡ by_backdoor m (item.Reg reg)
+reading_granted m true reg = refl
+reading_granted m false reg = refl
+
+reading_refused : (m : ModelData) (check : Bool) (reg : ℕ) (why : Refused) →
+    register_event (reading check reg) reg [] (quiet (end.Refused why) m) ≡ refused_event m (named m (reading check reg)) why
+reading_refused m true reg why = refl
+reading_refused m false reg why = refl
+
+-- a refused one
+pub no_reading_performs : (check : Bool) (m : ModelData) (errors : ℕ) (told : Option State) (named_as : Op) (reg : ℕ) (why : Refused) (event : Event)
+    → named_as ≡ reading check reg → by_backdoor m (item.Reg reg) ≡ Err why → event ≡ register_event named_as reg [] (quiet (end.Refused why) m)
+    → (adapters : List Standing) → Performs (scene m adapters errors told) (scene m adapters errors told) (reading check reg) event
+no_reading_performs check m errors told named_as reg why event names refused is_event adapters =
+    performs_refused (scene m adapters errors told) (reading check reg) why event (reading_granted m check reg ∙ refused)
+    (is_event ∙ ap (λ x. register_event x reg [] (quiet (end.Refused why) m)) names ∙ reading_refused m check reg why)
 
 -- ---- the hardware and a reset
 
@@ -152,11 +205,13 @@ pub hw_performs : (m : ModelData) (errors later : ℕ) (told after : Option Stat
     → (adapters : List Standing) → Performs (scene m adapters errors told) (scene m adapters later after) (op.Hw field value) event
 hw_performs m errors later told after field value reg place items event granted goes is_reg empty is_event causes =
     quiet_performs m m errors later told after (op.Hw field value) place 0 event granted refl
-    (told_event (op.Hw field value) (reg_of m.chip field) items (quiet end.Done m) (quiet end.Done m) event (is_event ∙ ap (λ r. register_event (op.Hw field value) r items (quiet end.Done m)) is_reg) empty refl)
+    (told_event (op.Hw field value) (reg_of m.chip field) items (quiet end.Done m) (quiet end.Done m) event (is_event ∙ ap (λ r. register_event (op.Hw field value) r items (quiet end.Done m)) is_reg)
+    empty refl)
     refl causes (λ d at. refl) goes
 
 pub reset_performs : (m new : ModelData) (errors later : ℕ) (told after : Option State) (kind : ℕ) (items : List TraceItem) (event : Event)
-    → after ≡ option_map (λ d. reset_by d kind) told → new ≡ record m { mirror = reset m.chip kind m.mirror } → items ≡ [] → event ≡ memory_event (op.Reset kind) items (quiet end.Done new) → errors ≤ later
+    → after ≡ option_map (λ d. reset_by d kind) told → new ≡ record m { mirror = reset m.chip kind m.mirror } → items ≡ [] → event ≡ memory_event (op.Reset kind) items (quiet end.Done new) →
+    errors ≤ later
     → (adapters : List Standing) → Performs (scene m adapters errors told) (scene new adapters later after) (op.Reset kind) event
 reset_performs m new errors later told after kind items event goes taken empty is_event causes =
     quiet_performs m new errors later told after (op.Reset kind) 0 0 event refl refl

@@ -24,7 +24,8 @@ use Rattle.rl_access.specs.Items.{failed_at}
 use Rattle.rl_access.specs.Laws.{KeepsBeliefs, IsFoundOther, ChecksRegister, NamesField, is_any_check, HasReadNothing}
 use Rattle.rl_access.specs.Model.{ModelData}
 use Rattle.rl_access.specs.Operation.{register_of}
-use Rattle.rl_access.specs.Rules.{Grant, grant, named, Outcome, outcome, or_error, quiet, event_at, forgetting, forgetting_field, whole, field_written, field_read, write_outcome, read_outcome, end_in_field, back_value}
+use Rattle.rl_access.specs.Rules.{Grant, grant, named, Outcome, outcome, or_error, quiet, event_at, forgetting, forgetting_field, whole, field_written, field_read, write_outcome, read_outcome}
+use Rattle.rl_access.specs.Rules.{end_in_field, back_value}
 
 -- ---- an event tells its outcome
 

@@ -4,9 +4,11 @@ pub mod Beliefs
 pub mod Bytes
 pub mod Seated
 pub mod Gathers
+pub mod Granted
 pub mod Going
 pub mod Locations
 pub mod MemoryPerforms
+pub mod MemoryRows
 pub mod Narrow
 pub mod OneWord
 pub mod OverBus

@@ -22,13 +22,15 @@ taken_digits c mem bytes value f e is =
     subst (λ n. value < 16 ^ (2 * n)) (sym size) (below_digits bytes value (subst (λ n. value < n) (bytes_bits bytes) low))
 
 -- all bytes of a location
-pub location_chosen : (m : ModelData) (mem place bytes chosen : ℕ) → IsModel m → IsPlaceFor m (item.Mem mem) place → bytes_of m.chip (item.Mem mem) ≡ Some bytes → 1 ≤ bytes → chosen ≡ all_bytes bytes → IsChoice (place_at m.layout place).bytes chosen
+pub location_chosen : (m : ModelData) (mem place bytes chosen : ℕ) → IsModel m → IsPlaceFor m (item.Mem mem) place → bytes_of m.chip (item.Mem mem) ≡ Some bytes → 1 ≤ bytes →
+    chosen ≡ all_bytes bytes → IsChoice (place_at m.layout place).bytes chosen
 location_chosen m mem place bytes chosen ok there e some all =
     let size : location_size m.chip mem ≡ bytes = size_is m.chip (item.Mem mem) bytes e in
     let same : (place_at m.layout place).bytes ≡ bytes = place_size m (item.Mem mem) place ok there ∙ size in
     subst (λ n. IsChoice n chosen) (sym same) (subst (λ n. IsChoice bytes n) (sym all) (all_chosen bytes some))
 
-pub location_digits : (m : ModelData) (mem place value : ℕ) → IsModel m → IsPlaceFor m (item.Mem mem) place → value < 256 ^ (place_at m.layout place).bytes → value < 16 ^ (2 * location_size m.chip mem)
+pub location_digits : (m : ModelData) (mem place value : ℕ) → IsModel m → IsPlaceFor m (item.Mem mem) place → value < 256 ^ (place_at m.layout place).bytes →
+    value < 16 ^ (2 * location_size m.chip mem)
 location_digits m mem place value ok there low = below_digits (location_size m.chip mem) value (subst (λ n. value < 256 ^ n) (place_size m (item.Mem mem) place ok there) low)
 
 -- the lowest bytes of a word

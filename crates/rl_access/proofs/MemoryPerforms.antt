@@ -15,7 +15,8 @@ use Rattle.rl_access.specs.declared.event.Op.TheVariants as op
 use Rattle.rl_access.specs.declared.trace.TraceItem.{TraceItem}
 use Rattle.rl_access.specs.Items.{AreSent, failed_at, state_after_all, port_for, adapter_for}
 use Rattle.rl_access.specs.Model.{ModelData}
-use Rattle.rl_access.specs.Rules.{Grant, Outcome, quiet, or_error, grant, named, sends, outcome, memory_event, event_of, map_of_place, map_used, location_bytes, location_value, value_differs, placed, with_right, found_by, device_after}
+use Rattle.rl_access.specs.Rules.{Grant, Outcome, quiet, or_error, grant, named, sends, outcome, memory_event, event_of, map_of_place, map_used, location_bytes, location_value, value_differs, placed}
+use Rattle.rl_access.specs.Rules.{with_right, found_by, device_after}
 use Rattle.rl_access.specs.Call.{scene, Performs}
 use Rattle.rl_access.proofs.BackPerforms.{quiet_performs, told_memory_event}
 use Rattle.rl_access.proofs.Performed.{performs_done}
@@ -23,7 +24,8 @@ use Rattle.rl_access.proofs.Performed.{performs_done}
 -- ---- the place
 
 -- the place that is used, with the right of the direction
-pub way_is : (m : ModelData) (mem : ℕ) (map place : Option ℕ) (write : Bool) (way : Grant) → place ≡ place_of m.layout (item.Mem mem) map → way ≡ with_right m.layout write (placed place) → way ≡ with_right m.layout write (placed (place_of m.layout (item.Mem mem) map))
+pub way_is : (m : ModelData) (mem : ℕ) (map place : Option ℕ) (write : Bool) (way : Grant) → place ≡ place_of m.layout (item.Mem mem) map → way ≡ with_right m.layout write (placed place) →
+    way ≡ with_right m.layout write (placed (place_of m.layout (item.Mem mem) map))
 way_is m mem map place write way e is = is ∙ ap (λ p. with_right m.layout write (placed p)) e
 
 pub map_is : (m : ModelData) (mem : ℕ) (map place used : Option ℕ) → place ≡ place_of m.layout (item.Mem mem) map → used ≡ map_of_place m.layout place map → used ≡ map_used m (item.Mem mem) map
@@ -70,7 +72,8 @@ stays None m good e = sym e
 stays (Some k) m good e = refl
 
 -- the event of the call, with the map used
-told_as : (o good : Outcome) (op named : Op) (items : List TraceItem) (event : Event) → event ≡ memory_event op items o → op ≡ named → o ≡ good → (event.trace ≡ items) × (event ≡ memory_event named event.trace good)
+told_as : (o good : Outcome) (op named : Op) (items : List TraceItem) (event : Event) → event ≡ memory_event op items o → op ≡ named → o ≡ good → (event.trace ≡ items) × (event ≡ memory_event named
+    event.trace good)
 told_as o good op named items event e same is =
     let t : event.trace ≡ items = ap (λ (x : Event). x.trace) e in
     (t, e ∙ ap (λ x. memory_event x items o) same ∙ ap (memory_event named items) is ∙ ap (λ x. memory_event named x good) (sym t))
@@ -83,42 +86,61 @@ module _ (m : ModelData) (before now : List Standing) (errors later : ℕ) (told
   abbrev Done : Op → Event → Type 0
   Done op event = Performs (scene m before errors told) (scene m now later after) op event
 
-  pub mem_write_performs : (mem index value place : ℕ) (map used : Option ℕ) (e : End) (items : List TraceItem) (event : Event) → grant m (op.MemWrite mem map index value) ≡ Ok place → used ≡ map_used m (item.Mem mem) map
+  pub mem_write_performs : (mem index value place : ℕ) (map used : Option ℕ) (e : End) (items : List TraceItem) (event : Event) → grant m (op.MemWrite mem map index value) ≡ Ok place →
+      used ≡ map_used m (item.Mem mem) map
       → WereSent place (ops_of m.layout place index (location_bytes m mem) value true) items → e ≡ (or_error (failed_at items) m (quiet end.Done m)).end
       → event ≡ memory_event (op.MemWrite mem used index value) items (quiet e m) → Done (op.MemWrite mem map index value) event
   mem_write_performs mem index value place map used e items event granted is_map sent is_end is_event =
       let good = λ (x : List TraceItem). or_error (failed_at x) m (quiet end.Done m) in
-      let t = told_as (quiet e m) (good items) (op.MemWrite mem used index value) (op.MemWrite mem (map_used m (item.Mem mem) map) index value) items event is_event (ap (λ u. op.MemWrite mem u index value) is_map) (ended_as (failed_at items) m end.Done e is_end) in
+      let t = told_as (quiet e m) (good items) (op.MemWrite mem used index value) (op.MemWrite mem (map_used m (item.Mem mem) map) index value) items event is_event (ap (λ u. op.MemWrite mem u index
+      value) is_map) (ended_as (failed_at items) m end.Done e is_end) in
       sent_performs m m before now errors later told after (op.MemWrite mem map index value) place event granted
       (subst (WereSent place (ops_of m.layout place index (location_bytes m mem) value true)) (sym t.0) sent)
       (subst (λ x. event ≡ memory_event (op.MemWrite mem (map_used m (item.Mem mem) map) index value) event.trace (good x)) (sym t.0) t.1)
       (stays (failed_at event.trace) m (quiet end.Done m) refl) (λ d. refl) (λ x d. refl)
 
-  pub mem_read_performs : (mem index place : ℕ) (map used : Option ℕ) (e : End) (items : List TraceItem) (event : Event) → grant m (op.MemRead mem map index) ≡ Ok place → used ≡ map_used m (item.Mem mem) map
+  pub mem_read_performs : (mem index place : ℕ) (map used : Option ℕ) (e : End) (items : List TraceItem) (event : Event) → grant m (op.MemRead mem map index) ≡ Ok place →
+      used ≡ map_used m (item.Mem mem) map
       → WereSent place (ops_of m.layout place index (location_bytes m mem) 0 false) items → e ≡ (or_error (failed_at items) m (quiet (end.Value (location_value m mem place index items)) m)).end
       → event ≡ memory_event (op.MemRead mem used index) items (quiet e m) → Done (op.MemRead mem map index) event
   mem_read_performs mem index place map used e items event granted is_map sent is_end is_event =
       let good = λ (x : List TraceItem). or_error (failed_at x) m (quiet (end.Value (location_value m mem place index x)) m) in
-      let t = told_as (quiet e m) (good items) (op.MemRead mem used index) (op.MemRead mem (map_used m (item.Mem mem) map) index) items event is_event (ap (λ u. op.MemRead mem u index) is_map) (ended_as (failed_at items) m (end.Value (location_value m mem place index items)) e is_end) in
+      let t = told_as (quiet e m) (good items) (op.MemRead mem used index) (op.MemRead mem (map_used m (item.Mem mem) map) index) items event is_event (ap (λ u. op.MemRead mem u index) is_map)
+      (ended_as (failed_at items) m (end.Value (location_value m mem place index items)) e is_end) in
       sent_performs m m before now errors later told after (op.MemRead mem map index) place event granted
       (subst (WereSent place (ops_of m.layout place index (location_bytes m mem) 0 false)) (sym t.0) sent)
       (subst (λ x. event ≡ memory_event (op.MemRead mem (map_used m (item.Mem mem) map) index) event.trace (good x)) (sym t.0) t.1)
       (stays (failed_at event.trace) m (quiet (end.Value (location_value m mem place index event.trace)) m) refl) (λ d. refl) (λ x d. refl)
 
-  pub mem_check_performs : (mem index value place : ℕ) (map used : Option ℕ) (e : End) (differ : ℕ) (items : List TraceItem) (event : Event) → grant m (op.MemCheck mem map index value) ≡ Ok place → used ≡ map_used m (item.Mem mem) map
-      → WereSent place (ops_of m.layout place index (location_bytes m mem) 0 false) items → e ≡ (or_error (failed_at items) m (quiet (end.Value (location_value m mem place index items)) m)).end → differ ≡ value_differs e value
+  pub mem_check_performs : (mem index value place : ℕ) (map used : Option ℕ) (e : End) (differ : ℕ) (items : List TraceItem) (event : Event) → grant m (op.MemCheck mem map index value) ≡ Ok place →
+      used ≡ map_used m (item.Mem mem) map
+      → WereSent place (ops_of m.layout place index (location_bytes m mem) 0 false) items → e ≡ (or_error (failed_at items) m (quiet (end.Value (location_value m mem place index items)) m)).end →
+      differ ≡ value_differs e value
       → event ≡ memory_event (op.MemCheck mem used index value) items (record { end = e; model = m; differ = differ }) → Done (op.MemCheck mem map index value) event
   mem_check_performs mem index value place map used e differ items event granted is_map sent is_end is_mark is_event =
-      let good = λ (x : List TraceItem). or_error (failed_at x) m (record { end = end.Value (location_value m mem place index x); model = m; differ = if location_value m mem place index x == value then 0 else 1 }) in
-      let t = told_as (record { end = e; model = m; differ = differ }) (good items) (op.MemCheck mem used index value) (op.MemCheck mem (map_used m (item.Mem mem) map) index value) items event is_event (ap (λ u. op.MemCheck mem u index value) is_map) (ap (λ x. record { end = e; model = m; differ = x }) is_mark ∙ checked_as (failed_at items) m (location_value m mem place index items) value e is_end) in
+      let good = λ (x : List TraceItem). or_error (failed_at x) m (record {
+        end = end.Value (location_value m mem place index x);
+        model = m;
+        differ = if location_value m mem place index x == value
+            then 0 else 1;
+      }) in
+      let t = told_as (record { end = e; model = m; differ = differ }) (good items) (op.MemCheck mem used index value) (op.MemCheck mem (map_used m (item.Mem mem) map) index value) items event
+      is_event (ap (λ u. op.MemCheck mem u index value) is_map) (ap (λ x. record { end = e; model = m; differ = x }) is_mark ∙ checked_as (failed_at items) m (location_value m mem place index
+      items) value e is_end) in
       sent_performs m m before now errors later told after (op.MemCheck mem map index value) place event granted
       (subst (WereSent place (ops_of m.layout place index (location_bytes m mem) 0 false)) (sym t.0) sent)
       (subst (λ x. event ≡ memory_event (op.MemCheck mem (map_used m (item.Mem mem) map) index value) event.trace (good x)) (sym t.0) t.1)
-      (stays (failed_at event.trace) m (record { end = end.Value (location_value m mem place index event.trace); model = m; differ = if location_value m mem place index event.trace == value then 0 else 1 }) refl) (λ d. refl) (λ x d. refl)
+      (stays (failed_at event.trace) m (record {
+        end = end.Value (location_value m mem place index event.trace);
+        model = m;
+        differ = if location_value m mem place index event.trace == value then 0
+            else 1;
+      }) refl) (λ d. refl) (λ x d. refl)
 
 -- ---- the backdoor of a memory
 
-pub mem_poke_performs : (m : ModelData) (errors later : ℕ) (told after : Option State) (mem index value place : ℕ) (items : List TraceItem) (event : Event) → grant m (op.MemPoke mem index value) ≡ Ok place
+pub mem_poke_performs : (m : ModelData) (errors later : ℕ) (told after : Option State) (mem index value place : ℕ) (items : List TraceItem) (event : Event) → grant m (op.MemPoke mem index value) ≡ Ok
+    place
     → after ≡ option_map (λ d. poked d (cell.Loc mem index) value) told → items ≡ [] → event ≡ memory_event (op.MemPoke mem index value) items (quiet end.Done m) → errors ≤ later
     → (adapters : List Standing) → Performs (scene m adapters errors told) (scene m adapters later after) (op.MemPoke mem index value) event
 mem_poke_performs m errors later told after mem index value place items event granted goes empty is_event causes =

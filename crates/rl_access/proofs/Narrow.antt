@@ -50,7 +50,8 @@ field_chosen bytes f inside =
     let order : first_byte f ≤ last_byte f = omega arith in
     let last : last_byte f < bytes = omega arith in
     record {
-      some = positive (from_bits 8 (touches f)) (first_byte f) (bit-from_bits 8 (touches f) (first_byte f) first ∙ and_true (nat_le (first_byte f) (first_byte f)) (nat_le (first_byte f) (last_byte f)) (le-leb (first_byte f) (first_byte f) (omega arith)) (le-leb (first_byte f) (last_byte f) order));
+      some = positive (from_bits 8 (touches f)) (first_byte f) (bit-from_bits 8 (touches f) (first_byte f) first ∙ and_true (nat_le (first_byte f) (first_byte f)) (nat_le (first_byte f)
+          (last_byte f)) (le-leb (first_byte f) (first_byte f) (omega arith)) (le-leb (first_byte f) (last_byte f) order));
       within = below_by_bits 8 bytes (from_bits 8 (touches f)) (from_bits-lt 8 (touches f)) most
           (λ i above low. bit-from_bits 8 (touches f) i low ∙ and_false (nat_le (first_byte f) i) (nat_le i (last_byte f)) (lt-leb i (last_byte f) (omega arith)));
     }
@@ -62,13 +63,15 @@ up_to first last i order =
     (λ above. le-ltb i (first + (last - first + 1)) above ∙ sym (lt-leb i last (omega arith)))
 
 -- the bits from a field's first byte to its last one
-pub field_window : (f : Field) (w : ℕ) → 1 ≤ f.width → f.lsb + f.width ≤ 64 → w < 2 ^ 64 → ((i : ℕ) → i < 64 → bit w i ≡ is_within (first_byte f) (last_byte f - first_byte f + 1) i) → (w < 2 ^ 8) × (w ≡ bytes_of_field f)
+pub field_window : (f : Field) (w : ℕ) → 1 ≤ f.width → f.lsb + f.width ≤ 64 → w < 2 ^ 64 → ((i : ℕ) → i < 64 → bit w i ≡ is_within (first_byte f) (last_byte f - first_byte f + 1) i) →
+    (w < 2 ^ 8) × (w ≡ bytes_of_field f)
 unfolding bytes_of_field
 field_window f w some most small bits =
     let order : first_byte f ≤ last_byte f = omega arith in
     let last : last_byte f < 8 = omega arith in
     let each : (i : ℕ) → i < 64 → bit w i ≡ touches f i = λ i low. bits i low ∙ ap (λ b. nat_le (first_byte f) i && b) (up_to (first_byte f) (last_byte f) i order) in
-    let eight : w < 2 ^ 8 = below_by_bits 64 8 w small (omega arith) (λ i above low. each i low ∙ and_false (nat_le (first_byte f) i) (nat_le i (last_byte f)) (lt-leb i (last_byte f) (omega arith))) in
+    let eight : w < 2 ^ 8 = below_by_bits 64 8 w small (omega arith) (λ i above low. each i low ∙ and_false (nat_le (first_byte f) i) (nat_le i (last_byte f)) (lt-leb i (last_byte f) (omega arith)))
+    in
     (eight, is_from_bits 8 w (touches f) eight (λ i low. each i (omega arith)))
 
 -- a field's part of a word is below its digits' limit

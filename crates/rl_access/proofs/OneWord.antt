@@ -42,23 +42,29 @@ one_sent {first} {new} {which} {port} {errors} {later} {op} {item} {state} {afte
     } in
     by item.answer.failed refl next
   where
-    by : (b : Bool) → item.answer.failed ≡ b → IsNext first first new which port (op ∷ []) 0 item errors later state after → IsSentInOrder first new which port (op ∷ []) (item ∷ []) errors later state after
+    by : (b : Bool) → item.answer.failed ≡ b → IsNext first first new which port (op ∷ []) 0 item errors later state after → IsSentInOrder first new which port (op ∷ []) (item ∷ []) errors later
+        state after
     by true e n = under_way_failed (under_way_first first which port (op ∷ []) errors state) n e
     by false e n = under_way_done (under_way_next (under_way_first first which port (op ∷ []) errors state) n e) (omega arith)
 
 -- the adapter of the place's port carries it
-pub op_fits_there : (m : ModelData) (standings : List Standing) (which place : ℕ) (op : BusOp) → IsSound m.layout → (place_at m.layout place).port < length m.layout.ports → kinds_of standings ≡ m.layout.kinds
+pub op_fits_there : (m : ModelData) (standings : List Standing) (which place : ℕ) (op : BusOp) → IsSound m.layout → (place_at m.layout place).port < length m.layout.ports →
+    kinds_of standings ≡ m.layout.kinds
     → which ≡ (port_at m.layout (place_at m.layout place).port).adapter → Fits (kind_of m.layout place) op → Fits (kind_at (kinds_of standings) which) op
 op_fits_there m standings which place op sound inside same is fits =
     All-head (Fits (kind_at (kinds_of standings) which)) op [] (fits_there m standings which place (op ∷ []) sound inside same is (alone (Fits (kind_of m.layout place)) op fits))
 
-pub item_fits_there : (l : LayoutData) (port place : ℕ) (s : Standing) (op : BusOp) (item : TraceItem) → AreItemsOf s port (op ∷ []) (item ∷ []) → port < length l.ports → op.bytes ≡ (port_at l port).bytes → Fits (kind_of l place) op → IsAnswerSmall item → ItemFits l item
+pub item_fits_there : (l : LayoutData) (port place : ℕ) (s : Standing) (op : BusOp) (item : TraceItem) → AreItemsOf s port (op ∷ []) (item ∷ []) → port < length l.ports →
+    op.bytes ≡ (port_at l port).bytes → Fits (kind_of l place) op → IsAnswerSmall item → ItemFits l item
 item_fits_there l port place s op item items inside bytes fits small =
-    All-head (ItemFits l) item [] (items_fit l port (kind_of l place) s (op ∷ []) (item ∷ []) items inside (alone (λ o. o.bytes ≡ (port_at l port).bytes) op bytes) (alone (Fits (kind_of l place)) op fits) (alone IsAnswerSmall item small))
+    All-head (ItemFits l) item [] (items_fit l port (kind_of l place) s (op ∷ []) (item ∷ []) items inside (alone (λ o. o.bytes ≡ (port_at l port).bytes) op bytes) (alone (Fits (kind_of l place)) op
+    fits) (alone IsAnswerSmall item small))
 
 pub at_number : {A : Type 0} (P : A → Type 0) (xs : List A) (k : ℕ) (x : A) → All P xs → slice_get xs k ≡ Some x → P x
 at_number P xs k x all e = subst P (get_or_from_slice_get xs k x x e) (all k x (slice_get_within xs k x e))
 
-pub item_fits_sent : {first new : List Standing} {which port errors later : ℕ} {op : BusOp} {item : TraceItem} {state after : Option State} (l : LayoutData) (place : ℕ) → IsSentInOrder first new which port (op ∷ []) (item ∷ []) errors later state after →
+pub item_fits_sent : {first new : List Standing} {which port errors later : ℕ} {op : BusOp} {item : TraceItem} {state after : Option State} (l : LayoutData) (place : ℕ) →
+    IsSentInOrder first new which port (op ∷ []) (item ∷ []) errors later state after →
     port < length l.ports → op.bytes ≡ (port_at l port).bytes → Fits (kind_of l place) op → IsAnswerSmall item → ItemFits l item
-item_fits_sent {first} {new} {which} {port} {errors} {later} {op} {item} {state} {after} l place sent inside bytes fits small = item_fits_there l port place (standing_at first which) op item sent.sent.items_are inside bytes fits small
+item_fits_sent {first} {new} {which} {port} {errors} {later} {op} {item} {state} {after} l place sent inside bytes fits small = item_fits_there l port place (standing_at first which) op item
+    sent.sent.items_are inside bytes fits small

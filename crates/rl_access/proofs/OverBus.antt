@@ -19,57 +19,52 @@ use Rattle.rl_access.specs.Call.{scene, Performs}
 use Rattle.rl_access.specs.Items.{AreSent, failed_at, port_for, adapter_for}
 use Rattle.rl_access.specs.Model.{ModelData}
 use Rattle.rl_access.specs.Operation.{reg_of}
-use Rattle.rl_access.specs.Rules.{Grant, placed, with_right, with_watch, way, watched_way, map_of_place, map_used, grant, named, forgetting, forgetting_field, whole, field_written, field_read, field_alone, is_alone, access_ops, Outcome, or_error, write_outcome, read_outcome, value_of, end_in_field, in_field, register_event, quiet}
+use Rattle.rl_access.specs.Rules.{Grant, placed, with_right, with_watch, way, watched_way, map_of_place, map_used, grant, named, forgetting, forgetting_field, whole, field_written, field_read}
+use Rattle.rl_access.specs.Rules.{field_alone, is_alone, access_ops, Outcome, or_error, write_outcome, read_outcome, value_of, end_in_field, in_field, register_event, quiet}
 use Rattle.rl_access.proofs.Performed.{IsOverBus, IsWriteOf, IsReadOf, IsQuiet, sent_over_bus}
 
 -- ---- the way, and the map that is named
 
-pub way_is : (m : ModelData) (i : Item) (map place : Option ℕ) (write : Bool) (found : Grant) → place ≡ place_of m.layout i map → found ≡ with_right m.layout write (placed place) → found ≡ way m i map write
+pub way_is : (m : ModelData) (i : Item) (map place : Option ℕ) (write : Bool) (found : Grant) → place ≡ place_of m.layout i map → found ≡ with_right m.layout write (placed place) →
+    found ≡ way m i map write
 way_is m i map place write found there is = is ∙ ap (λ p. with_right m.layout write (placed p)) there
 
-pub watched_way_is : (m : ModelData) (reg : ℕ) (map place : Option ℕ) (write : Bool) (found : Grant) → place ≡ place_of m.layout (item.Reg reg) map → found ≡ with_right m.layout write (with_watch m.layout (placed place)) → found ≡ watched_way m reg map write
+pub watched_way_is : (m : ModelData) (reg : ℕ) (map place : Option ℕ) (write : Bool) (found : Grant) → place ≡ place_of m.layout (item.Reg reg) map →
+    found ≡ with_right m.layout write (with_watch m.layout (placed place)) → found ≡ watched_way m reg map write
 watched_way_is m reg map place write found there is = is ∙ ap (λ p. with_right m.layout write (with_watch m.layout (placed p))) there
 
 pub map_is : (m : ModelData) (i : Item) (map place used : Option ℕ) → place ≡ place_of m.layout i map → used ≡ map_of_place m.layout place map → used ≡ map_used m i map
 map_is m i map place used there is = is ∙ ap (λ p. map_of_place m.layout p map) there
 
 -- the place of a field's register
-pub field_place_is : (m : ModelData) (field : ℕ) (shape : Field) (map place : Option ℕ) → shape ≡ (field_of m.chip field).shape → place ≡ place_of m.layout (item.Reg shape.reg) map → place ≡ place_of m.layout (item.Reg (reg_of m.chip field)) map
+pub field_place_is : (m : ModelData) (field : ℕ) (shape : Field) (map place : Option ℕ) → shape ≡ (field_of m.chip field).shape → place ≡ place_of m.layout (item.Reg shape.reg) map →
+    place ≡ place_of m.layout (item.Reg (reg_of m.chip field)) map
 field_place_is m field shape map place same there = there ∙ ap (λ (f : Field). place_of m.layout (item.Reg f.reg) map) same
 
 -- ---- writes
 
-is_write_by : (m : ModelData) (op : Op) (place : ℕ) (first entry : ModelData) (it a : Access) (good : End) → IsWriteOf m op place first it good → entry ≡ first → a ≡ it → IsWriteOf m op place entry a good
+is_write_by : (m : ModelData) (op : Op) (place : ℕ) (first entry : ModelData) (it a : Access) (good : End) → IsWriteOf m op place first it good → entry ≡ first → a ≡ it →
+    IsWriteOf m op place entry a good
 is_write_by m op place first entry it a good is from same =
     subst (λ (x : Access). IsWriteOf m op place entry x good) (sym same) (subst (λ (e : ModelData). IsWriteOf m op place e it good) (sym from) is)
 
-whole_write : (m : ModelData) (reg : ℕ) (map : Option ℕ) (value place : ℕ) → IsWriteOf m (op.Write reg map value) place (forgetting m place) (whole m reg place value) end.Done
+pub whole_write : (m : ModelData) (reg : ℕ) (map : Option ℕ) (value place : ℕ) → IsWriteOf m (op.Write reg map value) place (forgetting m place) (whole m reg place value) end.Done
 whole_write m reg map value place = record {
   over_bus = record { sends_are = refl; outcome_is = λ items. refl; register = refl; sampled = λ d. refl; device = λ items d. refl };
   layout_is = refl;
   place_is = refl;
 }
 
-pub is_write : (m : ModelData) (reg : ℕ) (map : Option ℕ) (value place : ℕ) (entry : ModelData) (a : Access) → entry ≡ forgetting m place → a ≡ whole m reg place value → IsWriteOf m (op.Write reg map value) place entry a end.Done
-is_write m reg map value place entry a from same = is_write_by m (op.Write reg map value) place (forgetting m place) entry (whole m reg place value) a end.Done (whole_write m reg map value place) from same
-
-other_whole_write : (m : ModelData) (reg : ℕ) (map : Option ℕ) (value place : ℕ) → IsWriteOf m (op.OtherWrite reg map value) place (forgetting m place) (whole m reg place value) end.Done
+pub other_whole_write : (m : ModelData) (reg : ℕ) (map : Option ℕ) (value place : ℕ) → IsWriteOf m (op.OtherWrite reg map value) place (forgetting m place) (whole m reg place value) end.Done
 other_whole_write m reg map value place = record {
   over_bus = record { sends_are = refl; outcome_is = λ items. refl; register = refl; sampled = λ d. refl; device = λ items d. refl };
   layout_is = refl;
   place_is = refl;
 }
 
-pub is_other_write : (m : ModelData) (reg : ℕ) (map : Option ℕ) (value place : ℕ) (entry : ModelData) (a : Access) → entry ≡ forgetting m place → a ≡ whole m reg place value → IsWriteOf m (op.OtherWrite reg map value) place entry a end.Done
-is_other_write m reg map value place entry a from same = is_write_by m (op.OtherWrite reg map value) place (forgetting m place) entry (whole m reg place value) a end.Done (other_whole_write m reg map value place) from same
-
 -- ---- reads
 
-is_read_by : (m : ModelData) (op : Op) (place : ℕ) (first entry : ModelData) (it a : Access) (check : Bool) → IsReadOf m op place first it check → entry ≡ first → a ≡ it → IsReadOf m op place entry a check
-is_read_by m op place first entry it a check is from same =
-    subst (λ (x : Access). IsReadOf m op place entry x check) (sym same) (subst (λ (e : ModelData). IsReadOf m op place e it check) (sym from) is)
-
-whole_read : (m : ModelData) (reg : ℕ) (map : Option ℕ) (place : ℕ) → IsReadOf m (op.Read reg map) place (forgetting m place) (whole m reg place 0) false
+pub whole_read : (m : ModelData) (reg : ℕ) (map : Option ℕ) (place : ℕ) → IsReadOf m (op.Read reg map) place (forgetting m place) (whole m reg place 0) false
 whole_read m reg map place = record {
   over_bus = record { sends_are = refl; outcome_is = λ items. refl; register = refl; sampled = λ d. refl; device = λ items d. refl };
   layout_is = refl;
@@ -90,30 +85,21 @@ whole_check m reg map place = record {
   place_is = refl;
 }
 
-other_whole_read : (m : ModelData) (reg : ℕ) (map : Option ℕ) (place : ℕ) → IsReadOf m (op.OtherRead reg map) place (forgetting m place) (whole m reg place 0) false
+pub other_whole_read : (m : ModelData) (reg : ℕ) (map : Option ℕ) (place : ℕ) → IsReadOf m (op.OtherRead reg map) place (forgetting m place) (whole m reg place 0) false
 other_whole_read m reg map place = record {
   over_bus = record { sends_are = refl; outcome_is = λ items. refl; register = refl; sampled = λ d. refl; device = λ items d. refl };
   layout_is = refl;
   place_is = refl;
 }
 
-pub is_read : (m : ModelData) (reg : ℕ) (map : Option ℕ) (place : ℕ) (entry : ModelData) (a : Access) → entry ≡ forgetting m place → a ≡ whole m reg place 0 → IsReadOf m (op.Read reg map) place entry a false
-is_read m reg map place entry a from same = is_read_by m (op.Read reg map) place (forgetting m place) entry (whole m reg place 0) a false (whole_read m reg map place) from same
-
-is_mirror : (m : ModelData) (reg : ℕ) (map : Option ℕ) (place : ℕ) (entry : ModelData) (a : Access) → entry ≡ forgetting m place → a ≡ whole m reg place 0 → IsReadOf m (op.Mirror reg map) place entry a false
-is_mirror m reg map place entry a from same = is_read_by m (op.Mirror reg map) place (forgetting m place) entry (whole m reg place 0) a false (whole_mirror m reg map place) from same
-
-is_check : (m : ModelData) (reg : ℕ) (map : Option ℕ) (place : ℕ) (entry : ModelData) (a : Access) → entry ≡ forgetting m place → a ≡ whole m reg place 0 → IsReadOf m (op.Check reg map) place entry a true
-is_check m reg map place entry a from same = is_read_by m (op.Check reg map) place (forgetting m place) entry (whole m reg place 0) a true (whole_check m reg map place) from same
-
 -- a read to learn the value, or a check
 abbrev pub mirroring : Bool → (reg : ℕ) → Option ℕ → Op
 mirroring check reg map = if check then op.Check reg map else op.Mirror reg map
 
-pub is_mirroring : (m : ModelData) (reg : ℕ) (map : Option ℕ) (place : ℕ) (entry : ModelData) (a : Access) (check : Bool)
-    → entry ≡ forgetting m place → a ≡ whole m reg place 0 → IsReadOf m (mirroring check reg map) place entry a check
-is_mirroring m reg map place entry a true from same = is_check m reg map place entry a from same
-is_mirroring m reg map place entry a false from same = is_mirror m reg map place entry a from same
+pub whole_mirroring : (m : ModelData) (reg : ℕ) (map : Option ℕ) (place : ℕ) (check : Bool)
+    → IsReadOf m (mirroring check reg map) place (forgetting m place) (whole m reg place 0) check
+whole_mirroring m reg map place true = whole_check m reg map place
+whole_mirroring m reg map place false = whole_mirror m reg map place
 
 pub mirroring_granted : (m : ModelData) (reg : ℕ) (map : Option ℕ) (check : Bool)
     → grant m (mirroring check reg map) ≡ way m (item.Reg reg) map false
@@ -125,12 +111,10 @@ pub mirroring_named : (m : ModelData) (reg : ℕ) (map used : Option ℕ) (check
 mirroring_named m reg map used true e = ap (op.Check reg) e
 mirroring_named m reg map used false e = ap (op.Mirror reg) e
 
-pub is_other_read : (m : ModelData) (reg : ℕ) (map : Option ℕ) (place : ℕ) (entry : ModelData) (a : Access) → entry ≡ forgetting m place → a ≡ whole m reg place 0 → IsReadOf m (op.OtherRead reg map) place entry a false
-is_other_read m reg map place entry a from same = is_read_by m (op.OtherRead reg map) place (forgetting m place) entry (whole m reg place 0) a false (other_whole_read m reg map place) from same
-
 -- ---- an update
 
-update_write : (m : ModelData) (reg : ℕ) (map : Option ℕ) (place : ℕ) → needs_update m.mirror reg ≡ true → IsWriteOf m (op.Update reg map) place (forgetting m place) (whole m reg place (update_word_of m.chip reg m.mirror)) (end.Sent (update_word_of m.chip reg m.mirror))
+update_write : (m : ModelData) (reg : ℕ) (map : Option ℕ) (place : ℕ) → needs_update m.mirror reg ≡ true → IsWriteOf m (op.Update reg map) place (forgetting m place) (whole m reg place
+    (update_word_of m.chip reg m.mirror)) (end.Sent (update_word_of m.chip reg m.mirror))
 update_write m reg map place needed =
     let word = update_word_of m.chip reg m.mirror in
     record {
@@ -145,11 +129,11 @@ update_write m reg map place needed =
       place_is = refl;
     }
 
-pub is_update : (m : ModelData) (reg : ℕ) (map : Option ℕ) (place : ℕ) (entry : ModelData) (a : Access) (word : ℕ) → needs_update m.mirror reg ≡ true → entry ≡ forgetting m place → word ≡ update_word_of m.chip reg m.mirror → a ≡ whole m reg place word →
-    IsWriteOf m (op.Update reg map) place entry a (end.Sent word)
-is_update m reg map place entry a word needed from word_is same =
-    subst (λ w. IsWriteOf m (op.Update reg map) place entry a (end.Sent w)) (sym word_is)
-    (is_write_by m (op.Update reg map) place (forgetting m place) entry (whole m reg place (update_word_of m.chip reg m.mirror)) a (end.Sent (update_word_of m.chip reg m.mirror)) (update_write m reg map place needed) from (same ∙ ap (whole m reg place) word_is))
+pub whole_update : (m : ModelData) (reg : ℕ) (map : Option ℕ) (place word : ℕ) → needs_update m.mirror reg ≡ true →
+    word ≡ update_word_of m.chip reg m.mirror → IsWriteOf m (op.Update reg map) place (forgetting m place) (whole m reg place word) (end.Sent word)
+whole_update m reg map place word needed word_is =
+    subst (λ w. IsWriteOf m (op.Update reg map) place (forgetting m place) (whole m reg place w) (end.Sent w)) (sym word_is)
+    (update_write m reg map place needed)
 
 -- nothing to send
 pub is_no_update : (m : ModelData) (reg : ℕ) (map : Option ℕ) (place : ℕ) → needs_update m.mirror reg ≡ false → IsQuiet m (op.Update reg map) place reg end.Nothing m
@@ -179,15 +163,18 @@ is_show m reg = record { sends_are = refl; outcome_is = refl; register = refl; s
 
 -- ---- one field
 
-written_reg : (m : ModelData) (field place value word : ℕ) (alone : Bool) → let a : Access = if alone then field_alone m field place value else whole m (reg_of m.chip field) place word in a.reg ≡ reg_of m.chip field
+written_reg : (m : ModelData) (field place value word : ℕ) (alone : Bool) → let a : Access = if alone then field_alone m field place value else whole m (reg_of m.chip field) place word in a.reg ≡
+    reg_of m.chip field
 written_reg m field place value word true = refl
 written_reg m field place value word false = refl
 
-written_place : (m : ModelData) (field place value word : ℕ) (alone : Bool) → let a : Access = if alone then field_alone m field place value else whole m (reg_of m.chip field) place word in a.place ≡ place
+written_place : (m : ModelData) (field place value word : ℕ) (alone : Bool) → let a : Access = if alone then field_alone m field place value else whole m (reg_of m.chip field) place word in a.place ≡
+    place
 written_place m field place value word true = refl
 written_place m field place value word false = refl
 
-field_write_done : (m : ModelData) (field : ℕ) (map : Option ℕ) (value place : ℕ) → IsWriteOf m (op.FieldWrite field map value) place (forgetting_field m field place true) (field_written m field place value) end.Done
+field_write_done : (m : ModelData) (field : ℕ) (map : Option ℕ) (value place : ℕ) → IsWriteOf m (op.FieldWrite field map value) place (forgetting_field m field place true) (field_written m field
+    place value) end.Done
 field_write_done m field map value place =
     let word = neutral_around m.chip field value m.mirror in
     record {
@@ -202,7 +189,8 @@ field_write_done m field map value place =
       place_is = written_place m field place value word (is_alone m field place true);
     }
 
-pub is_field_write : (m : ModelData) (field : ℕ) (map : Option ℕ) (value place : ℕ) (entry : ModelData) (a : Access) → entry ≡ forgetting_field m field place true → a ≡ field_written m field place value →
+pub is_field_write : (m : ModelData) (field : ℕ) (map : Option ℕ) (value place : ℕ) (entry : ModelData) (a : Access) → entry ≡ forgetting_field m field place true →
+    a ≡ field_written m field place value →
     IsWriteOf m (op.FieldWrite field map value) place entry a end.Done
 is_field_write m field map value place entry a from same =
     is_write_by m (op.FieldWrite field map value) place (forgetting_field m field place true) entry (field_written m field place value) a end.Done (field_write_done m field map value place) from same
@@ -211,7 +199,8 @@ error_differs : (failed : Option ℕ) (m : ModelData) (good : Outcome) → good.
 error_differs None m good none = none
 error_differs (Some k) m good none = refl
 
-field_read_outcome : (m new : ModelData) (field : ℕ) (a : Access) (items : List TraceItem) (e : End) → e ≡ end_in_field (field_of m.chip field).shape (read_outcome m false a items).end → new ≡ (read_outcome m false a items).model →
+field_read_outcome : (m new : ModelData) (field : ℕ) (a : Access) (items : List TraceItem) (e : End) → e ≡ end_in_field (field_of m.chip field).shape (read_outcome m false a items).end →
+    new ≡ (read_outcome m false a items).model →
     ◌≡◌ {A = Outcome} (record { end = e; model = new; differ = 0 }) (in_field m.chip field (read_outcome m false a items))
 field_read_outcome m new field a items e end_is model =
     let good : Outcome = record {
@@ -221,39 +210,51 @@ field_read_outcome m new field a items e end_is model =
     } in
     ap (λ x. let o : Outcome = record { end = x; model = new; differ = 0 } in o) end_is
     ∙ ap (λ x. let o : Outcome = record { end = end_in_field (field_of m.chip field).shape (read_outcome m false a items).end; model = x; differ = 0 } in o) model
-    ∙ ap (λ x. let o : Outcome = record { end = end_in_field (field_of m.chip field).shape (read_outcome m false a items).end; model = (read_outcome m false a items).model; differ = x } in o) (sym (error_differs (failed_at items) m good refl))
+    ∙ ap (λ x. let o : Outcome = record { end = end_in_field (field_of m.chip field).shape (read_outcome m false a items).end; model = (read_outcome m false a items).model; differ = x } in o)
+    (sym (error_differs (failed_at items) m good refl))
 
 field_read_over_bus : (m : ModelData) (field : ℕ) (map : Option ℕ) (place : ℕ) →
-    IsOverBus m (op.FieldRead field map) place (reg_of m.chip field) (access_ops (forgetting_field m field place false) (field_read m field place) false) (λ items. in_field m.chip field (read_outcome (forgetting_field m field place false) false (field_read m field place) items))
+    IsOverBus m (op.FieldRead field map) place (reg_of m.chip field) (access_ops (forgetting_field m field place false) (field_read m field place) false) (λ items. in_field m.chip field (read_outcome
+    (forgetting_field m field place false) false (field_read m field place) items))
 field_read_over_bus m field map place = record { sends_are = refl; outcome_is = λ items. refl; register = refl; sampled = λ d. refl; device = λ items d. refl }
 
-first_read : (m new : ModelData) (field : ℕ) (map : Option ℕ) (told : Op) (place : ℕ) (items : List TraceItem) (e : End) (event : Event) (before now : List Standing) (errors later : ℕ) (state after : Option State) →
+first_read : (m new : ModelData) (field : ℕ) (map : Option ℕ) (told : Op) (place : ℕ) (items : List TraceItem) (e : End) (event : Event) (before now : List Standing) (errors later : ℕ)
+    (state after : Option State) →
     grant m (op.FieldRead field map) ≡ Ok place → told ≡ named m (op.FieldRead field map) →
-    AreSent (adapter_for m.layout (field_read m field place).place) (port_for m.layout (field_read m field place).place) (access_ops m (field_read m field place) false) items before now errors later state after →
-    e ≡ end_in_field (field_of m.chip field).shape (read_outcome (forgetting_field m field place false) false (field_read m field place) items).end → new ≡ (read_outcome (forgetting_field m field place false) false (field_read m field place) items).model →
+    AreSent (adapter_for m.layout (field_read m field place).place) (port_for m.layout (field_read m field place).place) (access_ops m (field_read m field place) false) items before now errors later
+    state after →
+    e ≡ end_in_field (field_of m.chip field).shape (read_outcome (forgetting_field m field place false) false (field_read m field place) items).end →
+    new ≡ (read_outcome (forgetting_field m field place false) false (field_read m field place) items).model →
     event ≡ register_event told (reg_of m.chip field) items (record { end = e; model = new; differ = 0 }) →
     Performs (scene m before errors state) (scene new now later after) (op.FieldRead field map) event
 first_read m new field map told place items e event before now errors later state after granted names sent end_is model event_is =
     let entry = forgetting_field m field place false in
     let a = field_read m field place in
     let out = in_field m.chip field (read_outcome entry false a items) in
-    let all : event ≡ register_event told (reg_of m.chip field) items out = event_is ∙ ap (register_event told (reg_of m.chip field) items) (field_read_outcome entry new field a items e end_is model) in
+    let all : event ≡ register_event told (reg_of m.chip field) items out = event_is ∙ ap (register_event told (reg_of m.chip field) items) (field_read_outcome entry new field a items e end_is model)
+    in
     subst (λ ev. Performs (scene m before errors state) (scene new now later after) (op.FieldRead field map) ev) (sym all)
-    (sent_over_bus m new (op.FieldRead field map) told place (reg_of m.chip field) (access_ops entry a false) (λ all. in_field m.chip field (read_outcome entry false a all)) (register_event told (reg_of m.chip field) items out) before now errors later state after granted names
+    (sent_over_bus m new (op.FieldRead field map) told place (reg_of m.chip field) (access_ops entry a false) (λ all. in_field m.chip field (read_outcome entry false a all)) (register_event told
+    (reg_of m.chip field) items out) before now errors later state after granted names
     (field_read_over_bus m field map place)
-    (subst (λ p. AreSent (adapter_for m.layout p) (port_for m.layout p) (access_ops entry a false) items before now errors later state after) (written_place m field place 0 0 (is_alone m field place false)) sent)
+    (subst (λ p. AreSent (adapter_for m.layout p) (port_for m.layout p) (access_ops entry a false) items before now errors later state after) (written_place m field place 0 0 (is_alone m field place
+    false)) sent)
     refl model)
 
 -- what a read of a field's access did, as its parts promise it
-record IsFieldRead (m new : ModelData) (told : Op) (field : ℕ) (a : Access) (items : List TraceItem) (e : End) (event : Event) (before now : List Standing) (errors later : ℕ) (state after : Option State) : Type 0 where
+record IsFieldRead (m new : ModelData) (told : Op) (field : ℕ) (a : Access) (items : List TraceItem) (e : End) (event : Event) (before now : List Standing) (errors later : ℕ) (state after : Option
+    State) : Type 0 where
   sent : AreSent (adapter_for m.layout a.place) (port_for m.layout a.place) (access_ops m a false) items before now errors later state after
   end_is : e ≡ end_in_field (field_of m.chip field).shape (read_outcome m false a items).end
   model : new ≡ (read_outcome m false a items).model
 
-pub field_read_performs : {before now : List Standing} {errors later : ℕ} {state after : Option State} (m entry new : ModelData) (field : ℕ) (shape : Field) (map : Option ℕ) (told : Op) (place : ℕ) (a : Access) (items : List TraceItem) (read e : End) (event : Event) →
-    grant m (op.FieldRead field map) ≡ Ok place → told ≡ named m (op.FieldRead field map) → shape ≡ (field_of m.chip field).shape → entry ≡ forgetting_field m field place false → a ≡ field_read m field place →
+pub field_read_performs : {before now : List Standing} {errors later : ℕ} {state after : Option State} (m entry new : ModelData) (field : ℕ) (shape : Field) (map : Option ℕ) (told : Op) (place : ℕ)
+    (a : Access) (items : List TraceItem) (read e : End) (event : Event) →
+    grant m (op.FieldRead field map) ≡ Ok place → told ≡ named m (op.FieldRead field map) → shape ≡ (field_of m.chip field).shape → entry ≡ forgetting_field m field place false →
+    a ≡ field_read m field place →
     AreSent (adapter_for entry.layout a.place) (port_for entry.layout a.place) (access_ops entry a false) items before now errors later state after →
-    read ≡ (read_outcome entry false a items).end → new ≡ (read_outcome entry false a items).model → e ≡ end_in_field shape read → event ≡ register_event told shape.reg items (record { end = e; model = new; differ = 0 }) →
+    read ≡ (read_outcome entry false a items).end → new ≡ (read_outcome entry false a items).model → e ≡ end_in_field shape read → event ≡ register_event told shape.reg items
+    (record { end = e; model = new; differ = 0 }) →
     Performs (scene m before errors state) (scene new now later after) (op.FieldRead field map) event
 field_read_performs {before} {now} {errors} {later} {state} {after} m entry new field shape map told place a items read e event granted names shape_is from same sent read_is model end_is event_is =
     let first = forgetting_field m field place false in

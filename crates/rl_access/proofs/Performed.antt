@@ -1,5 +1,5 @@
 -- From what a call's parts promise to what the call performs.
-use Rattle.std.proofs.Common.{◌≡◌, ℕ, List, [], Bool, true, false, Option, None, Some, option_map, Ok, MatchResult, refl, sym, ap, ◌∙◌, subst, arith}
+use Rattle.std.proofs.Common.{◌≡◌, ℕ, List, [], Bool, true, false, Option, None, Some, option_map, Ok, Err, MatchResult, refl, sym, ap, ◌∙◌, subst, arith}
 use Rattle.std.proofs.lemmas.List.{set-get_or}
 use Rattle.rl_bus.specs.Standing.{Standing, nobody, standing_at}
 use Rattle.rl_bus.specs.State.{State}
@@ -8,18 +8,26 @@ use Rattle.rl_access.specs.declared.access.Access.{Access}
 use Rattle.rl_access.specs.declared.event.End.{End}
 use Rattle.rl_access.specs.declared.event.Event.{Event}
 use Rattle.rl_access.specs.declared.event.Op.{Op}
+use Rattle.rl_access.specs.declared.event.Refused.{Refused}
 use Rattle.rl_access.specs.declared.trace.TraceItem.{TraceItem}
-use Rattle.rl_access.specs.Call.{Scene, scene, IsRefused, IsDone, Performs}
+use Rattle.rl_access.specs.Call.{Scene, scene, IsRefused, IsDone, Performs, IsReadBy, IsWrittenBy, WereSent}
 use Rattle.rl_access.specs.Items.{AreItemsOf, AreSent, HasCauses, items_of, state_after_all, port_for, adapter_for}
 use Rattle.rl_access.specs.Model.{ModelData}
 use Rattle.rl_access.specs.Operation.{register_of}
-use Rattle.rl_access.specs.Rules.{Grant, Outcome, grant, named, sends, outcome, event_at, event_of, register_event, quiet, access_ops, write_outcome, read_outcome, found_by, device_after}
+use Rattle.rl_access.specs.Rules.{Grant, Outcome, grant, named, sends, outcome, event_at, event_of, register_event, quiet, access_ops, write_outcome, read_outcome, refused_event, found_by}
+use Rattle.rl_access.specs.Rules.{device_after}
 
 -- ---- by the grant
 
 pub performs_done : (s new : Scene) (op : Op) (place : ℕ) (event : Event) → grant s.model op ≡ Ok place → IsDone s new op place event → Performs s new op event
 performs_done s new op place event granted done =
     subst (λ (g : Grant). MatchResult g (λ p. IsDone s new op p event) (λ why. IsRefused s new op why event)) (sym granted) done
+
+pub performs_refused : (s : Scene) (op : Op) (why : Refused) (event : Event) → grant s.model op ≡ Err why →
+    event ≡ refused_event s.model (named s.model op) why → Performs s s op event
+performs_refused s op why event refused event_is =
+    subst (λ (g : Grant). MatchResult g (λ p. IsDone s s op p event) (λ r. IsRefused s s op r event)) (sym refused)
+    (record { event_is = event_is; unchanged = refl })
 
 -- ---- what an operation over the bus sends, and what becomes of it
 
@@ -34,7 +42,8 @@ goes_on : (f g : State → State) → ((d : State) → f d ≡ g d) → (state :
 goes_on f g same None = refl
 goes_on f g same (Some d) = ap Some (same d)
 
-pub sent_over_bus : (m new : ModelData) (op told : Op) (place reg : ℕ) (ops : List BusOp) (o : List TraceItem → Outcome) (event : Event) (before now : List Standing) (errors later : ℕ) (state after : Option State) →
+pub sent_over_bus : (m new : ModelData) (op told : Op) (place reg : ℕ) (ops : List BusOp) (o : List TraceItem → Outcome) (event : Event) (before now : List Standing) (errors later : ℕ)
+    (state after : Option State) →
     grant m op ≡ Ok place → told ≡ named m op → IsOverBus m op place reg ops o →
     AreSent (adapter_for m.layout place) (port_for m.layout place) ops event.trace before now errors later state after →
     event ≡ register_event told reg event.trace (o event.trace) → new ≡ (o event.trace).model →
@@ -58,22 +67,30 @@ sent_over_bus m new op told place reg ops o event before now errors later state 
 
 -- ---- a write, and a read, of an access
 
+-- what an access from a model with this layout sent went out at the place
+sent_there : (m entry new : ModelData) (a : Access) (write : Bool) (place : ℕ) (items : List TraceItem) (before now : List Standing) (errors later : ℕ)
+    (state after : Option State) → entry.layout ≡ m.layout → a.place ≡ place →
+    WereSent (scene entry before errors state) (scene new now later after) a write items →
+    AreSent (adapter_for m.layout place) (port_for m.layout place) (access_ops entry a write) items before now errors later state after
+sent_there m entry new a write place items before now errors later state after layout_is place_is sent =
+    subst (λ p. AreSent (adapter_for m.layout p) (port_for m.layout p) (access_ops entry a write) items before now errors later state after) place_is
+    (subst (λ l. AreSent (adapter_for l a.place) (port_for l a.place) (access_ops entry a write) items before now errors later state after) layout_is sent)
+
 -- the operation is this write, begun from this model
 pub record IsWriteOf (m : ModelData) (op : Op) (place : ℕ) (entry : ModelData) (a : Access) (good : End) : Type 0 where
   pub over_bus : IsOverBus m op place a.reg (access_ops entry a true) (λ items. write_outcome entry good a items)
   pub layout_is : entry.layout ≡ m.layout
   pub place_is : a.place ≡ place
 
-pub write_performs : {before now : List Standing} {errors later : ℕ} {state after : Option State} (m entry new : ModelData) (op told : Op) (place : ℕ) (a : Access) (good : End) (event : Event) →
+pub write_performs : {before now : List Standing} {errors later : ℕ} {state after : Option State} (m entry new : ModelData) (op told : Op) (place : ℕ)
+    (a : Access) (good : End) (event : Event) →
     grant m op ≡ Ok place → told ≡ named m op → IsWriteOf m op place entry a good →
-    AreSent (adapter_for entry.layout a.place) (port_for entry.layout a.place) (access_ops entry a true) event.trace before now errors later state after →
-    event ≡ register_event told a.reg event.trace (write_outcome entry good a event.trace) → new ≡ (write_outcome entry good a event.trace).model →
+    IsWrittenBy (scene entry before errors state) (scene new now later after) told a good event →
     Performs (scene m before errors state) (scene new now later after) op event
-write_performs {before} {now} {errors} {later} {state} {after} m entry new op told place a good event granted names is sent event_is model =
-    sent_over_bus m new op told place a.reg (access_ops entry a true) (λ items. write_outcome entry good a items) event before now errors later state after granted names is.over_bus
-    (subst (λ p. AreSent (adapter_for m.layout p) (port_for m.layout p) (access_ops entry a true) event.trace before now errors later state after) is.place_is
-    (subst (λ l. AreSent (adapter_for l a.place) (port_for l a.place) (access_ops entry a true) event.trace before now errors later state after) is.layout_is sent))
-    event_is model
+write_performs {before} {now} {errors} {later} {state} {after} m entry new op told place a good event granted names is done =
+    sent_over_bus m new op told place a.reg (access_ops entry a true) (λ items. write_outcome entry good a items) event before now errors later
+    state after granted names is.over_bus
+    (sent_there m entry new a true place event.trace before now errors later state after is.layout_is is.place_is done.sent) done.event_is done.model
 
 -- the operation is this read, begun from this model
 pub record IsReadOf (m : ModelData) (op : Op) (place : ℕ) (entry : ModelData) (a : Access) (check : Bool) : Type 0 where
@@ -81,16 +98,33 @@ pub record IsReadOf (m : ModelData) (op : Op) (place : ℕ) (entry : ModelData) 
   pub layout_is : entry.layout ≡ m.layout
   pub place_is : a.place ≡ place
 
-pub read_performs : {before now : List Standing} {errors later : ℕ} {state after : Option State} (m entry new : ModelData) (op told : Op) (place : ℕ) (a : Access) (check : Bool) (event : Event) →
+pub read_performs : {before now : List Standing} {errors later : ℕ} {state after : Option State} (m entry new : ModelData) (op told : Op) (place : ℕ)
+    (a : Access) (check : Bool) (event : Event) →
     grant m op ≡ Ok place → told ≡ named m op → IsReadOf m op place entry a check →
-    AreSent (adapter_for entry.layout a.place) (port_for entry.layout a.place) (access_ops entry a false) event.trace before now errors later state after →
-    event ≡ register_event told a.reg event.trace (read_outcome entry check a event.trace) → new ≡ (read_outcome entry check a event.trace).model →
+    IsReadBy (scene entry before errors state) (scene new now later after) told a check event →
     Performs (scene m before errors state) (scene new now later after) op event
-read_performs {before} {now} {errors} {later} {state} {after} m entry new op told place a check event granted names is sent event_is model =
-    sent_over_bus m new op told place a.reg (access_ops entry a false) (λ items. read_outcome entry check a items) event before now errors later state after granted names is.over_bus
-    (subst (λ p. AreSent (adapter_for m.layout p) (port_for m.layout p) (access_ops entry a false) event.trace before now errors later state after) is.place_is
-    (subst (λ l. AreSent (adapter_for l a.place) (port_for l a.place) (access_ops entry a false) event.trace before now errors later state after) is.layout_is sent))
-    event_is model
+read_performs {before} {now} {errors} {later} {state} {after} m entry new op told place a check event granted names is done =
+    sent_over_bus m new op told place a.reg (access_ops entry a false) (λ items. read_outcome entry check a items) event before now errors later
+    state after granted names is.over_bus
+    (sent_there m entry new a false place event.trace before now errors later state after is.layout_is is.place_is done.sent) done.event_is done.model
+
+-- ---- the same from an equal model, by an equal access
+
+pub written_so : {before now : List Standing} {errors later : ℕ} {state after : Option State} (entry first new : ModelData) (op : Op) (a it : Access)
+    (good : End) (event : Event) → entry ≡ first → a ≡ it →
+    IsWrittenBy (scene entry before errors state) (scene new now later after) op a good event →
+    IsWrittenBy (scene first before errors state) (scene new now later after) op it good event
+written_so {before} {now} {errors} {later} {state} {after} entry first new op a it good event from same done =
+    subst (λ (x : Access). IsWrittenBy (scene first before errors state) (scene new now later after) op x good event) same
+    (subst (λ (x : ModelData). IsWrittenBy (scene x before errors state) (scene new now later after) op a good event) from done)
+
+pub read_so : {before now : List Standing} {errors later : ℕ} {state after : Option State} (entry first new : ModelData) (op : Op) (a it : Access)
+    (check : Bool) (event : Event) → entry ≡ first → a ≡ it →
+    IsReadBy (scene entry before errors state) (scene new now later after) op a check event →
+    IsReadBy (scene first before errors state) (scene new now later after) op it check event
+read_so {before} {now} {errors} {later} {state} {after} entry first new op a it check event from same done =
+    subst (λ (x : Access). IsReadBy (scene first before errors state) (scene new now later after) op x check event) same
+    (subst (λ (x : ModelData). IsReadBy (scene x before errors state) (scene new now later after) op a check event) from done)
 
 -- ---- an operation that sends nothing, and leaves the device
 
@@ -140,4 +174,5 @@ quiet_performs m new op told place reg register e items event before errors stat
     ∙ ap (λ it. register_event (named m op) reg it (quiet e new)) none
     in
     subst (λ ev. Performs (scene m before errors state) (scene new before errors state) op ev) (sym all)
-    (performs_done (scene m before errors state) (scene new before errors state) op place (register_event (named m op) reg [] (quiet e new)) granted (quiet_event m new op place reg e before errors state is))
+    (performs_done (scene m before errors state) (scene new before errors state) op place (register_event (named m op) reg [] (quiet e new)) granted (quiet_event m new op place reg e before errors
+    state is))

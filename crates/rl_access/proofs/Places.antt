@@ -44,7 +44,8 @@ first_location m place ok inside = let here = ok.layout.each_place place inside 
 pub all_chosen : (bytes : ℕ) → 1 ≤ bytes → IsChoice bytes (all_bytes bytes)
 all_chosen bytes some = let more = pow_below 0 bytes (omega arith) in record { some = omega (arith, more); within = omega (arith, more) }
 
-pub whole_valid : (m : ModelData) (reg place value bytes chosen fields : ℕ) → IsModel m → reg < length m.chip.regs → IsPlaceFor m (item.Reg reg) place → value < 256 ^ size_of m.chip reg → size_of m.chip reg ≡ bytes → 1 ≤ bytes → chosen ≡ all_bytes bytes
+pub whole_valid : (m : ModelData) (reg place value bytes chosen fields : ℕ) → IsModel m → reg < length m.chip.regs → IsPlaceFor m (item.Reg reg) place → value < 256 ^ size_of m.chip reg →
+    size_of m.chip reg ≡ bytes → 1 ≤ bytes → chosen ≡ all_bytes bytes
     → IsAccessOn m (record { reg = reg; place = place; chosen = chosen; fields = fields; value = value })
 whole_valid m reg place value bytes chosen fields ok inside there fits size some all =
     let same : (place_at m.layout place).bytes ≡ size_of m.chip reg = place_size m (item.Reg reg) place ok there in
@@ -57,8 +58,10 @@ whole_valid m reg place value bytes chosen fields ok inside there fits size some
 
 -- ---- an event that fits
 
-pub event_fits : (m : ModelData) (op : Op) (reg : ℕ) (e : End) (items : List TraceItem) (mirrored desired differ : ℕ) → IsModel m → reg < length m.chip.regs → register_of m.chip op ≡ Some reg → HasNumbers m.chip (length m.layout.maps) op
-    → has_end op e ≡ true → IsEndWithin (digits_of m.chip op) e → All (ItemFits m.layout) items → differ < 2 ^ count_of m.chip reg → mirrored ≡ mirrored_of m.mirror reg → desired ≡ desired_of m.mirror reg
+pub event_fits : (m : ModelData) (op : Op) (reg : ℕ) (e : End) (items : List TraceItem) (mirrored desired differ : ℕ) → IsModel m → reg < length m.chip.regs → register_of m.chip op ≡ Some reg →
+    HasNumbers m.chip (length m.layout.maps) op
+    → has_end op e ≡ true → IsEndWithin (digits_of m.chip op) e → All (ItemFits m.layout) items → differ < 2 ^ count_of m.chip reg → mirrored ≡ mirrored_of m.mirror reg →
+    desired ≡ desired_of m.mirror reg
     → EventFits m (record { op = op; end = e; trace = items; mirrored = mirrored; desired = desired; differ = differ })
 event_fits m op reg e items mirrored desired differ ok inside register numbers ends within fit fields is_mirrored is_desired =
     let event : Event = record { op = op; end = e; trace = items; mirrored = mirrored; desired = desired; differ = differ } in
@@ -84,7 +87,8 @@ pub fresh_predictor : (l : LayoutData) (n : ℕ) → IsSound l → n ≡ length 
 fresh_predictor l n ok same = record {
   count = length-replicate n no_words ∙ same;
   shorter = λ p inside.
-      let held : gathered_at (replicate n no_words) p ≡ no_words = All-get_or (λ g. g ≡ no_words) (replicate n no_words) p no_words (subst (λ k. p < k) (sym (length-replicate n no_words ∙ same)) inside) (none_gathered n) in
+      let held : gathered_at (replicate n no_words) p ≡ no_words = All-get_or (λ g. g ≡ no_words) (replicate n no_words) p no_words (subst (λ k. p < k) (sym (length-replicate n no_words ∙ same))
+      inside) (none_gathered n) in
       let some : 0 < length (words_of l p 0) = (ok.each_location p 0 (record { place_in = inside; index_in = let here = ok.each_place p inside in omega (arith, here.size) })).some in
       subst (λ g. length g.words < length (words_of l p 0)) (sym held) some;
 }

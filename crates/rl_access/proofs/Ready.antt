@@ -36,7 +36,8 @@ pub adapter_there : (m : ModelData) (standings : List Standing) (which : ℕ) �
 adapter_there m standings which same inside = subst (λ n. which < n) (sym (ap length same) ∙ length-map standings kind_in) inside
 
 -- and has the port's kind
-pub kind_there : (m : ModelData) (standings : List Standing) (port : ℕ) → IsSound m.layout → port < length m.layout.ports → kinds_of standings ≡ m.layout.kinds → kind_at (kinds_of standings) (port_at m.layout port).adapter ≡ (port_at m.layout port).kind
+pub kind_there : (m : ModelData) (standings : List Standing) (port : ℕ) → IsSound m.layout → port < length m.layout.ports → kinds_of standings ≡ m.layout.kinds →
+    kind_at (kinds_of standings) (port_at m.layout port).adapter ≡ (port_at m.layout port).kind
 kind_there m standings port sound inside same =
     ap (λ kinds. kind_at kinds (port_at m.layout port).adapter) same
     ∙ get_or_from_slice_get m.layout.kinds (port_at m.layout port).adapter (port_at m.layout port).kind no_kind (sound.each_port port inside).adapter
@@ -57,7 +58,8 @@ ready_later m which port ops items before now errors later told after sent kinds
 }
 
 -- the adapter of a place's port carries what its kind carries
-pub fits_there : (m : ModelData) (standings : List Standing) (which place : ℕ) (ops : List BusOp) → IsSound m.layout → (place_at m.layout place).port < length m.layout.ports → kinds_of standings ≡ m.layout.kinds
+pub fits_there : (m : ModelData) (standings : List Standing) (which place : ℕ) (ops : List BusOp) → IsSound m.layout → (place_at m.layout place).port < length m.layout.ports →
+    kinds_of standings ≡ m.layout.kinds
     → which ≡ (port_at m.layout (place_at m.layout place).port).adapter → All (Fits (kind_of m.layout place)) ops → All (Fits (kind_at (kinds_of standings) which)) ops
 fits_there m standings which place ops sound inside same is fits =
     let kind : kind_at (kinds_of standings) which ≡ kind_of m.layout place = ap (λ w. kind_at (kinds_of standings) w) is ∙ kind_there m standings (place_at m.layout place).port sound inside same in

@@ -1,5 +1,6 @@
 -- Operations that are under way, each told to a recorder.
-use Rattle.std.proofs.Common.{◌≡◌, ℕ, suc, ◌+◌, ◌-◌, ◌<◌, true, false, List, [], ◌∷◌, ◌++◌, length, map, drop, get_or, Option, Result, Ok, Err, refl, sym, ap, ◌∙◌, subst, arith, append_assoc, append-nil}
+use Rattle.std.proofs.Common.{◌≡◌, ℕ, suc, ◌+◌, ◌-◌, ◌<◌, true, false, List, [], ◌∷◌, ◌++◌, length, map, drop, get_or, Option, Result, Ok, Err, refl, sym, ap, ◌∙◌, subst, arith, append_assoc}
+use Rattle.std.proofs.Common.{append-nil}
 use Rattle.std.specs.Bool.{MatchBool}
 use Rattle.std.specs.Result.{IsErr}
 use Rattle.std.proofs.lemmas.List.{drop_more}
@@ -22,7 +23,8 @@ pub record IsRunning {R : Type 0} (takes breaks : R → ModelData → Event → 
   pub into : (rest : List Told) (new : Scene) → RunsInto now left rest new → RunsInto s ops (told ++ rest) new
   pub counts : tally ≡ counted_all no_tally told
 
-pub running_first : {R : Type 0} (takes breaks : R → ModelData → Event → R → Type 0) (rec : R) (s : Scene) (ops left : List Op) (tally : Tally) → left ≡ ops → tally ≡ no_tally → IsRunning takes breaks rec rec s s ops left tally
+pub running_first : {R : Type 0} (takes breaks : R → ModelData → Event → R → Type 0) (rec : R) (s : Scene) (ops left : List Op) (tally : Tally) → left ≡ ops → tally ≡ no_tally →
+    IsRunning takes breaks rec rec s s ops left tally
 running_first takes breaks rec s ops left tally all none = record {
   told = [];
   taken = λ rest new h. h;
@@ -41,12 +43,14 @@ module _ {R : Type 0} (takes breaks : R → ModelData → Event → R → Type 0
   one_more rec mid t [] new took h = absurd h
   one_more rec mid t (u ∷ rest) new took h = (mid, took, h)
 
-  into_next : (s mid : Scene) (op : Op) (left : List Op) (t : Told) (rest : List Told) (new : Scene) → IsOneStep s mid op t → is_bus_error t.event.end ≡ false → RunsInto mid left rest new → RunsInto s (op ∷ left) (t ∷ rest) new
+  into_next : (s mid : Scene) (op : Op) (left : List Op) (t : Told) (rest : List Told) (new : Scene) → IsOneStep s mid op t → is_bus_error t.event.end ≡ false → RunsInto mid left rest new →
+      RunsInto s (op ∷ left) (t ∷ rest) new
   into_next s mid op left t [] new one quiet h = absurd h
   into_next s mid op left t (u ∷ rest) new one quiet h = (mid, one, quiet, h)
 
   -- one more was done and taken
-  pub running_next : (old rec next : R) (s now mid : Scene) (ops pending left : List Op) (op : Op) (tally : Tally) (t : Told) → IsRunning takes breaks old rec s now ops pending tally → pending ≡ op ∷ left
+  pub running_next : (old rec next : R) (s now mid : Scene) (ops pending left : List Op) (op : Op) (tally : Tally) (t : Told) → IsRunning takes breaks old rec s now ops pending tally →
+      pending ≡ op ∷ left
       → IsOneStep now mid op t → is_bus_error t.event.end ≡ false → takes rec t.model t.event next → (more : Tally) → more ≡ counted tally t.event → IsRunning takes breaks old next s mid ops left more
   running_next old rec next s now mid ops pending left op tally t r head one quiet took more is_more =
       let join : (rest : List Told) → r.told ++ (t ∷ rest) ≡ (r.told ++ t ∷ []) ++ rest = λ rest. sym (append_assoc r.told (t ∷ []) rest) in
@@ -64,7 +68,8 @@ module _ {R : Type 0} (takes breaks : R → ModelData → Event → R → Type 0
       }
 
   -- all were done
-  pub run_ended : {E : Type 0} (old rec : R) (s now : Scene) (ops left : List Op) (tally : Tally) → IsRunning takes breaks old rec s now ops left tally → left ≡ [] → IsRun {E = E} takes breaks old rec s now ops (Ok tally)
+  pub run_ended : {E : Type 0} (old rec : R) (s now : Scene) (ops left : List Op) (tally : Tally) → IsRunning takes breaks old rec s now ops left tally → left ≡ [] →
+      IsRun {E = E} takes breaks old rec s now ops (Ok tally)
   run_ended {E} old rec s now ops left tally r none = record {
     told = r.told;
     handed = record { all = subst (λ all. TakesAll takes old all rec) (append-nil r.told) (r.taken [] rec refl); part = tt };
@@ -72,14 +77,23 @@ module _ {R : Type 0} (takes breaks : R → ModelData → Event → R → Type 0
   }
 
   -- the last one ended by a bus error
-  pub run_stopped : {E : Type 0} (old rec next : R) (s now mid : Scene) (ops pending left : List Op) (op : Op) (tally : Tally) (t : Told) → IsRunning takes breaks old rec s now ops pending tally → pending ≡ op ∷ left
-      → IsOneStep now mid op t → is_bus_error t.event.end ≡ true → takes rec t.model t.event next → (more : Tally) → more ≡ counted tally t.event → IsRun {E = E} takes breaks old next s mid ops (Ok more)
+  pub run_stopped : {E : Type 0} (old rec next : R) (s now mid : Scene) (ops pending left : List Op) (op : Op) (tally : Tally) (t : Told) → IsRunning takes breaks old rec s now ops pending tally →
+      pending ≡ op ∷ left
+      → IsOneStep now mid op t → is_bus_error t.event.end ≡ true → takes rec t.model t.event next → (more : Tally) → more ≡ counted tally t.event → IsRun {E = E} takes breaks old next s mid ops
+      (Ok more)
   run_stopped {E} old rec next s now mid ops pending left op tally t r head one error took more is_more = record {
     told = r.told ++ t ∷ [];
     handed = record { all = r.taken (t ∷ []) next (next, took, refl); part = tt };
     run = (
       r.through (t ∷ []) mid (
-          let here : RunsThrough now (op ∷ left) (t ∷ []) mid = (mid, one, subst (λ b. MatchBool b ((◌≡◌ {A = List Told} [] []) × (mid ≡ mid)) (RunsThrough mid left [] mid)) (sym error) (refl, refl)) in
+          let here : RunsThrough now (op ∷ left) (t ∷ []) mid = (
+            mid,
+            one,
+            subst (λ b. MatchBool b ((◌≡◌ {A = List Told} [] []) × (mid ≡ mid)) (RunsThrough mid left [] mid)) (sym error) (
+              refl,
+              refl,
+            ),
+          ) in
           subst (λ l. RunsThrough now l (t ∷ []) mid) (sym head) here
           ),
       is_more ∙ ap (λ x. counted x t.event) r.counts ∙ sym (counted_all-push no_tally r.told t),
@@ -87,7 +101,8 @@ module _ {R : Type 0} (takes breaks : R → ModelData → Event → R → Type 0
   }
 
   -- the recorder failed at the last one
-  broke_with : {E : Type 0} (failed : E) (old rec next : R) (s now mid : Scene) (ops pending left : List Op) (op : Op) (tally : Tally) (t : Told) → IsRunning takes breaks old rec s now ops pending tally → pending ≡ op ∷ left
+  broke_with : {E : Type 0} (failed : E) (old rec next : R) (s now mid : Scene) (ops pending left : List Op) (op : Op) (tally : Tally) (t : Told) → IsRunning takes breaks old rec s now ops pending
+      tally → pending ≡ op ∷ left
       → IsOneStep now mid op t → breaks rec t.model t.event next → IsRun takes breaks old next s mid ops (Err failed)
   broke_with failed old rec next s now mid ops pending left op tally t r head one broke = record {
     told = r.told ++ t ∷ [];
@@ -95,7 +110,8 @@ module _ {R : Type 0} (takes breaks : R → ModelData → Event → R → Type 0
     run = r.into (t ∷ []) mid (subst (λ l. RunsInto now l (t ∷ []) mid) (sym head) one);
   }
 
-  pub run_broke : {E : Type 0} (result : Result Tally E) (old rec next : R) (s now mid : Scene) (ops pending left : List Op) (op : Op) (tally : Tally) (t : Told) → IsErr result → IsRunning takes breaks old rec s now ops pending tally → pending ≡ op ∷ left
+  pub run_broke : {E : Type 0} (result : Result Tally E) (old rec next : R) (s now mid : Scene) (ops pending left : List Op) (op : Op) (tally : Tally) (t : Told) → IsErr result →
+      IsRunning takes breaks old rec s now ops pending tally → pending ≡ op ∷ left
       → IsOneStep now mid op t → breaks rec t.model t.event next → IsRun takes breaks old next s mid ops result
   run_broke (Ok x) old rec next s now mid ops pending left op tally t failed r head one broke = absurd (let no : false ≡ true = failed in cc)
   run_broke (Err e) old rec next s now mid ops pending left op tally t failed r head one broke = broke_with e old rec next s now mid ops pending left op tally t r head one broke
@@ -103,7 +119,8 @@ module _ {R : Type 0} (takes breaks : R → ModelData → Event → R → Type 0
 -- ---- the locations that are left
 
 -- one value more was written
-pub writes_left : (mem : ℕ) (map : Option ℕ) (first k : ℕ) (values : List ℕ) (d : ℕ) → k < length values → writes_of mem map (first + k) (drop k values) ≡ op.MemWrite mem map (first + k) (get_or values k d) ∷ writes_of mem map (first + (k + 1)) (drop (k + 1) values)
+pub writes_left : (mem : ℕ) (map : Option ℕ) (first k : ℕ) (values : List ℕ) (d : ℕ) → k < length values → writes_of mem map (first + k) (drop k values) ≡ op.MemWrite mem map (first + k)
+    (get_or values k d) ∷ writes_of mem map (first + (k + 1)) (drop (k + 1) values)
 writes_left mem map first k values d within =
     ap (writes_of mem map (first + k)) (drop_more values k d within)
     ∙ ap (λ n. op.MemWrite mem map (first + k) (get_or values k d) ∷ writes_of mem map n (drop (k + 1) values)) (omega arith)

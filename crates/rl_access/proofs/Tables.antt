@@ -27,7 +27,7 @@ rows_count : (first : ℕ) (ms : List Mem) → length (mem_rows first ms) ≡ le
 rows_count first [] = refl
 rows_count first (m ∷ ms) = ap suc (rows_count (first + m.size) ms)
 
-rows_size : (first : ℕ) (ms : List Mem) (k : ℕ) → (get_or (mem_rows first ms) k no_mem).size ≡ option_map_or (λ m. m.size) (slice_get ms k) 0
+pub rows_size : (first : ℕ) (ms : List Mem) (k : ℕ) → (get_or (mem_rows first ms) k no_mem).size ≡ option_map_or (λ m. m.size) (slice_get ms k) 0
 rows_size first [] k = refl
 rows_size first (m ∷ ms) zero = refl
 rows_size first (m ∷ ms) (suc k) = rows_size (first + m.size) ms k
@@ -45,7 +45,8 @@ pub reg_there : (m : ModelData) (told : Option State) (reg : ℕ) → IsDeviceOf
 reg_there m told reg device inside s e =
     let t = device s e in
     record {
-      reg = λ r same. let is : reg ≡ r = cc in subst (λ n. n < length s.setup.regs) is (subst (λ n. reg < n) (sym (ap (λ (t : Setup). length t.regs) t.setup ∙ regs_of m.chip m.layout t.flaws)) inside);
+      reg = λ r same. let is : reg ≡ r = cc in subst (λ n. n < length s.setup.regs) is (subst (λ n. reg < n) (sym (ap (λ (t : Setup). length t.regs) t.setup ∙ regs_of m.chip m.layout t.flaws))
+          inside);
       loc = λ mem i same. absurd (let no = same in cc);
     }
 
@@ -59,7 +60,8 @@ location_there m told mem index device inside within s e =
           let is : mem ≡ n = cc in
           let at : index ≡ i = cc in (
             subst (λ k. k < length s.setup.mems) is (subst (λ k. mem < k) (sym (ap (λ (t : Setup). length t.mems) t.setup ∙ mems_of m.chip m.layout t.flaws)) inside),
-            subst (λ k. k < (mem_of s.setup n).size) at (subst (λ k. index < (mem_of s.setup k).size) is (subst (λ k. index < k) (sym (ap (λ (t : Setup). (mem_of t mem).size) t.setup ∙ sizes_of m.chip m.layout t.flaws mem)) within)),
+            subst (λ k. k < (mem_of s.setup n).size) at (subst (λ k. index < (mem_of s.setup k).size) is (subst (λ k. index < k) (sym (ap (λ (t : Setup). (mem_of t mem).size) t.setup ∙ sizes_of
+                m.chip m.layout t.flaws mem)) within)),
           );
     }
 
@@ -70,7 +72,8 @@ field_there m told field device inside s e =
     subst (λ n. field < n) (sym (ap (λ (t : Setup). length t.fields) t.setup ∙ fields_there m.chip m.layout t.flaws)) inside
 
 -- a step that leaves what a device has
-pub device_after_step : (m : ModelData) (before after : Option State) (step : State → State) → ((s : State) → (step s).setup ≡ s.setup) → after ≡ option_map step before → IsDeviceOf m before → IsDeviceOf m after
+pub device_after_step : (m : ModelData) (before after : Option State) (step : State → State) → ((s : State) → (step s).setup ≡ s.setup) → after ≡ option_map step before → IsDeviceOf m before →
+    IsDeviceOf m after
 device_after_step m None after step keeps e device s at = absurd (let none = e in cc)
 device_after_step m (Some d) after step keeps e device s at =
     let same : step d ≡ s = cc in

@@ -21,7 +21,8 @@ use Rattle.rl_access.specs.Items.{took_item, item_of, AreItemsOf, has_failed, fa
 abbrev fails : TraceItem → Bool
 fails item = item.answer.failed
 
-quiet_head : (b : Bool) (items : List TraceItem) → (length items ≤ position_or_len fails items → has_failed items ≡ false) → suc (length items) ≤ cond (not b) (1 + position_or_len fails items) 0 → (b || has_failed items) ≡ false
+quiet_head : (b : Bool) (items : List TraceItem) → (length items ≤ position_or_len fails items → has_failed items ≡ false) → suc (length items) ≤ cond (not b) (1 + position_or_len fails items) 0 →
+    (b || has_failed items) ≡ false
 quiet_head true items rest h = absurd (omega arith)
 quiet_head false items rest h = rest (omega arith)
 
@@ -80,7 +81,8 @@ items_fit l port kind s (op ∷ ops) (item ∷ items) h inside bytes fits small 
     All-cons (ItemFits l) item items
     (item_fits l port s op item kind h.0 inside (All-head (λ o. o.bytes ≡ (port_at l port).bytes) op ops bytes) (All-head (Fits kind) op ops fits) (All-head IsAnswerSmall item items small))
     (by_failure l item.answer.failed items h.1
-    (λ rest. items_fit l port kind (took_item s item) ops items rest inside (All-tail (λ o. o.bytes ≡ (port_at l port).bytes) op ops bytes) (All-tail (Fits kind) op ops fits) (All-tail IsAnswerSmall item items small)))
+    (λ rest. items_fit l port kind (took_item s item) ops items rest inside (All-tail (λ o. o.bytes ≡ (port_at l port).bytes) op ops bytes) (All-tail (Fits kind) op ops fits) (All-tail IsAnswerSmall
+    item items small)))
 items_fit l port kind s [] (item ∷ items) h inside bytes fits small = absurd h
 items_fit l port kind s (op ∷ ops) [] h inside bytes fits small = absurd h
 

@@ -1,5 +1,6 @@
 -- Operations that are sent in order: what holds while none has failed, and what follows at the end.
-use Rattle.std.proofs.Common.{slice_get, All, ◌≡◌, ℕ, ◌+◌, ◌<◌, ◌≤◌, List, [], ◌∷◌, ◌++◌, length, map, set, get_or, drop, Bool, true, false, cond, ◌||◌, Option, None, Some, option_map, refl, sym, ap, ◌∙◌, subst, arith, append_assoc, append-nil}
+use Rattle.std.proofs.Common.{slice_get, All, ◌≡◌, ℕ, ◌+◌, ◌<◌, ◌≤◌, List, [], ◌∷◌, ◌++◌, length, map, set, get_or, drop, Bool, true, false, cond, ◌||◌, Option, None, Some, option_map, refl, sym, ap}
+use Rattle.std.proofs.Common.{◌∙◌, subst, arith, append_assoc, append-nil}
 use Rattle.std.proofs.lemmas.List.Elements.{All-push}
 use Rattle.std.proofs.lemmas.Option.{get_or_from_slice_get, slice_get_within}
 use Rattle.std.proofs.lemmas.List.{set-set, set-get_or, get_or-set_same, length_push, drop_more, at_drop_all}
@@ -81,11 +82,13 @@ under_way_first first which port ops errors state = record {
 }
 
 -- where the adapter stands now
-pub standing-moved_on_by_all : (first : List Standing) (which : ℕ) (items : List TraceItem) → which < length first → standing_at (moved_on_by_all first which items) which ≡ took_all (standing_at first which) items
+pub standing-moved_on_by_all : (first : List Standing) (which : ℕ) (items : List TraceItem) → which < length first → standing_at (moved_on_by_all first which items) which ≡ took_all
+    (standing_at first which) items
 standing-moved_on_by_all first which items within = get_or-set_same first which (took_all (standing_at first which) items) nobody within
 
 -- one more item moves the adapters on
-pub moved_on-push : (first now new : List Standing) (which : ℕ) (items : List TraceItem) (item : TraceItem) → which < length first → now ≡ moved_on_by_all first which items → new ≡ moved_on now which item.op item.answer → new ≡ moved_on_by_all first which (items ++ item ∷ [])
+pub moved_on-push : (first now new : List Standing) (which : ℕ) (items : List TraceItem) (item : TraceItem) → which < length first → now ≡ moved_on_by_all first which items →
+    new ≡ moved_on now which item.op item.answer → new ≡ moved_on_by_all first which (items ++ item ∷ [])
 moved_on-push first now new which items item within is more =
     let s = standing_at first which in
     let at : standing_at now which ≡ took_all s items = ap (λ all. standing_at all which) is ∙ standing-moved_on_by_all first which items within in
@@ -110,13 +113,15 @@ pub record IsNext (first now new : List Standing) (which port : ℕ) (ops : List
   pub step : IsStep state after port (get_or ops i no_op) item.answer
 
 -- The next item completes what is there, and what follows it.
-next_completes : (s : Standing) (port : ℕ) (ops : List BusOp) (i : ℕ) (items : List TraceItem) (item : TraceItem) → i < length ops → item ≡ item_of (took_all s items) port (get_or ops i no_op) item.answer →
+next_completes : (s : Standing) (port : ℕ) (ops : List BusOp) (i : ℕ) (items : List TraceItem) (item : TraceItem) → i < length ops → item ≡ item_of (took_all s items) port (get_or ops i no_op)
+    item.answer →
     ((rest : List TraceItem) → AreItemsOf (took_all s items) port (drop i ops) rest → AreItemsOf s port ops (items ++ rest)) →
     (rest : List TraceItem) → MatchBool item.answer.failed (rest ≡ []) (AreItemsOf (took_item (took_all s items) item) port (drop (i + 1) ops) rest) → AreItemsOf s port ops (items ++ (item ∷ rest))
 next_completes s port ops i items item index sent completes rest h =
     completes (item ∷ rest) (rw (drop_more ops i no_op index) (sent, h))
 
-abbrev pub IsUnderWayBy : {A : Type 0} → (A → Standing) → (first now : List A) (which port : ℕ) (ops : List BusOp) (i : ℕ) (items : List TraceItem) (errors_before errors : ℕ) (before state : Option State) → Type 0
+abbrev pub IsUnderWayBy : {A : Type 0} → (A → Standing) → (first now : List A) (which port : ℕ) (ops : List BusOp) (i : ℕ) (items : List TraceItem) (errors_before errors : ℕ) (before state : Option
+    State) → Type 0
 IsUnderWayBy f first now = IsUnderWay (map f first) (map f now)
 
 -- the definition's next item
@@ -132,21 +137,24 @@ sent_by first now new which port ops i items item errors errors_after state afte
     n.sent ∙ ap (λ s. item_of s port (get_or ops i no_op) item.answer) (ap (λ all. standing_at all which) is ∙ standing-moved_on_by_all first which items n.within)
 
 -- the state after the next item
-state_by : (port : ℕ) (op : BusOp) (s : Standing) (d : State) (items : List TraceItem) (item : TraceItem) → item ≡ item_of s port op item.answer → state_after_all d (items ++ item ∷ []) ≡ state_after (state_after_all d items) port op
+state_by : (port : ℕ) (op : BusOp) (s : Standing) (d : State) (items : List TraceItem) (item : TraceItem) → item ≡ item_of s port op item.answer → state_after_all d (items ++ item ∷ []) ≡ state_after
+    (state_after_all d items) port op
 state_by port op s d items item e =
     state_after_all-push d items item ∙ ap (λ t. state_after (state_after_all d items) t.port t.op) e
 
 -- the definition's items, with the next one among those that are there
 answers_next : (s : Standing) (port : ℕ) (ops : List BusOp) (i : ℕ) (items : List TraceItem) (item : TraceItem) (d : State) → i < length ops →
     item ≡ item_of (took_all s items) port (get_or ops i no_op) (answer_of (state_after_all d items) port (get_or ops i no_op)) →
-    items ++ (item ∷ cond item.answer.failed [] (items_of (took_item (took_all s items) item) (state_after (state_after_all d items) port (get_or ops i no_op)) port (drop (i + 1) ops))) ≡ items ++ items_of (took_all s items) (state_after_all d items) port (drop i ops)
+    items ++ (item ∷ cond item.answer.failed [] (items_of (took_item (took_all s items) item) (state_after (state_after_all d items) port (get_or ops i no_op)) port (drop (i + 1) ops))) ≡ items ++
+    items_of (took_all s items) (state_after_all d items) port (drop i ops)
 answers_next s port ops i items item d index e =
     ap (λ rest. items ++ rest)
     (sym (ap (λ left. items_of (took_all s items) (state_after_all d items) port left) (drop_more ops i no_op index)
     ∙ items_of-next (took_all s items) (state_after_all d items) port (get_or ops i no_op) (drop (i + 1) ops) item e))
 
 -- with no failure the rest goes on from there
-answers_on : (s : Standing) (port : ℕ) (left : List BusOp) (op : BusOp) (items : List TraceItem) (item : TraceItem) (d : State) → item ≡ item_of (took_all s items) port op item.answer → item.answer.failed ≡ false →
+answers_on : (s : Standing) (port : ℕ) (left : List BusOp) (op : BusOp) (items : List TraceItem) (item : TraceItem) (d : State) → item ≡ item_of (took_all s items) port op item.answer →
+    item.answer.failed ≡ false →
     (items ++ item ∷ []) ++ items_of (took_all s (items ++ item ∷ [])) (state_after_all d (items ++ item ∷ [])) port left
     ≡ items ++ (item ∷ cond item.answer.failed [] (items_of (took_item (took_all s items) item) (state_after (state_after_all d items) port op) port left))
 answers_on s port left op items item d sent ok =
@@ -169,9 +177,11 @@ goes_more port op s items item sent before state after so_far step =
 
 port_later : (before : Option State) (items : List TraceItem) (port : ℕ) → IsPortOf before port → IsPortOf (option_map (λ d. state_after_all d items) before) port
 port_later None items port h = λ s e. absurd (cc)
-port_later (Some d) items port h = λ s e. let same : state_after_all d items ≡ s = cc in subst (λ n. port < n) (sym (ap (λ t. length t.ports) (setup-state_after_all d items)) ∙ ap (λ t. length t.setup.ports) same) (h d refl)
+port_later (Some d) items port h = λ s e. let same : state_after_all d items ≡ s = cc in subst (λ n. port < n) (sym (ap (λ t. length t.ports) (setup-state_after_all d items)) ∙ ap
+    (λ t. length t.setup.ports) same) (h d refl)
 
-pub under_way_next : {first now new : List Standing} {which port : ℕ} {ops : List BusOp} {i : ℕ} {items : List TraceItem} {item : TraceItem} {errors_before errors errors_after : ℕ} {before state after : Option State} →
+pub under_way_next : {first now new : List Standing} {which port : ℕ} {ops : List BusOp} {i : ℕ} {items : List TraceItem} {item : TraceItem} {errors_before errors errors_after : ℕ} {before state
+    after : Option State} →
     IsUnderWay first now which port ops i items errors_before errors before state →
     IsNext first now new which port ops i item errors errors_after state after →
     item.answer.failed ≡ false →
@@ -195,7 +205,8 @@ under_way_next {first} {now} {new} {which} {port} {ops} {i} {items} {item} {erro
       goes = goes_more port op (took_all s items) items item sent before state after u.goes n.step.goes;
       answers = λ d e.
           answers_on s port (drop (i + 1) ops) op items item d sent ok
-          ∙ answers_next s port ops i items item d n.index (sent ∙ ap (λ a. item_of (took_all s items) port op a) (n.step.answers (state_after_all d items) (told_state (λ d. state_after_all d items) before state u.goes d e)))
+          ∙ answers_next s port ops i items item d n.index (sent ∙ ap (λ a. item_of (took_all s items) port op a) (n.step.answers (state_after_all d items) (told_state (λ d. state_after_all d items)
+          before state u.goes d e)))
           ∙ u.answers d e;
     }
 
@@ -208,7 +219,8 @@ pub record IsSentInOrder (first last : List Standing) (which port : ℕ) (ops : 
 rose_since : (a b c : ℕ) → a ≤ b → b ≤ c → Rose b c → Rose a c
 rose_since a b c le later rose = omega arith
 
-pub under_way_failed : {first now new : List Standing} {which port : ℕ} {ops : List BusOp} {i : ℕ} {items : List TraceItem} {item : TraceItem} {errors_before errors errors_after : ℕ} {before state after : Option State} →
+pub under_way_failed : {first now new : List Standing} {which port : ℕ} {ops : List BusOp} {i : ℕ} {items : List TraceItem} {item : TraceItem} {errors_before errors errors_after : ℕ} {before state
+    after : Option State} →
     IsUnderWay first now which port ops i items errors_before errors before state →
     IsNext first now new which port ops i item errors errors_after state after →
     item.answer.failed ≡ true →
@@ -229,7 +241,8 @@ under_way_failed {first} {now} {new} {which} {port} {ops} {i} {items} {item} {er
         run = record {
           answers = λ d e.
               ap (λ b. items ++ (item ∷ cond b [] (items_of (took_item (took_all s items) item) (state_after (state_after_all d items) port op) port (drop (i + 1) ops)))) (sym failed)
-              ∙ answers_next s port ops i items item d n.index (sent ∙ ap (λ a. item_of (took_all s items) port op a) (n.step.answers (state_after_all d items) (told_state (λ d. state_after_all d items) before state u.goes d e)))
+              ∙ answers_next s port ops i items item d n.index (sent ∙ ap (λ a. item_of (took_all s items) port op a) (n.step.answers (state_after_all d items) (told_state (λ d. state_after_all d
+              items) before state u.goes d e)))
               ∙ u.answers d e;
           goes = goes_more port op (took_all s items) items item sent before state after u.goes n.step.goes;
         };
@@ -260,8 +273,10 @@ under_way_done {first} {now} {which} {port} {ops} {i} {items} {errors_before} {e
     }
 
 -- the next item, of the adapters themselves
-pub next_of : {A : Type 0} (f : A → Standing) (first now new : List A) {which port : ℕ} {ops : List BusOp} {i : ℕ} {op : BusOp} {item : TraceItem} {errors errors_after : ℕ} {state after : Option State} →
-    which < length (map f first) → slice_get ops i ≡ Some op → item ≡ item_of (standing_at (map f now) which) port op item.answer → IsAnswerSmall item → map f new ≡ moved_on (map f now) which item.op item.answer → kinds_of (map f new) ≡ kinds_of (map f now) →
+pub next_of : {A : Type 0} (f : A → Standing) (first now new : List A) {which port : ℕ} {ops : List BusOp} {i : ℕ} {op : BusOp} {item : TraceItem} {errors errors_after : ℕ} {state after : Option
+    State} →
+    which < length (map f first) → slice_get ops i ≡ Some op → item ≡ item_of (standing_at (map f now) which) port op item.answer → IsAnswerSmall item → map f new ≡ moved_on (map f now) which item.op
+    item.answer → kinds_of (map f new) ≡ kinds_of (map f now) →
     AnswerHasCause errors errors_after item.answer → IsStep state after port op item.answer →
     IsNext (map f first) (map f now) (map f new) which port ops i item errors errors_after state after
 next_of f first now new {which} {port} {ops} {i} {op} {item} {errors} {errors_after} {state} {after} within index sent tiny moves keeps cause step =

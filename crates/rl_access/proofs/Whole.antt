@@ -34,15 +34,21 @@ all_sent l place index here =
     let words = words_of l place index in
     let bytes = (place_at l place).bytes in
     let whole : (k : ℕ) → k < length words → chosen_lanes (all_bytes bytes) (get_or words k no_word) ≡ (get_or words k no_word).lanes =
-    λ k inside. lanes_all (get_or words k no_word) bytes (small_lanes _ _ here.port.width (here.words.on k no_word inside).enabled) (λ j low on. byte_in words bytes k j here.words.reach inside low on) in
+    λ k inside. lanes_all (get_or words k no_word) bytes (small_lanes _ _ here.port.width (here.words.on k no_word inside).enabled) (λ j low on. byte_in words bytes k j here.words.reach inside low
+    on) in
     filter_all (has_chosen (all_bytes bytes)) words
-    (all_numbered (λ w. has_chosen (all_bytes bytes) w ≡ true) words no_word (λ k inside. some_chosen (chosen_lanes (all_bytes bytes) (get_or words k no_word)) (omega (arith, whole k inside, (here.words.on k no_word inside).some))))
+    (all_numbered (λ w. has_chosen (all_bytes bytes) w ≡ true) words no_word (λ k inside. some_chosen (chosen_lanes (all_bytes bytes) (get_or words k no_word)) (omega (
+      arith,
+      whole k inside,
+      (here.words.on k no_word inside).some,
+    ))))
   where
     some_chosen : (x : ℕ) → 0 < x → not (eqb x 0) ≡ true
     some_chosen x low = grind (arith, nat_tests)
 
 -- a whole access has as many operations as the place has words
-pub whole_count : (l : LayoutData) (place index value : ℕ) (write : Bool) → IsSound l → IsLocation l place index → length (ops_of l place index (all_bytes (place_at l place).bytes) value write) ≡ length (words_of l place index)
+pub whole_count : (l : LayoutData) (place index value : ℕ) (write : Bool) → IsSound l → IsLocation l place index → length (ops_of l place index (all_bytes (place_at l place).bytes) value write) ≡
+    length (words_of l place index)
 unfolding ops_of sent_of
 whole_count l place index value write sound at =
     length-map (sent_words (all_bytes (place_at l place).bytes) (words_of l place index)) (op_of l place (all_bytes (place_at l place).bytes) value write)
@@ -57,7 +63,8 @@ register_is (item.Mem m) reg is e = absurd is
 pub first_of_place : (l : LayoutData) (place : ℕ) → IsSound l → place < length l.places → IsLocation l place 0
 first_of_place l place sound inside = let here = sound.each_place place inside in record { place_in = inside; index_in = omega (arith, here.size) }
 
-pub bytes_at : (c : ChipData) (l : LayoutData) (place reg bytes : ℕ) → IsBuiltWith l c → IsRegisterPlace l place → reg ≡ reg_in (place_at l place).item → bytes_of c (item.Reg reg) ≡ Some bytes → (place_at l place).bytes ≡ bytes
+pub bytes_at : (c : ChipData) (l : LayoutData) (place reg bytes : ℕ) → IsBuiltWith l c → IsRegisterPlace l place → reg ≡ reg_in (place_at l place).item → bytes_of c (item.Reg reg) ≡ Some bytes →
+    (place_at l place).bytes ≡ bytes
 bytes_at c l place reg bytes built there is e =
     let same : (place_at l place).item ≡ item.Reg reg = register_is (place_at l place).item reg there.register is in
     let found : bytes_of c (item.Reg reg) ≡ Some (place_at l place).bytes = subst (λ i. bytes_of c i ≡ Some (place_at l place).bytes) same (built place there.inside).0 in

@@ -1,5 +1,6 @@
 -- From an empty list, the words of a whole access are one prediction.
-use Rattle.std.proofs.Common.{◌≡◌, ◌⊎◌, ℕ, suc, ◌+◌, ◌*◌, ◌/◌, ◌%◌, ◌^◌, ◌<◌, ◌≤◌, Bool, true, false, ◌&&◌, ◌||◌, eqb, ltb, if◌then◌else◌, List, [], ◌∷◌, ◌++◌, length, map, set, get_or, drop, Option, None, Some, is_some, refl, sym, ap, ◌∙◌, subst, inl, inr, arith, eq-eqb, append_assoc, append-nil, length-drop}
+use Rattle.std.proofs.Common.{◌≡◌, ◌⊎◌, ℕ, suc, ◌+◌, ◌*◌, ◌/◌, ◌%◌, ◌^◌, ◌<◌, ◌≤◌, Bool, true, false, ◌&&◌, ◌||◌, eqb, ltb, if◌then◌else◌, List, [], ◌∷◌, ◌++◌, length, map, set, get_or, drop, Option}
+use Rattle.std.proofs.Common.{None, Some, is_some, refl, sym, ap, ◌∙◌, subst, inl, inr, arith, eq-eqb, append_assoc, append-nil, length-drop}
 use Rattle.std.specs.Prelude.{unwrap_or}
 use Rattle.std.proofs.lemmas.Bool.{cases_lt}
 use Rattle.std.proofs.lemmas.Bool.Decides.{nat_tests}
@@ -148,19 +149,24 @@ unfoldable pub list_of : Bool → List ℕ → Gathered
 list_of write words = record { write = write; words = words }
 
 -- what follows a word that was taken
-after_one : (c : ChipData) (l : LayoutData) (place k : ℕ) (write : Bool) (ops : List BusOp) (items : List TraceItem) (words : List ℕ) (gathered : List Gathered) (m : MirrorData) → map op_in items ≡ drop (k + 1) ops → length words ≡ k + 1 →
+after_one : (c : ChipData) (l : LayoutData) (place k : ℕ) (write : Bool) (ops : List BusOp) (items : List TraceItem) (words : List ℕ) (gathered : List Gathered) (m : MirrorData) →
+    map op_in items ≡ drop (k + 1) ops → length words ≡ k + 1 →
     length ops ≡ length (words_of l place 0) → k < length ops →
-    (k + 1 < length ops → observed_all c l (place_at l place).port items (set gathered place (list_of write words)) m ≡ seen (set (set gathered place (list_of write words)) place no_words) (predicted c l place (list_of write (words ++ map told_of items)) m)) →
-    observed_all c l (place_at l place).port items (taken_in c l place (list_of write words) gathered m).gathered (taken_in c l place (list_of write words) gathered m).mirror ≡ seen (set gathered place no_words) (predicted c l place (list_of write (words ++ map told_of items)) m)
+    (k + 1 < length ops → observed_all c l (place_at l place).port items (set gathered place (list_of write words)) m ≡ seen (set (set gathered place (list_of write words)) place no_words)
+    (predicted c l place (list_of write (words ++ map told_of items)) m)) →
+    observed_all c l (place_at l place).port items (taken_in c l place (list_of write words) gathered m).gathered (taken_in c l place (list_of write words) gathered m).mirror ≡ seen
+    (set gathered place no_words) (predicted c l place (list_of write (words ++ map told_of items)) m)
 unfolding list_of
 after_one c l place k write ops [] words gathered m left long count inside rest =
     let whole : is_whole l place (list_of write words) ≡ true = eq-eqb (length words) (length (words_of l place 0)) (long ∙ sym (last_left k ops inside left) ∙ count) in
-    ap (λ t. let s : Seen = if t then seen (set gathered place no_words) (predicted c l place (list_of write words) m) else seen (set gathered place (list_of write words)) m in seen s.gathered s.mirror) whole
+    ap (λ t. let s : Seen = if t then seen (set gathered place no_words) (predicted c l place (list_of write words) m) else seen (set gathered place (list_of write words)) m in seen s.gathered
+    s.mirror) whole
     ∙ ap (λ ws. seen (set gathered place no_words) (predicted c l place (list_of write ws) m)) (sym (append-nil words))
 after_one c l place k write ops (item ∷ items) words gathered m left long count inside rest =
     let longer : k + 1 < length ops = more_left k item.op (map op_in items) ops left in
     let part : is_whole l place (list_of write words) ≡ false = not_whole (length words) (length (words_of l place 0)) (omega (arith, long, longer, count)) in
-    ap (λ t. let s : Seen = if t then seen (set gathered place no_words) (predicted c l place (list_of write words) m) else seen (set gathered place (list_of write words)) m in observed_all c l (place_at l place).port (item ∷ items) s.gathered s.mirror) part
+    ap (λ t. let s : Seen = if t then seen (set gathered place no_words) (predicted c l place (list_of write words) m) else seen (set gathered place (list_of write words)) m in observed_all c l
+    (place_at l place).port (item ∷ items) s.gathered s.mirror) part
     ∙ rest longer
     ∙ ap (λ gs. seen gs (predicted c l place (list_of write (words ++ map told_of (item ∷ items))) m)) (set-set gathered place (list_of write words) no_words)
 
@@ -169,7 +175,8 @@ turned g w v (inl e) f = inl (e ∙ f)
 turned g w v (inr e) f = inr e
 
 going : (c : ChipData) (l : LayoutData) (place : ℕ) (write : Bool) (ops : List BusOp) → IsWatched l place write → AreWordsOf l place write ops →
-    (items : List TraceItem) (k : ℕ) (g : Gathered) (gathered : List Gathered) (m : MirrorData) → map op_in items ≡ drop k ops → has_failed items ≡ false → length g.words ≡ k → k < length ops → (g.write ≡ write) ⊎ (g ≡ no_words) →
+    (items : List TraceItem) (k : ℕ) (g : Gathered) (gathered : List Gathered) (m : MirrorData) → map op_in items ≡ drop k ops → has_failed items ≡ false → length g.words ≡ k → k < length ops →
+    (g.write ≡ write) ⊎ (g ≡ no_words) →
     place < length gathered → gathered_at gathered place ≡ g →
     observed_all c l (place_at l place).port items gathered m ≡ seen (set gathered place no_words) (predicted c l place (list_of write (g.words ++ map told_of items)) m)
 unfolding told_of list_of
@@ -194,7 +201,8 @@ going c l place write ops watch are (item ∷ items) k g gathered m left quiet c
     let long : length words ≡ k + 1 = length_push g.words (told_of item) ∙ ap (λ n. n + 1) count in
     ap (λ (s : Seen). observed_all c l (place_at l place).port items s.gathered s.mirror) once
     ∙ after_one c l place k write ops items words gathered m rest_is long are.count inside
-    (λ longer. going c l place write ops watch are items (k + 1) more (set gathered place more) m rest_is (or_second item.answer.failed (has_failed items) quiet) long longer (inl refl) (subst (λ n. place < n) (sym (length-set gathered place more)) room) (get_or-set_same gathered place more no_words room))
+    (λ longer. going c l place write ops watch are items (k + 1) more (set gathered place more) m rest_is (or_second item.answer.failed (has_failed items) quiet) long longer (inl refl)
+    (subst (λ n. place < n) (sym (length-set gathered place more)) room) (get_or-set_same gathered place more no_words room))
     ∙ ap (λ ws. seen (set gathered place no_words) (predicted c l place (list_of write ws) m)) (append_assoc g.words (told_of item ∷ []) (map told_of items))
 
 -- ---- a whole access
@@ -208,14 +216,17 @@ ops_are l place chosen value write ops is =
       address = λ k inside. ap (λ (o : BusOp). o.address) (at k inside);
     })
   where
-    at : (k : ℕ) → k < length (map (op_of l place chosen value write) (words_of l place 0)) → get_or (map (op_of l place chosen value write) (words_of l place 0)) k no_op ≡ op_of l place chosen value write (get_or (words_of l place 0) k no_word)
+    at : (k : ℕ) → k < length (map (op_of l place chosen value write) (words_of l place 0)) → get_or (map (op_of l place chosen value write) (words_of l place 0)) k no_op ≡ op_of l place chosen value
+        write (get_or (words_of l place 0) k no_word)
     at k inside = get_or-map (op_of l place chosen value write) (words_of l place 0) k no_word no_op (subst (λ n. k < n) (length-map (words_of l place 0) (op_of l place chosen value write)) inside)
 
-pub word_ops_are : (l : LayoutData) (place : ℕ) (value : Option ℕ) → IsHere l place 0 → word_ops l place value ≡ map (op_of l place (all_bytes (place_at l place).bytes) (unwrap_or value 0) (is_some value)) (words_of l place 0)
+pub word_ops_are : (l : LayoutData) (place : ℕ) (value : Option ℕ) → IsHere l place 0 → word_ops l place value ≡ map (op_of l place (all_bytes (place_at l place).bytes) (unwrap_or value 0)
+    (is_some value)) (words_of l place 0)
 unfolding ops_of sent_of
 word_ops_are l place value here = ap (map (op_of l place (all_bytes (place_at l place).bytes) (unwrap_or value 0) (is_some value))) (all_sent l place 0 here)
 
-pub implied_is : (c : ChipData) (l : LayoutData) (place : ℕ) (value : Option ℕ) (items : List TraceItem) (m : MirrorData) → IsHere l place 0 → unwrap_or value 0 < 256 ^ (place_at l place).bytes → map op_in items ≡ word_ops l place value →
+pub implied_is : (c : ChipData) (l : LayoutData) (place : ℕ) (value : Option ℕ) (items : List TraceItem) (m : MirrorData) → IsHere l place 0 → unwrap_or value 0 < 256 ^ (place_at l place).bytes →
+    map op_in items ≡ word_ops l place value →
     predicted c l place (list_of (is_some value) (map told_of items)) m ≡ implied c l place value items m
 unfolding list_of ops_of
 implied_is c l place None items m here fits ops =

@@ -1,13 +1,17 @@
 -- One call: from what stands before it to what stands after it.
-use Rattle.std.specs.Prelude.{◌≡◌, ℕ, List, map, Option, Some, option_map, MatchResult}
+use Rattle.std.specs.Prelude.{◌≡◌, ◌≤◌, ℕ, Bool, true, false, List, map, Option, Some, option_map, MatchResult}
 use Rattle.rl_bus.specs.Standing.{Standing, standing_at}
 use Rattle.rl_bus.specs.State.{State}
+use Rattle.rl_access.specs.declared.access.Access.{Access}
+use Rattle.rl_access.specs.declared.event.End.{End}
 use Rattle.rl_access.specs.declared.event.Event.{Event}
 use Rattle.rl_access.specs.declared.event.Op.{Op}
 use Rattle.rl_access.specs.declared.event.Refused.{Refused}
-use Rattle.rl_access.specs.Items.{AreItemsOf, HasCauses, items_of, moved_on_by_all, port_for, adapter_for}
-use Rattle.rl_access.specs.Model.{ModelData}
-use Rattle.rl_access.specs.Rules.{grant, named, sends, outcome, event_of, refused_event, found_by, device_after}
+use Rattle.rl_access.specs.declared.trace.TraceItem.{TraceItem}
+use Rattle.rl_access.specs.Items.{AreItemsOf, AreSent, HasCauses, items_of, moved_on_by_all, port_for, adapter_for}
+use Rattle.rl_access.specs.Event.{EventFits}
+use Rattle.rl_access.specs.Model.{ModelData, IsDeviceOf, IsSameChip}
+use Rattle.rl_access.specs.Rules.{grant, named, sends, outcome, event_of, refused_event, found_by, device_after, access_ops, register_event, write_outcome, read_outcome}
 
 -- what a call meets and leaves
 pub record Scene : Type 0 where
@@ -44,6 +48,28 @@ pub record IsDone (s new : Scene) (op : Op) (place : ℕ) (event : Event) : Type
   pub answers : (d : State) → s.device ≡ Some d → event.trace ≡ items_of (standing_at s.adapters (adapter_for s.model.layout place)) d (port_for s.model.layout place) (sends s.model op place)
   pub goes : new.device ≡ option_map (device_after s.model op sampled event.trace) s.device
 
+-- ---- one access to a register, in an operation that has this name
+
+-- the operations of a write, or of a read, of this access went out at its place
+abbrev pub WereSent : Scene → Scene → Access → Bool → List TraceItem → Type 0
+WereSent s new a write items =
+    AreSent (adapter_for s.model.layout a.place) (port_for s.model.layout a.place) (access_ops s.model a write) items
+    s.adapters new.adapters s.errors new.errors s.device new.device
+
+-- it was written, and where no item failed the operation ended so
+pub record IsWrittenBy (s new : Scene) (op : Op) (a : Access) (good : End) (event : Event) : Type 0 where
+  pub sent : WereSent s new a true event.trace
+  pub event_is : event ≡ register_event op a.reg event.trace (write_outcome s.model good a event.trace)
+  pub model : new.model ≡ (write_outcome s.model good a event.trace).model
+
+-- it was read
+pub record IsReadBy (s new : Scene) (op : Op) (a : Access) (check : Bool) (event : Event) : Type 0 where
+  pub sent : WereSent s new a false event.trace
+  pub event_is : event ≡ register_event op a.reg event.trace (read_outcome s.model check a event.trace)
+  pub model : new.model ≡ (read_outcome s.model check a event.trace).model
+
+-- ---- one operation
+
 -- the operation is refused by its first cause, or done
 abbrev pub Performs : Scene → Scene → Op → Event → Type 0
 Performs s new op event = MatchResult (grant s.model op) (λ place. IsDone s new op place event) (λ why. IsRefused s new op why event)
@@ -54,4 +80,13 @@ PerformsAlone m new op event = (adapters : List Standing) (errors : ℕ) (device
 
 -- an operation that goes round the bus, beside any adapters
 abbrev pub PerformsOffBus : {D : Type 0} → (D → ℕ) → (D → Option State) → (m new : ModelData) → (before after : D) → Op → Event → Type 0
-PerformsOffBus errors state m new before after op event = (adapters : List Standing) → Performs (scene m adapters (errors before) (state before)) (scene new adapters (errors after) (state after)) op event
+PerformsOffBus errors state m new before after op event = (adapters : List Standing) → Performs (scene m adapters (errors before) (state before)) (scene new adapters (errors after) (state after)) op
+    event
+
+-- what such an operation leaves for the next call: the device goes with the model, the chip and the layout are the same, and the
+-- event can be told of the model
+pub record StaysOffBus {D : Type 0} (errors : D → ℕ) (state : D → Option State) (m new : ModelData) (before after : D) (event : Event) : Type 0 where
+  pub device : IsDeviceOf new (state after)
+  pub parts : IsSameChip m new
+  pub fits : EventFits new event
+  pub later : errors before ≤ errors after

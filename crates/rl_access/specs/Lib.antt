@@ -15,3 +15,4 @@ pub mod Observed
 pub mod Tally
 pub mod Wishes
 pub mod Laws
+pub mod Prelude

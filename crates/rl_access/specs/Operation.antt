@@ -120,6 +120,13 @@ is_single (op.BurstWrite mem map first count) = false
 is_single (op.BurstRead mem map first count) = false
 is_single _ = true
 
+-- it goes to one location of a memory over the bus
+abbrev pub is_on_memory : Op → Bool
+is_on_memory (op.MemWrite mem map index value) = true
+is_on_memory (op.MemRead mem map index) = true
+is_on_memory (op.MemCheck mem map index value) = true
+is_on_memory _ = false
+
 -- it sends nothing over the bus
 abbrev pub is_off_bus : Op → Bool
 is_off_bus (op.Set field value) = true

@@ -1,16 +1,9 @@
 //! Accesses that bypass the bus.
-ghost use Rattle.std.specs.Prelude.{◌≡◌, ◌*◌, ◌<◌, ◌≤◌, ◌^◌, List, length, option_map, if◌then◌else◌, OnErr};
-ghost use Rattle.rl_bus.specs.Standing.{Standing};
-ghost use Rattle.rl_bus.specs.State.{poked, hw_set, reset_by};
+ghost use Rattle.std.specs.Prelude.{◌≡◌, ◌*◌, ◌<◌, ◌≤◌, ◌^◌, length, option_map, if◌then◌else◌, OnErr};
+ghost use Rattle.rl_access.specs.Prelude.{IsDeviceOf, IsFound, IsReadBehind, IsSameChip, PerformsOffBus, StaysOffBus};
+ghost use Rattle.rl_access.specs.Prelude.{count_of, fields_of, grant, hw_set, left_by_read, marks_in, poked, reset_by};
+ghost use Rattle.rl_access.specs.Prelude.{shown, size_of, taking_raw, written};
 ghost use Rattle.rl_bus.specs.declared.table.Cell.TheVariants as cell;
-ghost use Rattle.rl_model.specs.Fields.{size_of, count_of, fields_of};
-ghost use Rattle.rl_mirror.specs.Mirror.{marks_in};
-ghost use Rattle.rl_mirror.specs.Prediction.{shown, left_by_read, written};
-ghost use Rattle.rl_access.specs.Backdoor.{IsFound, IsReadBehind};
-ghost use Rattle.rl_access.specs.Call.{PerformsOffBus};
-ghost use Rattle.rl_access.specs.Event.{EventFits};
-ghost use Rattle.rl_access.specs.Model.{IsDeviceOf, IsSameChip};
-ghost use Rattle.rl_access.specs.Rules.{grant, taking_raw};
 
 use crate::event::{End, Event, Op, Refused};
 use crate::model::Model;
@@ -93,10 +86,7 @@ fn reset_device<D: Device>(model: &Model, device: &mut D, kind: u32)
 pub fn back_write<D: Device>(model: &mut Model, device: &mut D, reg: u32, value: u64) -> Event
     requires device { IsDeviceOf model.old (D.state device.old) }
     requires reg { reg < length model.old.chip.regs }
-    ensures device { IsDeviceOf model.new (D.state device.new) }
-    ensures parts { IsSameChip model.old model.new }
-    ensures fits { EventFits model.new result }
-    ensures later { D.errors device.old ≤ D.errors device.new }
+    ensures stays { StaysOffBus D.errors D.state model.old model.new device.old device.new result }
     ensures performs { PerformsOffBus D.errors D.state model.old model.new device.old device.new
         (Op.BackWrite reg value) result }
     ensures refused { OnErr (grant model.old (Op.BackWrite reg value)) (device.new ≡ device.old) }
@@ -137,67 +127,33 @@ fn sample<D: Device>(model: &mut Model, device: &mut D, reg: u32, check: bool) -
     (value, differ)
 }
 
-/// Reads a register by the backdoor.
-fn sample_register<D: Device>(model: &mut Model, device: &mut D, reg: u32) -> Event
-    requires device { IsDeviceOf model.old (D.state device.old) }
-    requires reg { reg < length model.old.chip.regs }
-    ensures device { IsDeviceOf model.new (D.state device.new) }
-    ensures parts { IsSameChip model.old model.new }
-    ensures fits { EventFits model.new result }
-    ensures later { D.errors device.old ≤ D.errors device.new }
-    ensures performs { PerformsOffBus D.errors D.state model.old model.new device.old device.new
-        (Op.BackRead reg) result }
-    ensures refused { OnErr (grant model.old (Op.BackRead reg)) (device.new ≡ device.old) }
-{
-    let op = Op::BackRead { reg };
-    match model.by_backdoor(Item::Reg(reg)) {
-        Ok(_) => {
-            let (value, differ) = sample(model, device, reg, false);
-            model.event(op, reg, End::Value { value }, differ)
-        }
-        Err(why) => model.refuse(op, reg, why),
-    }
-}
-
-/// Reads a register by the backdoor, and names the compared fields that differ from what was mirrored.
-fn check_sample<D: Device>(model: &mut Model, device: &mut D, reg: u32) -> Event
-    requires device { IsDeviceOf model.old (D.state device.old) }
-    requires reg { reg < length model.old.chip.regs }
-    ensures device { IsDeviceOf model.new (D.state device.new) }
-    ensures parts { IsSameChip model.old model.new }
-    ensures fits { EventFits model.new result }
-    ensures later { D.errors device.old ≤ D.errors device.new }
-    ensures performs { PerformsOffBus D.errors D.state model.old model.new device.old device.new
-        (Op.BackCheck reg) result }
-    ensures refused { OnErr (grant model.old (Op.BackCheck reg)) (device.new ≡ device.old) }
-{
-    let op = Op::BackCheck { reg };
-    match model.by_backdoor(Item::Reg(reg)) {
-        Ok(_) => {
-            let (value, differ) = sample(model, device, reg, true);
-            model.event(op, reg, End::Value { value }, differ)
-        }
-        Err(why) => model.refuse(op, reg, why),
-    }
-}
-
 /// Reads a register by the backdoor, with each field's declared read effect. With `check` the event names the
 /// compared fields whose bits aren't those that were mirrored before the read.
 pub fn back_read<D: Device>(model: &mut Model, device: &mut D, reg: u32, check: bool) -> Event
     requires device { IsDeviceOf model.old (D.state device.old) }
     requires reg { reg < length model.old.chip.regs }
-    ensures device { IsDeviceOf model.new (D.state device.new) }
-    ensures parts { IsSameChip model.old model.new }
-    ensures fits { EventFits model.new result }
-    ensures later { D.errors device.old ≤ D.errors device.new }
+    ensures stays { StaysOffBus D.errors D.state model.old model.new device.old device.new result }
     ensures performs { PerformsOffBus D.errors D.state model.old model.new device.old device.new
         (if check then Op.BackCheck reg else Op.BackRead reg) result }
     ensures refused { OnErr (grant model.old (Op.BackRead reg)) (device.new ≡ device.old) }
 {
+    let op = back_reading(reg, check);
+    match model.by_backdoor(Item::Reg(reg)) {
+        Ok(_) => {
+            let (value, differ) = sample(model, device, reg, check);
+            model.event(op, reg, End::Value { value }, differ)
+        }
+        Err(why) => model.refuse(op, reg, why),
+    }
+}
+
+fn back_reading(reg: u32, check: bool) -> Op
+    ensures { result ≡ (if check then Op.BackCheck reg else Op.BackRead reg) }
+{
     if check {
-        check_sample(model, device, reg)
+        Op::BackCheck { reg }
     } else {
-        sample_register(model, device, reg)
+        Op::BackRead { reg }
     }
 }
 
@@ -205,10 +161,7 @@ pub fn back_read<D: Device>(model: &mut Model, device: &mut D, reg: u32, check: 
 pub fn peek<D: Device>(model: &mut Model, device: &mut D, reg: u32) -> Event
     requires device { IsDeviceOf model.old (D.state device.old) }
     requires reg { reg < length model.old.chip.regs }
-    ensures device { IsDeviceOf model.new (D.state device.new) }
-    ensures parts { IsSameChip model.old model.new }
-    ensures fits { EventFits model.new result }
-    ensures later { D.errors device.old ≤ D.errors device.new }
+    ensures stays { StaysOffBus D.errors D.state model.old model.new device.old device.new result }
     ensures performs { PerformsOffBus D.errors D.state model.old model.new device.old device.new (Op.Peek reg) result }
     ensures unchanged { device.new ≡ device.old }
 {
@@ -227,10 +180,7 @@ pub fn peek<D: Device>(model: &mut Model, device: &mut D, reg: u32) -> Event
 pub fn poke<D: Device>(model: &mut Model, device: &mut D, reg: u32, value: u64) -> Event
     requires device { IsDeviceOf model.old (D.state device.old) }
     requires reg { reg < length model.old.chip.regs }
-    ensures device { IsDeviceOf model.new (D.state device.new) }
-    ensures parts { IsSameChip model.old model.new }
-    ensures fits { EventFits model.new result }
-    ensures later { D.errors device.old ≤ D.errors device.new }
+    ensures stays { StaysOffBus D.errors D.state model.old model.new device.old device.new result }
     ensures performs { PerformsOffBus D.errors D.state model.old model.new device.old device.new
         (Op.Poke reg value) result }
     ensures refused { OnErr (grant model.old (Op.Poke reg value)) (device.new ≡ device.old) }
@@ -251,10 +201,7 @@ pub fn poke<D: Device>(model: &mut Model, device: &mut D, reg: u32, value: u64) 
 pub fn hw<D: Device>(model: &mut Model, device: &mut D, field: u32, value: u64) -> Event
     requires device { IsDeviceOf model.old (D.state device.old) }
     requires field { field < length model.old.chip.fields }
-    ensures device { IsDeviceOf model.new (D.state device.new) }
-    ensures parts { IsSameChip model.old model.new }
-    ensures fits { EventFits model.new result }
-    ensures later { D.errors device.old ≤ D.errors device.new }
+    ensures stays { StaysOffBus D.errors D.state model.old model.new device.old device.new result }
     ensures performs { PerformsOffBus D.errors D.state model.old model.new device.old device.new
         (Op.Hw field value) result }
     ensures refused { OnErr (grant model.old (Op.Hw field value)) (device.new ≡ device.old) }
@@ -275,10 +222,7 @@ pub fn hw<D: Device>(model: &mut Model, device: &mut D, field: u32, value: u64) 
 pub fn reset<D: Device>(model: &mut Model, device: &mut D, kind: u32) -> Event
     requires device { IsDeviceOf model.old (D.state device.old) }
     requires kind { kind < length model.old.chip.kinds }
-    ensures device { IsDeviceOf model.new (D.state device.new) }
-    ensures parts { IsSameChip model.old model.new }
-    ensures fits { EventFits model.new result }
-    ensures later { D.errors device.old ≤ D.errors device.new }
+    ensures stays { StaysOffBus D.errors D.state model.old model.new device.old device.new result }
     ensures performs { PerformsOffBus D.errors D.state model.old model.new device.old device.new
         (Op.Reset kind) result }
 {

@@ -1,13 +1,10 @@
 //! Bursts over consecutive locations of a memory.
-ghost use Rattle.std.specs.Prelude.{◌≡◌, ◌+◌, ◌^◌, ◌<◌, [], ◌∷◌, map as each, length, nat_lt, IfOk, OnOk, OnErr, Ok, None, true};
+ghost use Rattle.std.specs.Prelude.{◌≡◌, ◌+◌, ◌^◌, ◌<◌, [], ◌∷◌, map as each, length, nat_lt, IfOk, OnOk, OnErr, Ok};
+ghost use Rattle.std.specs.Prelude.{None, true};
 ghost use Rattle.std.specs.List.{list_all};
-ghost use Rattle.rl_bus.specs.Causes.{HasCause};
-ghost use Rattle.rl_access.specs.Call.{scene_of};
-ghost use Rattle.rl_access.specs.Event.{EventFits};
+ghost use Rattle.rl_access.specs.Prelude.{EventFits, HasCause, HasNumbers, IsMapIn, IsReady, grant, has_end};
+ghost use Rattle.rl_access.specs.Prelude.{location_size, memory_event, only_where, quiet, register_of, scene_of};
 ghost use Rattle.rl_access.specs.HandsOver.{HandsOver};
-ghost use Rattle.rl_access.specs.Model.{IsReady};
-ghost use Rattle.rl_access.specs.Operation.{IsMapIn, HasNumbers, register_of, has_end, location_size};
-ghost use Rattle.rl_access.specs.Rules.{grant, only_where, memory_event, quiet};
 ghost use Rattle.rl_access.specs.Runs.{IsBurst, IsRun, no_tally, write_grant, writes_of, reads_of};
 ghost use Rattle.rl_access.specs.Tally.{counted, is_bus_error};
 ghost use Rattle.rl_access.specs.declared.event.End.TheVariants as end;

@@ -1,17 +1,10 @@
 //! What all accesses over the bus have in common.
-ghost use Rattle.std.specs.Prelude.{◌≡◌, ℕ, ◌<◌, ◌≤◌, ◌*◌, ◌^◌, [], map, length, All, None, true, false};
-ghost use Rattle.rl_bus.specs.Standing.{standing_at};
-ghost use Rattle.rl_bus.specs.Wire.{Fits};
-ghost use Rattle.rl_map.specs.Layout.{IsLocation, place_at};
-ghost use Rattle.rl_split.specs.Access.{IsChoice, kind_of, bus_bytes_of, ops_of};
-ghost use Rattle.rl_split.specs.Lists.{ops_in};
-ghost use Rattle.rl_model.specs.Fields.{size_of, count_of};
-ghost use Rattle.rl_access.specs.Access.{IsAccessOn, HasBytes, IsValueWithin, IsWholeTrace};
-ghost use Rattle.rl_access.specs.Event.{EventFits, ItemFits, IsEndWithin, IsTold};
-ghost use Rattle.rl_access.specs.Items.{AreItemsOf, AreSent, port_for, adapter_for, words_answered, failed_at};
-ghost use Rattle.rl_access.specs.Model.{IsReady, IsSameChip};
-ghost use Rattle.rl_access.specs.Operation.{has_end, digits_of, ends_with_value};
-ghost use Rattle.rl_access.specs.Rules.{access_ops, write_outcome, read_outcome, register_event, value_of};
+ghost use Rattle.std.specs.Prelude.{◌≡◌, ℕ, ◌<◌, ◌≤◌, ◌^◌, [], map, length, All, true, false};
+ghost use Rattle.rl_access.specs.Prelude.{AreSent, EventFits, Fits, HasBytes, IsAccessOn, IsChoice, IsEndWithin};
+ghost use Rattle.rl_access.specs.Prelude.{IsLocation, IsReady, IsSameChip, IsTold, IsValueWithin, IsWholeTrace};
+ghost use Rattle.rl_access.specs.Prelude.{ItemFits, access_ops, adapter_for, bus_bytes_of, count_of, digits_of};
+ghost use Rattle.rl_access.specs.Prelude.{ends_with_value, has_end, kind_of, ops_in, ops_of, place_at, port_for};
+ghost use Rattle.rl_access.specs.Prelude.{read_outcome, register_event, value_of, words_answered, write_outcome};
 ghost use Rattle.rl_access.specs.declared.event.End.TheVariants as end;
 
 use crate::access::Access;
@@ -72,6 +65,35 @@ pub(crate) fn send<D: Device>(
     send_all(device, adapters, which, port, words, trace);
 }
 
+/// Sends the operations of an access to a register, and gives them back. The items go to a trace, which had none.
+fn send_access<D: Device>(
+    model: &Model,
+    device: &mut D,
+    adapters: &mut Adapters,
+    access: &Access,
+    write: bool,
+    trace: &mut Trace,
+) -> Words
+    requires empty { trace.old ≡ [] }
+    requires ready { IsReady model.now (map standing adapters.old.items) (D.state device.old) }
+    requires access { IsAccessOn model.now access.now }
+    ensures words { ops_in result ≡ access_ops model.now access.now write }
+    ensures sent { AreSent (adapter_for model.now.layout access.now.place) (port_for model.now.layout access.now.place)
+        (access_ops model.now access.now write) trace.new
+        (map standing adapters.old.items) (map standing adapters.new.items)
+        (D.errors device.old) (D.errors device.new) (D.state device.old) (D.state device.new) }
+    ensures ready { IsReady model.now (map standing adapters.new.items) (D.state device.new) }
+    ensures fit { All (ItemFits model.now.layout) trace.new }
+    ensures whole { IsWholeTrace (length result) trace.new }
+{
+    let (place, chosen) = (access.place, access.chosen);
+    let value = if write { access.value } else { 0 };
+    let mut words = Words::new();
+    operations(model, place, 0, chosen, value, write, &mut words);
+    send(model, device, adapters, place, &words, trace);
+    words
+}
+
 /// The words that the items answered.
 pub(crate) fn answers_of(trace: &Trace) -> Answers
     ensures { result ≡ words_answered trace.now }
@@ -126,24 +148,7 @@ pub(crate) fn write_as<D: Device>(
     ensures parts { IsSameChip model.old model.new }
     ensures fits { EventFits model.new event.new }
 {
-    let mut words = Words::new();
-    operations(
-        model,
-        access.place,
-        0,
-        access.chosen,
-        access.value,
-        true,
-        &mut words,
-    );
-    send(
-        model,
-        device,
-        adapters,
-        access.place,
-        &words,
-        &mut event.trace,
-    );
+    send_access(model, device, adapters, access, true, &mut event.trace);
     let end = conclude_write(model, access, good, &event.trace);
     model.conclude(access.reg, end, 0, event);
 }
@@ -223,9 +228,7 @@ pub(crate) fn read<D: Device>(
     ensures parts { IsSameChip model.old model.new }
     ensures items { All (ItemFits model.old.layout) trace.new }
 {
-    let mut words = Words::new();
-    operations(model, access.place, 0, access.chosen, 0, false, &mut words);
-    send(model, device, adapters, access.place, &words, trace);
+    let words = send_access(model, device, adapters, access, false, trace);
     conclude_read(model, access, check, &words, trace)
 }
 

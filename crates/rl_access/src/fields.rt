@@ -1,10 +1,8 @@
 //! Accesses to one field, and desired values.
 ghost use Rattle.std.specs.Prelude.{◌≡◌, ◌+◌, ◌<◌, ◌≤◌, map as each, length, OnErr, true};
-ghost use Rattle.rl_access.specs.Call.{Performs, PerformsAlone, scene_of};
-ghost use Rattle.rl_access.specs.Event.{EventFits, IsEndWithin};
-ghost use Rattle.rl_access.specs.Model.{IsReady, IsSameChip};
-ghost use Rattle.rl_access.specs.Operation.{IsMapIn, field_digits, ends_with_value};
-ghost use Rattle.rl_access.specs.Rules.{grant, end_in_field, forgetting_field};
+ghost use Rattle.rl_access.specs.Prelude.{EventFits, IsEndWithin, IsMapIn, IsReady, IsSameChip, Performs};
+ghost use Rattle.rl_access.specs.Prelude.{PerformsAlone, end_in_field, ends_with_value, field_digits, forgetting_field};
+ghost use Rattle.rl_access.specs.Prelude.{grant, scene_of};
 ghost use Rattle.rl_access.specs.declared.event.Op.TheVariants as op;
 
 use crate::engine::{read, write_as};

@@ -1,15 +1,11 @@
 //! Accesses to registers over the bus.
 ghost use Rattle.std.specs.Prelude.{◌≡◌, ◌<◌, map as each, length, if◌then◌else◌, OnErr};
-ghost use Rattle.rl_access.specs.Call.{Performs, scene_of};
-ghost use Rattle.rl_access.specs.Event.{EventFits};
-ghost use Rattle.rl_access.specs.Model.{IsReady, IsSameChip};
-ghost use Rattle.rl_access.specs.Operation.{IsMapIn};
-ghost use Rattle.rl_access.specs.Rules.{grant};
+ghost use Rattle.rl_access.specs.Prelude.{EventFits, IsMapIn, IsReady, IsSameChip, Performs, grant, scene_of};
 ghost use Rattle.rl_access.specs.declared.event.Op.TheVariants as op;
 
-use crate::engine::{read_as, write_as};
 use crate::event::{End, Event, Op};
 use crate::model::Model;
+use crate::register::{read_register, write_register};
 use rl_bus::{Adapter, Adapters, Device};
 use rl_model::Item;
 
@@ -42,11 +38,8 @@ pub fn front_write<D: Device>(
         Ok(place) => place,
         Err(why) => return model.refuse(op, reg, why),
     };
-    let access = model.whole(reg, place, value);
-    model.forget(place);
-    let mut event = Event::begun(op);
-    write_as(model, device, adapters, &access, End::Done, &mut event);
-    event
+    let good = End::Done;
+    write_register(model, device, adapters, op, reg, place, value, good)
 }
 
 /// Reads a register over the bus.
@@ -76,11 +69,7 @@ pub fn front_read<D: Device>(
         Ok(place) => place,
         Err(why) => return model.refuse(op, reg, why),
     };
-    let access = model.whole_read(reg, place);
-    model.forget(place);
-    let mut event = Event::begun(op);
-    read_as(model, device, adapters, &access, false, &mut event);
-    event
+    read_register(model, device, adapters, op, reg, place, false)
 }
 
 /// Reads a register over the bus to learn its value. With `check` the event names the compared fields whose
@@ -110,11 +99,7 @@ pub fn mirror<D: Device>(
         Ok(place) => place,
         Err(why) => return model.refuse(op, reg, why),
     };
-    let access = model.whole_read(reg, place);
-    model.forget(place);
-    let mut event = Event::begun(op);
-    read_as(model, device, adapters, &access, check, &mut event);
-    event
+    read_register(model, device, adapters, op, reg, place, check)
 }
 
 fn mirroring(reg: u32, map: Option<u32>, check: bool) -> Op

@@ -1,5 +1,6 @@
 //! What holds of every operation, and of gathering. Each function does nothing; its contract is the law.
-ghost use Rattle.rl_access.specs.Laws.{BusErrorKeepsBeliefs, CheckNamesDiffering, MemoryCheckMarksAnother, NothingElseDiffers};
+ghost use Rattle.rl_access.specs.Laws.{BusErrorKeepsBeliefs, CheckNamesDiffering, MemoryCheckMarksAnother};
+ghost use Rattle.rl_access.specs.Laws.{NothingElseDiffers};
 ghost use Rattle.rl_access.specs.Observed.{WholeAccessPredicts};
 ghost use Rattle.rl_access.specs.World.{CallDoesStep, StepIsCall};
 

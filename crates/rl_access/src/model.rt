@@ -1,24 +1,13 @@
 //! A register model.
-ghost use Rattle.std.specs.Prelude.{◌≡◌, ◌+◌, ◌-◌, ◌*◌, ◌<◌, ◌≤◌, ◌^◌, length, [], true, All, Some, None, IfOk, IfSome, if◌then◌else◌};
-ghost use Rattle.rl_map.specs.Layout.{place_at};
-ghost use Rattle.rl_map.specs.Maps.{IsBuiltWith};
+ghost use Rattle.std.specs.Prelude.{◌≡◌, ◌+◌, ◌-◌, ◌*◌, ◌<◌, ◌≤◌, ◌^◌, length, IfOk, IfSome, if◌then◌else◌};
+ghost use Rattle.rl_access.specs.Prelude.{IsAccessOn, IsBuiltWith, IsFieldIn, IsMapIn, IsModel, IsNothingGathered};
+ghost use Rattle.rl_access.specs.Prelude.{IsPlaceFor, all_bytes, bytes_of_field, count_of, differ, field_alone};
+ghost use Rattle.rl_access.specs.Prelude.{field_of, field_read, field_written, first_of, forgetting, fresh, is_alone};
+ghost use Rattle.rl_access.specs.Prelude.{map_of_place, needs_update, observing, place_at, predict_raw, predict_read};
+ghost use Rattle.rl_access.specs.Prelude.{predict_write, reg_of, reset, set, size_of, update_word_of, whole};
 ghost use Rattle.rl_model.specs.declared.rows.Item.TheVariants as item;
-ghost use Rattle.rl_split.specs.Access.{all_bytes};
-ghost use Rattle.rl_split.specs.Narrow.{bytes_of_field};
-ghost use Rattle.rl_access.specs.declared.event.End.TheVariants as end;
-ghost use Rattle.rl_mirror.specs.Compared.{differ};
-ghost use Rattle.rl_model.specs.Fields.{field_of, first_of, count_of, size_of};
-ghost use Rattle.rl_mirror.specs.Prediction.{predict_write, predict_read, predict_raw, reset, set, fresh, needs_update, update_word_of};
-ghost use Rattle.rl_access.specs.Access.{IsAccessOn, IsPlaceFor, IsFieldIn};
-ghost use Rattle.rl_access.specs.Event.{EventFits, ItemFits, IsEndWithin, IsTold};
-ghost use Rattle.rl_access.specs.Gathering.{IsNothingGathered};
-ghost use Rattle.rl_access.specs.Model.{IsModel};
-ghost use Rattle.rl_access.specs.Observed.{observing};
-ghost use Rattle.rl_access.specs.Operation.{reg_of, HasNumbers, register_of, has_end, digits_of, IsMapIn};
-ghost use Rattle.rl_access.specs.Rules.{forgetting, map_of_place, register_event, memory_event, quiet, whole, field_alone, field_written, field_read, is_alone};
 
 use crate::access::Access;
-use crate::event::{End, Event, Op, Refused};
 use crate::predictor::Predictor;
 use crate::trace::TraceItem;
 use rl_map::Layout;
@@ -195,63 +184,6 @@ impl Model {
         }
     }
 
-    /// The event of an operation on a register that has ended and sent nothing.
-    pub(crate) fn event(&self, op: Op, reg: u32, end: End, differ: u64) -> Event
-        requires reg { reg < length self.now.chip.regs }
-        requires register { register_of self.now.chip op ≡ Some reg }
-        requires numbers { HasNumbers self.now.chip (length self.now.layout.maps) op }
-        requires ends { has_end op end ≡ true }
-        requires within { IsEndWithin (digits_of self.now.chip op) end }
-        requires differ { differ < 2 ^ count_of self.now.chip reg }
-        ensures event { result ≡ register_event op reg [] (record { end = end; model = self.now; differ = differ }) }
-        ensures fits { EventFits self.now result }
-    {
-        let mut event = Event::begun(op);
-        self.conclude(reg, end, differ, &mut event);
-        event
-    }
-
-    /// Ends the event of an operation on a register, whose items it has.
-    pub(crate) fn conclude(&self, reg: u32, end: End, differ: u64, event: &mut Event)
-        requires reg { reg < length self.now.chip.regs }
-        requires register { register_of self.now.chip event.old.op ≡ Some reg }
-        requires numbers { HasNumbers self.now.chip (length self.now.layout.maps) event.old.op }
-        requires ends { has_end event.old.op end ≡ true }
-        requires within { IsEndWithin (digits_of self.now.chip event.old.op) end }
-        requires items { All (ItemFits self.now.layout) event.old.trace }
-        requires differ { differ < 2 ^ count_of self.now.chip reg }
-        ensures event { event.new ≡
-            register_event event.old.op reg event.old.trace
-            (record { end = end; model = self.now; differ = differ }) }
-        ensures fits { EventFits self.now event.new }
-    {
-        event.end = end;
-        event.mirrored = self.mirror.mirrored(reg);
-        event.desired = self.mirror.desired(reg);
-        event.differ = differ;
-    }
-
-    /// The event of an operation on a register that was refused.
-    pub(crate) fn refuse(&self, op: Op, reg: u32, why: Refused) -> Event
-        requires told { IsTold self.now op reg }
-        requires ends { has_end op (end.Refused why) ≡ true }
-        ensures event { result ≡ register_event op reg [] (quiet (end.Refused why) self.now) }
-        ensures fits { EventFits self.now result }
-    {
-        self.event(op, reg, End::Refused { why }, 0)
-    }
-
-    /// The event of an operation on a memory that was refused.
-    pub(crate) fn refuse_memory(&self, op: Op, why: Refused) -> Event
-        requires register { register_of self.now.chip op ≡ None }
-        requires numbers { HasNumbers self.now.chip (length self.now.layout.maps) op }
-        requires ends { has_end op (end.Refused why) ≡ true }
-        ensures event { result ≡ memory_event op [] (quiet (end.Refused why) self.now) }
-        ensures fits { EventFits self.now result }
-    {
-        self.memory_event(op, End::Refused { why })
-    }
-
     /// An access to a whole register at a place.
     pub(crate) fn whole(&self, reg: u32, place: u32, value: u64) -> Access
         requires reg { reg < length self.now.chip.regs }
@@ -387,38 +319,6 @@ impl Model {
         ensures digits { 16 ^ (2 * size_of self.now.chip reg) ≡ 256 ^ (place_at self.now.layout place).bytes }
     {
         self.whole(reg, place, 0)
-    }
-
-    /// Ends the event of an operation on a memory, whose items it has.
-    pub(crate) fn conclude_memory(&self, end: End, differ: u64, event: &mut Event)
-        requires register { register_of self.now.chip event.old.op ≡ None }
-        requires numbers { HasNumbers self.now.chip (length self.now.layout.maps) event.old.op }
-        requires ends { has_end event.old.op end ≡ true }
-        requires within { IsEndWithin (digits_of self.now.chip event.old.op) end }
-        requires items { All (ItemFits self.now.layout) event.old.trace }
-        requires differ { differ ≤ 1 }
-        ensures event { event.new ≡
-            memory_event event.old.op event.old.trace (record { end = end; model = self.now; differ = differ }) }
-        ensures fits { EventFits self.now event.new }
-    {
-        event.end = end;
-        event.mirrored = 0;
-        event.desired = 0;
-        event.differ = differ;
-    }
-
-    /// The event of an operation on no register that has ended and sent nothing.
-    pub(crate) fn memory_event(&self, op: Op, end: End) -> Event
-        requires register { register_of self.now.chip op ≡ None }
-        requires numbers { HasNumbers self.now.chip (length self.now.layout.maps) op }
-        requires ends { has_end op end ≡ true }
-        requires within { IsEndWithin (digits_of self.now.chip op) end }
-        ensures event { result ≡ memory_event op [] (record { end = end; model = self.now; differ = 0 }) }
-        ensures fits { EventFits self.now result }
-    {
-        let mut event = Event::begun(op);
-        self.conclude_memory(end, 0, &mut event);
-        event
     }
 }
 

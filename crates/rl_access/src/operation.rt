@@ -1,10 +1,7 @@
 //! One operation of any kind, by the call that does it.
 ghost use Rattle.std.specs.Prelude.{◌≡◌, length, map as each, OnErr, true};
-ghost use Rattle.rl_access.specs.Call.{Performs, PerformsOffBus, scene_of};
-ghost use Rattle.rl_access.specs.Event.{EventFits};
-ghost use Rattle.rl_access.specs.Model.{IsDeviceOf, IsReady, IsSameChip};
-ghost use Rattle.rl_access.specs.Operation.{HasNumbers, is_single, is_off_bus};
-ghost use Rattle.rl_access.specs.Rules.{grant};
+ghost use Rattle.rl_access.specs.Prelude.{EventFits, HasNumbers, IsDeviceOf, IsReady, IsSameChip, Performs};
+ghost use Rattle.rl_access.specs.Prelude.{PerformsOffBus, grant, is_off_bus, is_on_memory, is_single, scene_of};
 
 use crate::backdoor::{back_read, back_write, hw, peek, poke, reset};
 use crate::event::{Event, Op};
@@ -46,6 +43,35 @@ pub fn perform<D: Device>(
         }
         Op::FieldRead { field, map } => field_read(model, device, adapters, field, map),
         Op::Update { reg, map } => update(model, device, adapters, reg, map),
+        Op::MemWrite { .. } | Op::MemRead { .. } | Op::MemCheck { .. } => {
+            perform_on_memory(model, device, adapters, op)
+        }
+        Op::OtherWrite { reg, map, value } => {
+            other_write(model, device, adapters, reg, map, value)
+        }
+        Op::OtherRead { reg, map } => other_read(model, device, adapters, reg, map),
+        _ => perform_off_bus(model, device, op),
+    }
+}
+
+// The same for one that goes to a location of a memory over the bus.
+fn perform_on_memory<D: Device>(
+    model: &mut Model,
+    device: &mut D,
+    adapters: &mut Adapters,
+    op: Op,
+) -> Event
+    requires ready { IsReady model.old (each standing adapters.old.items) (D.state device.old) }
+    requires numbers { HasNumbers model.old.chip (length model.old.layout.maps) op }
+    requires on_memory { is_on_memory op ≡ true }
+    ensures model { model.new ≡ model.old }
+    ensures ready { IsReady model.new (each standing adapters.new.items) (D.state device.new) }
+    ensures fits { EventFits model.new result }
+    ensures performs { Performs (scene_of standing D.errors D.state model.old adapters.old.items device.old)
+        (scene_of standing D.errors D.state model.new adapters.new.items device.new) op result }
+    ensures refused { OnErr (grant model.old op) (device.new ≡ device.old) }
+{
+    match op {
         Op::MemWrite {
             mem,
             map,
@@ -59,15 +85,11 @@ pub fn perform<D: Device>(
             index,
             value,
         } => mem_check(model, device, adapters, mem, map, index, value),
-        Op::OtherWrite { reg, map, value } => {
-            other_write(model, device, adapters, reg, map, value)
-        }
-        Op::OtherRead { reg, map } => other_read(model, device, adapters, reg, map),
-        _ => perform_off_bus(model, device, op),
+        _ => unreachable!(),
     }
 }
 
-// The same for an operation that goes round the bus.
+// The same for one that goes round the bus.
 fn perform_off_bus<D: Device>(model: &mut Model, device: &mut D, op: Op) -> Event
     requires device { IsDeviceOf model.old (D.state device.old) }
     requires numbers { HasNumbers model.old.chip (length model.old.layout.maps) op }

@@ -1,12 +1,13 @@
 //! The predictor that watches the bus.
 ghost use Rattle.std.specs.Prelude.{◌≡◌, ◌<◌, ◌≤◌, ◌&&◌, length, slice_set, IfOk, IfSome};
-ghost use Rattle.rl_map.specs.Layout.{IsLocation, place_at, words_of};
-ghost use Rattle.rl_map.specs.Maps.{IsBuiltWith};
+ghost use Rattle.rl_access.specs.Prelude.{IsBuiltWith, IsChoice, IsLocation, IsNothingGathered, all_bytes, place_at};
+ghost use Rattle.rl_map.specs.Layout.{words_of};
 ghost use Rattle.rl_mirror.specs.Mirror.{IsMirrorOf};
 ghost use Rattle.rl_mirror.specs.Reachable.{IsReachable};
-ghost use Rattle.rl_split.specs.Access.{IsChoice, all_bytes};
-ghost use Rattle.rl_access.specs.Gathering.{IsPredictorOf, IsNothingGathered, IsRegisterPlace, no_words, gathered_at, is_next, same_direction, emptied, appended, gathered_with};
-ghost use Rattle.rl_access.specs.Observed.{as_register, watched_place, is_whole, value_gathered, reg_in, predicted, taken_in, observed};
+ghost use Rattle.rl_access.specs.Gathering.{IsPredictorOf, IsRegisterPlace, no_words, gathered_at, is_next};
+ghost use Rattle.rl_access.specs.Gathering.{same_direction, emptied, appended, gathered_with};
+ghost use Rattle.rl_access.specs.Observed.{as_register, watched_place, is_whole, value_gathered, reg_in, predicted};
+ghost use Rattle.rl_access.specs.Observed.{taken_in, observed};
 
 use crate::model::all_bytes;
 use rl_bus::{Answer, BusOp};

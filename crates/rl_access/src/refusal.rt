@@ -1,23 +1,10 @@
 //! Whether an operation is refused: by the first cause that holds, before it sends anything.
 ghost use Rattle.std.specs.Prelude.{◌≡◌, ◌<◌, ◌≤◌, ◌^◌, ◌+◌, length, nat_lt, Ok, IfOk, IfSome, Some};
+ghost use Rattle.rl_access.specs.Prelude.{IsPlaceFor, field_of, memory_size, only_where};
 ghost use Rattle.rl_map.specs.Layout.{place_of, has_right};
 ghost use Rattle.rl_model.specs.Chip.{HasItem};
-ghost use Rattle.rl_model.specs.Fields.{field_of};
-ghost use Rattle.rl_access.specs.Access.{IsPlaceFor};
-ghost use Rattle.rl_access.specs.Rules.{
-  only_where,
-  placed,
-  with_right,
-  with_watch,
-  by_backdoor,
-  fitting,
-  fitting_field,
-  at_location,
-  at_locations,
-  writable,
-  item_size,
-  memory_size,
-};
+ghost use Rattle.rl_access.specs.Rules.{placed, with_right, with_watch, by_backdoor, fitting, fitting_field};
+ghost use Rattle.rl_access.specs.Rules.{at_location, at_locations, writable, item_size};
 
 use crate::event::Refused;
 use crate::model::Model;

@@ -1,17 +1,13 @@
 //! Bringing a register to its desired value.
 ghost use Rattle.std.specs.Prelude.{◌≡◌, ◌<◌, map as each, length, OnErr};
+ghost use Rattle.rl_access.specs.Prelude.{EventFits, IsMapIn, IsModel, IsReady, IsSameChip, Performs, grant, scene_of};
 ghost use Rattle.rl_mirror.specs.Reachable.{UpdateBrings};
-ghost use Rattle.rl_access.specs.Call.{Performs, scene_of};
-ghost use Rattle.rl_access.specs.Event.{EventFits};
-ghost use Rattle.rl_access.specs.Model.{IsModel, IsReady, IsSameChip};
-ghost use Rattle.rl_access.specs.Operation.{IsMapIn};
-ghost use Rattle.rl_access.specs.Rules.{grant};
 ghost use Rattle.rl_access.specs.Wishes.{BringsWishes};
 ghost use Rattle.rl_access.specs.declared.event.Op.TheVariants as op;
 
-use crate::engine::write_as;
 use crate::event::{End, Event, Op};
 use crate::model::Model;
+use crate::register::write_register;
 use rl_bus::{Adapter, Adapters, Device};
 use rl_mirror::law::update_brings;
 use rl_model::Item;
@@ -51,18 +47,8 @@ pub fn update<D: Device>(
     }
     law_of_update(model);
     let word = model.update_word_of(reg);
-    let access = model.whole(reg, place, word);
-    model.forget(place);
-    let mut event = Event::begun(op);
-    write_as(
-        model,
-        device,
-        adapters,
-        &access,
-        End::Sent { word },
-        &mut event,
-    );
-    event
+    let good = End::Sent { word };
+    write_register(model, device, adapters, op, reg, place, word, good)
 }
 
 // It does nothing; its contract is the law of update, at this model.

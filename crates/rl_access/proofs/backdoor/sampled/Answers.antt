@@ -17,4 +17,5 @@ returns-clause-found g c = record {
 }
 
 pub returns-clause-digits : goal.returns-clause-digits
-returns-clause-digits g c = below_digits (size_of c.args.model.now.chip c.args.reg) c.owned.result (subst (λ (h : ChipData). c.owned.result < 256 ^ size_of h c.args.reg) c.chip.ensures.chip c.owned.ensures.fits)
+returns-clause-digits g c = below_digits (size_of c.args.model.now.chip c.args.reg) c.owned.result (subst (λ (h : ChipData). c.owned.result < 256 ^ size_of h c.args.reg) c.chip.ensures.chip
+    c.owned.ensures.fits)

@@ -21,7 +21,11 @@ loop-index-preserved g c =
         later = omega (arith, before.going.later, told.cause.later);
         stays = told.steady ∙ before.going.stays;
       };
-      running = running_next g.R.Recorder.takes g.R.Recorder.breaks c.args.rec.now c.loop-index.rec c.hand_over.new.rec _ _ _ _ _ _ _ c.loop-index.tally (record { model = done.new.model; event = done.result })
+      running = running_next g.R.Recorder.takes g.R.Recorder.breaks c.args.rec.now c.loop-index.rec c.hand_over.new.rec _ _ _ _ _ _ _ c.loop-index.tally (record {
+        model = done.new.model;
+        event =
+            done.result;
+      })
           before.running (reads_left c.args.mem c.args.map c.loop-index.index (c.args.first + c.args.count) c.loop-index-test.true) (record { performs = done.ensures.performs; model = refl })
           (sym c.is_bus_error.ensures ∙ c.if-is_bus_error.false) told.taken c.hand_over.new.tally told.counted;
     }
@@ -29,8 +33,12 @@ loop-index-preserved g c =
 pub returns-in_err-hand_over-clause-run : goal.returns-in_err-hand_over-clause-run
 returns-in_err-hand_over-clause-run g c =
     let done = c.mem_read-event in
-    run_broke g.R.Recorder.takes g.R.Recorder.breaks c.from_residual.result c.args.rec.now c.loop-index.rec c.hand_over.new.rec _ _ _ _ _ _ _ c.loop-index.tally (record { model = done.new.model; event = done.result })
-    c.from_residual.ensures.0 c.loop-index.invariant.running (reads_left c.args.mem c.args.map c.loop-index.index (c.args.first + c.args.count) c.loop-index-test.true) (record { performs = done.ensures.performs; model = refl })
+    run_broke g.R.Recorder.takes g.R.Recorder.breaks c.from_residual.result c.args.rec.now c.loop-index.rec c.hand_over.new.rec _ _ _ _ _ _ _ c.loop-index.tally (record {
+      model = done.new.model;
+      event = done.result;
+    })
+    c.from_residual.ensures.0 c.loop-index.invariant.running (reads_left c.args.mem c.args.map c.loop-index.index (c.args.first + c.args.count) c.loop-index-test.true)
+    (record { performs = done.ensures.performs; model = refl })
     c.in_err-hand_over.ensures.broken
 
 pub returns-then-is_bus_error-clause-run : goal.returns-then-is_bus_error-clause-run
@@ -38,7 +46,10 @@ returns-then-is_bus_error-clause-run g c =
     let done = c.mem_read-event in
     let told = c.in_ok-hand_over.ensures in
     run_stopped g.R.Recorder.takes g.R.Recorder.breaks c.args.rec.now c.loop-index.rec c.hand_over.new.rec _ _ _ _ _ _ _ c.loop-index.tally (record { model = done.new.model; event = done.result })
-    c.loop-index.invariant.running (reads_left c.args.mem c.args.map c.loop-index.index (c.args.first + c.args.count) c.loop-index-test.true) (record { performs = done.ensures.performs; model = refl })
+    c.loop-index.invariant.running (reads_left c.args.mem c.args.map c.loop-index.index (c.args.first + c.args.count) c.loop-index-test.true) (record {
+      performs = done.ensures.performs;
+      model = refl;
+    })
     (sym c.is_bus_error.ensures ∙ c.if-is_bus_error.true) told.taken c.hand_over.new.tally told.counted
 
 pub returns-clause-run : goal.returns-clause-run

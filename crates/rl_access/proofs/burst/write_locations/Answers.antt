@@ -22,7 +22,10 @@ loop-k-preserved g c =
         later = omega (arith, before.going.later, told.cause.later);
         stays = told.steady ∙ before.going.stays;
       };
-      running = running_next g.R.Recorder.takes g.R.Recorder.breaks c.args.rec.now c.loop-k.rec c.hand_over.new.rec _ _ _ _ _ _ _ c.loop-k.tally (record { model = done.new.model; event = done.result })
+      running = running_next g.R.Recorder.takes g.R.Recorder.breaks c.args.rec.now c.loop-k.rec c.hand_over.new.rec _ _ _ _ _ _ _ c.loop-k.tally (record {
+        model = done.new.model;
+        event = done.result;
+      })
           before.running (writes_left c.args.mem c.args.map c.args.first c.loop-k.k c.args.values.now 0 c.loop-k-test.true) (record { performs = done.ensures.performs; model = refl })
           (sym c.is_bus_error.ensures ∙ c.if-is_bus_error.false) told.taken c.hand_over.new.tally told.counted;
     }
@@ -30,8 +33,15 @@ loop-k-preserved g c =
 pub returns-in_err-hand_over-clause-run : goal.returns-in_err-hand_over-clause-run
 returns-in_err-hand_over-clause-run g c =
     let done = c.mem_write-event in
-    run_broke g.R.Recorder.takes g.R.Recorder.breaks c.from_residual.result c.args.rec.now c.loop-k.rec c.hand_over.new.rec _ _ _ _ _ _ _ c.loop-k.tally (record { model = done.new.model; event = done.result })
-    c.from_residual.ensures.0 c.loop-k.invariant.running (writes_left c.args.mem c.args.map c.args.first c.loop-k.k c.args.values.now 0 c.loop-k-test.true) (record { performs = done.ensures.performs; model = refl })
+    run_broke g.R.Recorder.takes g.R.Recorder.breaks c.from_residual.result c.args.rec.now c.loop-k.rec c.hand_over.new.rec _ _ _ _ _ _ _ c.loop-k.tally (record {
+      model = done.new.model;
+      event =
+          done.result;
+    })
+    c.from_residual.ensures.0 c.loop-k.invariant.running (writes_left c.args.mem c.args.map c.args.first c.loop-k.k c.args.values.now 0 c.loop-k-test.true) (record {
+      performs = done.ensures.performs;
+      model = refl;
+    })
     c.in_err-hand_over.ensures.broken
 
 pub returns-then-is_bus_error-clause-run : goal.returns-then-is_bus_error-clause-run

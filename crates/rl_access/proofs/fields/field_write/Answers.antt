@@ -15,11 +15,20 @@ returns-clause-performs g c =
     let m = c.args.model.now in
     let reg = item.Reg (reg_of m.chip c.args.field) in
     let asked = op.FieldWrite c.args.field c.args.map c.args.value in
-    let there : c.place_of-place.result ≡ place_of m.layout reg c.args.map = field_place_is m c.args.field c.field-reg.result c.args.map c.place_of-place.result c.field-reg.ensures.field c.place_of-place.ensures.place in
+    let there : c.place_of-place.result ≡ place_of m.layout reg c.args.map = field_place_is m c.args.field c.field-reg.result c.args.map c.place_of-place.result c.field-reg.ensures.field
+    c.place_of-place.ensures.place in
     let way : c.way.result ≡ way m reg c.args.map true = way_is m reg c.args.map c.place_of-place.result true c.way.result there c.way.ensures.grant in
     let granted : grant m asked ≡ Ok c.in-Ok.place = sym (c.fitting_field.ensures.grant ∙ ap (fitting_field m c.args.field c.args.value) way) ∙ c.in-Ok.is in
-    write_performs m c.forget_around.new.model c.write_as.new.model asked (op.FieldWrite c.args.field c.map_used.result c.args.value) c.in-Ok.place c.field_written-access.result end.Done c.write_as.new.event granted
-    (ap (λ u. op.FieldWrite c.args.field u c.args.value) (map_is m reg c.args.map c.place_of-place.result c.map_used.result there c.map_used.ensures.map))
-    (is_field_write m c.args.field c.args.map c.args.value c.in-Ok.place c.forget_around.new.model c.field_written-access.result c.forget_around.ensures c.field_written-access.ensures.access)
-    c.write_as.ensures.sent
-    (c.write_as.ensures.event ∙ ap (λ (x : Event). register_event x.op c.field_written-access.result.reg c.write_as.new.event.trace (write_outcome c.forget_around.new.model end.Done c.field_written-access.result c.write_as.new.event.trace)) c.begun-event.ensures) c.write_as.ensures.model
+    let entry = c.forget_around.new.model in
+    let access = c.field_written-access.result in
+    let event = c.write_as.new.event in
+    let place = c.in-Ok.place in
+    let used = map_is m reg c.args.map c.place_of-place.result c.map_used.result there c.map_used.ensures.map in
+    write_performs m entry c.write_as.new.model asked (op.FieldWrite c.args.field c.map_used.result c.args.value) place access end.Done event granted
+    (ap (λ u. op.FieldWrite c.args.field u c.args.value) used)
+    (is_field_write m c.args.field c.args.map c.args.value place entry access c.forget_around.ensures c.field_written-access.ensures.access) (record {
+      sent = c.write_as.ensures.sent;
+      event_is = c.write_as.ensures.event ∙ ap (λ (x : Event). register_event x.op access.reg event.trace
+          (write_outcome entry end.Done access event.trace)) c.begun-event.ensures;
+      model = c.write_as.ensures.model;
+    })

@@ -16,4 +16,9 @@ returns-clause-performs g c =
     let used = map_is m mem c.args.map c.place_of-place.result c.map_used.result c.place_of-place.ensures.place c.map_used.ensures.map in
     let done = c.read_location-end in
     mem_check_performs m _ _ _ _ _ _ mem c.args.index c.args.value c.in-Ok.place c.args.map c.map_used.result done.result c.differs.result done.new.trace _
-    granted used done.ensures.sent done.ensures.end c.differs.ensures.value (c.conclude_memory.ensures.event ∙ ap (λ (x : Event). let o : Outcome = record { end = done.result; model = m; differ = c.differs.result } in memory_event x.op done.new.trace o) c.begun-event.ensures)
+    granted used done.ensures.sent done.ensures.end c.differs.ensures.value (c.conclude_memory.ensures.event ∙ ap (λ (x : Event). let o : Outcome = record {
+      end = done.result;
+      model = m;
+      differ =
+          c.differs.result;
+    } in memory_event x.op done.new.trace o) c.begun-event.ensures)

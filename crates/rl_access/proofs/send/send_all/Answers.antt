@@ -13,19 +13,22 @@ send_one-item-requires-clause-fits g c = still_fits c.op.result c.loop-k.invaria
 pub returns-then-item-clause-sent : goal.returns-then-item-clause-sent
 returns-then-item-clause-sent g c =
     let sent = c.send_one-item.ensures in
-    let next = next_of _ c.args.adapters.now.items c.loop-k.adapters.items c.send_one-item.new.adapters.items c.requires.in_range c.op.ensures sent.item sent.small sent.adapters sent.kinds sent.cause sent.step in
+    let next = next_of _ c.args.adapters.now.items c.loop-k.adapters.items c.send_one-item.new.adapters.items c.requires.in_range c.op.ensures sent.item sent.small sent.adapters sent.kinds sent.cause
+    sent.step in
     rw c.push.ensures (under_way_failed c.loop-k.invariant next c.if-item.true).sent
 
 pub returns-then-item-clause-small : goal.returns-then-item-clause-small
 returns-then-item-clause-small g c =
     let sent = c.send_one-item.ensures in
-    let next = next_of _ c.args.adapters.now.items c.loop-k.adapters.items c.send_one-item.new.adapters.items c.requires.in_range c.op.ensures sent.item sent.small sent.adapters sent.kinds sent.cause sent.step in
+    let next = next_of _ c.args.adapters.now.items c.loop-k.adapters.items c.send_one-item.new.adapters.items c.requires.in_range c.op.ensures sent.item sent.small sent.adapters sent.kinds sent.cause
+    sent.step in
     rw c.push.ensures (under_way_failed c.loop-k.invariant next c.if-item.true).small
 
 pub loop-k-preserved : goal.loop-k-preserved
 loop-k-preserved g c =
     let sent = c.send_one-item.ensures in
-    let next = next_of _ c.args.adapters.now.items c.loop-k.adapters.items c.send_one-item.new.adapters.items c.requires.in_range c.op.ensures sent.item sent.small sent.adapters sent.kinds sent.cause sent.step in
+    let next = next_of _ c.args.adapters.now.items c.loop-k.adapters.items c.send_one-item.new.adapters.items c.requires.in_range c.op.ensures sent.item sent.small sent.adapters sent.kinds sent.cause
+    sent.step in
     rw c.push.ensures (under_way_next c.loop-k.invariant next c.if-item.false)
 
 pub returns-clause-sent : goal.returns-clause-sent

@@ -4,8 +4,10 @@ use Rattle.rl_mirror.specs.Prediction.{needs_update}
 use Rattle.rl_access.specs.declared.event.End.TheVariants as end
 use Rattle.rl_access.specs.declared.event.Event.{Event}
 use Rattle.rl_access.specs.declared.event.Op.TheVariants as op
-use Rattle.rl_access.specs.Rules.{grant, named, way, register_event, write_outcome}
-use Rattle.rl_access.proofs.OverBus.{way_is, map_is, is_update, is_no_update}
+use Rattle.rl_access.specs.Rules.{forgetting, grant, named, way, whole}
+use Rattle.rl_model.specs.Fields.{size_of}
+use Rattle.rl_access.proofs.Bytes.{below_digits}
+use Rattle.rl_access.proofs.OverBus.{way_is, map_is, whole_update, is_no_update}
 use Rattle.rl_access.proofs.Wished.{brings_wishes, nothing_brought}
 use Rattle.rl_access.proofs.Performed.{write_performs, quiet_performs}
 use Rattle.rl_access.proofs.updates.update.Goals as goal
@@ -15,31 +17,44 @@ returns-clause-performs g c =
     let m = c.args.model.now in
     let reg = item.Reg c.args.reg in
     let asked = op.Update c.args.reg c.args.map in
-    let way : c.way.result ≡ way m reg c.args.map true = way_is m reg c.args.map c.place_of-place.result true c.way.result c.place_of-place.ensures.place c.way.ensures.grant in
+    let found = c.place_of-place.ensures.place in
+    let way : c.way.result ≡ way m reg c.args.map true =
+    way_is m reg c.args.map c.place_of-place.result true c.way.result found c.way.ensures.grant in
     let granted : grant m asked ≡ Ok c.in-Ok.place = sym way ∙ c.in-Ok.is in
+    let used = map_is m reg c.args.map c.place_of-place.result c.map_used.result found c.map_used.ensures.map in
     let needed : needs_update m.mirror c.args.reg ≡ true = sym c.needs_update.ensures ∙ c.if-not-needs_update.false in
-    write_performs m c.forget.new.self c.write_as.new.model asked (op.Update c.args.reg c.map_used.result) c.in-Ok.place c.whole-access.result (end.Sent c.update_word_of-word.result) c.write_as.new.event granted
-    (ap (λ u. op.Update c.args.reg u) (map_is m reg c.args.map c.place_of-place.result c.map_used.result c.place_of-place.ensures.place c.map_used.ensures.map))
-    (is_update m c.args.reg c.args.map c.in-Ok.place c.forget.new.self c.whole-access.result c.update_word_of-word.result needed c.forget.ensures c.update_word_of-word.ensures.word c.whole-access.ensures.access)
-    c.write_as.ensures.sent
-    (c.write_as.ensures.event ∙ ap (λ (x : Event). register_event x.op c.whole-access.result.reg c.write_as.new.event.trace (write_outcome c.forget.new.self (end.Sent c.update_word_of-word.result) c.whole-access.result c.write_as.new.event.trace)) c.begun-event.ensures) c.write_as.ensures.model
+    let place = c.in-Ok.place in
+    let word = c.update_word_of-word.result in
+    write_performs m (forgetting m place) _ asked (op.Update c.args.reg c.map_used.result) place (whole m c.args.reg place word) (end.Sent word) _
+    granted (ap (λ u. op.Update c.args.reg u) used)
+    (whole_update m c.args.reg c.args.map place word needed c.update_word_of-word.ensures.word) c.write_register.ensures.written
 
 pub returns-then-not-needs_update-clause-performs : goal.returns-then-not-needs_update-clause-performs
 returns-then-not-needs_update-clause-performs g c =
     let m = c.args.model.now in
     let reg = item.Reg c.args.reg in
     let asked = op.Update c.args.reg c.args.map in
-    let way : c.way.result ≡ way m reg c.args.map true = way_is m reg c.args.map c.place_of-place.result true c.way.result c.place_of-place.ensures.place c.way.ensures.grant in
+    let found = c.place_of-place.ensures.place in
+    let way : c.way.result ≡ way m reg c.args.map true =
+    way_is m reg c.args.map c.place_of-place.result true c.way.result found c.way.ensures.grant in
     let granted : grant m asked ≡ Ok c.in-Ok.place = sym way ∙ c.in-Ok.is in
     let nothing : needs_update m.mirror c.args.reg ≡ false = sym c.needs_update.ensures ∙ c.if-not-needs_update.true in
-    let names : op.Update c.args.reg c.map_used.result ≡ named m asked = ap (λ u. op.Update c.args.reg u) (map_is m reg c.args.map c.place_of-place.result c.map_used.result c.place_of-place.ensures.place c.map_used.ensures.map) in
-    quiet_performs m m asked (op.Update c.args.reg c.map_used.result) c.in-Ok.place c.args.reg c.args.reg end.Nothing [] c.event.result _ (g.D.Device.errors c.args.device.now) (g.D.Device.state c.args.device.now) granted names
+    let used = map_is m reg c.args.map c.place_of-place.result c.map_used.result found c.map_used.ensures.map in
+    let names : op.Update c.args.reg c.map_used.result ≡ named m asked = ap (λ u. op.Update c.args.reg u) used in
+    quiet_performs m m asked (op.Update c.args.reg c.map_used.result) c.in-Ok.place c.args.reg c.args.reg end.Nothing [] c.event.result _
+    (g.D.Device.errors c.args.device.now) (g.D.Device.state c.args.device.now) granted names
     (is_no_update m c.args.reg c.args.map c.in-Ok.place nothing) refl refl c.event.ensures.event
 
 pub returns-clause-wishes : goal.returns-clause-wishes
 returns-clause-wishes g c =
-    brings_wishes c.args.model.now c.forget.new.self c.write_as.new.model c.args.reg c.in-Ok.place c.update_word_of-word.result c.whole-access.result c.write_as.new.event.trace c.write_as.new.event.end c.law_of_update.ensures.known c.law_of_update.ensures.law c.update_word_of-word.ensures.word c.forget.ensures c.whole-access.ensures.access
-    (ap (λ (e : Event). e.end) c.write_as.ensures.event) c.write_as.ensures.model
+    brings_wishes c.args.model.now _ c.args.reg c.in-Ok.place c.update_word_of-word.result c.write_register.result.trace c.write_register.result.end
+    c.law_of_update.ensures.known c.law_of_update.ensures.law c.update_word_of-word.ensures.word
+    (ap (λ (e : Event). e.end) c.write_register.ensures.written.event_is) c.write_register.ensures.written.model
 
 pub returns-then-not-needs_update-clause-wishes : goal.returns-then-not-needs_update-clause-wishes
-returns-then-not-needs_update-clause-wishes g c = nothing_brought c.args.model.now c.args.model.now c.args.reg c.event.result.end (ap (λ (e : Event). e.end) c.event.ensures.event)
+returns-then-not-needs_update-clause-wishes g c =
+    nothing_brought c.args.model.now c.args.model.now c.args.reg c.event.result.end (ap (λ (e : Event). e.end) c.event.ensures.event)
+
+pub write_register-requires-clause-within : goal.write_register-requires-clause-within
+write_register-requires-clause-within g c =
+    below_digits (size_of c.args.model.now.chip c.args.reg) c.update_word_of-word.result c.update_word_of-word.ensures.fits

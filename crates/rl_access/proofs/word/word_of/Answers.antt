@@ -14,7 +14,8 @@ op-requires c =
     let l = c.args.model.now.layout in
     let place = c.args.place in
     let words = c.operations.new.words in
-    let chosen : c.bytes_of_place-chosen.result ≡ all_bytes (place_at l place).bytes = c.bytes_of_place-chosen.ensures.bytes ∙ ap (λ (x : LayoutData). all_bytes (place_at x place).bytes) c.layout.ensures.layout in
+    let chosen : c.bytes_of_place-chosen.result ≡ all_bytes (place_at l place).bytes = c.bytes_of_place-chosen.ensures.bytes ∙ ap (λ (x : LayoutData). all_bytes (place_at x place).bytes)
+    c.layout.ensures.layout in
     let count : length words ≡ length (words_of l place 0) =
     sym (length-map words (λ (p : BusOp × ℕ). p.0))
     ∙ ap length c.operations.ensures.ops
@@ -27,4 +28,5 @@ pub returns-clause-fits : goal.returns-clause-fits
 returns-clause-fits c = at_number (Fits (kind_of c.args.model.now.layout c.args.place)) (ops_in c.operations.new.words) c.args.k c.op.result c.operations.ensures.fits c.op.ensures
 
 pub returns-clause-bytes : goal.returns-clause-bytes
-returns-clause-bytes c = at_number (λ (o : BusOp). o.bytes ≡ bus_bytes_of c.args.model.now.layout c.args.place) (ops_in c.operations.new.words) c.args.k c.op.result c.operations.ensures.bytes c.op.ensures
+returns-clause-bytes c = at_number (λ (o : BusOp). o.bytes ≡ bus_bytes_of c.args.model.now.layout c.args.place) (ops_in c.operations.new.words) c.args.k c.op.result c.operations.ensures.bytes
+    c.op.ensures

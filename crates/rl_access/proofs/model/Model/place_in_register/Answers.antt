@@ -11,7 +11,8 @@ overflow_sub-result c =
     let m = c.args.self.now in
     let ok : IsModel m = subst IsModel c.self.view_is c.self.invariant in
     let value = subst (λ (n : ModelData). option_map (λ r. r.first) (slice_get n.chip.regs c.field.result.reg) ≡ Some c.first_field.result) c.self.view_is c.first_field.ensures.value in
-    let same : first_of m.chip (reg_of m.chip c.args.field) ≡ c.first_field.result = ap (λ f. first_of m.chip f.reg) (sym c.field.ensures.field) ∙ first_is m.chip c.field.result.reg c.first_field.result value in
+    let same : first_of m.chip (reg_of m.chip c.args.field) ≡ c.first_field.result = ap (λ f. first_of m.chip f.reg) (sym c.field.ensures.field) ∙ first_is m.chip c.field.result.reg
+    c.first_field.result value in
     let s = seated m.chip c.args.field ok.chip c.requires in
     omega (arith, s.from, same)
 
@@ -20,6 +21,7 @@ returns-clause-few c =
     let m = c.args.self.now in
     let ok : IsModel m = subst IsModel c.self.view_is c.self.invariant in
     let value = subst (λ (n : ModelData). option_map (λ r. r.first) (slice_get n.chip.regs c.field.result.reg) ≡ Some c.first_field.result) c.self.view_is c.first_field.ensures.value in
-    let same : first_of m.chip (reg_of m.chip c.args.field) ≡ c.first_field.result = ap (λ f. first_of m.chip f.reg) (sym c.field.ensures.field) ∙ first_is m.chip c.field.result.reg c.first_field.result value in
+    let same : first_of m.chip (reg_of m.chip c.args.field) ≡ c.first_field.result = ap (λ f. first_of m.chip f.reg) (sym c.field.ensures.field) ∙ first_is m.chip c.field.result.reg
+    c.first_field.result value in
     let s = seated m.chip c.args.field ok.chip c.requires in
     omega (arith, s.from, s.few, same)

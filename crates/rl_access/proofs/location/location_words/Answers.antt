@@ -3,7 +3,7 @@ use Rattle.rl_model.specs.Rows.{ChipData}
 use Rattle.rl_model.specs.Chip.{bytes_of}
 use Rattle.rl_model.specs.declared.rows.Item.TheVariants as item
 use Rattle.rl_access.proofs.Locations.{location_chosen}
-use Rattle.rl_access.proofs.memory.location_words.Goals as goal
+use Rattle.rl_access.proofs.location.location_words.Goals as goal
 
 pub operations-requires-clause-chosen : goal.operations-requires-clause-chosen
 operations-requires-clause-chosen c =

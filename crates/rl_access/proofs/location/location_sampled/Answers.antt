@@ -4,7 +4,7 @@ use Rattle.rl_model.specs.Chip.{bytes_of}
 use Rattle.rl_model.specs.declared.rows.Item.TheVariants as item
 use Rattle.rl_access.proofs.Tables.{location_there}
 use Rattle.rl_access.proofs.Locations.{taken_digits, taken_low}
-use Rattle.rl_access.proofs.memory.location_sampled.Goals as goal
+use Rattle.rl_access.proofs.location.location_sampled.Goals as goal
 
 pub peek-bits-requires : goal.peek-bits-requires
 peek-bits-requires g c = record { cell = location_there c.args.model.now _ c.args.mem c.args.index c.requires.device c.requires.mem c.requires.index }

@@ -5,7 +5,7 @@ use Rattle.rl_model.specs.declared.rows.Item.TheVariants as item
 use Rattle.rl_map.specs.Layout.{LayoutData, place_at}
 use Rattle.rl_split.specs.Access.{IsChoice}
 use Rattle.rl_access.proofs.Locations.{location_chosen, location_digits}
-use Rattle.rl_access.proofs.memory.location_value.Goals as goal
+use Rattle.rl_access.proofs.location.location_value.Goals as goal
 
 pub join-requires-clause-chosen : goal.join-requires-clause-chosen
 join-requires-clause-chosen c =

@@ -1,7 +1,7 @@
 use Rattle.std.proofs.Common.{arith}
 use Rattle.rl_access.specs.Operation.{location_size}
 use Rattle.rl_access.proofs.Bytes.{zero_fits}
-use Rattle.rl_access.proofs.memory.read_location.Goals as goal
+use Rattle.rl_access.proofs.location.read_location.Goals as goal
 
 pub location_words-requires-clause-value : goal.location_words-requires-clause-value
 location_words-requires-clause-value g c = zero_fits 256 (location_size c.args.model.now.chip c.args.mem) (omega arith)

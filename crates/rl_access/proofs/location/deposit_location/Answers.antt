@@ -1,6 +1,6 @@
 use Rattle.rl_bus.specs.declared.table.Cell.TheVariants.{Loc}
 use Rattle.rl_access.proofs.Tables.{location_there, device_poked}
-use Rattle.rl_access.proofs.memory.deposit_location.Goals as goal
+use Rattle.rl_access.proofs.location.deposit_location.Goals as goal
 
 pub poke-requires : goal.poke-requires
 poke-requires g c = record { cell = location_there c.args.model.now _ c.args.mem c.args.index c.requires.device c.requires.mem c.requires.index }

@@ -1,0 +1,100 @@
+//! The events of operations that have ended.
+ghost use Rattle.std.specs.Prelude.{◌≡◌, ◌<◌, ◌≤◌, ◌^◌, length, [], true, All, Some, None};
+ghost use Rattle.rl_access.specs.Prelude.{EventFits, HasNumbers, IsEndWithin, IsTold, ItemFits, count_of};
+ghost use Rattle.rl_access.specs.Prelude.{digits_of, has_end, memory_event, quiet, register_event, register_of};
+ghost use Rattle.rl_access.specs.declared.event.End.TheVariants as end;
+
+use crate::event::{End, Event, Op, Refused};
+use crate::model::Model;
+
+impl Model {
+    /// The event of an operation on a register that has ended and sent nothing.
+    pub(crate) fn event(&self, op: Op, reg: u32, end: End, differ: u64) -> Event
+        requires reg { reg < length self.now.chip.regs }
+        requires register { register_of self.now.chip op ≡ Some reg }
+        requires numbers { HasNumbers self.now.chip (length self.now.layout.maps) op }
+        requires ends { has_end op end ≡ true }
+        requires within { IsEndWithin (digits_of self.now.chip op) end }
+        requires differ { differ < 2 ^ count_of self.now.chip reg }
+        ensures event { result ≡ register_event op reg [] (record { end = end; model = self.now; differ = differ }) }
+        ensures fits { EventFits self.now result }
+    {
+        let mut event = Event::begun(op);
+        self.conclude(reg, end, differ, &mut event);
+        event
+    }
+
+    /// Ends the event of an operation on a register, whose items it has.
+    pub(crate) fn conclude(&self, reg: u32, end: End, differ: u64, event: &mut Event)
+        requires reg { reg < length self.now.chip.regs }
+        requires register { register_of self.now.chip event.old.op ≡ Some reg }
+        requires numbers { HasNumbers self.now.chip (length self.now.layout.maps) event.old.op }
+        requires ends { has_end event.old.op end ≡ true }
+        requires within { IsEndWithin (digits_of self.now.chip event.old.op) end }
+        requires items { All (ItemFits self.now.layout) event.old.trace }
+        requires differ { differ < 2 ^ count_of self.now.chip reg }
+        ensures event { event.new ≡
+            register_event event.old.op reg event.old.trace
+            (record { end = end; model = self.now; differ = differ }) }
+        ensures fits { EventFits self.now event.new }
+    {
+        event.end = end;
+        let mirror = self.mirror();
+        event.mirrored = mirror.mirrored(reg);
+        event.desired = mirror.desired(reg);
+        event.differ = differ;
+    }
+
+    /// The event of an operation on a register that was refused.
+    pub(crate) fn refuse(&self, op: Op, reg: u32, why: Refused) -> Event
+        requires told { IsTold self.now op reg }
+        requires ends { has_end op (end.Refused why) ≡ true }
+        ensures event { result ≡ register_event op reg [] (quiet (end.Refused why) self.now) }
+        ensures fits { EventFits self.now result }
+    {
+        self.event(op, reg, End::Refused { why }, 0)
+    }
+
+    /// The event of an operation on a memory that was refused.
+    pub(crate) fn refuse_memory(&self, op: Op, why: Refused) -> Event
+        requires register { register_of self.now.chip op ≡ None }
+        requires numbers { HasNumbers self.now.chip (length self.now.layout.maps) op }
+        requires ends { has_end op (end.Refused why) ≡ true }
+        ensures event { result ≡ memory_event op [] (quiet (end.Refused why) self.now) }
+        ensures fits { EventFits self.now result }
+    {
+        self.memory_event(op, End::Refused { why })
+    }
+
+    /// Ends the event of an operation on a memory, whose items it has.
+    pub(crate) fn conclude_memory(&self, end: End, differ: u64, event: &mut Event)
+        requires register { register_of self.now.chip event.old.op ≡ None }
+        requires numbers { HasNumbers self.now.chip (length self.now.layout.maps) event.old.op }
+        requires ends { has_end event.old.op end ≡ true }
+        requires within { IsEndWithin (digits_of self.now.chip event.old.op) end }
+        requires items { All (ItemFits self.now.layout) event.old.trace }
+        requires differ { differ ≤ 1 }
+        ensures event { event.new ≡
+            memory_event event.old.op event.old.trace (record { end = end; model = self.now; differ = differ }) }
+        ensures fits { EventFits self.now event.new }
+    {
+        event.end = end;
+        event.mirrored = 0;
+        event.desired = 0;
+        event.differ = differ;
+    }
+
+    /// The event of an operation on no register that has ended and sent nothing.
+    pub(crate) fn memory_event(&self, op: Op, end: End) -> Event
+        requires register { register_of self.now.chip op ≡ None }
+        requires numbers { HasNumbers self.now.chip (length self.now.layout.maps) op }
+        requires ends { has_end op end ≡ true }
+        requires within { IsEndWithin (digits_of self.now.chip op) end }
+        ensures event { result ≡ memory_event op [] (record { end = end; model = self.now; differ = 0 }) }
+        ensures fits { EventFits self.now result }
+    {
+        let mut event = Event::begun(op);
+        self.conclude_memory(end, 0, &mut event);
+        event
+    }
+}
