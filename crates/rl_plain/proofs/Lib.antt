@@ -31,3 +31,4 @@ pub mod Believed
 pub mod Masters
 pub mod BrokenCourses
 pub mod Alike
+pub mod EachCall

@@ -60,11 +60,11 @@ IsBurstName _ = ⊥
 
 -- ---- what an operation that sends nothing leaves and tells
 
-record IsToldAlone (s new : Scene) (op : Op) (event : Event) (place sampled : ℕ) : Type 0 where
-  model : new.model ≡ (outcome s.model op place sampled []).model
-  event_is : event ≡ event_of s.model (named s.model op) [] (outcome s.model op place sampled [])
+pub record IsToldAlone (s new : Scene) (op : Op) (event : Event) (place sampled : ℕ) : Type 0 where
+  pub model : new.model ≡ (outcome s.model op place sampled []).model
+  pub event_is : event ≡ event_of s.model (named s.model op) [] (outcome s.model op place sampled [])
 
-told_alone : (s new : Scene) (op : Op) (event : Event) (place : ℕ) (d : State) → (done : IsDone s new op place event) → s.device ≡ Some d → sends s.model op place ≡ [] → IsToldAlone s new op event place done.sampled
+pub told_alone : (s new : Scene) (op : Op) (event : Event) (place : ℕ) (d : State) → (done : IsDone s new op place event) → s.device ≡ Some d → sends s.model op place ≡ [] → IsToldAlone s new op event place done.sampled
 told_alone s new op event place d done told none =
     let trace : event.trace ≡ [] = done.answers d told ∙ ap (items_of _ d (port_for s.model.layout place)) none in
     record {
@@ -102,7 +102,7 @@ set_is : (c : ChipData) (field value : ℕ) (p : Machine) → set c field value 
 unfolding set
 set_is c field value p = refl
 
-reset_is : (c : ChipData) (kind : ℕ) (p : Machine) → reset c kind (mirror_of p) ≡ mirror_of (with_reset c kind p)
+pub reset_is : (c : ChipData) (kind : ℕ) (p : Machine) → reset c kind (mirror_of p) ≡ mirror_of (with_reset c kind p)
 unfolding reset
 reset_is c kind p = refl
 

@@ -6,3 +6,4 @@ pub mod Masters
 pub mod Alike
 pub mod Courses
 pub mod Calls
+pub mod EachCall

@@ -7,6 +7,7 @@ ghost use Rattle.rl_plain.specs.Believed.{AccessIsBelieved, DepositIsBelieved, W
 ghost use Rattle.rl_plain.specs.Calls.{BrokenPlanIsPlain, BrokenRunIsPlain};
 ghost use Rattle.rl_plain.specs.Calls.{BurstIsPlain, BurstsHaveNumbers, CallIsPlain, CallKeepsModel, FirstOnesArePlain};
 ghost use Rattle.rl_plain.specs.Calls.{PlanIsPlain, PlansHaveNumbers, RefusedIsPlain, RegisterCallIsPlain, RunIsPlain};
+ghost use Rattle.rl_plain.specs.EachCall.{EachCallKeepsAgreement, NewOnesAgreeWithMemories, ResetIsPlain};
 ghost use Rattle.rl_plain.specs.Masters.{OtherStepsCommute};
 ghost use Rattle.rl_plain.specs.OneStep.{AccessIsStep};
 
@@ -144,4 +145,21 @@ pub fn broken_plan_is_plain()
 /// and which accesses are narrow: layouts that are alike in these give the same steps and events.
 pub fn alike_layouts_step_alike()
     ensures { AlikeLayoutsStepAlike }
+{}
+
+/// Where a device and a model agree and the device has each location of the memories, any call leaves them so: an
+/// access to a memory finds what it asks for after whatever came before it.
+pub fn each_call_keeps_agreement()
+    ensures { EachCallKeepsAgreement }
+{}
+
+/// A new device without flaws and a new model of the same chip and layout begin so, where no field is volatile.
+pub fn new_ones_agree_with_memories()
+    ensures { NewOnesAgreeWithMemories }
+{}
+
+/// What is believed after a reset, and what its event tells, is the plain machine's, whatever the kind is and whether
+/// or not the model is sound.
+pub fn reset_is_plain()
+    ensures { ResetIsPlain }
 {}
