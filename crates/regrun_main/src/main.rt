@@ -5,7 +5,7 @@ use regrun::{Status, regrun};
 use rl_apb::ApbAdapter;
 use rl_bus::{Adapters, PlainAdapter};
 use rl_report::{StdSink, StdSource};
-use std::alloc::AllocError;
+use std::alloc::{AllocError, Global};
 use std::process::ExitCode;
 use std::rt::Env;
 use std::{env, io};
@@ -19,12 +19,8 @@ fn words(rt: &(impl Env + AllocGlobal)) -> io::Result<Vec<String>> {
     Ok(words)
 }
 
-// Runs what the words ask for, with a plain and an APB adapter for the root maps.
-fn run(
-    rt: &(impl Env + AllocGlobal + Input + Print),
-    words: &[String],
-) -> Result<Status, AllocError> {
-    let alloc = rt.alloc();
+// The adapters for root maps: one for a plain bus, one for APB.
+fn adapters(alloc: Global) -> Result<Adapters, AllocError> {
     let plain = PlainAdapter {
         next_tag: 0,
         trail: 0,
@@ -36,9 +32,18 @@ fn run(
     let mut adapters: Adapters = Vec::new(alloc);
     adapters.push(Box::new(alloc, plain)?)?;
     adapters.push(Box::new(alloc, apb)?)?;
+    Ok(adapters)
+}
+
+// Runs what the words ask for, from standard input to standard output.
+fn run(
+    rt: &(impl Env + AllocGlobal + Input + Print),
+    words: &[String],
+) -> Result<Status, AllocError> {
+    let mut adapters = adapters(rt.alloc())?;
     let mut source = StdSource::new(rt.reader());
     let mut sink = StdSink::new(io::writer(rt));
-    Ok(regrun(alloc, words, &mut source, &mut sink, &mut adapters))
+    Ok(regrun(rt.alloc(), words, &mut source, &mut sink, &mut adapters))
 }
 
 fn status(rt: &(impl Env + AllocGlobal + Input + Print)) -> Status {
