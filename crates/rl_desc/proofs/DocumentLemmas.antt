@@ -19,11 +19,3 @@ document_of-none bytes refused =
       | inl text ↦ rw text (refused (IsUtf8-from_is_utf8 bytes text))
       | inr other ↦ rw other
     ]
-
-pub Reads-ok : {Y : Type 0} (r : Result Y DescFault) (fault : Option DescFault) (y : Y) → Reads (λ x. x) r fault y → IfOk r (λ x. (fault ≡ None) × (x ≡ y))
-Reads-ok (Ok x) fault y h = h
-Reads-ok (Err e) fault y h = tt
-
-pub Reads-err : {Y : Type 0} (r : Result Y DescFault) (fault : Option DescFault) (y : Y) → Reads (λ x. x) r fault y → IfErr r (λ e. e ≢ Memory → fault ≡ Some e)
-Reads-err (Ok x) fault y h = tt
-Reads-err (Err e) fault y h = h

@@ -34,13 +34,6 @@ too_many chip layout all row part rest flaws so_far many =
     let fault : flaws_fault chip layout row (part ∷ rest) ≡ Some (TooManyFlaws row) = rw over in
     sym so_far.fault ∙ fault
 
-pub bad_here : (chip : ChipData) (layout : LayoutData) (all : List FlawPart) (row : ℕ) (part : FlawPart) (rest : List FlawPart) (flaws : List Flaw)
-    → Goes chip layout all row (part ∷ rest) flaws → row < 256 → flaw_of chip layout part ≡ None → flaws_fault chip layout 0 all ≡ Some (BadFlaw row)
-bad_here chip layout all row part rest flaws so_far few is =
-    let under : nat_le 256 row ≡ false = grind (arith, nat_tests) in
-    let fault : flaws_fault chip layout row (part ∷ rest) ≡ Some (BadFlaw row) = rw (under, is) in
-    sym so_far.fault ∙ fault
-
 -- what fits 64 bits is below 2 to any greater power
 pub below_power : (value width : ℕ) → 64 ≤ width → value < 2 ^ 64 → true ≡ nat_lt value (2 ^ width)
 below_power value width wide small =

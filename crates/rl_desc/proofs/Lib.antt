@@ -3,6 +3,6 @@ mod FlawLemmas
 mod Places
 mod PolicyLemmas
 mod RowLemmas
-mod StepLemmas
-mod ThereLemmas
+pub mod StepLemmas
+pub mod ThereLemmas
 mod ValueLemmas

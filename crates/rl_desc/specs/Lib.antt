@@ -9,3 +9,4 @@ pub mod Columns
 pub mod Reading
 pub mod Flaws
 pub mod Described
+pub mod Prelude

@@ -18,5 +18,10 @@ impl Model for Document {
 
     ghost Value = { DocumentData };
 
-    ghost view = { λ d. record { parts = d.parts; maps = d.maps.items; places = d.places.items; flaws = d.flaws.items } };
+    ghost view = { λ d. record {
+      parts = d.parts;
+      maps = d.maps.items;
+      places = d.places.items;
+      flaws = d.flaws.items;
+    } };
 }

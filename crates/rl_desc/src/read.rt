@@ -1,9 +1,11 @@
 //! Reading the rows of a description.
-ghost use Rattle.std.specs.Prelude.{◌≡◌};
+ghost use Rattle.std.specs.Prelude.{◌≡◌, codes};
 ghost use Rattle.toml.specs.View.{table_view};
-ghost use Rattle.rl_desc.specs.Refusals.{Reads};
-ghost use Rattle.rl_desc.specs.Columns.{column_fault, flaw_columns};
-ghost use Rattle.rl_desc.specs.Reading.{document_fault, document_data, is_writable, counts_words, is_explicit, flaw_as};
+ghost use Rattle.rl_desc.specs.Prelude.{Reads, document_fault, document_data, column_fault, flaw_columns, flaw_as};
+ghost use Rattle.rl_desc.specs.Prelude.{scope_fault, scope_of, reg_fault, reg_of, field_fault, field_of, mem_fault};
+ghost use Rattle.rl_desc.specs.Prelude.{mem_of, map_fault, map_of, place_fault, place_of, flaw_fault, flaw_of};
+ghost use Rattle.rl_desc.specs.Prelude.{is_writable, counts_words, is_explicit, at_spot, optional, held_or, text};
+ghost use Rattle.rl_desc.specs.declared.key.Key.TheVariants as Key;
 
 use crate::document::Document;
 use crate::fault::{DescFault, Rows};
@@ -58,8 +60,6 @@ pub(crate) fn read_document(alloc: Global, table: &Table) -> Result<Document, De
 }
 
 impl Described for ScopePart {
-    ghost use Rattle.rl_desc.specs.Reading.{scope_fault, scope_of};
-
     ghost fault = { scope_fault };
 
     ghost data_of = { scope_of };
@@ -79,8 +79,6 @@ impl Described for ScopePart {
 }
 
 impl Described for RegPart {
-    ghost use Rattle.rl_desc.specs.Reading.{reg_fault, reg_of};
-
     ghost fault = { reg_fault };
 
     ghost data_of = { reg_of };
@@ -118,8 +116,6 @@ impl Described for RegPart {
 }
 
 impl Described for FieldPart {
-    ghost use Rattle.rl_desc.specs.Reading.{field_fault, field_of};
-
     ghost fault = { field_fault };
 
     ghost data_of = { field_of };
@@ -173,8 +169,6 @@ impl Access {
 }
 
 impl Described for MemPart {
-    ghost use Rattle.rl_desc.specs.Reading.{mem_fault, mem_of};
-
     ghost fault = { mem_fault };
 
     ghost data_of = { mem_of };
@@ -235,9 +229,19 @@ impl Predict {
     }
 }
 
-impl Described for MapNode {
-    ghost use Rattle.rl_desc.specs.Reading.{map_fault, map_of};
+/// The adapter that a map names, or the plain one.
+fn adapter(row: &Row<'_>) -> Result<Name, DescFault>
+    ensures { Reads (λ name. name) result
+        (at_spot row.now.spot (optional text Key.Adapter (table_view row.now.table.now)))
+        (held_or (codes "plain") text Key.Adapter (table_view row.now.table.now)) }
+{
+    match row.optional::<Name>(Key::Adapter)? {
+        Some(adapter) => Ok(adapter),
+        None => Ok(Name::of(Vec::from_slice(row.alloc, b"plain")?)),
+    }
+}
 
+impl Described for MapNode {
     ghost fault = { map_fault };
 
     ghost data_of = { map_of };
@@ -259,39 +263,27 @@ impl Described for MapNode {
             Key::Adapter,
             Key::Predict,
         ])?;
-        let name = row.required(Key::Name)?;
-        let bytes = row.required(Key::Bytes)?;
-        let kind = row.optional_word(Key::Endian)?.unwrap_or(Kind::Little);
-        let addressing = row
-            .optional_word(Key::Addressing)?
-            .unwrap_or(Addressing::Byte);
-        let base = row.optional(Key::Base)?.unwrap_or(0);
-        let parent = row.optional(Key::Parent)?;
-        let offset = row.optional(Key::Offset)?.unwrap_or(0);
-        let adapter = match row.optional::<Name>(Key::Adapter)? {
-            Some(adapter) => adapter,
-            None => Name::of(Vec::from_slice(alloc, b"plain")?),
-        };
-        let predict = row
-            .optional_word(Key::Predict)?
-            .unwrap_or(Predict::Implicit);
         Ok(MapNode {
-            name,
-            base,
-            bytes,
-            kind,
-            word: addressing.counts_words(),
-            parent,
-            offset,
-            adapter,
-            explicit: predict.is_explicit(),
+            name: row.required(Key::Name)?,
+            bytes: row.required(Key::Bytes)?,
+            kind: row.optional_word(Key::Endian)?.unwrap_or(Kind::Little),
+            word: row
+                .optional_word(Key::Addressing)?
+                .unwrap_or(Addressing::Byte)
+                .counts_words(),
+            base: row.optional(Key::Base)?.unwrap_or(0),
+            parent: row.optional(Key::Parent)?,
+            offset: row.optional(Key::Offset)?.unwrap_or(0),
+            adapter: adapter(&row)?,
+            explicit: row
+                .optional_word(Key::Predict)?
+                .unwrap_or(Predict::Implicit)
+                .is_explicit(),
         })
     }
 }
 
 impl Described for PlacePart {
-    ghost use Rattle.rl_desc.specs.Reading.{place_fault, place_of};
-
     ghost fault = { place_fault };
 
     ghost data_of = { place_of };
@@ -315,8 +307,6 @@ impl Described for PlacePart {
 }
 
 impl Described for FlawPart {
-    ghost use Rattle.rl_desc.specs.Reading.{flaw_fault, flaw_of};
-
     ghost fault = { flaw_fault };
 
     ghost data_of = { flaw_of };

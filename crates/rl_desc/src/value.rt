@@ -1,13 +1,13 @@
 //! What a key may hold.
-ghost use Rattle.std.specs.Prelude.{◌≡◌, List, map, if◌then◌else◌, Err};
+ghost use Rattle.std.specs.Prelude.{◌≡◌, Bool, ℕ, List, map, if◌then◌else◌, Err};
 ghost use Rattle.toml.specs.Data.{Data, Members};
 ghost use Rattle.toml.specs.View.{view, items_view, table_view};
+ghost use Rattle.rl_model.specs.declared.parts.ResetPart.{ResetPart};
+ghost use Rattle.rl_model.specs.declared.sets.Skip.{Skip};
 ghost use Rattle.rl_desc.specs.declared.key.Key.{Key};
 ghost use Rattle.rl_desc.specs.declared.fault.DescCause.TheVariants.{WrongType, BadValue};
-ghost use Rattle.rl_desc.specs.Shapes.{Shape, text, truth, number, word, tables, exclusions, resets, are_tables, are_texts};
-ghost use Rattle.rl_desc.specs.Shapes.{excluded, may_be_numbers, may_be_number, kinds, hard_reset, tables_of};
-ghost use Rattle.rl_desc.specs.Words.{skip};
-ghost use Rattle.rl_desc.specs.Refusals.{ReadsAs};
+ghost use Rattle.rl_desc.specs.Prelude.{ReadsAs, Shape, text, truth, number, word, tables, exclusions, resets, skip};
+ghost use Rattle.rl_desc.specs.Prelude.{excluded, are_tables, are_texts, may_be_numbers, kinds, hard_reset, tables_of};
 
 use crate::fault::{DescCause, DescFault};
 use crate::key::Key;
@@ -59,8 +59,6 @@ pub(crate) trait Held<'a>: Sized {
 }
 
 impl<'a> Held<'a> for Name {
-    ghost use Rattle.std.specs.Prelude.{List, ℕ};
-
     ghost Seen = { List ℕ };
 
     ghost seen = { λ n. n };
@@ -78,8 +76,6 @@ impl<'a> Held<'a> for Name {
 }
 
 impl<'a> Held<'a> for bool {
-    ghost use Rattle.std.specs.Prelude.{Bool};
-
     ghost Seen = { Bool };
 
     ghost seen = { λ b. b };
@@ -92,8 +88,6 @@ impl<'a> Held<'a> for bool {
 }
 
 impl<'a> Held<'a> for u64 {
-    ghost use Rattle.std.specs.Prelude.{ℕ};
-
     ghost Seen = { ℕ };
 
     ghost seen = { λ n. n };
@@ -135,9 +129,6 @@ impl<'a, W: Word> Held<'a> for Listed<W> {
 }
 
 impl<'a> Held<'a> for &'a [Value] {
-    ghost use Rattle.std.specs.Prelude.{List};
-    ghost use Rattle.toml.specs.Data.{Members};
-
     ghost Seen = { List Members };
 
     ghost seen = { λ rows. tables_of (items_view rows.now) };
@@ -164,8 +155,6 @@ fn are_tables(items: &[Value]) -> bool
 }
 
 impl<'a> Held<'a> for Skip {
-    ghost use Rattle.rl_model.specs.declared.sets.Skip.{Skip};
-
     ghost Seen = { Skip };
 
     ghost seen = { λ s. s };
@@ -203,9 +192,6 @@ fn excluded(items: &[Value], at: At) -> Result<Skip, DescFault>
 }
 
 impl<'a> Held<'a> for Vec<ResetPart> {
-    ghost use Rattle.std.specs.Prelude.{List};
-    ghost use Rattle.rl_model.specs.declared.parts.ResetPart.{ResetPart};
-
     ghost Seen = { List ResetPart };
 
     ghost seen = { λ resets. resets.items };

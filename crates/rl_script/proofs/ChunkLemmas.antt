@@ -29,11 +29,6 @@ last_kept xs h =
     let e : drop (n - 16 - 16) (drop 16 xs) ≡ drop j (drop (n - 16) xs) = drop-drop (n - 16 - 16) 16 xs ∙ ap (λ (k : ℕ). drop k xs) (sym same) ∙ sym (drop-drop j (n - 16) xs) in
     rw (length-drop 16 xs, e) (ascii_behind j (drop (n - 16) xs) h)
 
-pub last_is_all : (xs : List ℕ) → length xs < 16 → EndsAscii xs → list_all is_ascii xs ≡ true
-last_is_all xs short h =
-    let none : length xs - 16 ≡ 0 = omega arith in
-    subst (λ (k : ℕ). list_all is_ascii (drop k xs) ≡ true) none h
-
 pub last_fails : (xs : List ℕ) (k : ℕ) → list_all is_ascii (drop k xs) ≡ false → list_all is_ascii xs ≡ false
 last_fails xs k h = in_two k xs ∙ ap (λ (b : Bool). list_all is_ascii (take k xs) && b) h ∙ no (list_all is_ascii (take k xs))
   where

@@ -6,7 +6,8 @@ use Rattle.rl_script.specs.declared.command.Item.{Item}
 use Rattle.rl_script.specs.declared.command.Item.TheVariants as items
 use Rattle.rl_script.specs.Commands.{line_of, may_count}
 use Rattle.rl_script.specs.Names.{is_name, is_path}
-use Rattle.rl_script.specs.Spelling.{item_words, numbers_in, map_in, words_of_line, is_burst_write, IsLine, HasGoodCount}
+use Rattle.rl_script.specs.Spelling.{item_words, numbers_in, map_in, words_of_line, IsLine, HasGoodCount}
+use Rattle.rl_script.specs.Bursts.{is_burst_write}
 use Rattle.rl_script.proofs.AgainLemmas.{and_parts}
 
 -- its spelling has the numbers and the map that the command has

@@ -16,7 +16,8 @@ use Rattle.rl_script.specs.declared.line.Sequence.{Sequence}
 use Rattle.rl_script.specs.declared.line.Sequence.TheVariants as sequence
 use Rattle.rl_script.specs.Commands.{item_name, sequence_name}
 use Rattle.rl_script.specs.Names.{is_name, is_dot, is_path, is_in_name, begins_name}
-use Rattle.rl_script.specs.Spelling.{spaced, joined, map_words, item_words, block_word, words_of_line, spelling, is_burst_write, IsItem, IsLine}
+use Rattle.rl_script.specs.Spelling.{spaced, joined, map_words, item_words, block_word, words_of_line, spelling, IsItem, IsLine}
+use Rattle.rl_script.specs.Bursts.{is_burst_write}
 use Rattle.rl_script.proofs.AgainLemmas.{and_parts}
 use Rattle.rl_script.proofs.TextLemmas.{spaced-append}
 

@@ -26,6 +26,3 @@ pub use names::{Ident, IdentRef, Path, PathRef};
 pub use read::{read_line, read_line_ref};
 pub use values::Values;
 pub use write::write_line;
-
-#[cfg(test)]
-mod tests;

@@ -1,7 +1,8 @@
 //! Names, and paths of names.
-ghost use Rattle.std.specs.Prelude.{◌≡◌, ◌≤◌, not, length};
+ghost use Rattle.std.specs.Prelude.{◌≡◌, ◌≤◌, ℕ, not, if◌then◌else◌, List, length, Some, None, IsTrue, IfOk};
 ghost use Rattle.std.specs.List.{list_all, position_or_len};
 ghost use Rattle.rl_script.specs.Names as spec;
+ghost use Rattle.rl_script.specs.Names.{is_path, is_name};
 
 use std::alloc::{AllocError, Global};
 use std::marker::Model;
@@ -15,9 +16,6 @@ pub struct Path {
 }
 
 impl Model for Path {
-    ghost use Rattle.std.specs.Prelude.{List, ℕ, IsTrue};
-    ghost use Rattle.rl_script.specs.Names.{is_path};
-
     ghost Value = { List ℕ };
 
     ghost view = { λ p. p.text.items };
@@ -26,9 +24,6 @@ impl Model for Path {
 }
 
 impl Path {
-    ghost use Rattle.std.specs.Prelude.{◌≡◌, if◌then◌else◌, Some, None, IsTrue};
-    ghost use Rattle.rl_script.specs.Names.{is_path};
-
     /// The path that a text is, where it is one.
     pub fn of(text: Vec<u8>) -> Option<Path>
         ensures { result ≡ (if is_path text.items then Some text.items else None) }
@@ -56,9 +51,6 @@ pub struct Ident {
 }
 
 impl Model for Ident {
-    ghost use Rattle.std.specs.Prelude.{List, ℕ, IsTrue};
-    ghost use Rattle.rl_script.specs.Names.{is_name};
-
     ghost Value = { List ℕ };
 
     ghost view = { λ n. n.text.items };
@@ -67,9 +59,6 @@ impl Model for Ident {
 }
 
 impl Ident {
-    ghost use Rattle.std.specs.Prelude.{◌≡◌, if◌then◌else◌, Some, None, IsTrue};
-    ghost use Rattle.rl_script.specs.Names.{is_name};
-
     /// The name that a text is, where it is one.
     pub fn of(text: Vec<u8>) -> Option<Ident>
         ensures { result ≡ (if is_name text.items then Some text.items else None) }
@@ -97,9 +86,6 @@ pub struct PathRef<'a> {
 }
 
 impl<'a> Model for PathRef<'a> {
-    ghost use Rattle.std.specs.Prelude.{List, ℕ, IsTrue};
-    ghost use Rattle.rl_script.specs.Names.{is_path};
-
     ghost Value = { List ℕ };
 
     ghost view = { λ p. p.text.now };
@@ -108,9 +94,6 @@ impl<'a> Model for PathRef<'a> {
 }
 
 impl<'a> PathRef<'a> {
-    ghost use Rattle.std.specs.Prelude.{◌≡◌, if◌then◌else◌, Some, None, IsTrue, IfOk};
-    ghost use Rattle.rl_script.specs.Names.{is_path};
-
     /// The path that a text is, where it is one.
     pub fn of(text: &'a [u8]) -> Option<PathRef<'a>>
         ensures { result ≡ (if is_path text.now then Some text.now else None) }
@@ -147,9 +130,6 @@ pub struct IdentRef<'a> {
 }
 
 impl<'a> Model for IdentRef<'a> {
-    ghost use Rattle.std.specs.Prelude.{List, ℕ, IsTrue};
-    ghost use Rattle.rl_script.specs.Names.{is_name};
-
     ghost Value = { List ℕ };
 
     ghost view = { λ n. n.text.now };
@@ -158,9 +138,6 @@ impl<'a> Model for IdentRef<'a> {
 }
 
 impl<'a> IdentRef<'a> {
-    ghost use Rattle.std.specs.Prelude.{◌≡◌, if◌then◌else◌, Some, None, IsTrue, IfOk};
-    ghost use Rattle.rl_script.specs.Names.{is_name};
-
     /// The name that a text is, where it is one.
     pub fn of(text: &'a [u8]) -> Option<IdentRef<'a>>
         ensures { result ≡ (if is_name text.now then Some text.now else None) }

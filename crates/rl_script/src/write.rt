@@ -14,15 +14,9 @@ use std::alloc::{AllocError, Global};
 
 /// Writes a line in its canonical spelling: single spaces, no comment, each number as `0x` and
 /// lower-case digits with no zero in front, the map last. A blank line is the empty text.
+#[tactic(auto, unfolding(crate::specs::Spelling::spelling))]
 pub fn write_line(alloc: Global, line: &Line) -> Result<Vec<u8>, AllocError>
     requires { MayBeWritten line.now }
-    ensures { IfOk result (λ text. text.items ≡ spelling line.now) }
-{
-    spelling_of(alloc, line)
-}
-
-#[tactic(auto, unfolding(crate::specs::Spelling::spelling))]
-pub(crate) fn spelling_of(alloc: Global, line: &Line) -> Result<Vec<u8>, AllocError>
     ensures { IfOk result (λ text. text.items ≡ spelling line.now) }
 {
     let mut out = Vec::new(alloc);

