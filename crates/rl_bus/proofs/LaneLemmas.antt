@@ -1,5 +1,6 @@
 -- The lanes of a bus word.
-use Rattle.std.proofs.Common.{◌≡◌, ℕ, zero, suc, ◌+◌, ◌-◌, ◌*◌, ◌/◌, ◌%◌, ◌<◌, Bool, true, false, ◌&&◌, ◌||◌, cond, eqb, ltb, Option, Some, None, is_some, refl, ap, ◌∙◌, subst, arith, add-one, eqb-true}
+use Rattle.std.proofs.Common.{◌≡◌, ℕ, zero, suc, ◌+◌, ◌-◌, ◌*◌, ◌/◌, ◌%◌, ◌<◌, Bool, true, false, ◌&&◌, ◌||◌, cond, eqb}
+use Rattle.std.proofs.Common.{ltb, Option, Some, None, is_some, refl, ap, ◌∙◌, subst, arith, add-one, eqb-true}
 use Rattle.std.specs.Prelude.{slice_index}
 use Rattle.std.proofs.lemmas.Bool.Decides.{nat_tests}
 use Rattle.rl_policy.specs.Bits.{bit, is_within, put_bit, from_bits}
@@ -21,7 +22,8 @@ unfolding lane_below
 found_lane zero s j l e = absurd cc
 found_lane (suc k) s j l e = by (bit s.enabled k) (eqb (slice_index s.bytes k) j) refl refl e (found_lane k s j l)
   where
-    by : (a t : Bool) → bit s.enabled k ≡ a → eqb (slice_index s.bytes k) j ≡ t → cond (a && t) (Some k) (lane_below k s j) ≡ Some l → (lane_below k s j ≡ Some l → (l < k) × ((bit s.enabled l ≡ true) × (slice_index s.bytes l ≡ j))) → (l < suc k) × ((bit s.enabled l ≡ true) × (slice_index s.bytes l ≡ j))
+    by : (a t : Bool) → bit s.enabled k ≡ a → eqb (slice_index s.bytes k) j ≡ t → cond (a && t) (Some k) (lane_below k s j) ≡ Some l → (lane_below k s j ≡ Some l →
+        (l < k) × ((bit s.enabled l ≡ true) × (slice_index s.bytes l ≡ j))) → (l < suc k) × ((bit s.enabled l ≡ true) × (slice_index s.bytes l ≡ j))
     by true true p q e more = let same : k ≡ l = cc in (omega arith, (subst (λ l. bit s.enabled l ≡ true) same p, subst (λ l. slice_index s.bytes l ≡ j) same (eqb-true _ j q)))
     by true false p q e more = let h = more e in (omega (arith, h.0), (h.1.0, h.1.1))
     by false t p q e more = let h = more e in (omega (arith, h.0), (h.1.0, h.1.1))
@@ -63,7 +65,8 @@ lane_less true t x l o enabled h = cc
 lane_less false t x l o enabled h = h
 
 -- one lane more of a word that is gathered, on the bit at place i of lane q
-pub gather_more : (s : Lanes) (lane q i : ℕ) (bits : ℕ → Bool) (x : Bool) → bit s.enabled lane ≡ true → x ≡ (ltb q lane && (bit s.enabled q && bits (8 * slice_index s.bytes q + i))) → cond (eqb lane q) (bits (8 * slice_index s.bytes lane + i)) x ≡ (ltb q (lane + 1) && (bit s.enabled q && bits (8 * slice_index s.bytes q + i)))
+pub gather_more : (s : Lanes) (lane q i : ℕ) (bits : ℕ → Bool) (x : Bool) → bit s.enabled lane ≡ true → x ≡ (ltb q lane && (bit s.enabled q && bits (8 * slice_index s.bytes q + i))) →
+    cond (eqb lane q) (bits (8 * slice_index s.bytes lane + i)) x ≡ (ltb q (lane + 1) && (bit s.enabled q && bits (8 * slice_index s.bytes q + i)))
 gather_more s lane q i bits x e h = grind (arith, nat_tests)
 
 pub gather_less : (s : Lanes) (lane q : ℕ) (v x : Bool) → bit s.enabled lane ≡ false → x ≡ (ltb q lane && (bit s.enabled q && v)) → x ≡ (ltb q (lane + 1) && (bit s.enabled q && v))

@@ -49,11 +49,13 @@ touch_keeps s port op (Some w) found even h = by (is_faulty (counted s) port op)
     within : s.beats port op.address < length (words_at s.setup port op.address op.write)
     within = slice_get_within (words_at s.setup port op.address op.write) (s.beats port op.address) w found
 
-    moved : (p a : ℕ) (write : Bool) → 0 < length (words_at s.setup p a write) → p ≡ port → a ≡ op.address → cond (ltb (s.beats port op.address + 1) (length (words_at s.setup port op.address op.write))) (s.beats port op.address + 1) 0 < length (words_at s.setup p a write)
+    moved : (p a : ℕ) (write : Bool) → 0 < length (words_at s.setup p a write) → p ≡ port → a ≡ op.address → cond (ltb (s.beats port op.address + 1) (length (words_at s.setup port op.address
+        op.write))) (s.beats port op.address + 1) 0 < length (words_at s.setup p a write)
     moved p a write l u v =
         let some : 0 < length (words_at s.setup port op.address write) = rw (u, v) at l in
         let here : 0 < length (words_at s.setup port op.address op.write) = omega (arith, within) in
-        rw (u, v) (next_in (length (words_at s.setup port op.address op.write)) (length (words_at s.setup port op.address write)) (s.beats port op.address) within (even port op.address op.write write here some))
+        rw (u, v) (next_in (length (words_at s.setup port op.address op.write)) (length (words_at s.setup port op.address write)) (s.beats port op.address) within (even port op.address op.write write
+        here some))
 
     on : (t : Setup) → t ≡ s.setup → (p a : ℕ) (write : Bool) → 0 < length (words_at t p a write) → beats_on (counted s) port op p a < length (words_at t p a write)
     on t e p a write l =

@@ -35,7 +35,8 @@ pub fn exchange<D: Device>(
     requires fits { Fits (kind_at (kinds_of (map standing adapters.old.items)) which) op.now }
     ensures tag { result.tag ≡ (standing_at (map standing adapters.old.items) which).tag }
     ensures small { result.answer.word < 256 ^ op.now.bytes }
-    ensures adapters { map standing adapters.new.items ≡ moved_on (map standing adapters.old.items) which op.now result.answer }
+    ensures adapters { map standing adapters.new.items
+        ≡ moved_on (map standing adapters.old.items) which op.now result.answer }
     ensures kinds { kinds_of (map standing adapters.new.items) ≡ kinds_of (map standing adapters.old.items) }
     ensures cause { AnswerHasCause (D.errors device.old) (D.errors device.new) result.answer }
     ensures step { IsStep (D.state device.old) (D.state device.new) port op.now result.answer }

@@ -1,4 +1,5 @@
-use Rattle.std.proofs.Common.{◌≡◌, ℕ, suc, ◌+◌, ◌*◌, ◌%◌, ◌^◌, ◌<◌, ◌≤◌, Bool, true, false, cond, List, length, get_or, set, Option, Some, None, is_some, unwrap_or, bit_or, arith, ap, ◌∙◌, add-one, zero, ◌≢◌, below_more, get_or-set_other, get_or-set_same}
+use Rattle.std.proofs.Common.{◌≡◌, ℕ, suc, ◌+◌, ◌*◌, ◌%◌, ◌^◌, ◌<◌, ◌≤◌, Bool, true, false, cond, List, length, get_or, set, Option, Some, None}
+use Rattle.std.proofs.Common.{is_some, unwrap_or, bit_or, arith, ap, ◌∙◌, add-one, zero, ◌≢◌, below_more, get_or-set_other, get_or-set_same}
 use Rattle.std.proofs.lemmas.Nat.{or_shifted, or_comm, one_shl}
 use Rattle.std.proofs.lemmas.Grind.{common_steps}
 use Rattle.std.proofs.Math.Nat.{pow-succ'}

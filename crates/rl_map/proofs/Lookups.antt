@@ -17,7 +17,8 @@ use Rattle.rl_map.specs.declared.rows.PlaceRow.{PlaceRow}
 use Rattle.rl_map.specs.declared.rows.Here.{Here}
 use Rattle.rl_map.specs.Seat.{seat_of, AddressesFit}
 use Rattle.rl_map.specs.Words.{item_words, words_with, no_word}
-use Rattle.rl_map.specs.Layout.{LayoutData, no_place, map_at, port_at, place_at, location_of, words_of, seat_at, row_of, index_of, has_right, lets_through, standing, here_of, found, words_here, words_found, same_item, is_in, place_of, IsLocation, IsRowOf, IsHere, IsSound}
+use Rattle.rl_map.specs.Layout.{LayoutData, no_place, map_at, port_at, place_at, location_of, words_of, seat_at, row_of, index_of, has_right, lets_through}
+use Rattle.rl_map.specs.Layout.{standing, here_of, found, words_here, words_found, same_item, is_in, place_of, IsLocation, IsRowOf, IsHere, IsSound}
 use Rattle.rl_map.proofs.Lists.{filter_both, filter_find, filter_found, mapped_length}
 use Rattle.rl_map.proofs.Bools.{and_true}
 

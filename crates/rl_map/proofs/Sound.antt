@@ -1,5 +1,6 @@
 -- What a build has tested of a layout makes it sound.
-use Rattle.std.proofs.Common.{◌≡◌, ◌≢◌, ℕ, zero, suc, ◌^◌, ◌<◌, ◌≤◌, ◌⊎◌, inl, inr, Bool, true, false, ◌==◌, ◌&&◌, cond, List, [], ◌∷◌, length, get_or, map, refl, sym, ap, ◌∙◌, subst, arith, eq-eqb, eqb-true}
+use Rattle.std.proofs.Common.{◌≡◌, ◌≢◌, ℕ, zero, suc, ◌^◌, ◌<◌, ◌≤◌, ◌⊎◌, inl, inr, Bool, true, false, ◌==◌, ◌&&◌, cond}
+use Rattle.std.proofs.Common.{List, [], ◌∷◌, length, get_or, map, refl, sym, ap, ◌∙◌, subst, arith, eq-eqb, eqb-true}
 use Rattle.std.specs.Prelude.{filter, IsPermutation}
 use Rattle.std.specs.List.{AllByRecursion, range_with_len}
 use Rattle.std.proofs.lemmas.List.Elements.{recursion_from_All, All-from_recursion}
@@ -18,7 +19,8 @@ use Rattle.rl_map.specs.Seat.{slots}
 use Rattle.rl_map.specs.Words.{words_with, word_of, orders_below, no_word}
 use Rattle.rl_map.proofs.Orders.{length-orders_below}
 use Rattle.rl_map.specs.Partition.{IsWordOn}
-use Rattle.rl_map.specs.Layout.{LayoutData, place_at, port_at, map_at, path_of, base_of, location_of, words_of, place_seats, row_of, cell_of, index_of, has_right, lets_through, standing, IsLocation, IsMapOf, IsPortOf, IsPlaceOf, HasWords, IsRowOf, Occupies, PlacedOnce, IsAscending, IsSound}
+use Rattle.rl_map.specs.Layout.{LayoutData, place_at, port_at, map_at, path_of, base_of, location_of, words_of, place_seats, row_of, cell_of, index_of, has_right}
+use Rattle.rl_map.specs.Layout.{lets_through, standing, IsLocation, IsMapOf, IsPortOf, IsPlaceOf, HasWords, IsRowOf, Occupies, PlacedOnce, IsAscending, IsSound}
 use Rattle.rl_map.specs.Maps.{location_rows, place_rows, all_rows}
 use Rattle.rl_map.proofs.Partition.{words_partition}
 use Rattle.rl_map.proofs.WordsApart.{words_apart}

@@ -1,5 +1,6 @@
 -- The first condition that fails for maps and places.
-use Rattle.std.specs.Prelude.{◌≡◌, ◌≢◌, ℕ, ◌+◌, ◌*◌, ◌%◌, ◌==◌, min, nat_lt, nat_le, ◌&&◌, ◌||◌, Bool, true, false, not, if◌then◌else◌, List, [], ◌∷◌, ◌++◌, length, map, filter, fold, flat_map, slice_index_or, Option, Some, None, is_some, is_none, option_map, unwrap_or, Result, Ok, Err, position}
+use Rattle.std.specs.Prelude.{◌≡◌, ◌≢◌, ℕ, ◌+◌, ◌*◌, ◌%◌, ◌==◌, min, nat_lt, nat_le, ◌&&◌, ◌||◌, Bool, true, false, not, if◌then◌else◌, List, [], ◌∷◌, ◌++◌, length}
+use Rattle.std.specs.Prelude.{map, filter, fold, flat_map, slice_index_or, Option, Some, None, is_some, is_none, option_map, unwrap_or, Result, Ok, Err, position}
 use Rattle.std.specs.List.{list_any, range_with_len}
 use Rattle.rl_model.specs.declared.fault.Array.{Array}
 use Rattle.rl_model.specs.declared.fault.Array.TheVariants as array
@@ -10,7 +11,8 @@ use Rattle.rl_model.specs.Rows.{ChipData}
 use Rattle.rl_model.specs.Rules.{is_name, or_else}
 use Rattle.rl_bus.specs.declared.op.AdapterKind.{AdapterKind}
 use Rattle.rl_map.specs.declared.fault.MapCause.{MapCause}
-use Rattle.rl_map.specs.declared.fault.MapCause.TheVariants.{TooMany, BadName, DuplicateName, NoSuchMap, TooDeep, BadBytes, NoSuchAdapter, NoSuchItem, PlacedTwice, MemInFifo, AddressOverflow, Unaligned, SharedAddress}
+use Rattle.rl_map.specs.declared.fault.MapCause.TheVariants.{TooMany, BadName, DuplicateName, NoSuchMap, TooDeep, BadBytes, NoSuchAdapter, NoSuchItem}
+use Rattle.rl_map.specs.declared.fault.MapCause.TheVariants.{PlacedTwice, MemInFifo, AddressOverflow, Unaligned, SharedAddress}
 use Rattle.rl_map.specs.declared.fault.MapFault.{MapFault}
 use Rattle.rl_map.specs.declared.fault.MapFault.TheVariants.{Bad, Memory}
 use Rattle.rl_map.specs.declared.path.Level.{Level}

@@ -1,5 +1,6 @@
 -- A layout as data, and what it answers.
-use Rattle.std.specs.Prelude.{◌≡◌, ℕ, ◌+◌, ◌*◌, ◌/◌, ◌^◌, ◌<◌, ◌≤◌, ◌==◌, nat_lt, Bool, true, false, ◌&&◌, if◌then◌else◌, List, [], ◌∷◌, length, map, All, slice_index_or, slice_get, Option, Some, None, filter, position, bytes_eq, codes}
+use Rattle.std.specs.Prelude.{◌≡◌, ℕ, ◌+◌, ◌*◌, ◌/◌, ◌^◌, ◌<◌, ◌≤◌, ◌==◌, nat_lt, Bool, true, false, ◌&&◌, if◌then◌else◌, List, [], ◌∷◌}
+use Rattle.std.specs.Prelude.{length, map, All, slice_index_or, slice_get, Option, Some, None, filter, position, bytes_eq, codes}
 use Rattle.rl_policy.specs.Bits.{bit}
 use Rattle.rl_model.specs.declared.rows.Item.{Item}
 use Rattle.rl_model.specs.declared.rows.Item.TheVariants as item

@@ -1,5 +1,6 @@
 -- What a layout keeps of the maps, the ports and the places that it was built of.
-use Rattle.std.specs.Prelude.{◌≡◌, ℕ, ◌+◌, ◌<◌, nat_lt, if◌then◌else◌, List, [], ◌∷◌, ◌++◌, length, map, flat_map, take, drop, fold, slice_get, slice_index_or, Option, Some, None, option_map, unwrap_or, position, bytes_eq}
+use Rattle.std.specs.Prelude.{◌≡◌, ℕ, ◌+◌, ◌<◌, nat_lt, if◌then◌else◌, List, [], ◌∷◌, ◌++◌, length, map, flat_map, take, drop}
+use Rattle.std.specs.Prelude.{fold, slice_get, slice_index_or, Option, Some, None, option_map, unwrap_or, position, bytes_eq}
 use Rattle.std.specs.List.{range_with_len}
 use Rattle.std.specs.Option.{option_or}
 use Rattle.rl_model.specs.declared.rows.Item.{Item}

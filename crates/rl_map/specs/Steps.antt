@@ -5,7 +5,8 @@ use Rattle.rl_model.specs.Rows.{ChipData}
 use Rattle.rl_model.specs.Rules.{is_name, or_else}
 use Rattle.rl_bus.specs.declared.op.AdapterKind.{AdapterKind}
 use Rattle.rl_map.specs.declared.fault.MapCause.{MapCause}
-use Rattle.rl_map.specs.declared.fault.MapCause.TheVariants.{TooMany, BadName, DuplicateName, NoSuchMap, TooDeep, BadBytes, NoSuchAdapter, NoSuchItem, PlacedTwice, MemInFifo, AddressOverflow, Unaligned}
+use Rattle.rl_map.specs.declared.fault.MapCause.TheVariants.{TooMany, BadName, DuplicateName, NoSuchMap, TooDeep, BadBytes, NoSuchAdapter}
+use Rattle.rl_map.specs.declared.fault.MapCause.TheVariants.{NoSuchItem, PlacedTwice, MemInFifo, AddressOverflow, Unaligned}
 use Rattle.rl_map.specs.declared.fault.MapFault.{MapFault}
 use Rattle.rl_map.specs.declared.parts.MapNode.{MapNode}
 use Rattle.rl_map.specs.declared.parts.PlacePart.{PlacePart}

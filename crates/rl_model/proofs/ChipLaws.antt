@@ -1,5 +1,6 @@
 -- What follows for a chip from its being sound.
-use Rattle.std.proofs.Common.{◌≡◌, ◌≢◌, ◌⊎◌, ◌↔◌, ℕ, zero, suc, ◌+◌, ◌^◌, ◌<◌, ◌≤◌, Bool, true, false, ◌==◌, ◌&&◌, nat_lt, nat_le, List, [], ◌∷◌, length, length-take-le, length-drop, filter, take, drop, slice_get, sum_by, Option, Some, None, option_map, IsSomeAnd, codes, refl, sym, ap, subst, ◌∙◌, inl, inr, arith}
+use Rattle.std.proofs.Common.{◌≡◌, ◌≢◌, ◌⊎◌, ◌↔◌, ℕ, zero, suc, ◌+◌, ◌^◌, ◌<◌, ◌≤◌, Bool, true, false, ◌==◌, ◌&&◌, nat_lt, nat_le, List, [], ◌∷◌, length, length-take-le, length-drop}
+use Rattle.std.proofs.Common.{filter, take, drop, slice_get, sum_by, Option, Some, None, option_map, IsSomeAnd, codes, refl, sym, ap, subst, ◌∙◌, inl, inr, arith}
 use Rattle.std.proofs.lemmas.Bool.{cases_Bool}
 use Rattle.std.proofs.lemmas.Bool.Decides.{nat_tests}
 use Rattle.std.proofs.lemmas.Option.{none-some, same_Some, slice_get_within}
@@ -114,11 +115,15 @@ filter_run p (x ∷ xs) zero zero each =
     rw off later
 filter_run {X = X} p (x ∷ xs) zero (suc k) each =
     let on : p x ≡ true = each 0 x refl ∙ (let yes : (nat_le 0 0 && nat_lt 0 (0 + suc k)) ≡ true = grind (arith, nat_tests) in yes) in
-    let later = filter_run p xs 0 k (λ i y at. each (suc i) y at ∙ (let same : (nat_le 0 (suc i) && nat_lt (suc i) (0 + suc k)) ≡ (nat_le 0 i && nat_lt i (0 + k)) = grind (arith, nat_tests) in same)) in
+    let later = filter_run p xs 0 k (λ i y at. each (suc i) y at ∙ (let same : (nat_le 0 (suc i) && nat_lt (suc i) (0 + suc k)) ≡ (nat_le 0 i && nat_lt i (0 + k)) = grind (arith, nat_tests) in same))
+    in
     rw on (ap (λ (l : List X). x ∷ l) later)
 filter_run p (x ∷ xs) (suc a) k each =
     let off : p x ≡ false = each 0 x refl ∙ (let no : (nat_le (suc a) 0 && nat_lt 0 (suc a + k)) ≡ false = grind (arith, nat_tests) in no) in
-    let later = filter_run p xs a k (λ i y at. each (suc i) y at ∙ (let same : (nat_le (suc a) (suc i) && nat_lt (suc i) (suc a + k)) ≡ (nat_le a i && nat_lt i (a + k)) = grind (arith, nat_tests) in same)) in
+    let later = filter_run p xs a k (λ i y at. each (suc i) y at ∙ (let same : (nat_le (suc a) (suc i) && nat_lt (suc i) (suc a + k)) ≡ (nat_le a i && nat_lt i (a + k)) = grind (
+      arith,
+      nat_tests,
+    ) in same)) in
     rw off later
 
 -- a test that decides a fact is true exactly where the fact's other form is

@@ -19,7 +19,8 @@ few_fields i r kinds h bytes =
     (fits.low, fits.inside, fits.apart) in
     omega (arith, few_own (8 * r.bytes) r.fields (length r.fields) own (omega arith))
 
-pub few_each : (reg first scopes : ℕ) (paths kinds : List (List ℕ)) (rs : List RegData) (n : ℕ) (a : RegRow) → regs_fault reg scopes paths kinds rs ≡ None → slice_get (regs_seen first rs) n ≡ Some a → a.count ≤ 64
+pub few_each : (reg first scopes : ℕ) (paths kinds : List (List ℕ)) (rs : List RegData) (n : ℕ) (a : RegRow) → regs_fault reg scopes paths kinds rs ≡ None → slice_get (regs_seen first rs) n ≡ Some a
+    → a.count ≤ 64
 few_each reg first scopes paths kinds [] n a h at = absurd (none-some a at)
 few_each reg first scopes paths kinds (r ∷ rs) zero a h at =
     let step = regs_step reg scopes paths kinds r rs h in

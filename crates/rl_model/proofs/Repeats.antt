@@ -37,7 +37,8 @@ shuffled false true false d = refl
 shuffled false false true d = refl
 shuffled false false false d = refl
 
-any_more : (seen : List (List ℕ)) (x : ResetPart) (rs : List ResetPart) → list_any (λ r. is_among r.kind (seen ++ x.kind ∷ [])) rs ≡ (list_any (λ r. is_among r.kind seen) rs || list_any (same_kind x) rs)
+any_more : (seen : List (List ℕ)) (x : ResetPart) (rs : List ResetPart) → list_any (λ r. is_among r.kind (seen ++ x.kind ∷ [])) rs ≡ (list_any (λ r. is_among r.kind seen) rs || list_any (same_kind x)
+    rs)
 any_more seen x [] = refl
 any_more seen x (r ∷ rs) =
     rw (list_any-append (bytes_eq r.kind) seen (x.kind ∷ []), any_more seen x rs, eq_turned r.kind x.kind)

@@ -1,5 +1,6 @@
 -- What holds of a chip whose parts have no fault.
-use Rattle.std.proofs.Common.{◌≡◌, ℕ, zero, suc, ◌+◌, ◌-◌, ◌*◌, ◌^◌, ◌<◌, ◌≤◌, Bool, true, false, not, ◌||◌, ◌&&◌, nat_lt, nat_le, List, [], ◌∷◌, ◌++◌, length, map, take, slice_get, Option, Some, None, option_map, refl, sym, ◌∙◌, inl, inr, arith, length-append, bytes_eq}
+use Rattle.std.proofs.Common.{◌≡◌, ℕ, zero, suc, ◌+◌, ◌-◌, ◌*◌, ◌^◌, ◌<◌, ◌≤◌, Bool, true, false, not, ◌||◌, ◌&&◌, nat_lt, nat_le, List, [], ◌∷◌, ◌++◌}
+use Rattle.std.proofs.Common.{length, map, take, slice_get, Option, Some, None, option_map, refl, sym, ◌∙◌, inl, inr, arith, length-append, bytes_eq}
 use Rattle.std.proofs.lemmas.Bool.{cases_Bool}
 use Rattle.std.proofs.lemmas.Bool.Decides.{nat_tests}
 use Rattle.std.proofs.lemmas.Option.{none-some, same_Some, slice_get-map}
@@ -140,7 +141,8 @@ pub record Located (reg first : ℕ) (all : List (List ℕ)) (rs : List RegData)
   pub is : f ≡ field_seen (reg + number) all part
   pub passes_all : FieldPasses owner.bytes (take place owner.fields) part
 
-pub located : (reg first scopes : ℕ) (paths kinds all : List (List ℕ)) (rs : List RegData) (i : ℕ) (f : FieldSeen) → regs_fault reg scopes paths kinds rs ≡ None → slice_get (all_fields reg all rs) i ≡ Some f
+pub located : (reg first scopes : ℕ) (paths kinds all : List (List ℕ)) (rs : List RegData) (i : ℕ) (f : FieldSeen) → regs_fault reg scopes paths kinds rs ≡ None →
+    slice_get (all_fields reg all rs) i ≡ Some f
     → Located reg first all rs i f
 located reg first scopes paths kinds all [] i f h at = absurd (none-some f at)
 located reg first scopes paths kinds all (r ∷ rs) i f h at =
@@ -205,7 +207,8 @@ in_order first (r ∷ rs) n zero a b at_n at_m lt = absurd (omega arith)
 in_order first (r ∷ rs) zero (suc m) a b at_n at_m lt = rw (← same_Some _ _ at_n) (starts_later (first + length r.fields) rs m b at_m)
 in_order first (r ∷ rs) (suc n) (suc m) a b at_n at_m lt = in_order (first + length r.fields) rs n m a b at_n at_m (omega arith)
 
-pub row_fits : (reg first scopes : ℕ) (paths kinds all : List (List ℕ)) (rs : List RegData) (n : ℕ) (a : RegRow) → regs_fault reg scopes paths kinds rs ≡ None → slice_get (regs_seen first rs) n ≡ Some a
+pub row_fits : (reg first scopes : ℕ) (paths kinds all : List (List ℕ)) (rs : List RegData) (n : ℕ) (a : RegRow) → regs_fault reg scopes paths kinds rs ≡ None →
+    slice_get (regs_seen first rs) n ≡ Some a
     → (1 ≤ a.bytes) × (a.bytes ≤ 8) × (a.first + a.count ≤ first + length (all_fields reg all rs))
 row_fits reg first scopes paths kinds all [] n a h at = absurd (none-some a at)
 row_fits reg first scopes paths kinds all (r ∷ rs) zero a h at =

@@ -1,5 +1,6 @@
 -- What holds of a built chip's paths, counts and resets.
-use Rattle.std.proofs.Common.{◌≡◌, ℕ, zero, suc, ◌+◌, ◌^◌, ◌<◌, ◌≤◌, false, true, nat_le, List, [], ◌∷◌, ◌++◌, length, map, take, slice_get, sum_by, Option, Some, unwrap_or, refl, sym, ap, subst, ◌∙◌, inl, inr, arith}
+use Rattle.std.proofs.Common.{◌≡◌, ℕ, zero, suc, ◌+◌, ◌^◌, ◌<◌, ◌≤◌, false, true, nat_le, List, [], ◌∷◌, ◌++◌, length, map}
+use Rattle.std.proofs.Common.{take, slice_get, sum_by, Option, Some, unwrap_or, refl, sym, ap, subst, ◌∙◌, inl, inr, arith}
 use Rattle.std.proofs.lemmas.Bool.Decides.{nat_tests}
 use Rattle.std.proofs.lemmas.Option.{none-some, same_Some}
 use Rattle.rl_model.specs.declared.rows.RegRow.{RegRow}
@@ -50,7 +51,8 @@ pub few_fields : (c : ChipData) (rs : List RegData) → IsBuilt c rs → (n : �
 few_fields c rs b n r at = few_each 0 0 b.scopes b.paths b.kinds rs n r b.fault (rw b.regs at at)
 
 pub firsts : (c : ChipData) (rs : List RegData) → IsBuilt c rs → (n : ℕ) (r : RegRow) → slice_get c.regs n ≡ Some r → r.first ≡ sum_by (λ r. r.count) (take n c.regs)
-firsts c rs b n r at = rw b.regs (first_after 0 rs n r (rw b.regs at at) ∙ (let plain : 0 + sum_by count_of (take n (regs_seen 0 rs)) ≡ sum_by count_of (take n (regs_seen 0 rs)) = omega arith in plain))
+firsts c rs b n r at = rw b.regs (first_after 0 rs n r (rw b.regs at at) ∙ (let plain : 0 + sum_by count_of (take n (regs_seen 0 rs)) ≡ sum_by count_of (take n (regs_seen 0 rs)) = omega arith in
+    plain))
 
 pub counts : (c : ChipData) (rs : List RegData) → IsBuilt c rs → length c.fields ≡ sum_by (λ r. r.count) c.regs
 counts c rs b = rw (b.fields, b.regs) (length-all_fields 0 0 b.all rs)
@@ -95,7 +97,8 @@ among c rs b all_is i f k r loc x =
 below_same : (v x w y : ℕ) → v ≡ x → w ≡ y → x < 2 ^ y → v < 2 ^ w
 below_same v x w y same_value same_width h = rw (same_value, same_width) h
 
-pub each_reset : (c : ChipData) (rs : List RegData) (b : IsBuilt c rs) → b.all ≡ all_kinds first_kinds rs → c.kinds ≡ b.all → (i : ℕ) (f : FieldSeen) (k : ℕ) (r : Reset) → slice_get c.fields i ≡ Some f
+pub each_reset : (c : ChipData) (rs : List RegData) (b : IsBuilt c rs) → b.all ≡ all_kinds first_kinds rs → c.kinds ≡ b.all → (i : ℕ) (f : FieldSeen) (k : ℕ) (r : Reset) →
+    slice_get c.fields i ≡ Some f
     → slice_get f.resets k ≡ Some r → ResetFits c f r
 each_reset c rs b all_is kinds_is i f k r at at_r =
     let loc = located 0 0 b.scopes b.paths b.kinds b.all rs i f b.fault (rw b.fields at at) in

@@ -1,6 +1,7 @@
 //! Building a chip of its parts.
 ghost use Rattle.std.specs.Prelude.{◌≡◌, ◌+◌, ◌*◌, ◌^◌, ◌<◌, ◌≤◌, ◌++◌, ◌∷◌, [], map, length, IfOk, OnOk, IfErr};
-ghost use Rattle.rl_model.specs.Rules.{scope_path, reg_path, mem_path, scopes_fault, field_fault, fields_fault, regs_fault, mems_fault, kinds_with, kinds_after, all_kinds, Passes};
+ghost use Rattle.rl_model.specs.Rules.{scope_path, reg_path, mem_path, scopes_fault, field_fault, fields_fault};
+ghost use Rattle.rl_model.specs.Rules.{regs_fault, mems_fault, kinds_with, kinds_after, all_kinds, Passes};
 ghost use Rattle.rl_model.specs.Rules as rules;
 ghost use Rattle.rl_model.specs.Stages.{TakesOwnBits, numbered, field_next, fields_next, all_next};
 ghost use Rattle.rl_model.specs.Build.{regs_seen, mem_seen, first_kinds, chip_of, chip_fault};
@@ -61,7 +62,8 @@ fn add_scopes(
     array: Array,
     parts: &[ScopePart],
 ) -> Result<(), ModelFault>
-    ensures exact { Passes result (scopes_fault array 0 paths.old parts.now) (λ _. paths.new ≡ paths.old ++ map scope_path parts.now) }
+    ensures exact { Passes result (scopes_fault array 0 paths.old parts.now)
+        (λ _. paths.new ≡ paths.old ++ map scope_path parts.now) }
     ensures few { OnOk result (length parts.now ≤ 256) }
 {
     let mut row = 0u32;
@@ -121,7 +123,8 @@ fn add_field(
 ) -> Result<(), ModelFault>
     requires { bytes ≤ 8 }
     ensures exact { Passes result (field_fault spot bytes earlier.now kinds.old part.now)
-        (λ _. (fields.new.items ≡ fields.old.items ++ field_next spot.row kinds.old part.now ∷ []) × (kinds.new ≡ kinds_with kinds.old part.now.resets)) }
+        (λ _. (fields.new.items ≡ fields.old.items ++ field_next spot.row kinds.old part.now ∷ [])
+        × (kinds.new ≡ kinds_with kinds.old part.now.resets)) }
     ensures few { OnOk result (length kinds.new ≤ 16) }
     ensures own { OnOk result (TakesOwnBits (8 * bytes) earlier.now part.now) }
 {
@@ -158,7 +161,8 @@ fn add_fields(
     requires bytes { reg.now.bytes ≤ 8 }
     requires kinds { length kinds.old ≤ 16 }
     ensures exact { Passes result (fields_fault spot reg.now 0 kinds.old reg.now.fields)
-        (λ _. (fields.new.items ≡ fields.old.items ++ fields_next spot.row kinds.old reg.now.fields) × (kinds.new ≡ kinds_after kinds.old reg.now.fields)) }
+        (λ _. (fields.new.items ≡ fields.old.items ++ fields_next spot.row kinds.old reg.now.fields)
+        × (kinds.new ≡ kinds_after kinds.old reg.now.fields)) }
     ensures few { OnOk result (length kinds.new ≤ 16) }
     ensures few_fields { OnOk result (length reg.now.fields ≤ 64) }
 {

@@ -1,7 +1,9 @@
 //! The conditions that parts must meet.
-ghost use Rattle.std.specs.Prelude.{◌≡◌, ◌+◌, ◌*◌, ◌<◌, ◌≤◌, ◌++◌, ◌∷◌, [], ⊤, IfOk, OnOk, length, nat_lt, nat_le, ◌^◌, bytes_eq};
+ghost use Rattle.std.specs.Prelude.{◌≡◌, ◌+◌, ◌*◌, ◌<◌, ◌≤◌, ◌++◌, ◌∷◌, [], ⊤, IfOk, OnOk, length, nat_lt, nat_le};
+ghost use Rattle.std.specs.Prelude.{◌^◌, bytes_eq};
 ghost use Rattle.std.specs.List.{list_any, list_all};
-ghost use Rattle.rl_model.specs.Rules.{is_letter, is_name_byte, is_name, path_of, names_in, has_parent, first_of, path_fault, overlaps, same_kind, repeats, field_checks, is_bad_width, Passes};
+ghost use Rattle.rl_model.specs.Rules.{is_letter, is_name_byte, is_name, path_of, names_in, has_parent, first_of};
+ghost use Rattle.rl_model.specs.Rules.{path_fault, overlaps, same_kind, repeats, field_checks, is_bad_width, Passes};
 ghost use Rattle.rl_model.specs.Stages.{TakesOwnBits};
 
 use crate::fault::{ModelCause, ModelFault, Spot};
@@ -23,7 +25,8 @@ fn is_name_byte(c: u8) -> bool
     is_letter(c) || c >= b'0' && c <= b'9'
 }
 
-/// Whether a text is a letter or `_`, and then letters, digits and `_`, of 1 to 32 bytes: this project's own rule of a name.
+/// Whether a text is a letter or `_`, and then letters, digits and `_`, of 1 to 32 bytes: this project's own rule of a
+/// name.
 pub fn is_name(text: &[u8]) -> bool
     ensures { result ≡ is_name text.now }
 {

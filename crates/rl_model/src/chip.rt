@@ -1,6 +1,8 @@
 //! A chip, and what it answers.
-ghost use Rattle.std.specs.Prelude.{◌≡◌, ◌+◌, ◌^◌, ◌<◌, ◌≤◌, ◌↔◌, ℕ, Some, IfSome, position, length, slice_get, option_map, option_and_then, bytes_eq, unwrap_or, IsTrue, []};
-ghost use Rattle.rl_model.specs.Chip.{HasItem, HasBits, Holds, bytes_of, backdoor_of, skip_of, place_of, path_at, path_of_item, value_for, is_inside, field_path, last_dot, IsNamed, IsSound};
+ghost use Rattle.std.specs.Prelude.{◌≡◌, ◌+◌, ◌^◌, ◌<◌, ◌≤◌, ◌↔◌, ℕ, Some, IfSome, position, length, slice_get};
+ghost use Rattle.std.specs.Prelude.{option_map, option_and_then, bytes_eq, unwrap_or, IsTrue, []};
+ghost use Rattle.rl_model.specs.Chip.{HasItem, HasBits, Holds, bytes_of, backdoor_of, skip_of, place_of, path_at};
+ghost use Rattle.rl_model.specs.Chip.{path_of_item, value_for, is_inside, field_path, last_dot, IsNamed, IsSound};
 
 use crate::paths::Paths;
 use crate::rows::{Field, FieldRow, Item, MemRow, RegRow, Reset};
@@ -27,9 +29,25 @@ impl Model for Chip {
 
     ghost use Rattle.rl_model.specs.Chip.{IsSound};
 
-    ghost view = { λ c. record { blocks = c.blocks; scopes = c.scopes; paths = c.paths; regs = c.regs.items; mems = c.mems.items; fields = c.fields.items; kinds = c.kinds } };
+    ghost view = { λ c. record {
+      blocks = c.blocks;
+      scopes = c.scopes;
+      paths = c.paths;
+      regs = c.regs.items;
+      mems = c.mems.items;
+      fields = c.fields.items;
+      kinds = c.kinds;
+    } };
 
-    ghost invariant = { λ c. IsSound (record { blocks = c.blocks; scopes = c.scopes; paths = c.paths; regs = c.regs.items; mems = c.mems.items; fields = c.fields.items; kinds = c.kinds }) };
+    ghost invariant = { λ c. IsSound (record {
+      blocks = c.blocks;
+      scopes = c.scopes;
+      paths = c.paths;
+      regs = c.regs.items;
+      mems = c.mems.items;
+      fields = c.fields.items;
+      kinds = c.kinds;
+    }) };
 }
 
 impl Chip {
@@ -219,14 +237,16 @@ impl Chip {
 
     /// The register with this path, or none where no register has it.
     pub fn reg_by_path(&self, path: &[u8]) -> Option<u32>
-        ensures { (n : ℕ) → (result ≡ Some n) ↔ ((n < length self.now.regs) × (slice_get self.now.paths (self.now.scopes + n) ≡ Some path.now)) }
+        ensures { (n : ℕ) → (result ≡ Some n) ↔ ((n < length self.now.regs)
+            × (slice_get self.now.paths (self.now.scopes + n) ≡ Some path.now)) }
     {
         counted_from(self.paths.number(path), self.scopes, self.regs.len())
     }
 
     /// The memory with this path, or none where no memory has it.
     pub fn mem_by_path(&self, path: &[u8]) -> Option<u32>
-        ensures { (n : ℕ) → (result ≡ Some n) ↔ ((n < length self.now.mems) × (slice_get self.now.paths (self.now.scopes + length self.now.regs + n) ≡ Some path.now)) }
+        ensures { (n : ℕ) → (result ≡ Some n) ↔ ((n < length self.now.mems)
+            × (slice_get self.now.paths (self.now.scopes + length self.now.regs + n) ≡ Some path.now)) }
     {
         counted_from(
             self.paths.number(path),
@@ -237,7 +257,8 @@ impl Chip {
 
     /// The field whose register's path, a dot and its name are this text, or none.
     pub fn field_by_path(&self, path: &[u8]) -> Option<u32>
-        ensures { (n : ℕ) → (result ≡ Some n) ↔ (option_map (field_path self.now) (slice_get self.now.fields n) ≡ Some path.now) }
+        ensures { (n : ℕ) → (result ≡ Some n) ↔ (option_map (field_path self.now) (slice_get self.now.fields n)
+            ≡ Some path.now) }
     {
         // A chip that is opened is known to be sound.
         let _ = &self.fields;

@@ -35,7 +35,14 @@ impl Model for RegPart {
 
     ghost Value = { RegData };
 
-    ghost view = { λ r. record { name = r.name; of = r.of; bytes = r.bytes; backdoor = r.backdoor; skip = r.skip; fields = r.fields.items } };
+    ghost view = { λ r. record {
+      name = r.name;
+      of = r.of;
+      bytes = r.bytes;
+      backdoor = r.backdoor;
+      skip = r.skip;
+      fields = r.fields.items;
+    } };
 }
 
 /// A field: bits of one register under one access policy.
@@ -64,7 +71,16 @@ impl Model for FieldPart {
 
     ghost Value = { FieldData };
 
-    ghost view = { λ f. record { name = f.name; lsb = f.lsb; width = f.width; policy = f.policy; volatile = f.volatile; compare = f.compare; alone = f.alone; resets = f.resets.items } };
+    ghost view = { λ f. record {
+      name = f.name;
+      lsb = f.lsb;
+      width = f.width;
+      policy = f.policy;
+      volatile = f.volatile;
+      compare = f.compare;
+      alone = f.alone;
+      resets = f.resets.items;
+    } };
 }
 
 /// The value of a field after a reset of a kind.
@@ -113,5 +129,10 @@ impl Model for Parts {
 
     ghost Value = { PartsData };
 
-    ghost view = { λ p. record { blocks = p.blocks.items; files = p.files.items; regs = p.regs.items; mems = p.mems.items } };
+    ghost view = { λ p. record {
+      blocks = p.blocks.items;
+      files = p.files.items;
+      regs = p.regs.items;
+      mems = p.mems.items;
+    } };
 }

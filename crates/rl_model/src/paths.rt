@@ -22,7 +22,8 @@ impl Model for Paths {
 }
 
 impl Paths {
-    ghost use Rattle.std.specs.Prelude.{◌≡◌, ◌↔◌, ◌<◌, ◌^◌, ◌+◌, ◌++◌, ◌∷◌, ℕ, Some, [], not, length, position, slice_get, take, IfOk, OnErr, bytes_eq};
+    ghost use Rattle.std.specs.Prelude.{◌≡◌, ◌↔◌, ◌<◌, ◌^◌, ◌+◌, ◌++◌, ◌∷◌, ℕ, Some, [], not, length, position};
+    ghost use Rattle.std.specs.Prelude.{slice_get, take, IfOk, OnErr, bytes_eq};
     ghost use Rattle.rl_model.specs.Paths.{is_among, with_text, number_in};
 
     pub fn new(alloc: Global) -> Paths

@@ -115,7 +115,9 @@ impl Flags for Skip {
 
     ghost exact = { ⊤ };
 
-    ghost table = { (codes "NO_REG_TESTS", 1) ∷ (codes "NO_REG_HW_RESET_TEST", 2) ∷ (codes "NO_REG_BIT_BASH_TEST", 4) ∷ (codes "NO_REG_ACCESS_TEST", 8) ∷ (codes "NO_REG_SHARED_ACCESS_TEST", 16) ∷ (codes "NO_MEM_WALK_TEST", 32) ∷ [] };
+    ghost table = { (codes "NO_REG_TESTS", 1) ∷ (codes "NO_REG_HW_RESET_TEST", 2) ∷ (codes "NO_REG_BIT_BASH_TEST", 4)
+        ∷ (codes "NO_REG_ACCESS_TEST", 8) ∷ (codes "NO_REG_SHARED_ACCESS_TEST", 16) ∷ (codes "NO_MEM_WALK_TEST", 32)
+        ∷ [] };
 
     ghost set_of = { λ r. r.bits };
 

@@ -75,7 +75,8 @@ row_passes rule p = both (λ m. both (λ d. both (λ v. both (λ s. rule p m d v
 
 at_bits : (rule : Rule) (p : Policy) (m d v s : Bool) → row_passes rule p ≡ true → rule p m d v s ≡ true
 at_bits rule p m d v s h =
-    both_at (λ s. rule p m d v s) (both_at (λ v. both (λ s. rule p m d v s)) (both_at (λ d. both (λ v. both (λ s. rule p m d v s))) (both_at (λ m. both (λ d. both (λ v. both (λ s. rule p m d v s)))) h m) d) v) s
+    both_at (λ s. rule p m d v s) (both_at (λ v. both (λ s. rule p m d v s)) (both_at (λ d. both (λ v. both (λ s. rule p m d v s))) (both_at (λ m. both (λ d. both (λ v. both (λ s. rule p m d v s))))
+    h m) d) v) s
 
 implied : (a b : Bool) → (not a || b) ≡ true → a ≡ true → b ≡ true
 implied true b h e = h

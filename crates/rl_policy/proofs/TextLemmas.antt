@@ -1,5 +1,6 @@
 -- Numbers as text.
-use Rattle.std.proofs.Common.{◌≡◌, ℕ, zero, suc, ◌+◌, ◌-◌, ◌*◌, ◌/◌, ◌%◌, ◌^◌, ◌<◌, ◌≤◌, true, List, [], ◌∷◌, ◌++◌, length, map, drop, refl, sym, ap, subst, ◌∙◌, arith, inl, inr, lt-ltb, ne_eqb, lit<, lit≤}
+use Rattle.std.proofs.Common.{◌≡◌, ℕ, zero, suc, ◌+◌, ◌-◌, ◌*◌, ◌/◌, ◌%◌, ◌^◌, ◌<◌, ◌≤◌, true, List, [], ◌∷◌, ◌++◌, length}
+use Rattle.std.proofs.Common.{map, drop, refl, sym, ap, subst, ◌∙◌, arith, inl, inr, lt-ltb, ne_eqb, lit<, lit≤}
 use Rattle.std.specs.Prelude.{nat_lt, bit_and, option_and_then}
 use Rattle.std.specs.List.{list_all}
 use Rattle.std.specs.Char.{digit_char, digit_value, is_digit}
@@ -57,7 +58,8 @@ some_digits (suc (suc k)) n some fits least =
     let least' : 16 ^ suc k ≤ n = subst (λ (m : ℕ). 16 ^ m ≤ n) (down (suc k)) least in
     let one : 16 ^ k ≤ n / 16 = omega (arith, big, least') in
     let positive : 0 < n / 16 = omega (arith, one, pow_some k) in
-    let before : last_digits 16 (suc k) (n / 16) ≡ map digit_char (digits_of 16 (n / 16)) = some_digits (suc k) (n / 16) positive (omega (arith, bigger, fits)) (subst (λ (m : ℕ). 16 ^ m ≤ n / 16) (sym (down k)) one) in
+    let before : last_digits 16 (suc k) (n / 16) ≡ map digit_char (digits_of 16 (n / 16)) = some_digits (suc k) (n / 16) positive (omega (arith, bigger, fits)) (subst (λ (m : ℕ). 16 ^ m ≤ n / 16)
+    (sym (down k)) one) in
     ap (λ (l : List ℕ). l ++ digit_char (n % 16) ∷ []) before
     ∙ sym (ap (map digit_char) (digits_of_step 16 n (lit≤ tt) some) ∙ map_append digit_char (digits_of 16 (n / 16)) (n % 16 ∷ []))
 

@@ -1,7 +1,8 @@
 //! Numbers as text: decimal digits, or `0x` and hexadecimal digits.
 ghost use Rattle.std.specs.Prelude.{◌≡◌, ℕ, ◌+◌, ◌-◌, ◌*◌, ◌^◌, ◌<◌, ◌≤◌, take, slice_index, option_and_then};
 ghost use Rattle.std.specs.Char.{digit_char};
-ghost use Rattle.rl_policy.specs.Numbers.{hex_digit_at, hex_digits, fitting_option, has_hex_prefix, numeral_of, number_of};
+ghost use Rattle.rl_policy.specs.Numbers.{hex_digit_at, hex_digits, fitting_option, has_hex_prefix, numeral_of};
+ghost use Rattle.rl_policy.specs.Numbers.{number_of};
 
 /// What a text says as a number.
 #[derive(Debug, Clone, Copy, PartialEq, Eq)]

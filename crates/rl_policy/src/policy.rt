@@ -5,7 +5,8 @@
 ghost use Rattle.std.specs.Prelude.{◌≡◌, ◌≢◌, ℕ, ◌+◌, ◌-◌, ◌^◌, ◌<◌, ◌≤◌, IfSome, IsNone, find, bytes_eq};
 ghost use Rattle.rl_policy.specs.Bits.{bit, from_bits};
 ghost use Rattle.rl_policy.specs.Names.{name_of};
-ghost use Rattle.rl_policy.specs.Table.{after_write, after_read, value_read, update_bit, neutral_bit, is_write_only, spends_mark};
+ghost use Rattle.rl_policy.specs.Table.{after_write, after_read, value_read, update_bit, neutral_bit, is_write_only};
+ghost use Rattle.rl_policy.specs.Table.{spends_mark};
 
 use crate::word::{mask, repeated, replaced};
 

@@ -2,7 +2,8 @@ use Rattle.std.proofs.Common.{◌≡◌, ℕ, ◌+◌, ◌-◌, ◌<◌, length,
 use Rattle.rl_map.specs.Layout.{key_of}
 use Rattle.rl_bench.proofs.StretchLemmas.{stretch_one}
 use Rattle.rl_bench.proofs.find.words_beside.Goals as goal
-use Rattle.rl_bench.proofs.find.words_beside.Goals.{else-k-gt0-via-then-k-gt0+else-same_address, else-k-gt0-via-else-k-gt0, else-k-words-via-then-k-words+else-same_address-2, else-k-words-via-else-k-words}
+use Rattle.rl_bench.proofs.find.words_beside.Goals.{else-k-gt0-via-then-k-gt0+else-same_address, else-k-gt0-via-else-k-gt0, else-k-words-via-then-k-words+else-same_address-2}
+use Rattle.rl_bench.proofs.find.words_beside.Goals.{else-k-words-via-else-k-words}
 
 pub returns : goal.returns
 returns c d =

@@ -12,4 +12,5 @@ returns-in-Some-clause-bits c =
 pub returns-in-Some-clause-mask : goal.returns-in-Some-clause-mask
 returns-in-Some-clause-mask c =
     is_from_bits 64 _ _ (omega arith)
-    (λ b l. rw c.rotate_left-in-Some.ensures (covered_bit c.args.self.now c.in-Some.turn c.byte_mask-mask.result b c.in-Some.ensures.turned c.in-Some.ensures.few (omega arith) c.byte_mask-mask.ensures l))
+    (λ b l. rw c.rotate_left-in-Some.ensures (covered_bit c.args.self.now c.in-Some.turn c.byte_mask-mask.result b c.in-Some.ensures.turned c.in-Some.ensures.few (omega arith)
+    c.byte_mask-mask.ensures l))

@@ -7,7 +7,8 @@ use Rattle.rl_bus.specs.Lanes.{IsWidth}
 use Rattle.rl_map.proofs.Climb.{HasRoom, through_room, room_in_four}
 use Rattle.rl_map.proofs.Askew.{not_is, stands_askew, askew_here, askew_next, askew_end, even_stands, byte_stands, word_stands}
 use Rattle.rl_map.proofs.seat.Location.meets_askew.Goals as goal
-use Rattle.rl_map.proofs.seat.Location.meets_askew.Goals.{else-not-access-via-then-not-access+then-level+else-access-from-ne0, else-not-access-via-then-not-access+else-level, else-not-access-via-else-not-access}
+use Rattle.rl_map.proofs.seat.Location.meets_askew.Goals.{else-not-access-via-then-not-access+then-level+else-access-from-ne0, else-not-access-via-then-not-access+else-level}
+use Rattle.rl_map.proofs.seat.Location.meets_askew.Goals.{else-not-access-via-else-not-access}
 
 pub nonzero_rem-access : goal.nonzero_rem-access
 nonzero_rem-access c = omega (arith, c.from-then-level.ensures, c.loop-level.invariant.1.is_access.within)

@@ -51,7 +51,8 @@ invariant_of-result c =
     let blocks_first : c.len-blocks.result ≤ c.len-scopes.result = grind (arith, common_steps) in
     let count : length scopes ≡ c.len-scopes.result = grind (arith, common_steps) in
     let fit : PathsFit c.len-scopes.result whole =
-    whole_fit c.len-scopes.result c.len-blocks.result c.args.parts.now.blocks c.args.parts.now.files first_kinds rs ms first scopes regs whole none1 is1 none2 is2 none3 is3 none is4 blocks_first count in
+    whole_fit c.len-scopes.result c.len-blocks.result c.args.parts.now.blocks c.args.parts.now.files first_kinds rs ms first scopes regs whole none1 is1 none2 is2 none3 is3 none is4 blocks_first
+    count in
     let few_regs : length chip.regs ≤ 1024 = grind (arith, common_steps, length-regs_seen) in
     let seen : c.in_ok-mems.mems.items ≡ map mem_seen ms = grind (arith, common_steps) in
     record {
