@@ -114,11 +114,8 @@ pub fn mem_check<D: Device>(
         index,
         value,
     };
-    let place = match model.fitting(
-        item,
-        value,
-        model.at_location(mem, index, model.way(place, false)),
-    ) {
+    let way = model.at_location(mem, index, model.way(place, false));
+    let place = match model.fitting(item, value, way) {
         Ok(place) => place,
         Err(why) => return model.refuse_memory(op, why),
     };

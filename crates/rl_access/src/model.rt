@@ -34,12 +34,8 @@ impl std::marker::Model for Model {
 
     ghost view = { λ m. record { chip = m.chip; layout = m.layout; mirror = m.mirror; gathered = m.predictor } };
 
-    ghost invariant = { λ m. IsModel (record {
-      chip = m.chip;
-      layout = m.layout;
-      mirror = m.mirror;
-      gathered = m.predictor;
-    }) };
+    ghost invariant = { λ m.
+        IsModel (record { chip = m.chip; layout = m.layout; mirror = m.mirror; gathered = m.predictor }) };
 }
 
 impl Model {
