@@ -11,7 +11,8 @@ use Rattle.rl_access.specs.Operation.{HasNumbers}
 use Rattle.rl_script.specs.declared.line.Line.{Line}
 use Rattle.rl_script.specs.Commands.{may_count}
 use Rattle.rl_script.specs.Reading.{read_of}
-use Rattle.rl_script.specs.Spelling.{spelling, is_burst_write, IsLine, HasGoodCount}
+use Rattle.rl_script.specs.Spelling.{spelling, IsLine, HasGoodCount}
+use Rattle.rl_script.specs.Bursts.{is_burst_write}
 use Rattle.rl_script.proofs.AgainLemmas.{read_again}
 use Rattle.rl_script.proofs.ItemLemmas.{item_line_is, item_line_counts, item_line_is_no_burst}
 use Rattle.rl_script.proofs.ShortLemmas.{is_short}
