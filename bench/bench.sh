@@ -18,6 +18,7 @@ works = [
     ("soak 1", ["soak", "1"], None),
     ("soak 7", ["soak", "7"], None),
     ("run mixed 100,000 lines", ["run"], "mixed"),
+    ("weave 1, 100,000 words", ["weave", "1"], "woven"),
     ("run mem-walk 65,536", ["run"], "memwalk"),
     ("run 1,000,000 blank", ["run"], "blank"),
     ("map 4,096 places", ["map"], "places"),

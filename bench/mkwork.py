@@ -60,8 +60,8 @@ MAPS = [
 ]
 
 
-def mixed():
-    draw = Draw(2017)
+def device(draw, **root):
+    """256 registers on the maps, each root with these further keys: the text, the registers, and the maps of each."""
     text = ""
     for n in range(8):
         text += table("block", name=f"blk{n}")
@@ -74,7 +74,7 @@ def mixed():
         text += more
         regs.append((path, size, found))
     for name, size, keys in MAPS:
-        text += table("map", name=name, bytes=size, **keys)
+        text += table("map", name=name, bytes=size, **keys, **({} if "parent" in keys else root))
     placed = {}
     for n, (path, _, _) in enumerate(regs):
         where = [MAPS[n % 6][0]]
@@ -85,7 +85,12 @@ def mixed():
             # A word-addressed map counts in words of two bytes.
             step = 8 if name == "apbl" else 16
             text += table("place", map=name, item=path, offset=step * n)
-    text += "---\n"
+    return text + "---\n", regs, placed
+
+
+def mixed():
+    draw = Draw(2017)
+    text, regs, placed = device(draw)
     out = []
     for _ in range(100000):
         path, size, found = regs[draw(256)]
@@ -115,6 +120,21 @@ def mixed():
             out.append(f"field-read {path}.{field[0]}{at}")
         else:
             out.append(f"field-write {path}.{field[0]} {draw.bits(field[1]):#x}{at}")
+    return text + "\n".join(out) + "\n"
+
+
+def woven():
+    """Groups of 1 to 64 masters' accesses, each to a register of its own: some 100,000 words."""
+    draw = Draw(1997)
+    text, regs, placed = device(draw, predict="explicit")
+    out = []
+    for _ in range(1780):
+        group = {draw(256) for _ in range(1 + draw(64))}
+        for n in sorted(group, key=lambda n: (n * 167) % 256):
+            path, size, _ = regs[n]
+            at = f" @{placed[path][draw(len(placed[path]))]}" if draw(2) else ""
+            out.append(f"other-read {path}{at}" if draw(2) else f"other-write {path} {draw.bits(8 * size):#x}{at}")
+        out.append("")
     return text + "\n".join(out) + "\n"
 
 
@@ -164,7 +184,7 @@ def largest():
 def main():
     where = sys.argv[1]
     os.makedirs(where, exist_ok=True)
-    for name, text in (("mixed", mixed()), ("memwalk", memwalk()),
+    for name, text in (("mixed", mixed()), ("woven", woven()), ("memwalk", memwalk()),
                        ("blank", SMALLEST + "\n" * 1000000), ("places", places()), ("largest", largest())):
         with open(os.path.join(where, name + ".session"), "w") as f:
             f.write(text)

@@ -1,3 +1,4 @@
 pub mod Granted
 pub mod Endings
 pub mod Weaves
+pub mod Left

@@ -1,6 +1,6 @@
 -- A weave as data: what is added to it, and what a step leaves of it.
-use Rattle.std.specs.Prelude.{◌≡◌, ℕ, ◌+◌, ◌^◌, ◌<◌, ◌≤◌, ◌==◌, ◌||◌, nat_lt, not, Bool, true, false, if◌then◌else◌, List}
-use Rattle.std.specs.Prelude.{[], ◌∷◌, ◌++◌, length, slice_set, filter, position, All, AllPairs, Option, None, Some, unwrap_or, Result, Ok, Err}
+use Rattle.std.specs.Prelude.{◌≡◌, ℕ, ◌+◌, ◌-◌, ◌^◌, ◌<◌, ◌≤◌, ◌==◌, ◌||◌, nat_lt, not, Bool, true, false, if◌then◌else◌, List}
+use Rattle.std.specs.Prelude.{[], ◌∷◌, ◌++◌, length, slice_set, filter, position, All, AllPairs, Option, None, Some, unwrap_or, Result, Ok, Err, sum_by}
 use Rattle.rl_model.specs.declared.rows.Item.TheVariants.{Reg}
 use Rattle.rl_map.specs.Layout.{place_of, words_of}
 use Rattle.rl_access.specs.declared.event.Refused.{Refused}
@@ -40,6 +40,14 @@ pub record IsWeave (w : WeaveData) : Type 0 where
 -- each access is as a model has it
 abbrev pub IsWeaveOn : ModelData → WeaveData → Type 0
 IsWeaveOn m w = All (IsWovenOn m) w.accesses
+
+-- how many words an access has yet to send
+abbrev pub left_of : Woven → ℕ
+left_of v = v.words - length v.items
+
+-- how many the open ones have
+abbrev pub words_left : WeaveData → ℕ
+words_left w = sum_by (λ k. left_of (woven_at w.accesses k)) w.still_open
 
 -- ---- adding
 

@@ -5,7 +5,7 @@ ghost use Rattle.rl_access.specs.Event.{EventFits, ItemFits};
 ghost use Rattle.rl_access.specs.Model.{IsReady, IsSameChip};
 ghost use Rattle.rl_weave.specs.Access.{IsNumbered, IsWovenOn, woven_at};
 ghost use Rattle.rl_weave.specs.Step.{IsStepOf, end_of};
-ghost use Rattle.rl_weave.specs.Weave.{WeaveData, IsWeave, IsWeaveOn, IsLeft, empty, adding, appended, woven_of, place_used, number_of, same_register, stepped};
+ghost use Rattle.rl_weave.specs.Weave.{WeaveData, IsWeave, IsWeaveOn, IsLeft, empty, adding, appended, woven_of, place_used, number_of, same_register, stepped, words_left};
 
 use crate::access::{Access, WeaveFault};
 use crate::granting::granted;
@@ -116,6 +116,7 @@ impl Weave {
             (scene_of standing D.errors D.state model.new adapters.new.items device.new)
             (woven_at self.old.accesses which) result }
         ensures stepped { self.new ≡ stepped self.old which result.item }
+        ensures fewer { words_left self.new < words_left self.old }
         ensures ready { IsReady model.new (each standing adapters.new.items) (D.state device.new) }
         ensures parts { IsSameChip model.old model.new }
         ensures weave { IsWeaveOn model.new self.new }

@@ -75,7 +75,8 @@ over_distinct : (w : WeaveData) (t : Turn) (rest : List ℕ) (over : Bool) → i
     IsPermutation (stepped w t.which t.step.item).still_open rest → Distinct rest → Distinct (cond over (t.which ∷ rest) rest)
 over_distinct w t rest true e more distinct =
     let opens : (stepped w t.which t.step.item).still_open ≡ without t.which w.still_open = ap (λ b. cond b (without t.which w.still_open) w.still_open) e in
-    let away : All (λ k. k ≡ t.which → ⊥) rest = All-permutation (λ k. k ≡ t.which → ⊥) (without t.which w.still_open) rest (subst (λ xs. IsPermutation xs rest) opens more) (apart_from t.which w.still_open) in
+    let away : All (λ k. k ≡ t.which → ⊥) rest = All-permutation (λ k. k ≡ t.which → ⊥) (without t.which w.still_open) rest (subst (λ xs. IsPermutation xs rest) opens more) (apart_from t.which
+    w.still_open) in
     AllPairs-cons (λ i k. i ≡ k → ⊥) t.which rest (λ k d low same. away k d low (sym same)) distinct
 over_distinct w t rest false e more distinct = distinct
 
@@ -85,7 +86,8 @@ numbers_distinct [] w left s new ok run none = none_distinct
 numbers_distinct (t ∷ turns) w left s new ok run none =
     let next = stepped w t.which t.step.item in
     let more = weave_stepped w t.which t.step.item ok run.2 in
-    over_distinct w t (numbers next turns) (is_over (woven_at w.accesses t.which) t.step.item) refl (numbers_perm turns next left run.0 new more run.4 none) (numbers_distinct turns next left run.0 new more run.4 none)
+    over_distinct w t (numbers next turns) (is_over (woven_at w.accesses t.which) t.step.item) refl (numbers_perm turns next left run.0 new more run.4 none) (numbers_distinct turns next left run.0
+    new more run.4 none)
 
 -- ---- the accesses of these numbers
 

@@ -67,9 +67,10 @@ follow_of c reg (Some value) p sound inside built =
     let f : FollowsStep c reg (mirror_of p) new (register_at c p reg) (step_of (Some value)) = record { fields = every_field; are = all_chosen c reg sound inside; is = refl } in
     subst (λ x. FollowsStep c reg (mirror_of p) x (register_at c p reg) (step_of (Some value))) (plain_state c reg p new (step_of (Some value)) sound inside built f) f
 
-kept_by : (c : ChipData) (a : Access) (p : Machine) → IsSound c → a.reg < length c.regs → IsKept c (mirror_of p) →
+pub kept_by : (c : ChipData) (a : Access) (p : Machine) → IsSound c → a.reg < length c.regs → IsKept c (mirror_of p) →
     IsKept c (mirror_of (step_by c p a))
-kept_by c a p sound inside kept = step_kept c a.reg (mirror_of p) (mirror_of (step_by c p a)) (register_at c p a.reg) (step_of a.value) sound inside kept (follow_of c a.reg a.value p sound inside kept.built)
+kept_by c a p sound inside kept = step_kept c a.reg (mirror_of p) (mirror_of (step_by c p a)) (register_at c p a.reg) (step_of a.value) sound inside kept (follow_of c a.reg a.value p sound inside
+    kept.built)
 
 other_desired : (c : ChipData) (reg r : ℕ) (value : Option ℕ) (p : Machine) → (r ≡ reg → ⊥) →
     get_or (stepped c reg (step_of value) p).desired r 0 ≡ get_or p.desired r 0
@@ -77,7 +78,8 @@ other_desired c reg r None p apart = get_or-set_other p.desired reg r _ 0 apart
 other_desired c reg r (Some value) p apart = get_or-set_other p.desired reg r _ 0 apart
 
 here_desired : (c : ChipData) (reg : ℕ) (value : Option ℕ) (p : Machine) → reg < length p.desired →
-    get_or (stepped c reg (step_of value) p).desired reg 0 ≡ desired_after (fields_of c reg) (step_of value) (register_after (fields_of c reg) (step_of value) (register_at c p reg)).bits (get_or p.desired reg 0)
+    get_or (stepped c reg (step_of value) p).desired reg 0 ≡ desired_after (fields_of c reg) (step_of value) (register_after (fields_of c reg) (step_of value) (register_at c p reg)).bits
+    (get_or p.desired reg 0)
 here_desired c reg None p inside = get_or-set_same p.desired reg _ 0 inside
 here_desired c reg (Some value) p inside = get_or-set_same p.desired reg _ 0 inside
 
@@ -129,7 +131,8 @@ tells o reg e mirrored desired = record { op = o; end = e; trace = []; mirrored 
 
 event_as : (m : ModelData) (p : Machine) (reg : ℕ) (map value : Option ℕ) (place : ℕ) → grant m (op_with reg map value) ≡ Ok place →
     (machine_step m.chip m.layout p (op_with reg map value)).event
-    ≡ tells (named m (op_with reg map value)) reg (answered m.chip reg value (register_at m.chip p reg)) (get_or (stepped m.chip reg (step_of value) p).bits reg 0) (get_or (stepped m.chip reg (step_of value) p).desired reg 0)
+    ≡ tells (named m (op_with reg map value)) reg (answered m.chip reg value (register_at m.chip p reg)) (get_or (stepped m.chip reg (step_of value) p).bits reg 0) (get_or (stepped m.chip reg
+    (step_of value) p).desired reg 0)
 unfolding machine_step
 event_as m p reg map None place granted = ap (λ g. (done_by m.chip m.layout (op.OtherRead reg map) p g).event) (seen_grant m p reg map None place granted)
 event_as m p reg map (Some value) place granted = ap (λ g. (done_by m.chip m.layout (op.OtherWrite reg map value) p g).event) (seen_grant m p reg map (Some value) place granted)
@@ -216,12 +219,14 @@ pub course_kept : (m : ModelData) (xs : List Access) (p : Machine) → IsSound m
 course_kept m [] p sound asked kept = subst (λ (x : Course). IsKept m.chip (mirror_of x.machine)) (sym (none_course m p)) kept
 course_kept m (a ∷ rest) p sound asked kept =
     let first = asked_first m a rest asked in
-    subst (λ x. IsKept m.chip (mirror_of x)) (sym (after_first m p a rest first)) (course_kept m rest (step_by m.chip p a) sound (rest_of (IsAsked m) a rest asked) (kept_by m.chip a p sound first.reg kept))
+    subst (λ x. IsKept m.chip (mirror_of x)) (sym (after_first m p a rest first)) (course_kept m rest (step_by m.chip p a) sound (rest_of (IsAsked m) a rest asked) (kept_by m.chip a p sound first.reg
+    kept))
 
 course_locations : (m : ModelData) (xs : List Access) (p : Machine) → All (IsAsked m) xs → (course_of m p xs).machine.locations ≡ p.locations
 course_locations m [] p asked = ap (λ (x : Course). x.machine.locations) (none_course m p)
 course_locations m (a ∷ rest) p asked =
-    ap (λ (x : Machine). x.locations) (after_first m p a rest (asked_first m a rest asked)) ∙ course_locations m rest (step_by m.chip p a) (rest_of (IsAsked m) a rest asked) ∙ locations_stay m.chip a.reg a.value p
+    ap (λ (x : Machine). x.locations) (after_first m p a rest (asked_first m a rest asked)) ∙ course_locations m rest (step_by m.chip p a) (rest_of (IsAsked m) a rest asked) ∙ locations_stay m.chip
+    a.reg a.value p
 
 untouched : (m : ModelData) (xs : List Access) (p : Machine) (r : ℕ) → IsSound m.chip → All (IsAsked m) xs → IsKept m.chip (mirror_of p) →
     r < length m.chip.regs → All (λ b. r ≡ b.reg → ⊥) xs → IsLike m.chip r p (course_of m p xs).machine
@@ -318,11 +323,13 @@ pub machines_same : (c : ChipData) (p q : Machine) → IsSound c → IsMirrorOf 
 machines_same c p q sound built also locations like =
     same_machine p q
     (same_lists p.bits q.bits (built.registers ∙ sym also.registers)
-    (λ k d low. get_or_default p.bits k d 0 low ∙ (like k (subst (λ n. k < n) built.registers low)).same.bits ∙ get_or_default q.bits k 0 d (subst (λ n. k < n) (built.registers ∙ sym also.registers) low)))
+    (λ k d low. get_or_default p.bits k d 0 low ∙ (like k (subst (λ n. k < n) built.registers low)).same.bits ∙ get_or_default q.bits k 0 d (subst (λ n. k < n) (built.registers ∙ sym also.registers)
+    low)))
     (same_lists p.desired q.desired (built.wishes ∙ sym also.wishes)
     (λ k d low. get_or_default p.desired k d 0 low ∙ (like k (subst (λ n. k < n) built.wishes low)).desired ∙ get_or_default q.desired k 0 d (subst (λ n. k < n) (built.wishes ∙ sym also.wishes) low)))
     (same_lists p.spent q.spent (built.marks ∙ sym also.marks)
-    (λ k d low. get_or_default p.spent k d false low ∙ marks_same c p q k sound (subst (λ n. k < n) built.marks low) like ∙ get_or_default q.spent k false d (subst (λ n. k < n) (built.marks ∙ sym also.marks) low)))
+    (λ k d low. get_or_default p.spent k d false low ∙ marks_same c p q k sound (subst (λ n. k < n) built.marks low) like ∙ get_or_default q.spent k false d (subst (λ n. k < n) (built.marks ∙ sym
+    also.marks) low)))
     locations
 
 -- ---- in any order

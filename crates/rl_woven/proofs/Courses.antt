@@ -83,10 +83,13 @@ runs c l begun (t ∷ turns) p s new d w left chip layout told ok half run =
     let is = run.3 in
     let v = woven_at w.accesses t.which in
     let after = step_keeps_half s next begun d p w t.which t.step run.1 told ok here half is in
-    let step_is : machine_step s.model.chip s.model.layout p (op_of v.access) ≡ machine_step c l p (op_of v.access) = ap (λ x. machine_step x s.model.layout p (op_of v.access)) chip ∙ ap (λ x. machine_step c x p (op_of v.access)) layout in
-    let machine : machine_after_word s.model p v t.step.item ≡ cond (is_over v t.step.item) (machine_step c l p (op_of v.access)).machine p = ap (λ (x : Done). cond (is_over v t.step.item) x.machine p) step_is in
+    let step_is : machine_step s.model.chip s.model.layout p (op_of v.access) ≡ machine_step c l p (op_of v.access) = ap (λ x. machine_step x s.model.layout p (op_of v.access)) chip ∙ ap
+    (λ x. machine_step c x p (op_of v.access)) layout in
+    let machine : machine_after_word s.model p v t.step.item ≡ cond (is_over v t.step.item) (machine_step c l p (op_of v.access)).machine p = ap (λ (x : Done). cond (is_over v t.step.item) x.machine
+    p) step_is in
     let q = cond (is_over v t.step.item) (machine_step c l p (op_of v.access)).machine p in
-    let rest = runs c l begun turns q next new after.device (stepped w t.which t.step.item) left (ap (λ (m : ModelData). m.chip) is.sent.model ∙ chip) (ap (λ (m : ModelData). m.layout) is.sent.model ∙ layout) after.told
+    let rest = runs c l begun turns q next new after.device (stepped w t.which t.step.item) left (ap (λ (m : ModelData). m.chip) is.sent.model ∙ chip) (ap (λ (m : ModelData). m.layout) is.sent.model
+    ∙ layout) after.told
     (weave_stepped w t.which t.step.item ok here) (subst (λ x. IsHalf begun x next.model after.device (stepped w t.which t.step.item)) machine after.half) run.4 in
     first_step c l begun p new left (op_of v.access) (ended (stepped w t.which t.step.item) turns) t turns (is_over v t.step.item) (event_with next.model v t.step.item) is.end
     (subst (λ (x : Done). IfSome t.step.end (λ e. without_items e ≡ x.event)) step_is after.event) rest

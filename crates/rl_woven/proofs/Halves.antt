@@ -112,22 +112,28 @@ filter_from p i (x ∷ xs) h = filter_step x i xs (filter p xs) (p x) (λ more. 
 
 -- ---- the word of a step
 
-record IsWord (begun : State) (p : Machine) (s new : Scene) (d : State) (w : WeaveData) (which : ℕ) (item : TraceItem) : Type 0 where
-  at : IsGranted s.model (woven_at w.accesses which).access.reg (woven_at w.accesses which).access.map (woven_at w.accesses which).access.value (woven_at w.accesses which).place
-  place : IsPlaceOf s.model.chip s.model.layout (woven_at w.accesses which).place (woven_at w.accesses which).access.reg (writes (woven_at w.accesses which).access)
-  low : length (woven_at w.accesses which).items < length (whole_ops s.model.layout (woven_at w.accesses which).place (carried (woven_at w.accesses which).access) (writes (woven_at w.accesses which).access))
-  op_is : item.op ≡ whole_op s.model.layout (woven_at w.accesses which).place (carried (woven_at w.accesses which).access) (writes (woven_at w.accesses which).access) (length (woven_at w.accesses which).items)
-  told : IsTold d (place_at s.model.layout (woven_at w.accesses which).place).port item new.device
-  next : IsNextWord s.model.layout begun d (woven_at w.accesses which).place (woven_at w.accesses which).access.reg (carried (woven_at w.accesses which).access) (writes (woven_at w.accesses which).access) (length (woven_at w.accesses which).items) item.op
-  quiet : item.answer.failed ≡ false
+pub record IsWord (begun : State) (p : Machine) (s new : Scene) (d : State) (w : WeaveData) (which : ℕ) (item : TraceItem) : Type 0 where
+  pub at : IsGranted s.model (woven_at w.accesses which).access.reg (woven_at w.accesses which).access.map (woven_at w.accesses which).access.value (woven_at w.accesses which).place
+  pub place : IsPlaceOf s.model.chip s.model.layout (woven_at w.accesses which).place (woven_at w.accesses which).access.reg (writes (woven_at w.accesses which).access)
+  pub low : length (woven_at w.accesses which).items < length (whole_ops s.model.layout (woven_at w.accesses which).place (carried (woven_at w.accesses which).access) (writes (woven_at w.accesses
+      which).access))
+  pub op_is : item.op ≡ whole_op s.model.layout (woven_at w.accesses which).place (carried (woven_at w.accesses which).access) (writes (woven_at w.accesses which).access) (length (woven_at w.accesses
+      which).items)
+  pub told : IsTold d (place_at s.model.layout (woven_at w.accesses which).place).port item new.device
+  pub next : IsNextWord s.model.layout begun d (woven_at w.accesses which).place (woven_at w.accesses which).access.reg (carried (woven_at w.accesses which).access) (writes (woven_at w.accesses
+      which).access) (length (woven_at w.accesses which).items) item.op
+  pub quiet : item.answer.failed ≡ false
   -- the words so far, with this one
-  ops : map (λ (i : TraceItem). i.op) ((woven_at w.accesses which).items ++ item ∷ []) ≡ take (length (woven_at w.accesses which).items + 1) (whole_ops s.model.layout (woven_at w.accesses which).place (carried (woven_at w.accesses which).access) (writes (woven_at w.accesses which).access))
-  answers : map (λ (i : TraceItem). i.answer) ((woven_at w.accesses which).items ++ item ∷ []) ≡ answers_of begun (place_at s.model.layout (woven_at w.accesses which).place).port (map (λ (i : TraceItem). i.op) ((woven_at w.accesses which).items ++ item ∷ []))
+  pub ops : map (λ (i : TraceItem). i.op) ((woven_at w.accesses which).items ++ item ∷ []) ≡ take (length (woven_at w.accesses which).items + 1) (whole_ops s.model.layout (woven_at w.accesses
+      which).place (carried (woven_at w.accesses which).access) (writes (woven_at w.accesses which).access))
+  pub answers : map (λ (i : TraceItem). i.answer) ((woven_at w.accesses which).items ++ item ∷ []) ≡ answers_of begun (place_at s.model.layout (woven_at w.accesses which).place).port
+      (map (λ (i : TraceItem). i.op) ((woven_at w.accesses which).items ++ item ∷ []))
   -- what the predictor makes of it
-  model : new.model ≡ (let x = taken_in s.model.chip s.model.layout (woven_at w.accesses which).place (gathered_of (writes (woven_at w.accesses which).access) ((woven_at w.accesses which).items ++ item ∷ [])) s.model.gathered s.model.mirror in
+  pub model : new.model ≡ (let x = taken_in s.model.chip s.model.layout (woven_at w.accesses which).place (gathered_of (writes (woven_at w.accesses which).access) ((woven_at w.accesses which).items
+      ++ item ∷ [])) s.model.gathered s.model.mirror in
       let y : ModelData = record s.model { gathered = x.gathered; mirror = x.mirror } in y)
 
-is_word : (begun : State) (p : Machine) (s new : Scene) (d : State) (w : WeaveData) (which : ℕ) (step : Step) → IsModel s.model → s.device ≡ Some d →
+pub is_word : (begun : State) (p : Machine) (s new : Scene) (d : State) (w : WeaveData) (which : ℕ) (step : Step) → IsModel s.model → s.device ≡ Some d →
     IsOpen w which → IsHalf begun p s.model d w → IsStepOf s new (woven_at w.accesses which) step → IsWord begun p s new d w which step.item
 is_word begun p s new d w which step model told here half is =
     let m = s.model in
@@ -148,7 +154,8 @@ is_word begun p s new d w which step model told here half is =
     let op_is : item.op ≡ whole_op l v.place value write k = sym (get_or_from_slice_get ops k item.op no_op is.sent.op) in
     let t = told_word s new v.place k v.access.value item d told is.sent in
     let next : IsNextWord l begun d v.place v.access.reg value write k item.op =
-    subst (IsNextWord l begun d v.place v.access.reg value write k) (sym op_is) (next_word_goes_on c l begun d v.place v.access.reg value write k place half.begun_ready half.device low mine.under_way) in
+    subst (IsNextWord l begun d v.place v.access.reg value write k) (sym op_is) (next_word_goes_on c l begun d v.place v.access.reg value write k place half.begun_ready half.device low
+    mine.under_way) in
     let quiet : item.answer.failed ≡ false = ap (λ (a : Answer). a.failed) t.answer ∙ next.quiet in
     let all : map (λ (i : TraceItem). i.op) (v.items ++ item ∷ []) ≡ take k ops ++ item.op ∷ [] = map-append (λ (i : TraceItem). i.op) v.items (item ∷ []) ∙ ap (λ xs. xs ++ item.op ∷ []) mine.ops in
     record {
@@ -169,15 +176,16 @@ is_word begun p s new d w which step model told here half is =
       model =
           is.sent.model
           ∙ ap (λ (x : Seen). let y : ModelData = record m { gathered = x.gathered; mirror = x.mirror } in y)
-          (seen_word c l v.place value write v.items item m.gathered m.mirror here_is (register_place l v.access.reg v.place at.there) at.explicit at.right t.port_is op_is (subst (λ n. k < n) (ops_count l v.place value write here_is) low) quiet mine.gathered);
+          (seen_word c l v.place value write v.items item m.gathered m.mirror here_is (register_place l v.access.reg v.place at.there) at.explicit at.right t.port_is op_is (subst (λ n. k < n)
+          (ops_count l v.place value write here_is) low) quiet mine.gathered);
     }
 
 -- ---- whether it is the last one
 
-over_is : (v : Woven) (item : TraceItem) (t : Bool) → item.answer.failed ≡ false → eqb (length v.items + 1) v.words ≡ t → is_over v item ≡ t
+pub over_is : (v : Woven) (item : TraceItem) (t : Bool) → item.answer.failed ≡ false → eqb (length v.items + 1) v.words ≡ t → is_over v item ≡ t
 over_is v item t quiet e = ap (λ b. b || eqb (length v.items + 1) v.words) quiet ∙ e
 
-whole_is : (l : LayoutData) (v : Woven) (item : TraceItem) (write t : Bool) → v.words ≡ length (words_of l v.place 0) →
+pub whole_is : (l : LayoutData) (v : Woven) (item : TraceItem) (write t : Bool) → v.words ≡ length (words_of l v.place 0) →
     eqb (length v.items + 1) v.words ≡ t → is_whole l v.place (gathered_of write (v.items ++ item ∷ [])) ≡ t
 whole_is l v item write t words e =
     ap (λ (g : Gathered). length g.words == length (words_of l v.place 0)) (gathered_whole write v.items item)
@@ -189,7 +197,8 @@ whole_is l v item write t words e =
 
 others_stay : (begun : State) (p : Machine) (s new : Scene) (d : State) (w : WeaveData) (which : ℕ) (step : Step) → IsModel s.model → IsWeave w →
     IsOpen w which → IsHalf begun p s.model d w → IsWord begun p s new d w which step.item → (i : ℕ) → IsOpen w i → (i ≡ which → ⊥) →
-    IsUnderWay s.model.layout begun (state_after d (place_at s.model.layout (woven_at w.accesses which).place).port step.item.op) (woven_at w.accesses i).place (woven_at w.accesses i).access.reg (carried (woven_at w.accesses i).access) (writes (woven_at w.accesses i).access) (length (woven_at w.accesses i).items)
+    IsUnderWay s.model.layout begun (state_after d (place_at s.model.layout (woven_at w.accesses which).place).port step.item.op) (woven_at w.accesses i).place (woven_at w.accesses i).access.reg
+    (carried (woven_at w.accesses i).access) (writes (woven_at w.accesses i).access) (length (woven_at w.accesses i).items)
 others_stay begun p s new d w which step model ok here half word i there apart_is =
     let m = s.model in
     let l = m.layout in
@@ -198,9 +207,11 @@ others_stay begun p s new d w which step model ok here half word i there apart_i
     let mine = half.open_ones which here in
     let its = half.open_ones i there in
     let apart : x.access.reg ≡ v.access.reg → ⊥ = regs_differ w.accesses i which ok.apart (at_open w i ok there).inside (at_open w which ok here).inside apart_is in
-    let other : IsPlaceOf m.chip l x.place x.access.reg (writes x.access) = place_granted m x.access.reg x.access.map x.access.value x.place (writes x.access) model (half_granted m x its.granted) refl in
+    let other : IsPlaceOf m.chip l x.place x.access.reg (writes x.access) = place_granted m x.access.reg x.access.map x.access.value x.place (writes x.access) model (half_granted m x its.granted)
+    refl in
     subst (λ o. IsUnderWay l begun (state_after d (place_at l v.place).port o) x.place x.access.reg (carried x.access) (writes x.access) (length x.items)) (sym word.op_is)
-    (others_stay_under_way m.chip l begun d v.place v.access.reg (carried v.access) (writes v.access) (length v.items) word.place half.begun_ready half.device word.low mine.under_way begun x.place x.access.reg (carried x.access) (writes x.access) (length x.items) other apart its.under_way)
+    (others_stay_under_way m.chip l begun d v.place v.access.reg (carried v.access) (writes v.access) (length v.items) word.place half.begun_ready half.device word.low mine.under_way begun x.place
+    x.access.reg (carried x.access) (writes x.access) (length x.items) other apart its.under_way)
 
 -- ---- a middle word
 
@@ -226,7 +237,8 @@ middle begun p s new d w which step model ok here half is word e =
     let long : length items ≡ k + 1 = length_push v.items item in
     let after : new.model ≡ model_with m v.place g (mirror_of p) =
     word.model
-    ∙ ap (λ t. let x : Seen = cond t (seen_of (set m.gathered v.place no_words) (predicted c l v.place g m.mirror)) (seen_of (set m.gathered v.place g) m.mirror) in let y : ModelData = record m { gathered = x.gathered; mirror = x.mirror } in y) (whole_is l v item write false mine.words e)
+    ∙ ap (λ t. let x : Seen = cond t (seen_of (set m.gathered v.place no_words) (predicted c l v.place g m.mirror)) (seen_of (set m.gathered v.place g) m.mirror) in let y : ModelData = record m
+    { gathered = x.gathered; mirror = x.mirror } in y) (whole_is l v item write false mine.words e)
     ∙ ap (model_with m v.place g) half.mirror
     in
     let moved : IsMoved m p p begun d next w which item.op.address u w.still_open g = record {
@@ -260,13 +272,17 @@ middle begun p s new d w which step model ok here half is word e =
       half =
           subst (λ q. IsHalf begun q new.model next (stepped w which item)) (ap (λ t. cond t (machine_step c l p (op_of v.access)).machine p) (sym going))
           (subst (λ x. IsHalf begun p x next (stepped w which item)) (sym after)
-          (subst (IsHalf begun p (model_with m v.place g (mirror_of p)) next) (stepped_going w which item going) (half_moved m p p begun d next w which item.op.address u w.still_open g model ok half here moved)));
+          (subst (IsHalf begun p (model_with m v.place g (mirror_of p)) next) (stepped_going w which item going) (half_moved m p p begun d next w which item.op.address u w.still_open g model ok half
+          here moved)));
       event = subst (λ o. IfSome o (λ x. without_items x ≡ (machine_step c l p (op_of v.access)).event)) (sym (is.end ∙ ap (λ t. cond t (Some (event_with new.model v item)) None) going)) tt;
       own =
           subst (λ q. IsAlike c v.access.reg (register_after_word c p v item) (register_at c q v.access.reg)) (ap (λ t. cond t (machine_step c l p (op_of v.access)).machine p) (sym going))
-          (subst (λ x. IsAlike c v.access.reg x (register_at c p v.access.reg)) (ap (λ t. cond t (register_after (fields_of c v.access.reg) (step_of v.access.value) (register_at c p v.access.reg)) (register_at c p v.access.reg)) (sym going)) (alike_as_is c v.access.reg (register_at c p v.access.reg)));
-      others = λ reg low other. subst (λ q. IsAlike c reg (register_at c p reg) (register_at c q reg)) (ap (λ t. cond t (machine_step c l p (op_of v.access)).machine p) (sym going)) (alike_as_is c reg (register_at c p reg));
-      answers = subst (λ o. IfSome o (λ x. x.end ≡ answered c v.access.reg v.access.value (register_at c p v.access.reg))) (sym (is.end ∙ ap (λ t. cond t (Some (event_with new.model v item)) None) going)) tt;
+          (subst (λ x. IsAlike c v.access.reg x (register_at c p v.access.reg)) (ap (λ t. cond t (register_after (fields_of c v.access.reg) (step_of v.access.value) (register_at c p v.access.reg))
+          (register_at c p v.access.reg)) (sym going)) (alike_as_is c v.access.reg (register_at c p v.access.reg)));
+      others = λ reg low other. subst (λ q. IsAlike c reg (register_at c p reg) (register_at c q reg)) (ap (λ t. cond t (machine_step c l p (op_of v.access)).machine p) (sym going))
+          (alike_as_is c reg (register_at c p reg));
+      answers = subst (λ o. IfSome o (λ x. x.end ≡ answered c v.access.reg v.access.value (register_at c p v.access.reg))) (sym (is.end ∙ ap (λ t. cond t (Some (event_with new.model v item)) None)
+          going)) tt;
     }
 
 -- ---- the last word
@@ -274,7 +290,8 @@ middle begun p s new d w which step model ok here half is word e =
 -- the register took its step
 all_sent : (c : ChipData) (l : LayoutData) (begun next : State) (place reg : ℕ) (value : Option ℕ) (r : Register) →
     IsPlaceOf c l place reg (is_some value) → IsReady c l begun → Holds c begun reg r →
-    IsUnderWay l begun next place reg (unwrap_or value 0) (is_some value) (length (whole_ops l place (unwrap_or value 0) (is_some value))) → IsOver c l next place reg (register_after (fields_of c reg) (step_of value) r)
+    IsUnderWay l begun next place reg (unwrap_or value 0) (is_some value) (length (whole_ops l place (unwrap_or value 0) (is_some value))) →
+    IsOver c l next place reg (register_after (fields_of c reg) (step_of value) r)
 all_sent c l begun next place reg None r at ready holds under = all_sent_is_read c l begun next place reg r at ready holds under
 all_sent c l begun next place reg (Some value) r at ready holds under = all_sent_is_write c l begun next place reg value r at ready holds under
 
@@ -296,7 +313,8 @@ alone_marks c l begun place reg (Some value) r at ready holds =
 -- the value that a read is told to have brought
 brought : (m new : ModelData) (begun : State) (p : Machine) (reg : ℕ) (map value : Option ℕ) (place : ℕ) (items : List TraceItem) → IsModel m →
     new.chip ≡ m.chip → new.layout ≡ m.layout → IsGranted m reg map value place → IsPlaceOf m.chip m.layout place reg (is_some value) →
-    IsReady m.chip m.layout begun → Holds m.chip begun reg (register_at m.chip p reg) → all_of items ≡ whole_ops m.layout place (unwrap_or value 0) (is_some value) → answers_in items ≡ answers_of begun (place_at m.layout place).port (all_of items) →
+    IsReady m.chip m.layout begun → Holds m.chip begun reg (register_at m.chip p reg) → all_of items ≡ whole_ops m.layout place (unwrap_or value 0) (is_some value) →
+    answers_in items ≡ answers_of begun (place_at m.layout place).port (all_of items) →
     value ≡ None → value_of new (whole new reg place 0) items ≡ ranswer (fields_of m.chip reg) every (register_at m.chip p reg)
 brought m new begun p reg map None place items model chip layout at there ready holds ops answers none =
     ap (λ l. joined l place 0 (all_bytes (size_of new.chip reg)) (words_answered items)) layout
@@ -333,13 +351,15 @@ last begun p s new d w which step model ok here half is word e =
     let over : is_over v item ≡ true = over_is v item true word.quiet e in
     let count : k + 1 ≡ length ops = eqb-true (k + 1) v.words e ∙ mine.words ∙ sym (ops_count l v.place value write here_is) in
     let all_ops : map (λ (i : TraceItem). i.op) items ≡ ops = word.ops ∙ take_all (k + 1) ops (omega (arith, count)) in
-    let follow = follows c l begun p v.place reg v.access.value v.items item m.mirror model.chip inside here_is (granted_value m reg v.access.map v.access.value v.place model word.at) word.place half.begun_ready mine.holds half.mirror all_ops word.answers in
+    let follow = follows c l begun p v.place reg v.access.value v.items item m.mirror model.chip inside here_is (granted_value m reg v.access.map v.access.value v.place model word.at) word.place
+    half.begun_ready mine.holds half.mirror all_ops word.answers in
     let believed : predicted c l v.place g m.mirror ≡ mirror_of q = believed_is m p reg v.access.value (predicted c l v.place g m.mirror) model.chip inside model.mirror half.mirror follow in
     let machine_follow : FollowsStep c reg (mirror_of p) (mirror_of q) r st = subst (λ x. FollowsStep c reg (mirror_of p) x r st) believed follow in
     let built : IsMirrorOf c (mirror_of p) = subst (IsMirrorOf c) half.mirror model.mirror in
     let after : new.model ≡ model_with m v.place no_words (mirror_of q) =
     word.model
-    ∙ ap (λ t. let x : Seen = cond t (seen_of (set m.gathered v.place no_words) (predicted c l v.place g m.mirror)) (seen_of (set m.gathered v.place g) m.mirror) in let y : ModelData = record m { gathered = x.gathered; mirror = x.mirror } in y) (whole_is l v item write true mine.words e)
+    ∙ ap (λ t. let x : Seen = cond t (seen_of (set m.gathered v.place no_words) (predicted c l v.place g m.mirror)) (seen_of (set m.gathered v.place g) m.mirror) in let y : ModelData = record m
+    { gathered = x.gathered; mirror = x.mirror } in y) (whole_is l v item write true mine.words e)
     ∙ ap (model_with m v.place no_words) believed
     in
     let under = subst (IsUnderWay l begun next v.place reg value write) count word.next.under_way in
@@ -363,7 +383,8 @@ last begun p s new d w which step model ok here half is word e =
         gathered = refl;
       });
     } in
-    let told_value = brought m new.model begun p reg v.access.map v.access.value v.place items model (ap (λ (x : ModelData). x.chip) after) (ap (λ (x : ModelData). x.layout) after) word.at word.place half.begun_ready mine.holds all_ops word.answers in
+    let told_value = brought m new.model begun p reg v.access.map v.access.value v.place items model (ap (λ (x : ModelData). x.chip) after) (ap (λ (x : ModelData). x.layout) after) word.at word.place
+    half.begun_ready mine.holds all_ops word.answers in
     let same_machine : (machine_step c l p (op_of v.access)).machine ≡ q = machine_is m p reg v.access.map v.access.value v.place mine.granted in
     let chip : new.model.chip ≡ c = ap (λ (x : ModelData). x.chip) after in
     let layout : new.model.layout ≡ l = ap (λ (x : ModelData). x.layout) after in
@@ -430,7 +451,8 @@ fresh_is_half s p w model a is ok on unsent =
             words = one.words;
             holds = holds v.access.reg low;
             marked = a.believed_is.alone v.access.reg low;
-            under_way = subst (λ (xs : List TraceItem). IsUnderWay m.layout d d v.place v.access.reg (carried v.access) (writes v.access) (length xs)) (sym none) (none_sent_is_under_way m.layout d v.place v.access.reg (carried v.access) (writes v.access));
+            under_way = subst (λ (xs : List TraceItem). IsUnderWay m.layout d d v.place v.access.reg (carried v.access) (writes v.access) (length xs)) (sym none) (none_sent_is_under_way m.layout d
+                v.place v.access.reg (carried v.access) (writes v.access));
             ops = subst (λ (xs : List TraceItem). map (λ (i : TraceItem). i.op) xs ≡ take (length xs) (whole_ops m.layout v.place (carried v.access) (writes v.access))) (sym none) refl;
             answers = subst (λ (xs : List TraceItem). map (λ (i : TraceItem). i.answer) xs ≡ answers_of d (place_at m.layout v.place).port (map (λ (i : TraceItem). i.op) xs)) (sym none) refl;
             gathered = subst (λ (xs : List TraceItem). gathered_at m.gathered v.place ≡ gathered_of (writes v.access) xs) (sym none) (nothing v.place);
@@ -455,13 +477,20 @@ none_open_agrees s begun d p w model told half none =
     let m = s.model in
     let c = m.chip in
     let apart_is : (P : Woven → Type 0) → NoneOpen w P = λ P i there h. nobody i (subst (λ xs. Contains xs i) none there) in
-    let believed_as : (reg : ℕ) → reg < length c.regs → Holds c d reg (believed c m.mirror reg) = λ reg low. subst (λ x. Holds c d reg (believed c x reg)) (sym half.mirror) (half.holds reg low (apart_is (λ v. v.access.reg ≡ reg))) in
+    let believed_as : (reg : ℕ) → reg < length c.regs → Holds c d reg (believed c m.mirror reg) = λ reg low. subst (λ x. Holds c d reg (believed c x reg)) (sym half.mirror) (half.holds reg low
+    (apart_is (λ v. v.access.reg ≡ reg))) in
     let all : IsNothingGathered m.gathered = λ k e low. get_or_default m.gathered k e no_words low ∙ half.gathered k (apart_is (λ v. v.place ≡ k)) in (
       record {
         device = d;
         told = told;
         believed_is = record {
-          ready = record { setup = half.device.setup; beats = λ port address. half.beats port address (apart_is (λ v. Occupies m.layout port address v.place 0)); bits = half.device.bits; marks = half.device.marks };
+          ready = record {
+            setup = half.device.setup;
+            beats = λ port address. half.beats port address (apart_is (λ v. Occupies m.layout port address v.place 0));
+            bits = half.device.bits;
+            marks =
+                half.device.marks;
+          };
           steady = half.steady;
           holds = believed_as;
           alone = λ reg low. half.marked reg low (apart_is (λ v. v.access.reg ≡ reg));

@@ -73,7 +73,8 @@ reg_of_item i reg e = ap reg_in e
 pub follows : (c : ChipData) (l : LayoutData) (begun : State) (p : Machine) (place reg : ℕ) (value : Option ℕ) (items : List TraceItem) (last : TraceItem) (m : MirrorData) →
     IsSound c → reg < length c.regs → IsHere l place 0 → unwrap_or value 0 < 256 ^ (place_at l place).bytes →
     IsPlaceOf c l place reg (is_some value) → IsReady c l begun → Holds c begun reg (register_at c p reg) → m ≡ mirror_of p →
-    map op_in (items ++ last ∷ []) ≡ whole_ops l place (unwrap_or value 0) (is_some value) → map answer_in_item (items ++ last ∷ []) ≡ answers_of begun (place_at l place).port (map op_in (items ++ last ∷ [])) →
+    map op_in (items ++ last ∷ []) ≡ whole_ops l place (unwrap_or value 0) (is_some value) → map answer_in_item (items ++ last ∷ []) ≡ answers_of begun (place_at l place).port
+    (map op_in (items ++ last ∷ [])) →
     FollowsStep c reg (mirror_of p) (predicted c l place (gathered_of (is_some value) (items ++ last ∷ [])) m) (register_at c p reg) (step_of value)
 unfolding told_of list_of
 follows c l begun p place reg None items last m sound inside here fits at ready holds mirror ops answers =
@@ -173,7 +174,8 @@ written_alike : (fs : List FieldSeen) (word : ℕ) (r x : Register) → r.bits �
     (wstep fs every word r).bits ≡ (wstep fs every word x).bits
 unfolding wstep
 written_alike fs word r x bits marks =
-    from_bits-same 64 (λ b. written_bit fs every r.spent (place_at_bit fs b) (bit r.bits b) (bit word b)) (λ b. written_bit fs every x.spent (place_at_bit fs b) (bit x.bits b) (bit word b)) (λ b low. by b (place_at_bit fs b) refl)
+    from_bits-same 64 (λ b. written_bit fs every r.spent (place_at_bit fs b) (bit r.bits b) (bit word b)) (λ b. written_bit fs every x.spent (place_at_bit fs b) (bit x.bits b) (bit word b))
+    (λ b low. by b (place_at_bit fs b) refl)
   where
     by : (b : ℕ) (o : Option ℕ) → place_at_bit fs b ≡ o →
         written_bit fs every r.spent o (bit r.bits b) (bit word b) ≡ written_bit fs every x.spent o (bit x.bits b) (bit word b)

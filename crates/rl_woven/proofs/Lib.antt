@@ -7,3 +7,4 @@ pub mod Orders
 pub mod Once
 pub mod Commuting
 pub mod AnyOrder
+pub mod Models

@@ -109,7 +109,8 @@ pub record IsMoved (m : ModelData) (p q : Machine) (begun d next : State) (w : W
   pub same : (reg : ℕ) → reg < length m.chip.regs → (reg ≡ (woven_at w.accesses which).access.reg → ⊥) →
       IsSame m.chip reg (register_at m.chip p reg) (register_at m.chip q reg)
   pub others : (i : ℕ) → IsOpen w i → (i ≡ which → ⊥) →
-      IsUnderWay m.layout begun next (woven_at w.accesses i).place (woven_at w.accesses i).access.reg (carried (woven_at w.accesses i).access) (writes (woven_at w.accesses i).access) (length (woven_at w.accesses i).items)
+      IsUnderWay m.layout begun next (woven_at w.accesses i).place (woven_at w.accesses i).access.reg (carried (woven_at w.accesses i).access) (writes (woven_at w.accesses i).access)
+      (length (woven_at w.accesses i).items)
   pub own : (Contains opens which × IsHalfDone begun q (model_with m (woven_at w.accesses which).place g (mirror_of q)) next u) ⊎ IsShut m q next (woven_at w.accesses which) opens which g
 
 -- ---- the others
@@ -140,7 +141,8 @@ other_half m p q begun d next w which address i u opens g ok half here moved the
       numbers = its.numbers;
       granted = grant_with m (set m.gathered v.place g) (mirror_of q) x.access.reg x.access.map x.access.value x.place its.granted;
       words = its.words;
-      holds = holds_as m.chip begun x.access.reg (register_at m.chip p x.access.reg) (register_at m.chip q x.access.reg) (moved.same x.access.reg (reg_in m x.access.reg x.access.map x.access.value its.numbers) apart) its.holds;
+      holds = holds_as m.chip begun x.access.reg (register_at m.chip p x.access.reg) (register_at m.chip q x.access.reg) (moved.same x.access.reg (reg_in m x.access.reg x.access.map x.access.value
+          its.numbers) apart) its.holds;
       marked = its.marked;
       under_way = moved.others i (moved.fewer i there) differ;
       ops = its.ops;
@@ -188,12 +190,14 @@ half_moved m p q begun d next w which address u opens g model ok half here moved
             | inl e ↦ subst (λ r. Holds m.chip next r (register_at m.chip q r)) (sym e) (shut_by (λ t. none which t (at_which u inside (λ x. x.access.reg ≡ reg) (moved.reg ∙ sym e)))).holds
             | inr apart_is ↦
                 holds_as m.chip next reg (register_at m.chip p reg) (register_at m.chip q reg) (moved.same reg low apart_is)
-                (holds_touched m.chip d next v.access.reg (place_at m.layout v.place).port address reg (register_at m.chip p reg) moved.touched apart_is (half.holds reg low (before (λ x. x.access.reg ≡ reg) (λ e. apart_is (sym e)) none)))
+                (holds_touched m.chip d next v.access.reg (place_at m.layout v.place).port address reg (register_at m.chip p reg) moved.touched apart_is (half.holds reg low
+                (before (λ x. x.access.reg ≡ reg) (λ e. apart_is (sym e)) none)))
           ];
       marked = λ reg low none.
           elim (cases_eq reg v.access.reg) [
             | inl e ↦ subst (IsMarkedAlone m.chip next) (sym e) (shut_by (λ t. none which t (at_which u inside (λ x. x.access.reg ≡ reg) (moved.reg ∙ sym e)))).marked
-            | inr apart_is ↦ marked_touched m.chip d next v.access.reg (place_at m.layout v.place).port address reg moved.touched apart_is (half.marked reg low (before (λ x. x.access.reg ≡ reg) (λ e. apart_is (sym e)) none))
+            | inr apart_is ↦ marked_touched m.chip d next v.access.reg (place_at m.layout v.place).port address reg moved.touched apart_is (half.marked reg low (before (λ x. x.access.reg ≡ reg)
+                (λ e. apart_is (sym e)) none))
           ];
       beats = λ port a none.
           elim (occupied m.layout port a v.place location) [
@@ -201,7 +205,8 @@ half_moved m p q begun d next w which address u opens g model ok half here moved
                 let shut = shut_by (λ t. none which t (at_which u inside (λ x. Occupies m.layout port a x.place 0) (subst (λ n. Occupies m.layout port a n 0) (sym moved.place) o))) in
                 ap (λ n. next.beats n a) (sym o.port_is) ∙ shut.beats a (subst (λ n. Occupies m.layout n a v.place 0) (sym o.port_is) o)
             | inr apart_is ↦
-                moved.touched.beats port a (λ e. apart_is (subst (λ t. Occupies m.layout t a v.place 0) (sym e.0) (subst (λ t. Occupies m.layout (place_at m.layout v.place).port t v.place 0) (sym e.1) moved.at)))
+                moved.touched.beats port a (λ e. apart_is (subst (λ t. Occupies m.layout t a v.place 0) (sym e.0) (subst (λ t. Occupies m.layout (place_at m.layout v.place).port t v.place 0)
+                (sym e.1) moved.at)))
                 ∙ half.beats port a (before (λ x. Occupies m.layout port a x.place 0) apart_is none)
           ];
       gathered = λ place none.
@@ -224,7 +229,8 @@ half_moved m p q begun d next w which address u opens g model ok half here moved
         IsHalfDone begun q (model_with m (woven_at w.accesses which).place g (mirror_of q)) next (woven_at (set w.accesses which u) i)
     each i there (inl e) =
         subst (λ n. IsHalfDone begun q (model_with m (woven_at w.accesses which).place g (mirror_of q)) next (woven_at (set w.accesses which u) n)) (sym e)
-        (at_which u (at_open w which ok here).inside (IsHalfDone begun q (model_with m (woven_at w.accesses which).place g (mirror_of q)) next) (own_half m q begun next (woven_at w.accesses which) u which opens g moved.own (subst (Contains opens) e there)))
+        (at_which u (at_open w which ok here).inside (IsHalfDone begun q (model_with m (woven_at w.accesses which).place g (mirror_of q)) next) (own_half m q begun next (woven_at w.accesses which) u
+        which opens g moved.own (subst (Contains opens) e there)))
     each i there (inr apart_is) =
         subst (IsHalfDone begun q (model_with m (woven_at w.accesses which).place g (mirror_of q)) next) (sym (get_or-set_other w.accesses which i u no_woven apart_is))
         (other_half m p q begun d next w which address i u opens g ok half here moved there apart_is)

@@ -56,7 +56,8 @@ gone which xs h = apart_from which xs h.0 which h.1 h.2
 -- from the machine p, with registers of open accesses that are as in the machine o
 record IsOnce (c : ChipData) (o p q : Machine) (w left : WeaveData) (turns : List Turn) : Type 0 where
   taken : (i : ℕ) → IsOpen w i → (IsOpen left i → ⊥) →
-      IsAlike c (woven_at w.accesses i).access.reg (register_after (fields_of c (woven_at w.accesses i).access.reg) (step_of (woven_at w.accesses i).access.value) (register_at c o (woven_at w.accesses i).access.reg)) (register_at c q (woven_at w.accesses i).access.reg)
+      IsAlike c (woven_at w.accesses i).access.reg (register_after (fields_of c (woven_at w.accesses i).access.reg) (step_of (woven_at w.accesses i).access.value) (register_at c o
+      (woven_at w.accesses i).access.reg)) (register_at c q (woven_at w.accesses i).access.reg)
   others : (reg : ℕ) → reg < length c.regs → NoneOpen w (λ v. v.access.reg ≡ reg) → IsAlike c reg (register_at c p reg) (register_at c q reg)
   tells : TellSteps c o w turns
 
@@ -113,7 +114,8 @@ base_after c l o p w which step ok here low base one i there =
   where
     own_base : (over : Bool) → is_over (woven_at w.accesses which) step.item ≡ over →
         Contains (cond over (without which w.still_open) w.still_open) which →
-        IsAlike c (woven_at w.accesses which).access.reg (register_at c o (woven_at w.accesses which).access.reg) (register_at c (after_word c l p (woven_at w.accesses which) step.item) (woven_at w.accesses which).access.reg)
+        IsAlike c (woven_at w.accesses which).access.reg (register_at c o (woven_at w.accesses which).access.reg) (register_at c (after_word c l p (woven_at w.accesses which) step.item)
+        (woven_at w.accesses which).access.reg)
     own_base true e there = absurd (gone which w.still_open there)
     own_base false e there =
         let v = woven_at w.accesses which in
@@ -129,7 +131,8 @@ Taken c o q a = IsAlike c a.reg (register_after (fields_of c a.reg) (step_of a.v
 -- the rest of a run behind a step
 once_more : (c : ChipData) (l : LayoutData) (o p q : Machine) (w left : WeaveData) (t : Turn) (turns : List Turn) → IsWeave w → IsOpen w t.which →
     ((i : ℕ) → IsOpen w i → (woven_at w.accesses i).access.reg < length c.regs) → AreAsIn c o p w →
-    IsOneWord c l p (woven_at w.accesses t.which) t.step → IsOnce c o (after_word c l p (woven_at w.accesses t.which) t.step.item) q (stepped w t.which t.step.item) left turns → IsOnce c o p q w left (t ∷ turns)
+    IsOneWord c l p (woven_at w.accesses t.which) t.step → IsOnce c o (after_word c l p (woven_at w.accesses t.which) t.step.item) q (stepped w t.which t.step.item) left turns →
+    IsOnce c o p q w left (t ∷ turns)
 once_more c l o p q w left t turns ok here low base one rest =
     let v = woven_at w.accesses t.which in
     let reg = v.access.reg in
@@ -197,8 +200,10 @@ once c l begun o (t ∷ turns) p s new d w left chip layout told ok half base ru
     let one = one_word c l begun p s next w t.which t.step chip layout after in
     let q1 = after_word c l p v t.step.item in
     let machine : machine_after_word s.model p v t.step.item ≡ q1 = ap (λ x. after_word x s.model.layout p v t.step.item) chip ∙ ap (λ x. after_word c x p v t.step.item) layout in
-    let rest = once c l begun o turns q1 next new after.device (stepped w t.which t.step.item) left (ap (λ (m : ModelData). m.chip) is.sent.model ∙ chip) (ap (λ (m : ModelData). m.layout) is.sent.model ∙ layout) after.told
-    (weave_stepped w t.which t.step.item ok here) (subst (λ x. IsHalf begun x next.model after.device (stepped w t.which t.step.item)) machine after.half) (base_after c l o p w t.which t.step ok here low base one) run.4 in
+    let rest = once c l begun o turns q1 next new after.device (stepped w t.which t.step.item) left (ap (λ (m : ModelData). m.chip) is.sent.model ∙ chip) (ap (λ (m : ModelData). m.layout)
+    is.sent.model ∙ layout) after.told
+    (weave_stepped w t.which t.step.item ok here) (subst (λ x. IsHalf begun x next.model after.device (stepped w t.which t.step.item)) machine after.half) (base_after c l o p w t.which t.step ok here
+    low base one) run.4 in
     subst (λ x. IsOnce c o p x w left (t ∷ turns)) (by_through c l p w t turns (is_over v t.step.item))
     (once_more c l o p (through c l q1 (ended (stepped w t.which t.step.item) turns)).machine w left t turns ok here low base one rest)
 
@@ -206,5 +211,6 @@ pub each_steps_once : EachStepsOnce
 each_steps_once s new p w left turns model a is ok on unsent run =
     let c = s.model.chip in
     let l = s.model.layout in
-    let all = once c l a.device p turns p s new a.device w left refl refl a.told ok (fresh_is_half s p w model a is ok on unsent) (λ i there. alike_as_is c (woven_at w.accesses i).access.reg (register_at c p (woven_at w.accesses i).access.reg)) run in
+    let all = once c l a.device p turns p s new a.device w left refl refl a.told ok (fresh_is_half s p w model a is ok on unsent) (λ i there. alike_as_is c (woven_at w.accesses i).access.reg
+    (register_at c p (woven_at w.accesses i).access.reg)) run in
     record { taken = all.taken; others = all.others; tells = all.tells }

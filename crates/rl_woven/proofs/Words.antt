@@ -98,7 +98,8 @@ gathered_whole write (x ∷ xs) item = refl
 
 pub seen_word : (c : ChipData) (l : LayoutData) (place value : ℕ) (write : Bool) (items : List TraceItem) (item : TraceItem) (gathered : List Gathered) (m : MirrorData) →
     IsHere l place 0 → IsRegisterPlace l place → (port_at l (place_at l place).port).explicit ≡ true → has_right (place_at l place).rights write ≡ true →
-    item.port ≡ (place_at l place).port → item.op ≡ whole_op l place value write (length items) → length items < length (words_of l place 0) → item.answer.failed ≡ false → gathered_at gathered place ≡ gathered_of write items →
+    item.port ≡ (place_at l place).port → item.op ≡ whole_op l place value write (length items) → length items < length (words_of l place 0) → item.answer.failed ≡ false →
+    gathered_at gathered place ≡ gathered_of write items →
     observed c l item.port item.op item.answer gathered m ≡ taken_in c l place (gathered_of write (items ++ item ∷ [])) gathered m
 seen_word c l place value write items item gathered m here there explicit right port_is op_is low quiet at =
     let k = length items in
@@ -108,7 +109,8 @@ seen_word c l place value write items item gathered m here there explicit right 
     let direction : item.op.write ≡ write = ap (λ (o : BusOp). o.write) op in
     let address : item.op.address ≡ word.address = ap (λ (o : BusOp). o.address) op in
     let count : length g.words ≡ k = ap length (gathered_words write items) ∙ length-map items told_by in
-    let next : is_next l place item.op g ≡ true = eq-eqb (get_or (words_of l place 0) (length g.words) no_word).address item.op.address (ap (λ n. (get_or (words_of l place 0) n no_word).address) count ∙ sym address) in
+    let next : is_next l place item.op g ≡ true = eq-eqb (get_or (words_of l place 0) (length g.words) no_word).address item.op.address (ap (λ n. (get_or (words_of l place 0) n no_word).address)
+    count ∙ sym address) in
     ap (λ p. observed c l p item.op item.answer gathered m) port_is
     ∙ one_observed c l (place_at l place).port place item.op item.answer gathered m g
     (watched_is l place k write item.op here.words there explicit right low direction address) quiet at (gathered_way write item.op.write items (sym direction)) next

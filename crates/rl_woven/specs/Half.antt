@@ -124,7 +124,8 @@ pub record IsHalfAfter (begun : State) (p : Machine) (s new : Scene) (w : WeaveD
       (register_at s.model.chip (machine_after_word s.model p (woven_at w.accesses which) step.item) (woven_at w.accesses which).access.reg)
   pub others : (reg : ℕ) → reg < length s.model.chip.regs → (reg ≡ (woven_at w.accesses which).access.reg → ⊥)
       → IsAlike s.model.chip reg (register_at s.model.chip p reg) (register_at s.model.chip (machine_after_word s.model p (woven_at w.accesses which) step.item) reg)
-  pub answers : IfSome step.end (λ e. e.end ≡ answered s.model.chip (woven_at w.accesses which).access.reg (woven_at w.accesses which).access.value (register_at s.model.chip p (woven_at w.accesses which).access.reg))
+  pub answers : IfSome step.end (λ e. e.end ≡ answered s.model.chip (woven_at w.accesses which).access.reg (woven_at w.accesses which).access.value (register_at s.model.chip p (woven_at w.accesses
+      which).access.reg))
 
 abbrev pub StepKeepsHalf : Type 0
 StepKeepsHalf =
@@ -132,6 +133,13 @@ StepKeepsHalf =
     → IsModel s.model → s.device ≡ Some d → IsWeave w → IsOpen w which → IsHalf begun p s.model d w
     → IsStepOf s new (woven_at w.accesses which) step
     → IsHalfAfter begun p s new w which step
+
+abbrev pub StepKeepsModel : Type 0
+StepKeepsModel =
+    (s new : Scene) (begun d : State) (p : Machine) (w : WeaveData) (which : ℕ) (step : Step)
+    → IsModel s.model → s.device ≡ Some d → IsWeave w → IsOpen w which → IsHalf begun p s.model d w
+    → IsStepOf s new (woven_at w.accesses which) step
+    → IsModel new.model
 
 abbrev pub NoneOpenAgrees : Type 0
 NoneOpenAgrees =

@@ -26,7 +26,8 @@ pub record Turn : Type 0 where
 -- each step is of an access that is then open
 abbrev pub RunsTo : WeaveData → Scene → List Turn → WeaveData → Scene → Type 0
 RunsTo w s [] left new = (left ≡ w) × (new ≡ s)
-RunsTo w s (t ∷ turns) left new = (next : Scene) × IsModel s.model × IsOpen w t.which × IsStepOf s next (woven_at w.accesses t.which) t.step × RunsTo (stepped w t.which t.step.item) next turns left new
+RunsTo w s (t ∷ turns) left new = (next : Scene) × IsModel s.model × IsOpen w t.which × IsStepOf s next (woven_at w.accesses t.which) t.step × RunsTo (stepped w t.which t.step.item) next turns left
+    new
 
 -- the operations of the accesses in the order in which they end
 abbrev pub ended : WeaveData → List Turn → List Op

@@ -1,5 +1,5 @@
 //! What holds of weaves on a device without flaws. Each function does nothing; its contract is the law.
-ghost use Rattle.rl_woven.specs.Half.{FreshIsHalf, StepKeepsHalf, NoneOpenAgrees};
+ghost use Rattle.rl_woven.specs.Half.{FreshIsHalf, StepKeepsHalf, StepKeepsModel, NoneOpenAgrees};
 ghost use Rattle.rl_woven.specs.Order.{OrderDoesNotMatter};
 ghost use Rattle.rl_woven.specs.Runs.{EachStepsOnce, EndedAreAll, WeaveIsPlain};
 
@@ -13,6 +13,11 @@ pub fn fresh_is_half()
 /// one is a step of the machine: the access's event without its items is the machine's.
 pub fn step_keeps_half()
     ensures { StepKeepsHalf }
+{}
+
+/// And it leaves a model: its predictor's lists and its mirror are again those of its chip and layout.
+pub fn step_keeps_model()
+    ensures { StepKeepsModel }
 {}
 
 /// Once no access is open the device and the model agree again, and are the machine's.

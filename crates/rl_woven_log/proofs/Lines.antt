@@ -172,10 +172,10 @@ early_turn (Some d) number w v m a x counts says status old new early same =
       broken = λ p e. (early, front_none old new p.text same);
     }
 
-blank_comes : (g : Weaving) (line : Line) → is_blank line ≡ true → taken_in g line ≡ Ok (group g)
+pub blank_comes : (g : Weaving) (line : Line) → is_blank line ≡ true → taken_in g line ≡ Ok (group g)
 blank_comes g line is = ap (λ b. if b then Ok (group g) else joins g (adding_line g.weave g.world.model line)) is
 
-other_comes : (g : Weaving) (line : Line) → is_blank line ≡ false
+pub other_comes : (g : Weaving) (line : Line) → is_blank line ≡ false
     → taken_in g line ≡ joins g (adding_line g.weave g.world.model line)
 other_comes g line is = ap (λ b. if b then Ok (group g) else joins g (adding_line g.weave g.world.model line)) is
 

@@ -1,5 +1,6 @@
 pub mod Adding
 pub mod Judged
+pub mod Prelude
 pub mod Refusals
 pub mod Setting
 pub mod Turns

@@ -8,7 +8,7 @@ use Rattle.rl_bus.specs.State.{State}
 use Rattle.rl_log.specs.declared.counts.Counts.{Counts}
 use Rattle.rl_report.specs.Pieces.{AppendsFront}
 use Rattle.rl_weave.specs.Weave.{WeaveData}
-use Rattle.rl_woven_log.specs.declared.draws.Draws.{Draws}
+use Rattle.rl_woven_log.specs.declared.script.WovenScript.{WovenScript}
 use Rattle.rl_woven_log.specs.WeaveLog.{Weaving, Part}
 
 pub record Setting : Type 0 where
@@ -23,13 +23,13 @@ pub record Setting : Type 0 where
   pub counts : Counts
 
 abbrev pub setting_of : {A D K : Type 0} → (A → Standing) → (D → Option State) → (K → Option (List ℕ))
-    → WeaveData → ModelData → List A → D → Draws → K → Counts → Setting
-setting_of standing state written weave model adapters device draws sink counts = record {
-  weave = weave;
+    → WovenScript → ModelData → List A → D → K → Counts → Setting
+setting_of standing state written script model adapters device sink counts = record {
+  weave = script.weave;
   model = model;
   adapters = map standing adapters;
   device = state device;
-  drawing = draws.state;
+  drawing = script.draws.state;
   text = written sink;
   counts = counts;
 }

@@ -1,27 +1,35 @@
 -- What was written of a line and of a script, against what they come to.
-use Rattle.std.specs.Prelude.{◌≡◌, ℕ, ◌+◌, List, false, Option, Some, None, IfSome, Result, Ok, Err}
+use Rattle.std.specs.Prelude.{◌≡◌, ℕ, ◌+◌, List, ◌++◌, Bool, true, false, Option, Some, None, IfSome, Result, Ok, Err}
 use Rattle.std.specs.Io.KnownBytes.{Appends}
+use Rattle.rl_access.specs.Model.{ModelData}
 use Rattle.rl_access.specs.World.{World, world}
 use Rattle.rl_bus.specs.State.{State}
 use Rattle.rl_log.specs.declared.refusal.LineRefusal.{LineRefusal}
 use Rattle.rl_log.specs.declared.status.Status.{Status}
+use Rattle.rl_log.specs.declared.status.Status.TheVariants.{SourceFault}
 use Rattle.rl_log.specs.Log.{Ending}
 use Rattle.rl_log.specs.Statuses.{is_complete}
 use Rattle.rl_play.specs.declared.playing.Turn.{Turn}
 use Rattle.rl_play.specs.declared.playing.Turn.TheVariants.{Next, Stop}
 use Rattle.rl_play.specs.Played.{EndsAs, PassesTo}
-use Rattle.rl_report.specs.Lines.{lines_of}
+use Rattle.rl_report.specs.Lines.{lines_of, whole_lines}
 use Rattle.rl_report.specs.Pieces.{AppendsFront}
+use Rattle.rl_report.specs.Reading.{Reading}
 use Rattle.rl_script.specs.declared.line.Line.{Line}
-use Rattle.rl_weave.specs.Weave.{empty}
+use Rattle.rl_weave.specs.Weave.{WeaveData, IsWeaveOn, empty}
 use Rattle.rl_woven_log.specs.declared.refusal.WovenRefusal.{WovenRefusal}
 use Rattle.rl_woven_log.specs.Setting.{Setting, weaving_at, IsAtWeaving}
 use Rattle.rl_play.specs.Moment.{Moment}
-use Rattle.rl_woven_log.specs.WeaveLog.{Weaving, Part, comes_of, finished, group, stops, woven_from}
+use Rattle.rl_woven_log.specs.WeaveLog.{Weaving, Part, closed_text, comes_of, finished, group, stops, woven_from}
 
 -- it came to its last line, or a front of its text was written
 abbrev pub EndsSo : Ending → Status → (old : Option (List ℕ)) → (after : Setting) → Type 0
 EndsSo e status old after = EndsAs e status old after.text after.counts after.model after.adapters after.device
+
+-- each access of the group is as the model has it, and none has sent a word
+pub record IsGathering (m : ModelData) (w : WeaveData) : Type 0 where
+  pub fresh : w.fresh ≡ true
+  pub on : IsWeaveOn m w
 
 -- ---- a turn
 
@@ -69,6 +77,52 @@ abbrev pub Ends : (number : ℕ) → (before : Setting) → (input : Option (Lis
 Ends number before input after status =
     IfSome (to_come number before input) (λ e. EndsSo e status before.text after)
 
+-- ---- a script whose source failed
+
+-- Bytes were taken from the front of an input. Exactly the log of the groups was written whose blank line, with its 10, is
+-- among them.
+pub record BreaksAfter (number : ℕ) (g : Weaving) (bytes : List ℕ) (left old new : Option (List ℕ)) : Type 0 where
+  pub taken : List ℕ
+  pub others : List ℕ
+  pub split : taken ++ others ≡ bytes
+  pub is_left : left ≡ Some others
+  pub text : Appends old new (closed_text number g (whole_lines taken))
+
+-- where the device tells its state and the source its bytes
+abbrev pub Breaks : (number : ℕ) → Setting → (device : Option State) → (input left last : Option (List ℕ)) → Type 0
+Breaks number s device input left last =
+    IfSome device (λ d. IfSome input (λ bytes. BreaksAfter number (weaving_at s d) bytes left s.text last))
+
+-- from a setting on: this is left of the input, and this is what was written in the end
+abbrev pub BreaksFrom : (number : ℕ) → (before : Setting) → (input left last : Option (List ℕ)) → Type 0
+BreaksFrom number before input left last = Breaks number before before.device input left last
+
+-- a script breaks off as what is left of it behind a line does
+abbrev pub BreaksAsRest : (number : ℕ) (before : Setting) (input : Option (List ℕ)) (after : Setting)
+    (rest : Option (List ℕ)) → Type 0
+BreaksAsRest number before input after rest =
+    (left last : Option (List ℕ)) → BreaksFrom (number + 1) after rest left last → BreaksFrom number before input left last
+
+-- ---- the next line of a script
+
+-- it was read and taken in at one setting, and the script is the rest, or ended at it
+pub record WeavesLine (number : ℕ) (before : Setting) (input : Option (List ℕ)) (after : Setting)
+    (rest left : Option (List ℕ)) (ended : Bool) (turn : Turn) : Type 0 where
+  pub next : turn ≡ Next → GoesOn number before input after rest
+  pub stop : (status : Status) → turn ≡ Stop status → Ends number before input after status
+  pub at_fault : turn ≡ Stop SourceFault → BreaksFrom number before input left after.text
+  pub later_fault : turn ≡ Next → ended ≡ false → BreaksAsRest number before input after rest
+
+-- the reader may be asked for the next line, and after a source that failed for the one that was cut
+pub record ReadsOn (old new : Reading) (turn : Turn) : Type 0 where
+  pub found : new.found ≡ true
+  pub going : turn ≡ Next → new.refused ≡ false
+  pub again : turn ≡ Stop SourceFault → new.refused ≡ false
+  pub ended : old.ended ≡ true → new.ended ≡ true
+  pub unended : turn ≡ Stop SourceFault → old.ended ≡ false
+
+-- ---- the end
+
 -- the last group was run, and the last line was written
 abbrev pub EndsGroup : (before after : Setting) → Status → Type 0
 EndsGroup before after status = IfSome before.device (λ d.
@@ -90,3 +144,7 @@ first_setting n before = record {
 abbrev pub WeavesScript : (n : ℕ) → (before : Moment) → (input : Option (List ℕ)) → (after : Moment) → Status → Type 0
 WeavesScript n before input after status = IfSome (to_come 1 (first_setting n before) input) (λ e.
     EndsAs e status before.text after.text after.counts after.model after.adapters after.device)
+
+-- a source failed in it: exactly the log of the groups that were closed was written
+abbrev pub BreaksWeave : (n : ℕ) → (before : Moment) → (input left last : Option (List ℕ)) → Type 0
+BreaksWeave n before input left last = BreaksFrom 1 (first_setting n before) input left last

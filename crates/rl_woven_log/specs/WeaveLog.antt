@@ -170,6 +170,21 @@ woven_from number g [] = finished (group g)
 woven_from number g (line ∷ lines) =
     goes_on number g (comes_of g (said number line)) (λ g. woven_from (number + 1) g lines)
 
+-- ---- a script whose source failed
+
+-- a line that is refused writes nothing here, and nothing comes after it
+abbrev pub text_on : Result Part WovenRefusal → (rest : Weaving → List ℕ) → List ℕ
+text_on (Err why) rest = []
+text_on (Ok p) rest = p.text ++ rest p.after
+
+-- the log of the groups that a blank line among these ends, from that number on: the last group isn't run
+unfoldable pub closed_text : (number : ℕ) → Weaving → List (List ℕ) → List ℕ
+closed_text number g [] = []
+closed_text number g (line ∷ lines) =
+    text_on (comes_of g (said number line)) (λ g. closed_text (number + 1) g lines)
+
+-- ---- a whole script
+
 -- no access yet, and the generator begins at n
 abbrev pub counting : (n : ℕ) → Counts → World → Weaving
 counting n counts w = record { weave = empty; world = w; drawing = n; counts = counts }

@@ -1,9 +1,7 @@
 //! A line of a group: the access that it adds.
-ghost use Rattle.std.specs.Prelude.{◌≡◌, true, Ok, Err, IfSome, IfOk, IfErr, OnOk, OnErr};
-ghost use Rattle.rl_script.specs.Said.{line_said};
+ghost use Rattle.std.specs.Prelude.{◌≡◌, Ok, Err, IfSome, IfOk, IfErr, OnOk, OnErr};
 ghost use Rattle.rl_weave.specs.Access.{op_of, IsNumbered};
-ghost use Rattle.rl_weave.specs.Weave.{IsWeaveOn};
-ghost use Rattle.rl_woven_log.specs.Adding.{access_in, access_said, adding_line, is_named};
+ghost use Rattle.rl_woven_log.specs.Prelude.{IsGathering, access_in, access_said, adding_line, is_named, line_said};
 
 use crate::refusal::WovenRefusal;
 use rl_access::{Model, Op};
@@ -75,13 +73,11 @@ pub(crate) fn add_line(
     model: &Model,
     line: &LineRef<'_>,
 ) -> Result<(), WovenRefusal>
-    requires fresh { weave.old.fresh ≡ true }
-    requires weave { IsWeaveOn model.now weave.old }
+    requires group { IsGathering model.now weave.old }
     ensures added { OnOk result (adding_line weave.old model.now (line_said line.now) ≡ Ok weave.new) }
     ensures refused { IfErr result (λ why. adding_line weave.old model.now (line_said line.now) ≡ Err why) }
     ensures same { OnErr result (weave.new ≡ weave.old) }
-    ensures fresh { weave.new.fresh ≡ true }
-    ensures weave { IsWeaveOn model.now weave.new }
+    ensures group { IsGathering model.now weave.new }
 {
     let access = access_said(model, line)?;
     match weave.add(model, access) {

@@ -1,30 +1,26 @@
 //! The words of a group.
 ghost use Rattle.std.specs.Prelude.{◌≡◌, ◌<◌, true, map as each, length, IfSome, OnOk};
-ghost use Rattle.rl_access.specs.Event.{EventFits, ItemFits};
-ghost use Rattle.rl_access.specs.Model.{IsReady, IsSameChip};
-ghost use Rattle.rl_bus.specs.Causes.{HasCause};
-ghost use Rattle.rl_report.specs.Item.{item_line};
-ghost use Rattle.rl_report.specs.Pieces.{Puts};
-ghost use Rattle.rl_weave.specs.Weave.{IsWeaveOn};
-ghost use Rattle.rl_woven_log.specs.Setting.{setting_of, Writes};
-ghost use Rattle.rl_woven_log.specs.WeaveLog.{counted_at_end, group, line_at_end, step_text, word_drawn, words};
+ghost use Rattle.rl_woven_log.specs.Prelude.{EventFits, HasCause, IsGathering, IsReady, IsSameChip, IsWeave};
+ghost use Rattle.rl_woven_log.specs.Prelude.{IsWeaveOn, ItemFits, Puts, Writes, counted_at_end, group, setting_of, step_text};
+ghost use Rattle.rl_woven_log.specs.Prelude.{word_drawn, words, words_left};
 
-use crate::draws::Draws;
+use crate::script::WovenScript;
 use rl_access::Model;
 use rl_bus::{Adapter, Adapters, Device};
 use rl_log::Counts;
 use rl_play::Log;
 use rl_report::{Failed, write_event_line, write_item};
-use rl_weave::{Step, Weave};
+use rl_weave::Step;
 
-/// 64 accesses of 8 words have so many.
+/// 64 accesses of 8 words have so many: no access is open behind them.
 const MOST_WORDS: u32 = 512;
 
 /// Writes the item of a step, and the line of the event that it ends.
 fn put_step<L: Log>(model: &Model, step: &Step, out: &mut L) -> Result<(), Failed>
     requires item { ItemFits model.now.layout step.now.item }
     requires event { IfSome step.now.end (EventFits model.now) }
-    ensures bytes { Puts (L.written out.old) (L.written out.new) (step_text model.now step.now.item step.now.end) result }
+    ensures bytes { Puts (L.written out.old) (L.written out.new)
+        (step_text model.now step.now.item step.now.end) result }
     ensures cause { HasCause (L.faults out.old) (L.faults out.new) result }
     ensures ends_kept { L.ends out.new ≡ L.ends out.old }
     ensures same_target { L.target out.new ≡ L.target out.old }
@@ -47,90 +43,94 @@ fn count_end(step: &Step, counts: &mut Counts)
 
 /// Sends the next word of the open access that is drawn, and writes its log.
 fn run_word<D: Device, L: Log>(
-    weave: &mut Weave,
+    script: &mut WovenScript,
     model: &mut Model,
     device: &mut D,
     adapters: &mut Adapters,
-    draws: &mut Draws,
     out: &mut L,
     counts: &mut Counts,
 ) -> Result<(), Failed>
-    requires open { 0 < length weave.old.still_open }
+    requires open { 0 < length script.old.weave.still_open }
     requires ready { IsReady model.old (each standing adapters.old.items) (D.state device.old) }
-    requires weave { IsWeaveOn model.old weave.old }
+    requires weave { IsWeaveOn model.old script.old.weave }
     ensures ready { IsReady model.new (each standing adapters.new.items) (D.state device.new) }
     ensures parts { IsSameChip model.old model.new }
-    ensures weave { IsWeaveOn model.new weave.new }
+    ensures weave { IsWeaveOn model.new script.new.weave }
+    ensures sound { IsWeave script.new.weave }
+    ensures fewer { words_left script.new.weave < words_left script.old.weave }
     ensures writes { Writes word_drawn
-        (setting_of standing D.state L.written weave.old model.old adapters.old.items device.old draws.old out.old counts.old)
-        (setting_of standing D.state L.written weave.new model.new adapters.new.items device.new draws.new out.new counts.new)
+        (setting_of standing D.state L.written script.old model.old adapters.old.items device.old out.old counts.old)
+        (setting_of standing D.state L.written script.new model.new adapters.new.items device.new out.new counts.new)
         result }
     ensures cause { HasCause (L.faults out.old) (L.faults out.new) result }
     ensures ends_kept { L.ends out.new ≡ L.ends out.old }
     ensures same_target { L.target out.new ≡ L.target out.old }
 {
-    let which = weave.nth_open(draws.draw(weave.open_count()));
-    let step = weave.step(model, device, adapters, which);
+    let drawn = script.draws.draw(script.weave.open_count());
+    let which = script.weave.nth_open(drawn);
+    let step = script.weave.step(model, device, adapters, which);
     count_end(&step, counts);
     put_step(model, &step, out)
 }
 
 /// Sends words until no access is open.
 fn run_words<D: Device, L: Log>(
-    weave: &mut Weave,
+    script: &mut WovenScript,
     model: &mut Model,
     device: &mut D,
     adapters: &mut Adapters,
-    draws: &mut Draws,
     out: &mut L,
     counts: &mut Counts,
 ) -> Result<(), Failed>
     requires ready { IsReady model.old (each standing adapters.old.items) (D.state device.old) }
-    requires weave { IsWeaveOn model.old weave.old }
+    requires weave { IsWeaveOn model.old script.old.weave }
     ensures ready { IsReady model.new (each standing adapters.new.items) (D.state device.new) }
     ensures parts { IsSameChip model.old model.new }
-    ensures weave { IsWeaveOn model.new weave.new }
+    ensures weave { IsWeaveOn model.new script.new.weave }
+    // So many words are enough.
+    ensures closed { OnOk result (length script.new.weave.still_open ≡ 0) }
     ensures writes { Writes (words 512)
-        (setting_of standing D.state L.written weave.old model.old adapters.old.items device.old draws.old out.old counts.old)
-        (setting_of standing D.state L.written weave.new model.new adapters.new.items device.new draws.new out.new counts.new)
+        (setting_of standing D.state L.written script.old model.old adapters.old.items device.old out.old counts.old)
+        (setting_of standing D.state L.written script.new model.new adapters.new.items device.new out.new counts.new)
         result }
     ensures cause { HasCause (L.faults out.old) (L.faults out.new) result }
     ensures ends_kept { L.ends out.new ≡ L.ends out.old }
     ensures same_target { L.target out.new ≡ L.target out.old }
 {
+    // The call tells that the model is sound.
+    let _ = model.layout();
     for k in 0..MOST_WORDS {
-        if weave.open_count() == 0 {
+        if script.weave.open_count() == 0 {
             return Ok(());
         }
-        run_word(weave, model, device, adapters, draws, out, counts)?;
+        run_word(script, model, device, adapters, out, counts)?;
     }
     Ok(())
 }
 
 /// Runs a group, and writes its log. The next one is then empty.
 pub(crate) fn run_group<D: Device, L: Log>(
-    weave: &mut Weave,
+    script: &mut WovenScript,
     model: &mut Model,
     device: &mut D,
     adapters: &mut Adapters,
-    draws: &mut Draws,
     out: &mut L,
     counts: &mut Counts,
 ) -> Result<(), Failed>
     requires ready { IsReady model.old (each standing adapters.old.items) (D.state device.old) }
-    requires weave { IsWeaveOn model.old weave.old }
+    requires weave { IsWeaveOn model.old script.old.weave }
     ensures ready { IsReady model.new (each standing adapters.new.items) (D.state device.new) }
     ensures parts { IsSameChip model.old model.new }
-    ensures weave { OnOk result ((IsWeaveOn model.new weave.new) × (weave.new.fresh ≡ true)) }
+    ensures group { OnOk result (IsGathering model.new script.new.weave) }
     ensures writes { Writes group
-        (setting_of standing D.state L.written weave.old model.old adapters.old.items device.old draws.old out.old counts.old)
-        (setting_of standing D.state L.written weave.new model.new adapters.new.items device.new draws.new out.new counts.new)
+        (setting_of standing D.state L.written script.old model.old adapters.old.items device.old out.old counts.old)
+        (setting_of standing D.state L.written script.new model.new adapters.new.items device.new out.new counts.new)
         result }
     ensures cause { HasCause (L.faults out.old) (L.faults out.new) result }
     ensures ends_kept { L.ends out.new ≡ L.ends out.old }
     ensures same_target { L.target out.new ≡ L.target out.old }
 {
-    run_words(weave, model, device, adapters, draws, out, counts)?;
-    weave.clear();
+    run_words(script, model, device, adapters, out, counts)?;
+    script.weave.clear();
     Ok(())
 }

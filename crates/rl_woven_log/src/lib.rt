@@ -8,6 +8,8 @@ mod adding;
 mod draws;
 mod group;
 mod refusal;
+mod script;
+mod taking;
 mod weaving;
 
 pub use refusal::WovenRefusal;

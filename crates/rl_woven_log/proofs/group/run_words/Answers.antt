@@ -1,4 +1,5 @@
 use Rattle.std.proofs.Common.{◌+◌, ◌-◌, arith, refl, ◌∙◌}
+use Rattle.rl_weave.proofs.Left.{few_left, none_left}
 use Rattle.rl_woven_log.proofs.Words.{begun, none_open, set, some_open, words_all, words_most, words_next, words_stop}
 use Rattle.rl_woven_log.proofs.group.run_words.Goals as goal
 
@@ -7,6 +8,8 @@ loop-k-init g c = record {
   ready = c.requires.ready;
   parts = record { chip = refl; layout = refl };
   weave = c.requires.weave;
+  sound = λ some. absurd (some refl);
+  left = λ ok. few_left c.args.model.now c.args.script.now.weave c.layout.ensures.sound ok c.requires.weave;
   sent = begun 512 (set _ _ _ _ _ _ _) _ refl;
   later = omega arith;
   ends_kept = refl;
@@ -21,6 +24,8 @@ loop-k-preserved g c =
       ready = e.ready;
       parts = record { chip = e.parts.chip ∙ i.parts.chip; layout = e.parts.layout ∙ i.parts.layout };
       weave = e.weave;
+      sound = λ some. e.sound;
+      left = λ ok. omega (arith, e.fewer, i.left c.open_count.ensures.weave);
       sent = words_next _ _ _ _ _ _ _ _ 512 (512 - c.loop-k.k) (512 - (c.loop-k.k + 1)) _ (set _ _ _ _ _ _ _) _ _ (omega arith) i.sent
           (some_open _ _ c.open_count.ensures.count (omega (arith, c.if-open_count-eq0.false))) e.writes;
       later = omega (arith, e.cause.later);
@@ -42,3 +47,12 @@ returns-in_err-run_word-clause-writes g c =
 pub returns-clause-writes : goal.returns-clause-writes
 returns-clause-writes g c =
     words_most _ _ _ _ _ _ _ _ 512 (512 - c.loop-k.k) _ (set _ _ _ _ _ _ _) _ (omega arith) c.loop-k.invariant.sent
+
+pub returns-then-open_count-eq0-clause-closed : goal.returns-then-open_count-eq0-clause-closed
+returns-then-open_count-eq0-clause-closed g c = omega (arith, c.open_count.ensures.count, c.if-open_count-eq0.true)
+
+pub returns-clause-closed : goal.returns-clause-closed
+returns-clause-closed g c =
+    let i = c.loop-k.invariant in
+    let ok = i.sound (λ none. absurd (omega (arith, none))) in
+    none_left _ ok (omega (arith, i.left ok))

@@ -1,6 +1,7 @@
-use Rattle.std.proofs.Common.{◌≡◌, ap, sym, ◌∙◌, subst, get_or}
-use Rattle.rl_weave.specs.Weave.{WeaveData, IsWeave}
+use Rattle.std.proofs.Common.{◌≡◌, ◌<◌, ap, sym, ◌∙◌, subst, get_or}
+use Rattle.rl_weave.specs.Weave.{WeaveData, IsWeave, words_left}
 use Rattle.rl_weave.proofs.Granted.{granted_is, granted_value, register_place}
+use Rattle.rl_weave.proofs.Left.{step_takes}
 use Rattle.rl_weave.proofs.Weaves.{is_found}
 use Rattle.rl_weave.proofs.weave.Weave.step.Goals as goal
 
@@ -21,3 +22,8 @@ send_word-item-requires-clause-value g c =
     let f = is_found m w c.args.which v (subst IsWeave c.self.view_is c.self.invariant.0) c.requires.open c.requires.weave
     (subst (λ (x : WeaveData). v ≡ get_or x.accesses c.args.which v) c.self.view_is c.index-woven.ensures) in
     granted_value m v.access.reg v.access.map v.access.value v.place c.layout.ensures.sound (granted_is m v.access.reg v.access.map v.access.value v.place f.on.granted)
+
+pub returns-clause-fewer : goal.returns-clause-fewer
+returns-clause-fewer g c =
+    subst (λ x. words_left x < words_left c.args.self.now) (sym c.take_in-end.ensures.stepped)
+    (step_takes c.args.self.now c.args.which c.send_word-item.result (subst IsWeave c.self.view_is c.self.invariant.0) c.requires.open)

@@ -1,0 +1,197 @@
+//! What comes of a line of a woven script that was read.
+ghost use Rattle.std.specs.Prelude.{◌≡◌, ◌≢◌, ◌≤◌, map as each, true, Ok, Err, MatchResult};
+ghost use Rattle.rl_woven_log.specs.Prelude.{EndsGroup, IsCaused, IsCounted, IsGathering, IsReady, IsSameChip};
+ghost use Rattle.rl_woven_log.specs.Prelude.{IsWeaveOn, Takes, Tells, heard, is_blank, line_said, read_of};
+ghost use Rattle.rl_woven_log.specs.Prelude.{refused_woven_text, said_by, setting_of};
+
+use crate::adding::add_line;
+use crate::group::run_group;
+use crate::refusal::{WovenRefusal, put_woven_refused};
+use crate::script::WovenScript;
+use rl_access::Model;
+use rl_bus::{Adapter, Adapters, Device};
+use rl_log::{Counts, LineRefusal, Status};
+use rl_play::{Log, Turn, end, is_too_long, refusal_of};
+use rl_report::{Failed, Got};
+use rl_script::{LineFault, LineRef, read_line_ref};
+use std::alloc::Global;
+
+const MOST_LINES: u64 = 1_000_000;
+
+/// Ends a script at a line that is refused.
+fn refuse<L: Log>(number: u64, refusal: WovenRefusal, out: &mut L) -> Status
+    ensures tells { Tells result Status.Refused
+        (L.written out.old) (L.written out.new) (refused_woven_text number refusal) }
+    ensures counted { (result ≢ Status.Passed) × (result ≢ Status.Found) }
+    ensures sink_later { L.faults out.old ≤ L.faults out.new }
+    ensures cause { IsCaused result 0 0 (L.faults out.old) (L.faults out.new) }
+    ensures ends_kept { L.ends out.new ≡ L.ends out.old }
+    ensures same_target { L.target out.new ≡ L.target out.old }
+{
+    match put_woven_refused(out, number, refusal) {
+        Ok(()) => Status::Refused,
+        Err(Failed) => Status::SinkFault,
+    }
+}
+
+/// Ends a script: its last group, and the last line.
+pub(crate) fn end_script<D: Device, L: Log>(
+    script: &mut WovenScript,
+    model: &mut Model,
+    device: &mut D,
+    adapters: &mut Adapters,
+    out: &mut L,
+    counts: &mut Counts,
+) -> Status
+    requires ready { IsReady model.old (each standing adapters.old.items) (D.state device.old) }
+    requires weave { IsWeaveOn model.old script.old.weave }
+    ensures ready { IsReady model.new (each standing adapters.new.items) (D.state device.new) }
+    ensures parts { IsSameChip model.old model.new }
+    ensures ends { EndsGroup
+        (setting_of standing D.state L.written script.old model.old adapters.old.items device.old out.old counts.old)
+        (setting_of standing D.state L.written script.new model.new adapters.new.items device.new out.new counts.new)
+        result }
+    ensures counted { IsCounted result counts.new }
+    ensures sink_later { L.faults out.old ≤ L.faults out.new }
+    ensures cause { IsCaused result 0 0 (L.faults out.old) (L.faults out.new) }
+    ensures ends_kept { L.ends out.new ≡ L.ends out.old }
+    ensures same_target { L.target out.new ≡ L.target out.old }
+{
+    match run_group(script, model, device, adapters, out, counts) {
+        Ok(()) => end(counts, out),
+        Err(Failed) => Status::SinkFault,
+    }
+}
+
+fn is_blank(line: &LineRef<'_>) -> bool
+    ensures { result ≡ is_blank (line_said line.now) }
+{
+    matches!(line, LineRef::Blank)
+}
+
+/// Runs the group that a blank line ends, or adds an access to the group.
+fn take_in<D: Device, L: Log>(
+    number: u64,
+    line: &LineRef<'_>,
+    script: &mut WovenScript,
+    model: &mut Model,
+    device: &mut D,
+    adapters: &mut Adapters,
+    out: &mut L,
+    counts: &mut Counts,
+) -> Turn
+    requires ready { IsReady model.old (each standing adapters.old.items) (D.state device.old) }
+    requires group { IsGathering model.old script.old.weave }
+    ensures ready { IsReady model.new (each standing adapters.new.items) (D.state device.new) }
+    ensures parts { IsSameChip model.old model.new }
+    ensures group { result ≡ Turn.Next → IsGathering model.new script.new.weave }
+    ensures turn { Takes number (Ok (line_said line.now))
+        (setting_of standing D.state L.written script.old model.old adapters.old.items device.old out.old counts.old)
+        (setting_of standing D.state L.written script.new model.new adapters.new.items device.new out.new counts.new)
+        result }
+    ensures counted { (status : Status) → result ≡ Turn.Stop status
+        → (status ≢ Status.Passed) × (status ≢ Status.Found) }
+    ensures sink_later { L.faults out.old ≤ L.faults out.new }
+    ensures cause { (status : Status) → result ≡ Turn.Stop status
+        → IsCaused status 0 0 (L.faults out.old) (L.faults out.new) }
+    ensures ends_kept { L.ends out.new ≡ L.ends out.old }
+    ensures same_target { L.target out.new ≡ L.target out.old }
+{
+    if is_blank(line) {
+        return match run_group(script, model, device, adapters, out, counts) {
+            Ok(()) => Turn::Next,
+            Err(Failed) => Turn::Stop(Status::SinkFault),
+        };
+    }
+    match add_line(&mut script.weave, model, line) {
+        Ok(()) => Turn::Next,
+        Err(refusal) => Turn::Stop(refuse(number, refusal, out)),
+    }
+}
+
+/// Takes a line in that was read, or ends the script at it.
+fn take_in_read<D: Device, L: Log>(
+    number: u64,
+    line: &[u8],
+    read: &Result<LineRef<'_>, LineFault>,
+    script: &mut WovenScript,
+    model: &mut Model,
+    device: &mut D,
+    adapters: &mut Adapters,
+    out: &mut L,
+    counts: &mut Counts,
+) -> Turn
+    requires ready { IsReady model.old (each standing adapters.old.items) (D.state device.old) }
+    requires group { IsGathering model.old script.old.weave }
+    requires read { MatchResult read.now
+        (λ l. read_of line.now ≡ Ok (line_said l))
+        (λ fault. fault ≢ LineFault.Memory → read_of line.now ≡ Err fault) }
+    ensures ready { IsReady model.new (each standing adapters.new.items) (D.state device.new) }
+    ensures parts { IsSameChip model.old model.new }
+    ensures group { result ≡ Turn.Next → IsGathering model.new script.new.weave }
+    ensures turn { Takes number (said_by (read_of line.now))
+        (setting_of standing D.state L.written script.old model.old adapters.old.items device.old out.old counts.old)
+        (setting_of standing D.state L.written script.new model.new adapters.new.items device.new out.new counts.new)
+        result }
+    ensures counted { (status : Status) → result ≡ Turn.Stop status
+        → (status ≢ Status.Passed) × (status ≢ Status.Found) }
+    ensures sink_later { L.faults out.old ≤ L.faults out.new }
+    ensures cause { (status : Status) → result ≡ Turn.Stop status
+        → IsCaused status 0 0 (L.faults out.old) (L.faults out.new) }
+    ensures ends_kept { L.ends out.new ≡ L.ends out.old }
+    ensures same_target { L.target out.new ≡ L.target out.old }
+{
+    match read {
+        Ok(line) => take_in(number, line, script, model, device, adapters, out, counts),
+        Err(fault) => match refusal_of(*fault) {
+            Some(refusal) => Turn::Stop(refuse(number, WovenRefusal::Line(refusal), out)),
+            None => Turn::Stop(Status::Memory),
+        },
+    }
+}
+
+/// Takes a line in that was handed out, or ends the script at it.
+pub(crate) fn take_in_handed<D: Device, L: Log>(
+    alloc: Global,
+    number: u64,
+    got: Got,
+    line: &[u8],
+    script: &mut WovenScript,
+    model: &mut Model,
+    device: &mut D,
+    adapters: &mut Adapters,
+    out: &mut L,
+    counts: &mut Counts,
+) -> Turn
+    requires ready { IsReady model.old (each standing adapters.old.items) (D.state device.old) }
+    requires group { IsGathering model.old script.old.weave }
+    ensures ready { IsReady model.new (each standing adapters.new.items) (D.state device.new) }
+    ensures parts { IsSameChip model.old model.new }
+    ensures group { result ≡ Turn.Next → IsGathering model.new script.new.weave }
+    ensures short { result ≡ Turn.Next → got ≢ Got.TooLong }
+    ensures last { result ≡ Turn.Next → number ≤ 1000000 }
+    ensures turn { Takes number (heard number got line.now)
+        (setting_of standing D.state L.written script.old model.old adapters.old.items device.old out.old counts.old)
+        (setting_of standing D.state L.written script.new model.new adapters.new.items device.new out.new counts.new)
+        result }
+    ensures counted { (status : Status) → result ≡ Turn.Stop status
+        → (status ≢ Status.Passed) × (status ≢ Status.Found) }
+    ensures sink_later { L.faults out.old ≤ L.faults out.new }
+    ensures cause { (status : Status) → result ≡ Turn.Stop status
+        → IsCaused status 0 0 (L.faults out.old) (L.faults out.new) }
+    ensures ends_kept { L.ends out.new ≡ L.ends out.old }
+    ensures same_target { L.target out.new ≡ L.target out.old }
+{
+    if number > MOST_LINES {
+        let refusal = WovenRefusal::Line(LineRefusal::TooManyLines);
+        return Turn::Stop(refuse(number, refusal, out));
+    }
+    if is_too_long(got) {
+        let refusal = WovenRefusal::Line(LineRefusal::TooLong);
+        return Turn::Stop(refuse(number, refusal, out));
+    }
+    let read = read_line_ref(alloc, line);
+    take_in_read(
+        number, line, &read, script, model, device, adapters, out, counts,
+    )
+}
