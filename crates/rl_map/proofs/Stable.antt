@@ -13,10 +13,10 @@ use Rattle.rl_map.proofs.Lists.{filter_none}
 use Rattle.rl_map.proofs.Closing.{same_key}
 use Rattle.rl_map.proofs.Bools.{ge_from, lt_from}
 
-abbrev at_key : ℕ → WordRow → Bool
+abbrev pub at_key : ℕ → WordRow → Bool
 at_key key r = key_of r == key
 
-abbrev Rising : List WordRow → Type 0
+abbrev pub Rising : List WordRow → Type 0
 Rising [] = Unit {0}
 Rising (r ∷ rows) = AllByRecursion (λ s. key_of r ≤ key_of s) rows × Rising rows
 
@@ -50,7 +50,7 @@ rising_into r (s ∷ rows) h = by (nat_lt (key_of s) (key_of r)) refl (rising_in
     by true e more = (all_into (λ x. key_of s ≤ key_of x) r rows (let q = lt_from (key_of s) (key_of r) e in omega arith) h.0, more)
     by false e more = let q = ge_from (key_of s) (key_of r) e in ((q, all_more (key_of r) (key_of s) rows q h.0), h)
 
-rising_by : (rows : List WordRow) → Rising (by_address rows)
+pub rising_by : (rows : List WordRow) → Rising (by_address rows)
 unfolding by_address
 rising_by [] = tt
 rising_by (r ∷ rows) = rising_into r (by_address rows) (rising_by rows)
@@ -75,7 +75,7 @@ filter_into key r (s ∷ rows) = by (nat_lt (key_of s) (key_of r)) refl (filter_
         ∙ swap (at_key key r) (at_key key s) (λ p q. let low = lt_from (key_of s) (key_of r) e in absurd (omega (arith, eqb-true (key_of r) key p, eqb-true (key_of s) key q)))
     by false e more = refl
 
-filter_by : (key : ℕ) (rows : List WordRow) → filter (at_key key) (by_address rows) ≡ filter (at_key key) rows
+pub filter_by : (key : ℕ) (rows : List WordRow) → filter (at_key key) (by_address rows) ≡ filter (at_key key) rows
 unfolding by_address
 filter_by key [] = refl
 filter_by key (r ∷ rows) = filter_into key r (by_address rows) ∙ ap (λ ys. cond (at_key key r) (r ∷ ys) ys) (filter_by key rows)
