@@ -1,16 +1,16 @@
-mod PathLemmas
-mod LookUps
-mod BuildLemmas
-mod Numbering
-mod SoundLemmas
-mod Sound
-mod Dots
-mod FieldLookUps
-mod PathsFit
-mod FewFields
-mod FieldNumbers
-mod KindLemmas
-mod SoundMore
-mod Within
+pub mod PathLemmas
+pub mod LookUps
+pub mod BuildLemmas
+pub mod Numbering
+pub mod SoundLemmas
+pub mod Sound
+pub mod Dots
+pub mod FieldLookUps
+pub mod PathsFit
+pub mod FewFields
+pub mod FieldNumbers
+pub mod KindLemmas
+pub mod SoundMore
+pub mod Within
 pub mod ChipLaws
-mod Repeats
+pub mod Repeats
