@@ -1,6 +1,8 @@
 // Runs a session from standard input, and writes its log to standard output.
 #![tactic(auto)]
 
+ghost use Rattle.std.specs.Prelude.{◌≡◌, length, IfOk};
+
 use regrun::{Status, regrun};
 use rl_apb::ApbAdapter;
 use rl_bus::{Adapters, PlainAdapter};
@@ -20,7 +22,9 @@ fn words(rt: &(impl Env + AllocGlobal)) -> io::Result<Vec<String>> {
 }
 
 // The adapters for root maps: one for a plain bus, one for APB.
-fn adapters(alloc: Global) -> Result<Adapters, AllocError> {
+fn adapters(alloc: Global) -> Result<Adapters, AllocError>
+    ensures { IfOk result (λ made. length made.items ≡ 2) }
+{
     let plain = PlainAdapter {
         next_tag: 0,
         trail: 0,
