@@ -106,9 +106,6 @@ pub record IsLeftOver (first now : Option (List ℕ)) (start text all rest : Lis
   pub whole : (new : Option (List ℕ)) (after : List ℕ) → Gathered now new text after rest → Gathered first new start after all
   pub part : (new : Option (List ℕ)) → AppendsFront now new (text ++ rest) → AppendsFront first new (start ++ all)
 
-pub all_over : (now : Option (List ℕ)) (text all : List ℕ) → IsLeftOver now now text text all all
-all_over now text all = record { whole = λ new after h. h; part = λ new h. h }
-
 pub less_over : (first now next : Option (List ℕ)) (start text further all rest x others : List ℕ) → IsLeftOver first now start text all rest
     → rest ≡ x ++ others → Gathered now next text further x → IsLeftOver first next start further all others
 less_over first now next start text further all rest x others left split put = record {

@@ -87,10 +87,6 @@ lines_by b bs true rest = refl
 lines_by b [] false rest = refl
 lines_by b (c ∷ cs) false rest = ap (onto_first b) (rest (omega arith))
 
-pub lines_first : (p : List ℕ) → 0 < length p → lines_of p ≡ first_line p ∷ lines_of (after_line p)
-lines_first [] h = absurd (omega arith)
-lines_first (b ∷ bs) h = lines_by b bs (eqb b 10) (lines_first bs)
-
 -- bytes with no 10 have no whole line
 none_by : (b : ℕ) (bs : List ℕ) (t : Bool) → (first_line bs ≡ bs → whole_lines bs ≡ []) → cond t [] (b ∷ first_line bs) ≡ b ∷ bs → cond t ([] ∷ whole_lines bs) (onto_whole b (whole_lines bs)) ≡ []
 none_by b bs true rest h = absurd (omega (arith, ap length h))

@@ -35,11 +35,6 @@ pub number_pushed : (t u v : List ℕ) (n : ℕ) → u ≡ t ++ codes " 0x" → 
 number_pushed t u v n d e =
     e ∙ ap (λ l. l ++ hex_digits n) d ∙ append_assoc t (codes " 0x") (hex_digits n) ∙ ap (λ l. t ++ (codes " 0x" ++ l)) (sym (append-nil (hex_digits n)))
 
-pub two_numbers_pushed : (t u v : List ℕ) (m n : ℕ) → u ≡ t ++ spaced (spelled m ∷ []) → v ≡ u ++ spaced (spelled n ∷ []) → v ≡ t ++ spaced (spelled m ∷ spelled n ∷ [])
-two_numbers_pushed t u v m n d e =
-    e ∙ ap (λ l. l ++ spaced (spelled n ∷ [])) d ∙ append_assoc t (spaced (spelled m ∷ [])) (spaced (spelled n ∷ []))
-    ∙ ap (λ l. t ++ l) (sym (spaced-append (spelled m ∷ []) (spelled n ∷ [])))
-
 -- the same text in other words
 pub same_text : {T E : Type 0} (a b : Option (List ℕ)) (t v x y : List ℕ) (r : Result T E) → x ≡ y → Gathers a b t v x r → Gathers a b t v y r
 same_text a b t v x y r e h = subst (λ l. Gathers a b t v l r) e h

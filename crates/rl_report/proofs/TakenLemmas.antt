@@ -181,14 +181,6 @@ keeps_start (Some xs) = refl
 pub keeps_head : (a b : Option (List ℕ)) (head : List ℕ) → head ≡ [] → b ≡ a → Keeps a (prepend_known head b)
 keeps_head a b head e f = subst (λ h. Keeps a (prepend_known h b)) (sym e) (subst (λ o. Keeps a (prepend_known [] o)) (sym f) (keeps_start a))
 
-pub done_from : (a o : Option (List ℕ)) (head : List ℕ) (P : List ℕ → Type 0) → Keeps a (prepend_known head o) → IfSome o (λ rest. P (head ++ rest)) → IfSome a P
-done_from None o head P k h = tt
-done_from (Some bytes) None head P k h = absurd k
-done_from (Some bytes) (Some rest) head P k h = subst P k h
-
-pub keeps_text : (a o o' : Option (List ℕ)) (head head' : List ℕ) → Keeps a (prepend_known head o) → prepend_known head o ≡ prepend_known head' o' → Keeps a (prepend_known head' o')
-keeps_text a o o' head head' k e = subst (Keeps a) e k
-
 pub keeps_more : (a o o' : Option (List ℕ)) (head : List ℕ) → Keeps a (prepend_known head o) → Keeps o o' → Keeps a (prepend_known head o')
 keeps_more None o o' head k m = tt
 keeps_more (Some bytes) None o' head k m = absurd k

@@ -12,3 +12,4 @@ pub mod ReadBack
 pub mod Reading
 pub mod Taken
 pub mod WithoutItems
+pub mod Prelude

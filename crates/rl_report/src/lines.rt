@@ -2,14 +2,8 @@
 ghost use Rattle.std.specs.Prelude.{◌≡◌, ◌≢◌, ℕ, ◌+◌, ◌-◌, ◌<◌, ◌≤◌, List, [], ◌++◌, true, false, length, take, drop};
 ghost use Rattle.std.specs.Prelude.{slice_range, Option, Some, IfSome, IfNone, IfOk, OnOk, OnErr, Ok, Err, IsTrue, ◌↔◌};
 ghost use Rattle.std.specs.Prelude.{if◌then◌else◌};
-ghost use Rattle.std.specs.Io.KnownBytes.{Consumes, IsAtEnd, Keeps};
-ghost use Rattle.std.specs.Io.BufRead.{strip_last};
-ghost use Rattle.rl_bus.specs.Causes.{HasCause, Rose};
-ghost use Rattle.rl_report.specs.Lines.{first_line};
-ghost use Rattle.rl_report.specs.Reading.{input_of, HoldsLine, IsLaterPhase, SamePhase};
-ghost use Rattle.rl_report.specs.Got.{Hands};
-ghost use Rattle.rl_report.specs.Opening.{HeadIs, TakesNoHead};
-ghost use Rattle.rl_report.specs.Taken.{Takes};
+ghost use Rattle.rl_report.specs.Prelude.{first_line, strip_last, input_of, HoldsLine, IsLaterPhase, SamePhase};
+ghost use Rattle.rl_report.specs.Prelude.{Consumes, IsAtEnd, Keeps, HasCause, Rose, Hands, HeadIs, TakesNoHead, Takes};
 
 use crate::opening::{Part, next_part};
 use crate::{Failed, Head, HeadFault, Source};

@@ -32,8 +32,19 @@ pub fn put_pieces<K: Sink>(sink: &mut K, pieces: &[&[u8]]) -> Result<(), Failed>
     ensures ends_kept { K.ends sink.new ≡ K.ends sink.old }
     ensures same_target { K.target sink.new ≡ K.target sink.old }
 {
+    let mut text = Text::new();
+    gather_pieces(sink, &mut text, pieces)?;
+    put_all(sink, text.as_bytes())
+}
+
+// Gathers these pieces, one after another.
+fn gather_pieces<K: Sink>(sink: &mut K, text: &mut Text, pieces: &[&[u8]]) -> Result<(), Failed>
+    ensures bytes { GathersTo K.Sink sink.old sink.new text.old text.new
+        (joined (map (λ piece. piece.now) pieces.now)) result }
+    ensures stays { SinkStays K.Sink sink.old sink.new result }
+{
     for piece in pieces {
-        put_all(sink, piece)?;
+        gather(sink, text, piece)?;
     }
     Ok(())
 }

@@ -1,0 +1,25 @@
+use Rattle.std.proofs.Common.{arith, ◌∙◌}
+use Rattle.rl_report.proofs.PieceLemmas.{next_piece, no_piece}
+use Rattle.rl_report.proofs.GatherLemmas.{less_over, over_stopped, none_over}
+use Rattle.rl_report.proofs.pieces.gather_pieces.Goals as goal
+
+pub loop-piece-preserved : goal.loop-piece-preserved
+loop-piece-preserved g c =
+    let i = c.loop-piece.invariant in
+    let e = c.in_ok-gather.ensures in
+    record {
+      put = less_over _ _ _ _ _ _ _ _ _ _ i.put (next_piece (λ piece. piece.now) c.args.pieces.now c.loop-piece.piece-index _ c.loop-piece-test.true) e.bytes.whole;
+      later = omega (arith, e.stays.cause.later);
+      ends_kept = e.stays.ends ∙ i.ends_kept;
+      same_target = e.stays.target ∙ i.same_target;
+    }
+
+pub returns-in_err-gather-clause-bytes : goal.returns-in_err-gather-clause-bytes
+returns-in_err-gather-clause-bytes g c =
+    over_stopped _ _ _ _ _ _ _ _ _ _ _ c.loop-piece.invariant.put
+    (next_piece (λ piece. piece.now) c.args.pieces.now c.loop-piece.piece-index _ c.loop-piece-test.true) c.from_residual.ensures.0
+    c.in_err-gather.ensures.bytes.part
+
+pub returns-clause-bytes : goal.returns-clause-bytes
+returns-clause-bytes g c =
+    record { whole = none_over _ _ _ _ _ _ c.loop-piece.invariant.put (no_piece (λ piece. piece.now) c.args.pieces.now c.loop-piece.piece-index (omega arith)); part = tt }
