@@ -12,7 +12,8 @@ use Rattle.rl_desc.specs.Shapes.{with_table, tables_of}
 abbrev pub Continues : {D : Type 0} → (ℕ → Members → Option DescFault) → (Members → D) → ℕ → List D → List Members → Option DescFault → List D → Type 0
 Continues fault read i parts rest whole_fault whole = (first_from i fault rest ≡ whole_fault) × (parts ++ map read rest ≡ whole)
 
-pub Continues-more : {D : Type 0} (fault : ℕ → Members → Option DescFault) (read : Members → D) (i j : ℕ) (parts more : List D) (row : Members) (rest : List Members) (whole_fault : Option DescFault) (whole : List D)
+pub Continues-more : {D : Type 0} (fault : ℕ → Members → Option DescFault) (read : Members → D) (i j : ℕ) (parts more : List D) (row : Members) (rest : List Members) (whole_fault : Option DescFault)
+    (whole : List D)
     → Continues fault read i parts (row ∷ rest) whole_fault whole → fault i row ≡ None → more ≡ parts ++ read row ∷ [] → j ≡ i + 1
     → Continues fault read j more rest whole_fault whole
 Continues-more fault read i j parts more row rest whole_fault whole so_far none same next =

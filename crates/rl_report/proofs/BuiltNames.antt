@@ -10,7 +10,8 @@ use Rattle.rl_model.specs.declared.fault.ModelFault.TheVariants as model_fault
 use Rattle.rl_model.specs.declared.parts.ResetPart.{ResetPart}
 use Rattle.rl_model.specs.Data.{FieldData, RegData, PartsData}
 use Rattle.rl_model.specs.Paths.{is_among, with_text}
-use Rattle.rl_model.specs.Rules.{is_name, or_else, first_of, field_of, row_of, reg_path, scope_path, field_checks, field_fault, fields_fault, kinds_fault, kinds_with, kinds_after, all_kinds, is_bad_width, path_fault, reg_fault, regs_fault, scopes_fault}
+use Rattle.rl_model.specs.Rules.{is_name, or_else, first_of, field_of, row_of, reg_path, scope_path, field_checks, field_fault, fields_fault, kinds_fault}
+use Rattle.rl_model.specs.Rules.{kinds_with, kinds_after, all_kinds, is_bad_width, path_fault, reg_fault, regs_fault, scopes_fault}
 use Rattle.rl_model.specs.declared.fault.ModelCause.TheVariants.{BadName, BadWidth}
 use Rattle.rl_model.specs.Build.{first_kinds, chip_of, chip_fault}
 use Rattle.rl_bus.specs.declared.op.AdapterKind.{AdapterKind}

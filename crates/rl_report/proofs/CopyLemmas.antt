@@ -1,5 +1,6 @@
 -- A piece that is copied as its first and its last bytes.
-use Rattle.std.proofs.Common.{◌≡◌, ℕ, ◌+◌, ◌-◌, ◌≤◌, List, ◌++◌, length, take, drop, sym, ap, ◌∙◌, arith, append_assoc, length-take-le, length-drop, take-add, take-take, take_at, drop_at, take_all, take-append-drop}
+use Rattle.std.proofs.Common.{◌≡◌, ℕ, ◌+◌, ◌-◌, ◌≤◌, List, ◌++◌, length, take, drop, sym, ap, ◌∙◌, arith, append_assoc, length-take-le}
+use Rattle.std.proofs.Common.{length-drop, take-add, take-take, take_at, drop_at, take_all, take-append-drop}
 
 -- of a front that was copied, a shorter one
 front_copied : (old new piece : List ℕ) (end count rest stop : ℕ) → end ≤ length old → rest ≤ count → stop ≡ end + count

@@ -1,5 +1,6 @@
 -- The lines of an event: its own begins by a word and reads back, and those of its items are indented.
-use Rattle.std.proofs.Common.{◌≡◌, ℕ, ◌^◌, ◌<◌, true, false, List, [], ◌∷◌, ◌++◌, length, codes, flat_map, Option, Some, None, option_map, unwrap_or, refl, sym, ap, ◌∙◌, subst, append_assoc, append-nil}
+use Rattle.std.proofs.Common.{◌≡◌, ℕ, ◌^◌, ◌<◌, true, false, List, [], ◌∷◌, ◌++◌, length, codes, flat_map, Option, Some}
+use Rattle.std.proofs.Common.{None, option_map, unwrap_or, refl, sym, ap, ◌∙◌, subst, append_assoc, append-nil}
 use Rattle.std.specs.Prelude.{IfSome}
 use Rattle.rl_model.specs.Chip.{IsSound}
 use Rattle.rl_access.specs.declared.event.Event.{Event}

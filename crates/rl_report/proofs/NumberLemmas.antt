@@ -1,5 +1,6 @@
 -- The digits of a word's lanes.
-use Rattle.std.proofs.Common.{zero, ◌*◌, Bool, true, false, lt_trans, ◌≤◌, ◌&&◌, T, slice_range, eq-zero-or-pos, inl, inr, length-append, lit<, pow-suc, ◌≡◌, ℕ, suc, ◌+◌, ◌-◌, ◌/◌, ◌%◌, ◌^◌, ◌<◌, List, [], ◌∷◌, ◌++◌, length, take, append_assoc, refl, ap, ◌∙◌, arith}
+use Rattle.std.proofs.Common.{zero, ◌*◌, Bool, true, false, lt_trans, ◌≤◌, ◌&&◌, T, slice_range, eq-zero-or-pos, inl, inr, length-append, lit<, pow-suc}
+use Rattle.std.proofs.Common.{◌≡◌, ℕ, suc, ◌+◌, ◌-◌, ◌/◌, ◌%◌, ◌^◌, ◌<◌, List, [], ◌∷◌, ◌++◌, length, take, append_assoc, refl, ap, ◌∙◌, arith}
 use Rattle.rl_report.specs.Numbers.{lanes_text}
 use Rattle.rl_report.specs.declared.numbers.TheConstants.{FOURS}
 use Rattle.std.proofs.Math.Nat.{mul-div-mul_right, pow-le-pow_right}

@@ -1,5 +1,6 @@
 -- The text of an operation: its pieces, its line, and its bytes.
-use Rattle.std.proofs.Common.{◌≡◌, ℕ, Bool, true, false, if◌then◌else◌, List, [], ◌∷◌, ◌++◌, length, codes, decimal, map, Option, Some, None, unwrap_or, option_map, Result, refl, sym, ap, ◌∙◌, subst, append_assoc, append-nil}
+use Rattle.std.proofs.Common.{◌≡◌, ℕ, Bool, true, false, if◌then◌else◌, List, [], ◌∷◌, ◌++◌, length, codes, decimal, map, Option}
+use Rattle.std.proofs.Common.{Some, None, unwrap_or, option_map, Result, refl, sym, ap, ◌∙◌, subst, append_assoc, append-nil}
 use Rattle.std.specs.Prelude.{IfSome}
 use Rattle.std.proofs.lemmas.Bool.{true≢false}
 use Rattle.rl_policy.specs.Numbers.{hex_digits, spelled}
@@ -26,7 +27,8 @@ use Rattle.rl_report.specs.declared.operation.Subject.TheVariants.{Reg, Field, M
 use Rattle.rl_report.specs.Operation.{spoken_of, spoken_line, subject_path, map_name, kind_text, line_of, counted_text, burst_text, op_text, IsSpokenIn}
 use Rattle.rl_report.specs.Pieces.{Gathers, joined}
 use Rattle.rl_report.specs.WithoutItems.{is_indented, HasNames}
-use Rattle.rl_report.proofs.NameTexts.{IsSpelling, unbroken-spelling, spelling-append, spelling-cons, spelling-fixed, spelling-spelled, spelling-path_of_item, spelling-field, spelling-kind, spelling-map}
+use Rattle.rl_report.proofs.NameTexts.{IsSpelling, unbroken-spelling, spelling-append, spelling-cons, spelling-fixed, spelling-spelled}
+use Rattle.rl_report.proofs.NameTexts.{spelling-path_of_item, spelling-field, spelling-kind, spelling-map}
 use Rattle.rl_report.proofs.Unbroken.{IsUnbroken, unbroken-append, unbroken-cons, unbroken-fixed, unbroken-decimal}
 
 -- ---- piece by piece

@@ -1,5 +1,6 @@
 -- The digits of a number that is moved up, and how many digits a number has.
-use Rattle.std.proofs.Common.{◌≡◌, ℕ, zero, suc, ◌+◌, ◌-◌, ◌*◌, ◌/◌, ◌%◌, ◌^◌, ◌<◌, ◌≤◌, List, [], ◌∷◌, ◌++◌, take, drop, slice_range, refl, sym, ap, ◌∙◌, subst, arith, pow-suc, mul_assoc, mul-lt-mul_of_pos_right, lit<}
+use Rattle.std.proofs.Common.{◌≡◌, ℕ, zero, suc, ◌+◌, ◌-◌, ◌*◌, ◌/◌, ◌%◌, ◌^◌, ◌<◌, ◌≤◌, List, [], ◌∷◌, ◌++◌, take, drop, slice_range}
+use Rattle.std.proofs.Common.{refl, sym, ap, ◌∙◌, subst, arith, pow-suc, mul_assoc, mul-lt-mul_of_pos_right, lit<}
 use Rattle.std.proofs.lemmas.List.{take_all, take-append-le, take-take}
 use Rattle.std.proofs.lemmas.Nat.{pow-add, leading_top}
 use Rattle.std.proofs.Math.Nat.{pow-le-pow_right}

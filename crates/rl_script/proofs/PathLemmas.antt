@@ -1,5 +1,6 @@
 -- A path, name by name: how many names there are so far, and how many bytes the last has.
-use Rattle.std.proofs.Common.{◌≡◌, ℕ, zero, suc, ◌+◌, ◌-◌, ◌<◌, ◌≤◌, Bool, true, false, ◌&&◌, List, [], ◌∷◌, length, take, drop, get_or, take_all, length-drop, ◌⊎◌, refl, sym, ap, ◌∙◌, arith, inl, inr, not, lt-ltb, le-ltb}
+use Rattle.std.proofs.Common.{◌≡◌, ℕ, zero, suc, ◌+◌, ◌-◌, ◌<◌, ◌≤◌, Bool, true, false, ◌&&◌, List, [], ◌∷◌, length, take, drop}
+use Rattle.std.proofs.Common.{get_or, take_all, length-drop, ◌⊎◌, refl, sym, ap, ◌∙◌, arith, inl, inr, not, lt-ltb, le-ltb}
 use Rattle.std.specs.Prelude.{nat_le, nat_lt, ◌==◌, ◌||◌}
 use Rattle.std.specs.Int.{is_in_range}
 use Rattle.std.specs.List.{list_all, slice_split, position_or_len}
