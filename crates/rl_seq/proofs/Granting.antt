@@ -1,5 +1,6 @@
 -- Every operation of a sequence is granted, from any model of its chip and layout.
-use Rattle.std.proofs.Common.{◌≡◌, ℕ, zero, suc, ◌+◌, ◌*◌, ◌^◌, ◌<◌, ◌==◌, nat_lt, bit_xor, if◌then◌else◌, Bool, true, false, not, ◌&&◌, length, Option, Some, Ok, Err, IsOk, unwrap_or, refl, sym, ap, subst, ◌∙◌, eq-eqb, arith}
+use Rattle.std.proofs.Common.{◌≡◌, ℕ, zero, suc, ◌+◌, ◌*◌, ◌^◌, ◌<◌, ◌==◌, nat_lt, bit_xor, if◌then◌else◌, Bool, true, false, not, ◌&&◌, length, Option, Some, Ok, Err, IsOk, unwrap_or, refl, sym, ap}
+use Rattle.std.proofs.Common.{subst, ◌∙◌, eq-eqb, arith}
 use Rattle.std.proofs.lemmas.Bool.{and_parts, eqb-true, false_from_ne_true}
 use Rattle.std.proofs.lemmas.List.Sums.{position_or_len_is}
 use Rattle.std.proofs.lemmas.Nat.{xor_lt, mod_below, pow_pos, pow_below}
@@ -24,7 +25,8 @@ use Rattle.rl_seq.specs.declared.sequence.Sequence.{Sequence}
 use Rattle.rl_seq.specs.declared.sequence.Sequence.TheVariants.{HwReset, BitBash, Access, Shared, MemWalk}
 use Rattle.rl_seq.specs.Choice.{is_bit_compared, is_of, may_read, may_write, is_reg_tested, is_tested, has_writable_field, no_reg_access_test, no_mem_walk_test, low_bits, turned_round}
 use Rattle.rl_seq.specs.Plan.{Plan, stop, step, look, followed_by, only_if, each_below}
-use Rattle.rl_seq.specs.Sequences.{map_at, check_at, bash_once, bash_bit, check_other, fill, check_filled, write_number, settle_before, check_last, walk_location, items_of, item_of, has_rights, is_chosen, is_visited, at_place, visit, visit_all, walk}
+use Rattle.rl_seq.specs.Sequences.{map_at, check_at, bash_once, bash_bit, check_other, fill, check_filled, write_number, settle_before, check_last, walk_location, items_of, item_of, has_rights}
+use Rattle.rl_seq.specs.Sequences.{is_chosen, is_visited, at_place, visit, visit_all, walk}
 use Rattle.rl_seq.specs.Granted.{IsModelFor, IsGranted, NoStepIsRefused}
 
 -- ---- plans of plans

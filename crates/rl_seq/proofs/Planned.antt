@@ -130,7 +130,12 @@ module _ {R : Type 0} (takes breaks : R → ModelData → Event → R → Type 0
   pub sequence_done : {T E : Type 0} (old rec : R) (s new : Scene) (before after : Tally) (p : Plan) (x : T)
       → Walks {E = E} takes breaks old rec s new before after p (Ok x) → before ≡ no_tally
       → IsSequence {E = E} takes breaks old rec s new p (Ok after)
-  sequence_done old rec s new before after p x a none = record { told = a.told; handed = record { all = a.handed.all; part = tt }; counts = a.counts ∙ ap (λ t. counted_all t a.told) none; run = a.run }
+  sequence_done old rec s new before after p x a none = record {
+    told = a.told;
+    handed = record { all = a.handed.all; part = tt };
+    counts = a.counts ∙ ap (λ t. counted_all t a.told) none;
+    run = a.run;
+  }
 
   pub sequence_broke : {T E : Type 0} (old rec : R) (s new : Scene) (before after : Tally) (p : Plan) (e : E) (r : Result Tally E)
       → Walks {T = T} takes breaks old rec s new before after p (Err e) → IsErr r → IsSequence takes breaks old rec s new p r
