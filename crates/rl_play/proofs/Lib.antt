@@ -1,13 +1,14 @@
+pub mod AnyLemmas
 pub mod BufferLemmas
 pub mod Courses
 pub mod DoneLemmas
 pub mod EndingLemmas
-pub mod EntryLemmas
 pub mod FaultLemmas
+pub mod Judging
+pub mod LineLemmas
 pub mod NamedLemmas
 pub mod PlayLemmas
 pub mod ReadyLemmas
 pub mod Recorded
-pub mod SequenceLemmas
 pub mod Traces
 pub mod WrittenLemmas

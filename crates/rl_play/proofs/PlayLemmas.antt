@@ -33,8 +33,8 @@ use Rattle.rl_log.specs.Statuses.{is_complete}
 use Rattle.rl_log.specs.Telling.{Tells}
 use Rattle.rl_log.specs.Course.{nothing_done}
 use Rattle.rl_log.specs.Entry.{Entry, entry_of, plain}
-use Rattle.rl_log.specs.Log.{Ending, script_from, goes_on, comes_of, there, after_text, stops, said, said_by}
-use Rattle.rl_play.specs.Played.{coming, EndsAs, IsTurn, RanOn, Stopped, PassesTo, IsUnknown, IsLineRun}
+use Rattle.rl_log.specs.Log.{Ending, script_from, goes_on, comes_of, there, after_text, stops, refused_by, said, said_by}
+use Rattle.rl_play.specs.Played.{coming, EndsAs, IsTurn, RanOn, Stopped, PassesTo}
 use Rattle.rl_log.specs.Recording.{with_events}
 use Rattle.rl_play.specs.Heard.{heard, handed}
 use Rattle.rl_log.specs.Texts.{end_text, refused_text}
@@ -98,130 +98,40 @@ heard_read number got.End line few short =
     ap (λ b. if b then Err TooManyLines else said_by (read_of line)) (sym (le-ltb 1000000 number few))
 heard_read number got.TooLong line few short = absurd (short refl)
 
+pub heard_many : (number : ℕ) (g : Got) (line : List ℕ) → 1000000 < number → heard number g line ≡ Err TooManyLines
+heard_many number g line many = ap (λ b. if b then Err TooManyLines else handed g line) (lt-ltb 1000000 number many)
+
+pub heard_long : (number : ℕ) (g : Got) (line : List ℕ) → number ≤ 1000000 → g ≡ got.TooLong → heard number g line ≡ Err TooLong
+heard_long number g line few is =
+    ap (λ b. if b then Err TooManyLines else handed g line) (le-ltb 1000000 number few) ∙ ap (λ g. handed g line) is
+
+pub read_not : (bytes : List ℕ) (r : Result LineRef LineFault) (fault : LineFault) → r ≡ Err fault → MatchResult r
+    (λ line. read_of bytes ≡ Ok (line_said line)) (λ fault. fault ≢ Memory → read_of bytes ≡ Err fault)
+    → fault ≢ Memory → said_by (read_of bytes) ≡ Err (refused_by fault)
+read_not bytes (Ok l) fault is h other = absurd cc
+read_not bytes (Err f) fault is h other =
+    let same : f ≡ fault = cc in ap said_by (subst (λ f. f ≢ Memory → read_of bytes ≡ Err f) same h other)
+
+-- the reason of a line that doesn't read, where memory didn't run out
+pub refusal_is : (fault : LineFault) (r : Option LineRefusal) (why : LineRefusal) → r ≡ Some why
+    → (fault ≢ Memory → r ≡ Some (refused_by fault)) → (fault ≡ Memory → r ≡ None)
+    → (fault ≢ Memory) × (refused_by fault ≡ why)
+refusal_is fault r why is named none =
+    let other : fault ≢ Memory = λ e. let n : r ≡ None = none e in absurd cc in
+    let same : r ≡ Some (refused_by fault) = named other in (other, cc)
+
 pub read_ok : (bytes : List ℕ) (r : Result LineRef LineFault) (line : LineRef) → r ≡ Ok line → MatchResult r
     (λ line. read_of bytes ≡ Ok (line_said line)) (λ fault. fault ≢ Memory → read_of bytes ≡ Err fault)
     → said_by (read_of bytes) ≡ Ok (line_said line)
 read_ok bytes (Ok l) line is h = let same : l ≡ line = cc in ap said_by h ∙ ap (λ l. said_by (Ok (line_said l))) same
 read_ok bytes (Err fault) line is h = absurd cc
 
--- ---- a turn
-
-err_is : {x y : LineRefusal} (r : Result Entry LineRefusal) → r ≡ Err x → r ≡ Err y → x ≡ y
-err_is r e f = cc
-
-ok_is : {x y : Entry} (r : Result Entry LineRefusal) → r ≡ Ok x → r ≡ Ok y → x ≡ y
-ok_is r e f = cc
-
-err_ok : {x : LineRefusal} {y : Entry} (r : Result Entry LineRefusal) → r ≡ Err x → r ≡ Ok y → ⊥
-err_ok r e f = cc
-
--- a script that is refused at a line ends so
-stops_over : (number : ℕ) (why : LineRefusal) (status : Status) (old mid new : Option (List ℕ)) (counts now : Counts)
-    (w : World) (m : ModelData) (a : List Standing) (st : Option State) → Keeps old mid
-    → Tells status Refused mid new (refused_text number why) → now ≡ counts → IsAt m a st w → EndsAs
-    (stops number why counts w) status old new now m a st
-stops_over number why status old mid new counts now w m a st same t is here = record {
-  whole = λ c. let told = t.whole c in record {
-    status_is = told.0;
-    text = keeps_then_appends old mid new
-        (refused_text number why) same told.1;
-    counts_are = is;
-    after = here;
-  };
-  part = front_later old mid new (refused_text number why) same t.part;
-}
-
-unknown_stops : (number : ℕ) (given : Option Entry) (why : LineRefusal) (status : Status)
-    (old mid new : Option (List ℕ)) (counts now : Counts) (w : World) (m : ModelData) (a : List Standing)
-    (st : Option State)
-    → IsUnknown given why old mid counts now w m a st → Tells status Refused mid new (refused_text number why)
-    → Stopped number (there given) status old new counts now w m a st
-unknown_stops number given why status old mid new counts now w m a st u t = record {
-  refused = λ other e.
-      let same : why ≡ other = u.why_is ∙ err_is (there given) (ap there u.none) e in
-      subst (λ y. EndsAs (stops number y counts w) status old new now m a st) same
-      (stops_over number why status old mid new counts now w m a st u.text t u.counted u.after);
-  broken = λ entry e. absurd (err_ok (there given) (ap there u.none) e);
-  stays = λ other e. (u.counted, u.after);
-  done = λ entry e. absurd (err_ok (there given) (ap there u.none) e);
-}
-
--- a line whose name isn't there
-unknown_one : (number : ℕ) (w : World) (line : Line) (s : Result Line LineRefusal) (o : Option LineRefusal)
-    (why : LineRefusal) (status : Status) (old mid new : Option (List ℕ)) (counts now : Counts) (m : ModelData)
-    (a : List Standing) (st : Option State)
-    → s ≡ Ok line → o ≡ Some why → IsLineRun (entry_of w line) w old mid counts now m a st (Ok o)
-    → Tells status Refused mid new (refused_text number why) → Stopped number
-    (comes_of w s) status old new counts now w m a st
-unknown_one number w line s o why status old mid new counts now m a st is some h t =
-    let u : IsUnknown (entry_of w line) why old mid counts now w m a st = subst
-    (λ o. IsLineRun (entry_of w line) w old mid counts now m a st (Ok o)) some h in
-    subst (λ s. Stopped number (comes_of w s) status old new counts now w m a st) (sym is)
-    (unknown_stops number (entry_of w line) why status old mid new counts now w m a st u t)
-
-pub unknown_turn : (before : Option State) (number : ℕ) (m n : ModelData) (a b : List Standing) (after : Option State)
-    (line : Line) (s : Result Line LineRefusal) (o : Option LineRefusal) (why : LineRefusal) (status : Status)
-    (old mid new : Option (List ℕ)) (counts now : Counts)
-    → s ≡ Ok line → o ≡ Some why → IfSome before (λ d. IsLineRun (entry_of (world m a d) line)
-    (world m a d) old mid counts now n b after (Ok o)) → Tells status Refused mid new (refused_text number why)
-    → IfSome before (λ d. IsTurn number (comes_of (world m a d) s) old new counts now (world m a d) n b after (Stop status))
-unknown_turn None number m n a b after line s o why status old mid new counts now is some h t = tt
-unknown_turn (Some d) number m n a b after line s o why status old mid new counts now is some h t =
-    unknown_one number (world m a d) line s o why status old mid new counts now n b after is some h t
-
-abbrev here : (m : ModelData) (a : List Standing) (d : State) → IsAt m a (Some d) (world m a d)
-here m a d = record { model_is = refl; adapters_are = refl; device_is = refl }
-
--- a line before which the run broke off
-pub early_turn : (before : Option State) (number : ℕ) (m : ModelData) (a : List Standing)
-    (s : Result Line LineRefusal) (status : Status) (old new : Option (List ℕ)) (counts : Counts)
-    → is_complete status ≡ false → Keeps old new
-    → IfSome before (λ d. IsTurn number (comes_of (world m a d) s) old new counts counts (world m a d) m a before
-    (Stop status))
-early_turn None number m a s status old new counts early same = tt
-early_turn (Some d) number m a s status old new counts early same =
-    let w = world m a d in
-    record {
-      refused = λ why e. record {
-        whole = λ c. absurd (true≢false (sym c ∙ early));
-        part = front_none old new
-            (refused_text number why) same;
-      };
-      broken = λ entry e. (early, front_none old new entry.text same);
-      stays = λ other e. (refl, here m a d);
-      done = λ entry e. done_none entry.course.steps w counts counts m a (Some d) refl (here m a d);
-    }
-
--- the same line, said otherwise
-pub same_turn : (before : Option State) (number : ℕ) (m n : ModelData) (a b : List Standing) (after : Option State)
-    (r : Turn) (s other : Result Line LineRefusal) (old new : Option (List ℕ)) (counts now : Counts) → s ≡ other
-    → IfSome before (λ d. IsTurn number (comes_of (world m a d) s) old new counts now (world m a d) n b after r)
-    → IfSome before (λ d. IsTurn number (comes_of (world m a d) other) old new counts now (world m a d) n b after r)
-same_turn before number m n a b after r s other old new counts now is h =
-    subst (λ s. IfSome before (λ d. IsTurn number (comes_of (world m a d) s) old new counts now
-    (world m a d) n b after r)) is h
-
 -- ---- a line with nothing in it
 
-empty_said : (line : List ℕ) → (length line == 0) ≡ true → said_by (read_of line) ≡ Ok say.Blank
+pub empty_said : (line : List ℕ) → (length line == 0) ≡ true → said_by (read_of line) ≡ Ok say.Blank
 unfolding read_of by_words words_of
 empty_said [] is = refl
 empty_said (b ∷ bs) is = absurd (omega (arith, eqb-true _ _ is))
-
-empty_one : (w : World) (m : ModelData) (a : List Standing) (st : Option State) (old : Option (List ℕ))
-    (counts : Counts) → IsAt m a st w → RanOn (comes_of w (Ok say.Blank)) old old counts counts m a st
-empty_one w m a st old counts here =
-    record { entry = plain (nothing_done w); is = refl; text = Appends-nil old; counted = refl; after = here }
-
-pub empty_turn : (before : Option State) (number : ℕ) (m : ModelData) (a : List Standing) (g : Got) (line : List ℕ)
-    (old : Option (List ℕ)) (counts : Counts) → number ≤ 1000000 → g ≢ got.TooLong → (length line == 0) ≡ true
-    → IfSome before (λ d. IsTurn number (comes_of (world m a d) (heard number g line)) old old counts counts
-    (world m a d) m a before Next)
-empty_turn None number m a g line old counts few short is = tt
-empty_turn (Some d) number m a g line old counts few short is =
-    subst (λ s. RanOn (comes_of (world m a d) s) old old counts counts m a (Some d))
-    (sym (empty_said line is) ∙ heard_read number g line few short)
-    (empty_one (world m a d) m a (Some d) old counts (record { model_is = refl; adapters_are = refl; device_is = refl }))
 
 -- ---- a line of a script
 

@@ -50,7 +50,7 @@ trace_along stop w = trace_none w
 trace_along (step op p) w = let s = step_of w op in trace_first w s (along s.world p) (trace_along p s.world)
 trace_along (look f) w = trace_along (f w.model) w
 
-trace_burst : (granted : Grant) (op : Op) (ops : List Op) (w : World) → IsTrace w (burst w granted op ops)
+pub trace_burst : (granted : Grant) (op : Op) (ops : List Op) (w : World) → IsTrace w (burst w granted op ops)
 trace_burst (Ok place) op ops w = trace_through ops w
 trace_burst (Err why) op ops w = trace_alone w (unchanged w op why)
 

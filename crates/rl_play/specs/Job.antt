@@ -2,17 +2,17 @@
 use Rattle.std.specs.Prelude.{ℕ, ◌<◌, length, IfSome}
 use Rattle.rl_access.specs.Operation.{IsMapIn}
 use Rattle.rl_model.specs.Rows.{ChipData}
-use Rattle.rl_log.specs.Course.{Course}
-use Rattle.rl_log.specs.Entry.{sequence_course, burst_write_course, burst_read_course}
-use Rattle.rl_access.specs.World.{World}
+use Rattle.rl_access.specs.Model.{ModelData}
+use Rattle.rl_log.specs.Entry.{plan_of}
+use Rattle.rl_play.specs.AnyDevice.{Work, planned, burst_write_work, burst_read_work}
 use Rattle.rl_play.specs.declared.line.Job.{Job}
 use Rattle.rl_play.specs.declared.line.Job.TheVariants.{Sequence, BurstWrite, BurstRead}
 
--- its operations, from a world on
-abbrev pub job_course : Job → World → Course
-job_course (Sequence which block) = sequence_course which block
-job_course (BurstWrite mem map first values) = burst_write_course mem map first values.now
-job_course (BurstRead mem map first count) = burst_read_course mem map first count
+-- its operations; the lines round a sequence aren't part of it
+abbrev pub job_work : Job → ModelData → Work
+job_work (Sequence which block) m = planned (plan_of which m block)
+job_work (BurstWrite mem map first values) m = burst_write_work m mem map first values.now
+job_work (BurstRead mem map first count) m = burst_read_work m mem map first count
 
 -- the numbers in it are in range
 abbrev pub JobHasNumbers : ChipData → (maps : ℕ) → Job → Type 0

@@ -1,10 +1,9 @@
 -- What a call meets and leaves: a session at a moment.
-use Rattle.std.specs.Prelude.{ℕ, List, map, Option, IfSome}
+use Rattle.std.specs.Prelude.{ℕ, List, map, Option}
 use Rattle.rl_access.specs.Model.{ModelData}
 use Rattle.rl_bus.specs.Standing.{Standing}
 use Rattle.rl_bus.specs.State.{State}
 use Rattle.rl_log.specs.declared.counts.Counts.{Counts}
-use Rattle.rl_access.specs.World.{World, world}
 
 pub record Moment : Type 0 where
   pub model : ModelData
@@ -26,7 +25,3 @@ abbrev pub moment_of : {A D K : Type 0} → (A → Standing) → (D → Option S
     → ModelData → List A → D → K → Counts → Moment
 moment_of standing state written model adapters device sink counts =
     moment model (map standing adapters) (state device) (written sink) counts
-
--- this holds of the world of that moment, where the device tells its state
-abbrev pub FromWorld : Moment → (World → Type 0) → Type 0
-FromWorld before P = IfSome before.device (λ d. P (world before.model before.adapters d))

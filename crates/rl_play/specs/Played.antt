@@ -2,25 +2,23 @@
 use Rattle.std.specs.Prelude.{◌≡◌, ℕ, ◌+◌, List, ◌++◌, true, false, Option, Some, None, IfSome, Result, Ok, Err, Bool}
 use Rattle.std.specs.Io.KnownBytes.{Appends, Keeps}
 use Rattle.rl_access.specs.Model.{ModelData}
-use Rattle.rl_bus.specs.declared.device.Failed.{Failed}
 use Rattle.rl_bus.specs.Standing.{Standing}
 use Rattle.rl_bus.specs.State.{State}
 use Rattle.rl_report.specs.Lines.{lines_of, whole_lines}
 use Rattle.rl_report.specs.Pieces.{AppendsFront}
-use Rattle.rl_script.specs.declared.line.Line.{Line}
 use Rattle.rl_log.specs.declared.counts.Counts.{Counts}
 use Rattle.rl_play.specs.declared.playing.Turn.{Turn}
 use Rattle.rl_play.specs.declared.playing.Turn.TheVariants.{Next, Stop}
 use Rattle.rl_log.specs.declared.status.Status.{Status}
 use Rattle.rl_log.specs.declared.status.Status.TheVariants.{SourceFault}
 use Rattle.rl_log.specs.declared.refusal.LineRefusal.{LineRefusal}
-use Rattle.rl_log.specs.declared.refusal.LineRefusal.TheVariants.{NoSuchName}
 use Rattle.rl_log.specs.Endings.{added}
 use Rattle.rl_log.specs.Recording.{no_counts, with_events}
 use Rattle.rl_log.specs.Entry.{Entry}
-use Rattle.rl_log.specs.Log.{Ending, script_from, lines_text, after_text, comes_of, stops}
+use Rattle.rl_log.specs.Log.{Ending, script_from, lines_text, after_text, stops}
 use Rattle.rl_play.specs.Done.{DoesFrom, DoesWithRest}
-use Rattle.rl_play.specs.Moment.{Moment, FromWorld}
+use Rattle.rl_play.specs.AnyDevice.{Point, PlaysInput, moment_at}
+use Rattle.rl_play.specs.Moment.{Moment}
 use Rattle.rl_play.specs.Recording.{IsDone}
 use Rattle.rl_log.specs.Statuses.{is_complete}
 use Rattle.rl_log.specs.Telling.{Tells}
@@ -56,47 +54,6 @@ pub record EndsAs (e : Ending) (status : Status) (old new : Option (List ℕ)) (
   pub whole : is_complete status ≡ true → IsOver e status old new counts model adapters device
   pub part : AppendsFront old new e.text
 
--- ---- a line
-
--- its text was written and its events are counted, and it led here
-pub record Ran (given : Option Entry) (old new : Option (List ℕ)) (counts now : Counts)
-    (model : ModelData) (adapters : List Standing) (device : Option State) : Type 0 where
-  pub entry : Entry
-  pub is : given ≡ Some entry
-  pub text : Appends old new entry.text
-  pub counted : now ≡ with_events counts entry.course.told
-  pub after : IsAt model adapters device entry.course.world
-
--- a name isn't there, and nothing was done
-pub record IsUnknown (given : Option Entry) (why : LineRefusal) (old new : Option (List ℕ)) (counts now : Counts)
-    (w : World) (model : ModelData) (adapters : List Standing) (device : Option State) : Type 0 where
-  pub none : given ≡ None
-  pub why_is : why ≡ NoSuchName
-  pub text : Keeps old new
-  pub counted : now ≡ counts
-  pub after : IsAt model adapters device w
-
--- a front of its text was written before the sink failed, and the first of its events were done
-pub record BrokeOff (given : Option Entry) (w : World) (old new : Option (List ℕ)) (counts now : Counts)
-    (model : ModelData) (adapters : List Standing) (device : Option State) : Type 0 where
-  pub entry : Entry
-  pub is : given ≡ Some entry
-  pub text : AppendsFront old new entry.text
-  pub done : IsDone entry.course.steps w counts now model adapters device
-
-abbrev pub IsLineRun : Option Entry → World → (old new : Option (List ℕ)) → (counts now : Counts)
-    → ModelData → List Standing → Option State → Result (Option LineRefusal) Failed → Type 0
-IsLineRun given w old new counts now model adapters device (Ok None) = Ran given old new counts now model adapters device
-IsLineRun given w old new counts now model adapters device (Ok (Some why)) =
-    IsUnknown given why old new counts now w model adapters device
-IsLineRun given w old new counts now model adapters device (Err failed) =
-    BrokeOff given w old new counts now model adapters device
-
--- what comes of a line at one moment was written, counted and done at the other, or a name of it isn't there
-abbrev pub RunsLine : (World → Option Entry) → (before after : Moment) → Result (Option LineRefusal) Failed → Type 0
-RunsLine entry before after r = FromWorld before (λ w.
-    IsLineRun (entry w) w before.text after.text before.counts after.counts after.model after.adapters after.device r)
-
 -- ---- a turn: what a line comes to, as it was written and done
 
 -- it was run
@@ -122,12 +79,6 @@ abbrev pub IsTurn : (number : ℕ) → Result Entry LineRefusal → (old new : O
 IsTurn number comes old new counts now w model adapters device Next = RanOn comes old new counts now model adapters device
 IsTurn number comes old new counts now w model adapters device (Stop status) =
     Stopped number comes status old new counts now w model adapters device
-
--- the line of that number, which says this, was run at one moment and led to the other, or the script ended at it
-abbrev pub TakesTurn : (number : ℕ) → (says : Result Line LineRefusal) → (before after : Moment) → Turn → Type 0
-TakesTurn number says before after turn = FromWorld before (λ w.
-    IsTurn number (comes_of w says) before.text after.text before.counts after.counts
-    w after.model after.adapters after.device turn)
 
 -- ---- a script
 
@@ -194,12 +145,20 @@ BreaksAsRest number before input after rest =
 
 -- ---- the next line of a script
 
+-- over any device: as what is left behind it is played, the whole is
+abbrev pub PlaysWithRest : (number : ℕ) (before : Point) (input : Option (List ℕ)) (after : Point) (rest : Option (List ℕ)) → Type 0
+PlaysWithRest number before input after rest =
+    (last : Point) (status : Status) → PlaysInput (number + 1) after rest last status → PlaysInput number before input last status
+
 -- It was read and run at one moment, and the script is the rest, or ended at it.
-pub record PlaysLine (number : ℕ) (before : Moment) (input : Option (List ℕ)) (after : Moment)
+pub record PlaysLine (number : ℕ) (before : Point) (input : Option (List ℕ)) (after : Point)
     (rest left : Option (List ℕ)) (ended : Bool) (turn : Turn) : Type 0 where
-  pub next : turn ≡ Next → GoesOn number before input after rest
-  pub stop : (status : Status) → turn ≡ Stop status → Ends number before input after status
-  pub at_fault : turn ≡ Stop SourceFault → BreaksFrom number before input left after.text
-  pub later_fault : turn ≡ Next → ended ≡ false → BreaksAsRest number before input after rest
-  pub done_next : turn ≡ Next → DoesWithRest number before input after rest
-  pub done_stop : (status : Status) → turn ≡ Stop status → DoesFrom number before input after
+  pub plays_next : turn ≡ Next → PlaysWithRest number before input after rest
+  pub plays_stop : (status : Status) → turn ≡ Stop status → PlaysInput number before input after status
+  -- where the device tells its state
+  pub next : turn ≡ Next → GoesOn number (moment_at before) input (moment_at after) rest
+  pub stop : (status : Status) → turn ≡ Stop status → Ends number (moment_at before) input (moment_at after) status
+  pub at_fault : turn ≡ Stop SourceFault → BreaksFrom number (moment_at before) input left after.text
+  pub later_fault : turn ≡ Next → ended ≡ false → BreaksAsRest number (moment_at before) input (moment_at after) rest
+  pub done_next : turn ≡ Next → DoesWithRest number (moment_at before) input (moment_at after) rest
+  pub done_stop : (status : Status) → turn ≡ Stop status → DoesFrom number (moment_at before) input (moment_at after)

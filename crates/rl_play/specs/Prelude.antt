@@ -1,21 +1,20 @@
 -- The words that the contracts of this crate use, passed on from one place. Declares nothing.
 pub use Rattle.rl_access.specs.Model.{IsReady, IsSameChip}
-pub use Rattle.rl_access.specs.Runs.{no_tally, counted_all}
 pub use Rattle.rl_bus.specs.Causes.{Rose, HasCause}
 pub use Rattle.rl_log.specs.Causes.{IsCaused, NoneFailed}
 pub use Rattle.rl_log.specs.Endings.{end_status, IsCounted, PlayEnds}
 pub use Rattle.rl_log.specs.Statuses.{is_complete}
 pub use Rattle.rl_log.specs.Telling.{Tells}
-pub use Rattle.rl_log.specs.Entry.{entry_of, op_entry, sequence_course}
+pub use Rattle.rl_log.specs.Entry.{plan_of}
 pub use Rattle.rl_log.specs.Log.{said_by}
 pub use Rattle.rl_log.specs.Texts.{refused_text, end_text}
+pub use Rattle.rl_play.specs.AnyDevice.{asked, one_op, planned, spot, LogsTallied, RunsOn, Turns, PlaysInput, PlaysOnAnyDevice}
 pub use Rattle.rl_play.specs.Done.{DoesFrom, DoesFirstEvents}
 pub use Rattle.rl_play.specs.Earlier.{KeepsEarlier}
 pub use Rattle.rl_play.specs.Heard.{heard}
-pub use Rattle.rl_play.specs.Job.{job_course, JobHasNumbers}
-pub use Rattle.rl_play.specs.Moment.{moment_of, FromWorld}
-pub use Rattle.rl_play.specs.Played.{BreaksFrom, Ends, PlaysLine, TakesTurn, PlaysScript, RunsLine}
-pub use Rattle.rl_play.specs.Recording.{Records}
+pub use Rattle.rl_play.specs.Job.{job_work, JobHasNumbers}
+pub use Rattle.rl_play.specs.Moment.{moment_of}
+pub use Rattle.rl_play.specs.Played.{BreaksFrom, Ends, PlaysLine, PlaysScript}
 pub use Rattle.rl_play.specs.Told.{told}
 pub use Rattle.rl_report.specs.Got.{Hands}
 pub use Rattle.rl_report.specs.Lines.{first_line}

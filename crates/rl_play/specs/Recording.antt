@@ -1,5 +1,5 @@
 -- What is written and counted of events.
-use Rattle.std.specs.Prelude.{◌≡◌, ℕ, List, [], ◌∷◌, ◌++◌, Option, Result, OnOk, OnErr}
+use Rattle.std.specs.Prelude.{◌≡◌, ℕ, List, [], ◌∷◌, ◌++◌, Option}
 use Rattle.std.specs.Io.KnownBytes.{Appends}
 use Rattle.rl_access.specs.declared.event.Event.{Event}
 use Rattle.rl_access.specs.Model.{ModelData}
@@ -8,10 +8,8 @@ use Rattle.rl_bus.specs.State.{State}
 use Rattle.rl_report.specs.Event.{event_text}
 use Rattle.rl_report.specs.Pieces.{AppendsFront}
 use Rattle.rl_log.specs.declared.counts.Counts.{Counts}
-use Rattle.rl_log.specs.Course.{Course}
-use Rattle.rl_play.specs.Moment.{Moment, FromWorld}
 use Rattle.rl_access.specs.World.{World, Step, IsAt}
-use Rattle.rl_log.specs.Recording.{with_event, with_events, events_text}
+use Rattle.rl_log.specs.Recording.{with_event}
 
 -- ---- the recorder
 
@@ -44,20 +42,3 @@ pub record IsDone (steps : List Step) (w : World) (counts now : Counts)
   pub split : done ++ others ≡ steps
   pub counted : now ≡ with_steps counts done
   pub after : IsAt model adapters device (led_to w done)
-
--- ---- a course
-
--- its events were written and counted, and it led here; where the sink failed, a front of their text was written
-pub record IsRecorded {T E : Type 0} (c : Course) (old new : Option (List ℕ)) (counts now : Counts)
-    (model : ModelData) (adapters : List Standing) (device : Option State) (r : Result T E) : Type 0 where
-  pub whole : OnOk r (Appends old new (events_text c.told))
-  pub part : OnErr r (AppendsFront old new (events_text c.told))
-  pub counted : OnOk r (now ≡ with_events counts c.told)
-  pub after : OnOk r (IsAt model adapters device c.world)
-  -- at least one was done, so this holds whatever stood before
-  pub done : OnErr r ((w : World) → IsDone c.steps w counts now model adapters device)
-
--- a course that begins at one moment was written, counted and done at the other
-abbrev pub Records : {T E : Type 0} → (World → Course) → (before after : Moment) → Result T E → Type 0
-Records course before after r = FromWorld before (λ w.
-    IsRecorded (course w) before.text after.text before.counts after.counts after.model after.adapters after.device r)

@@ -182,10 +182,9 @@ impl<'a, K: Sink, E: Earlier> Buffered<'a, K, E> {
 }
 
 impl<K: Sink, E: Earlier> Sink for Buffered<'_, K, E> {
-    ghost use Rattle.std.specs.Io.KnownBytes.{append_known};
-    ghost use Rattle.rl_play.specs.Told.{kept_back};
+    ghost use Rattle.rl_play.specs.Told.{told};
 
-    ghost written = { λ b. append_known (K.written b.sink.now) (kept_back b) };
+    ghost written = { λ b. told K.written b };
 
     ghost faults = { λ b. K.faults b.sink.now };
 

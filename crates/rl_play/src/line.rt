@@ -1,6 +1,6 @@
 // What a line does, and its log.
-ghost use Rattle.std.specs.Prelude.{◌≡◌, ◌<◌, ◌∷◌, [], length, map as each, IfSome, IfOk};
-ghost use Rattle.rl_play.specs.Prelude.{HasCause, IsReady, IsSameChip, no_tally, counted_all, line_said, entry_of, op_entry, sequence_course, job_course, JobHasNumbers, moment_of, FromWorld, RunsLine, Records};
+ghost use Rattle.std.specs.Prelude.{◌≡◌, ◌<◌, ◌∷◌, [], length, map as each, IfSome, Ok};
+ghost use Rattle.rl_play.specs.Prelude.{HasCause, IsReady, IsSameChip, line_said, plan_of, JobHasNumbers, asked, job_work, one_op, planned, spot, LogsTallied, RunsOn};
 ghost use Rattle.rl_script.specs.declared.line.Line.TheVariants as say;
 
 use crate::log::Log;
@@ -12,7 +12,7 @@ use rl_access::{Model, Tally, burst_read, burst_write};
 use rl_bus::{Adapter, Adapters, Device};
 use rl_log::{Counts, LineRefusal};
 use rl_report::Failed;
-use rl_script::{IdentRef, Item, LineRef, PathRef, Sequence, Values};
+use rl_script::{IdentRef, Item, ItemLine, LineRef, PathRef, Sequence, Values};
 
 // What a line asks for that is more than one operation.
 #[derive(Clone, Copy)]
@@ -51,13 +51,12 @@ fn run_sequence<D: Device, K: Log>(
     requires block { IfSome block (λ b. b < model.old.chip.blocks) }
     ensures ready { IsReady model.new (each standing adapters.new.items) (D.state device.new) }
     ensures parts { IsSameChip model.old model.new }
-    ensures recorded { Records (sequence_course which block)
-        (moment_of standing D.state K.written model.old adapters.old.items device.old rec.old.sink.now rec.old.counts)
-        (moment_of standing D.state K.written model.new adapters.new.items device.new rec.new.sink.now rec.new.counts)
+    ensures logs { LogsTallied (planned (plan_of which model.old block))
+        (spot standing D.errors D.state K.written
+        model.old adapters.old.items device.old rec.old.sink.now rec.old.counts)
+        (spot standing D.errors D.state K.written
+        model.new adapters.new.items device.new rec.new.sink.now rec.new.counts)
         result }
-    ensures tally { FromWorld
-        (moment_of standing D.state K.written model.old adapters.old.items device.old rec.old.sink.now rec.old.counts)
-        (λ w. IfOk result (λ tally. tally ≡ counted_all no_tally (sequence_course which block w).told)) }
     ensures cause { HasCause (K.faults rec.old.sink.now) (K.faults rec.new.sink.now) result }
     ensures steady { rec.new.sink.ghost_name ∷ K.ends rec.new.sink.now ∷ K.target rec.new.sink.now ∷ []
         ≡ rec.old.sink.ghost_name ∷ K.ends rec.old.sink.now ∷ K.target rec.old.sink.now ∷ [] }
@@ -84,13 +83,12 @@ fn record_job<D: Device, K: Log>(
     requires numbers { JobHasNumbers model.old.chip (length model.old.layout.maps) job }
     ensures ready { IsReady model.new (each standing adapters.new.items) (D.state device.new) }
     ensures parts { IsSameChip model.old model.new }
-    ensures recorded { Records (job_course job.entry)
-        (moment_of standing D.state K.written model.old adapters.old.items device.old rec.old.sink.now rec.old.counts)
-        (moment_of standing D.state K.written model.new adapters.new.items device.new rec.new.sink.now rec.new.counts)
+    ensures logs { LogsTallied (job_work job.entry model.old)
+        (spot standing D.errors D.state K.written
+        model.old adapters.old.items device.old rec.old.sink.now rec.old.counts)
+        (spot standing D.errors D.state K.written
+        model.new adapters.new.items device.new rec.new.sink.now rec.new.counts)
         result }
-    ensures tally { FromWorld
-        (moment_of standing D.state K.written model.old adapters.old.items device.old rec.old.sink.now rec.old.counts)
-        (λ w. IfOk result (λ tally. tally ≡ counted_all no_tally (job_course job.entry w).told)) }
     ensures cause { HasCause (K.faults rec.old.sink.now) (K.faults rec.new.sink.now) result }
     ensures ends_kept { K.ends rec.new.sink.now ≡ K.ends rec.old.sink.now }
     ensures same_target { K.target rec.new.sink.now ≡ K.target rec.old.sink.now }
@@ -126,12 +124,9 @@ fn log_job<D: Device, K: Log>(
     requires numbers { JobHasNumbers model.old.chip (length model.old.layout.maps) job }
     ensures ready { IsReady model.new (each standing adapters.new.items) (D.state device.new) }
     ensures parts { IsSameChip model.old model.new }
-    ensures recorded { Records (job_course job.entry)
-        (moment_of standing D.state K.written model.old adapters.old.items device.old out.old counts.old)
-        (moment_of standing D.state K.written model.new adapters.new.items device.new out.new counts.new) result }
-    ensures tally { FromWorld
-        (moment_of standing D.state K.written model.old adapters.old.items device.old out.old counts.old)
-        (λ w. IfOk result (λ tally. tally ≡ counted_all no_tally (job_course job.entry w).told)) }
+    ensures logs { LogsTallied (job_work job.entry model.old)
+        (spot standing D.errors D.state K.written model.old adapters.old.items device.old out.old counts.old)
+        (spot standing D.errors D.state K.written model.new adapters.new.items device.new out.new counts.new) result }
     ensures cause { HasCause (K.faults out.old) (K.faults out.new) result }
     ensures ends_kept { K.ends out.new ≡ K.ends out.old }
     ensures same_target { K.target out.new ≡ K.target out.old }
@@ -161,9 +156,9 @@ fn write_burst<D: Device, K: Log>(
     requires ready { IsReady model.old (each standing adapters.old.items) (D.state device.old) }
     ensures ready { IsReady model.new (each standing adapters.new.items) (D.state device.new) }
     ensures parts { IsSameChip model.old model.new }
-    ensures run { RunsLine (λ w. entry_of w (say.BurstWrite mem.now first values.now name.now))
-        (moment_of standing D.state K.written model.old adapters.old.items device.old out.old counts.old)
-        (moment_of standing D.state K.written model.new adapters.new.items device.new out.new counts.new) result }
+    ensures run { RunsOn (asked model.old (Ok (say.BurstWrite mem.now first values.now name.now)))
+        (spot standing D.errors D.state K.written model.old adapters.old.items device.old out.old counts.old)
+        (spot standing D.errors D.state K.written model.new adapters.new.items device.new out.new counts.new) result }
     ensures cause { HasCause (K.faults out.old) (K.faults out.new) result }
     ensures ends_kept { K.ends out.new ≡ K.ends out.old }
     ensures same_target { K.target out.new ≡ K.target out.old }
@@ -190,34 +185,31 @@ fn read_burst<D: Device, K: Log>(
     model: &mut Model,
     device: &mut D,
     adapters: &mut Adapters,
-    mem: &PathRef<'_>,
-    first: u64,
-    count: u64,
-    name: &Option<IdentRef<'_>>,
+    line: &ItemLine<'_>,
     out: &mut K,
     counts: &mut Counts,
 ) -> Result<Option<LineRefusal>, Failed>
     requires ready { IsReady model.old (each standing adapters.old.items) (D.state device.old) }
     ensures ready { IsReady model.new (each standing adapters.new.items) (D.state device.new) }
     ensures parts { IsSameChip model.old model.new }
-    ensures run { RunsLine (λ w. entry_of w (say.BurstRead mem.now first count name.now))
-        (moment_of standing D.state K.written model.old adapters.old.items device.old out.old counts.old)
-        (moment_of standing D.state K.written model.new adapters.new.items device.new out.new counts.new) result }
+    ensures run { RunsOn (asked model.old (Ok (say.BurstRead line.now.path line.now.first line.now.second line.now.map)))
+        (spot standing D.errors D.state K.written model.old adapters.old.items device.old out.old counts.old)
+        (spot standing D.errors D.state K.written model.new adapters.new.items device.new out.new counts.new) result }
     ensures cause { HasCause (K.faults out.old) (K.faults out.new) result }
     ensures ends_kept { K.ends out.new ≡ K.ends out.old }
     ensures same_target { K.target out.new ≡ K.target out.old }
 {
-    let Some(mem) = mem_at(model, mem) else {
+    let Some(mem) = mem_at(model, &line.path) else {
         return Ok(Some(LineRefusal::NoSuchName));
     };
-    let Some(through) = map_asked(model, name) else {
+    let Some(through) = map_asked(model, &line.map) else {
         return Ok(Some(LineRefusal::NoSuchName));
     };
     let job = Job::BurstRead {
         mem,
         map: through,
-        first,
-        count,
+        first: line.first,
+        count: line.second,
     };
     log_job(model, device, adapters, job, out, counts)?;
     Ok(None)
@@ -237,9 +229,9 @@ fn sequence<D: Device, K: Log>(
     requires ready { IsReady model.old (each standing adapters.old.items) (D.state device.old) }
     ensures ready { IsReady model.new (each standing adapters.new.items) (D.state device.new) }
     ensures parts { IsSameChip model.old model.new }
-    ensures run { RunsLine (λ w. entry_of w (say.Seq which path.now))
-        (moment_of standing D.state K.written model.old adapters.old.items device.old out.old counts.old)
-        (moment_of standing D.state K.written model.new adapters.new.items device.new out.new counts.new) result }
+    ensures run { RunsOn (asked model.old (Ok (say.Seq which path.now)))
+        (spot standing D.errors D.state K.written model.old adapters.old.items device.old out.old counts.old)
+        (spot standing D.errors D.state K.written model.new adapters.new.items device.new out.new counts.new) result }
     ensures cause { HasCause (K.faults out.old) (K.faults out.new) result }
     ensures ends_kept { K.ends out.new ≡ K.ends out.old }
     ensures same_target { K.target out.new ≡ K.target out.old }
@@ -273,9 +265,9 @@ fn operation<D: Device, K: Log>(
     requires ready { IsReady model.old (each standing adapters.old.items) (D.state device.old) }
     ensures ready { IsReady model.new (each standing adapters.new.items) (D.state device.new) }
     ensures parts { IsSameChip model.old model.new }
-    ensures run { RunsLine (λ w. op_entry w (line_said line.now))
-        (moment_of standing D.state K.written model.old adapters.old.items device.old out.old counts.old)
-        (moment_of standing D.state K.written model.new adapters.new.items device.new out.new counts.new) result }
+    ensures run { RunsOn (one_op model.old (line_said line.now))
+        (spot standing D.errors D.state K.written model.old adapters.old.items device.old out.old counts.old)
+        (spot standing D.errors D.state K.written model.new adapters.new.items device.new out.new counts.new) result }
     ensures cause { HasCause (K.faults out.old) (K.faults out.new) result }
     ensures ends_kept { K.ends out.new ≡ K.ends out.old }
     ensures same_target { K.target out.new ≡ K.target out.old }
@@ -299,9 +291,9 @@ pub(crate) fn run_line<D: Device, K: Log>(
     requires ready { IsReady model.old (each standing adapters.old.items) (D.state device.old) }
     ensures ready { IsReady model.new (each standing adapters.new.items) (D.state device.new) }
     ensures parts { IsSameChip model.old model.new }
-    ensures run { RunsLine (λ w. entry_of w (line_said line.now))
-        (moment_of standing D.state K.written model.old adapters.old.items device.old out.old counts.old)
-        (moment_of standing D.state K.written model.new adapters.new.items device.new out.new counts.new) result }
+    ensures run { RunsOn (asked model.old (Ok (line_said line.now)))
+        (spot standing D.errors D.state K.written model.old adapters.old.items device.old out.old counts.old)
+        (spot standing D.errors D.state K.written model.new adapters.new.items device.new out.new counts.new) result }
     ensures cause { HasCause (K.faults out.old) (K.faults out.new) result }
     ensures ends_kept { K.ends out.new ≡ K.ends out.old }
     ensures same_target { K.target out.new ≡ K.target out.old }
@@ -319,19 +311,7 @@ pub(crate) fn run_line<D: Device, K: Log>(
             )
         }
         LineRef::OnItem(item) => match item.item {
-            Item::BurstRead => {
-                read_burst(
-                    model,
-                    device,
-                    adapters,
-                    &item.path,
-                    item.first,
-                    item.second,
-                    &item.map,
-                    out,
-                    counts,
-                )
-            }
+            Item::BurstRead => read_burst(model, device, adapters, item, out, counts),
             _ => operation(model, device, adapters, line, out, counts),
         },
         LineRef::Reset { .. } => operation(model, device, adapters, line, out, counts),

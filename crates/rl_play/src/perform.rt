@@ -3,9 +3,7 @@ ghost use Rattle.std.specs.Prelude.{◌≡◌, true, length, map as each};
 ghost use Rattle.rl_bus.specs.Causes.{HasCause};
 ghost use Rattle.rl_access.specs.Model.{IsReady, IsSameChip};
 ghost use Rattle.rl_access.specs.Operation.{HasNumbers, is_single};
-ghost use Rattle.rl_log.specs.Entry.{op_course};
-ghost use Rattle.rl_play.specs.Moment.{moment_of};
-ghost use Rattle.rl_play.specs.Recording.{Records};
+ghost use Rattle.rl_play.specs.AnyDevice.{Logs, spot, single};
 
 use crate::log::Log;
 use crate::recorder::record;
@@ -28,9 +26,9 @@ pub(crate) fn perform<D: Device, K: Log>(
     requires single { is_single op ≡ true }
     ensures ready { IsReady model.new (each standing adapters.new.items) (D.state device.new) }
     ensures parts { IsSameChip model.old model.new }
-    ensures recorded { Records (op_course op)
-        (moment_of standing D.state K.written model.old adapters.old.items device.old out.old counts.old)
-        (moment_of standing D.state K.written model.new adapters.new.items device.new out.new counts.new) result }
+    ensures logs { Logs (single op)
+        (spot standing D.errors D.state K.written model.old adapters.old.items device.old out.old counts.old)
+        (spot standing D.errors D.state K.written model.new adapters.new.items device.new out.new counts.new) result }
     ensures cause { HasCause (K.faults out.old) (K.faults out.new) result }
     ensures ends_kept { K.ends out.new ≡ K.ends out.old }
     ensures same_target { K.target out.new ≡ K.target out.old }

@@ -1,7 +1,7 @@
 // The lines of a script, one after another.
 ghost use Rattle.std.specs.Prelude.{◌≡◌, ◌≢◌, ◌≤◌, map, true, false, Ok, Err, MatchResult, IfOk, IfErr, IfSome, OnOk};
 ghost use Rattle.std.specs.Io.KnownBytes.{Keeps};
-ghost use Rattle.rl_play.specs.Prelude.{Rose, IsReady, IsSameChip, IsCaused, NoneFailed, DoesFrom, DoesFirstEvents, KeepsEarlier, end_status, IsCounted, PlayEnds, said_by, moment_of, BreaksFrom, Ends, PlaysLine, TakesTurn, PlaysScript, heard, is_complete, Tells, refused_text, end_text, told, Hands, read_of, line_said, first_line, input_of, HoldsLine};
+ghost use Rattle.rl_play.specs.Prelude.{Rose, IsReady, IsSameChip, IsCaused, NoneFailed, DoesFrom, DoesFirstEvents, KeepsEarlier, end_status, IsCounted, PlayEnds, said_by, moment_of, BreaksFrom, Ends, PlaysLine, PlaysScript, asked, spot, Turns, PlaysInput, PlaysOnAnyDevice, heard, is_complete, Tells, refused_text, end_text, told, Hands, read_of, line_said, first_line, input_of, HoldsLine};
 
 use crate::buffered::{Buffered, Earlier};
 use crate::line::run_line;
@@ -127,9 +127,9 @@ fn run_read<D: Device, L: Log>(
         (λ fault. fault ≢ LineFault.Memory → read_of line.now ≡ Err fault) }
     ensures ready { IsReady model.new (map standing adapters.new.items) (D.state device.new) }
     ensures parts { IsSameChip model.old model.new }
-    ensures turn { TakesTurn number (said_by (read_of line.now))
-        (moment_of standing D.state L.written model.old adapters.old.items device.old out.old counts.old)
-        (moment_of standing D.state L.written model.new adapters.new.items device.new out.new counts.new) result }
+    ensures turn { Turns number (asked model.old (said_by (read_of line.now)))
+        (spot standing D.errors D.state L.written model.old adapters.old.items device.old out.old counts.old)
+        (spot standing D.errors D.state L.written model.new adapters.new.items device.new out.new counts.new) result }
     ensures counted { (status : Status) → result ≡ Turn.Stop status
         → (status ≢ Status.Passed) × (status ≢ Status.Found) }
     ensures sink_later { L.faults out.old ≤ L.faults out.new }
@@ -168,9 +168,9 @@ fn run_taken<D: Device, L: Log>(
     ensures parts { IsSameChip model.old model.new }
     ensures short { result ≡ Turn.Next → got ≢ Got.TooLong }
     ensures last { result ≡ Turn.Next → number ≤ 1000000 }
-    ensures turn { TakesTurn number (heard number got line.now)
-        (moment_of standing D.state L.written model.old adapters.old.items device.old out.old counts.old)
-        (moment_of standing D.state L.written model.new adapters.new.items device.new out.new counts.new) result }
+    ensures turn { Turns number (asked model.old (heard number got line.now))
+        (spot standing D.errors D.state L.written model.old adapters.old.items device.old out.old counts.old)
+        (spot standing D.errors D.state L.written model.new adapters.new.items device.new out.new counts.new) result }
     ensures counted { (status : Status) → result ≡ Turn.Stop status
         → (status ≢ Status.Passed) × (status ≢ Status.Found) }
     ensures sink_later { L.faults out.old ≤ L.faults out.new }
@@ -231,9 +231,9 @@ fn play_line<S: Source, D: Device, L: Log>(
     ensures again { result ≡ Turn.Stop Status.SourceFault → lines.new.refused ≡ false }
     ensures last { result ≡ Turn.Next → number ≤ 1000000 }
     ensures plays { PlaysLine number
-        (moment_of standing D.state L.written model.old adapters.old.items device.old out.old counts.old)
+        (spot standing D.errors D.state L.written model.old adapters.old.items device.old out.old counts.old)
         (input_of lines.old (S.left source.old))
-        (moment_of standing D.state L.written model.new adapters.new.items device.new out.new counts.new)
+        (spot standing D.errors D.state L.written model.new adapters.new.items device.new out.new counts.new)
         (input_of lines.new (S.left source.new)) (S.left source.new) lines.new.ended result }
     ensures ended { lines.old.ended ≡ true → lines.new.ended ≡ true }
     ensures unended { result ≡ Turn.Stop Status.SourceFault → lines.old.ended ≡ false }
@@ -253,16 +253,9 @@ fn play_line<S: Source, D: Device, L: Log>(
     if is_end(got) {
         return Turn::Stop(end(counts, out));
     }
+    let line = lines.line();
     run_taken(
-        alloc,
-        number,
-        got,
-        lines.line(),
-        model,
-        device,
-        adapters,
-        out,
-        counts,
+        alloc, number, got, line, model, device, adapters, out, counts,
     )
 }
 
@@ -286,6 +279,10 @@ pub fn play_lines<S: Source, D: Device, L: Log>(
         (moment_of standing D.state L.written model.old adapters.old.items device.old out.old counts.old)
         (input_of lines.old (S.left source.old))
         (moment_of standing D.state L.written model.new adapters.new.items device.new out.new counts.new) result }
+    ensures plays { PlaysInput 1
+        (spot standing D.errors D.state L.written model.old adapters.old.items device.old out.old counts.old)
+        (input_of lines.old (S.left source.old))
+        (spot standing D.errors D.state L.written model.new adapters.new.items device.new out.new counts.new) result }
     ensures at_fault { result ≡ Status.SourceFault → BreaksFrom 1
         (moment_of standing D.state L.written model.old adapters.old.items device.old out.old counts.old)
         (input_of lines.old (S.left source.old)) (S.left source.new) (L.written out.new) }
@@ -367,6 +364,10 @@ fn play_through<S: Source, K: Sink, D: Device, E: Earlier>(
     ensures found { lines.new.found ≡ true }
     ensures again { result ≡ Status.SourceFault → lines.new.refused ≡ false }
     ensures keeps_earlier { KeepsEarlier (K.written sink.old) (K.written sink.new) }
+    ensures plays { PlaysInput 1
+        (spot standing D.errors D.state K.written model.old adapters.old.items device.old sink.old counts.old)
+        (input_of lines.old (S.left source.old))
+        (spot standing D.errors D.state K.written model.new adapters.new.items device.new sink.new counts.new) result }
     ensures done { DoesFrom 1
         (moment_of standing D.state K.written model.old adapters.old.items device.old sink.old counts.old)
         (input_of lines.old (S.left source.old))
@@ -404,7 +405,6 @@ pub fn play<S: Source, K: Sink, D: Device>(
     requires going { lines.old.refused ≡ false }
     ensures ready { IsReady model.new (map standing adapters.new.items) (D.state device.new) }
     ensures parts { IsSameChip model.old model.new }
-
     // Where the device tells its state and the source its bytes: what is written is the log of the lines that are
     // left, from the device and the model as they are, with its status, and the counts rise by what it counts.
     // After any fault, and where memory ran out, it is a front of that log.
@@ -412,35 +412,34 @@ pub fn play<S: Source, K: Sink, D: Device>(
         (moment_of standing D.state K.written model.old adapters.old.items device.old sink.old counts.old)
         (input_of lines.old (S.left source.old))
         (moment_of standing D.state K.written model.new adapters.new.items device.new sink.new counts.new) result }
-
     // After a source that failed, the sink has exactly the log of the lines that were taken whole.
     ensures at_fault { result ≡ Status.SourceFault → BreaksFrom 1
         (moment_of standing D.state K.written model.old adapters.old.items device.old sink.old counts.old)
         (input_of lines.old (S.left source.old)) (S.left source.new) (K.written sink.new) }
-
     // The reader can then be handed to the next call, which goes on with the line that was cut.
     ensures found { lines.new.found ≡ true }
     ensures again { result ≡ Status.SourceFault → lines.new.refused ≡ false }
-
     // However it ends, the sink keeps the bytes that it had before.
     ensures keeps_earlier { KeepsEarlier (K.written sink.old) (K.written sink.new) }
-
     // However it ends: model, adapters and device are as after the first events of the script, as many as the count
     // of events rose by, and the counts rose by what these count.
     ensures done { DoesFirstEvents
         (moment_of standing D.state K.written model.old adapters.old.items device.old sink.old counts.old)
         (input_of lines.old (S.left source.old))
         (moment_of standing D.state K.written model.new adapters.new.items device.new sink.new counts.new) }
-
+    // Over any device, also one that tells nothing: what is written is the text of events, each of which performs its
+    // line's operation from where the one before ended, over the items and answers of these events.
+    ensures any_device { PlaysOnAnyDevice
+        (spot standing D.errors D.state K.written model.old adapters.old.items device.old sink.old counts.old)
+        (input_of lines.old (S.left source.old))
+        (spot standing D.errors D.state K.written model.new adapters.new.items device.new sink.new counts.new) result }
     // In any case the status goes by what happened in this call, and the counts rise by it.
     ensures ends { PlayEnds result counts.old counts.new }
-
     // No fault is made up.
     ensures source_later { S.faults source.old ≤ S.faults source.new }
     ensures sink_later { K.faults sink.old ≤ K.faults sink.new }
     ensures cause { IsCaused result
         (S.faults source.old) (S.faults source.new) (K.faults sink.old) (K.faults sink.new) }
-
     ensures ends_kept { K.ends sink.new ≡ K.ends sink.old }
 {
     let mut own = Counts::new();

@@ -1,23 +1,22 @@
-use Rattle.std.proofs.Common.{map, Some, sym, ap, ◌∙◌}
-use Rattle.rl_script.specs.declared.line.Line.TheVariants as say
-use Rattle.rl_log.specs.Entry.{burst_write_course, entry_of, plain}
-use Rattle.rl_access.specs.World.{world}
-use Rattle.rl_play.proofs.SequenceLemmas.{both_are, plain_failed}
+use Rattle.std.proofs.Common.{Ok, ap, refl, sym, ◌∙◌}
+use Rattle.rl_play.specs.AnyDevice.{burst_write_work}
+use Rattle.rl_play.proofs.LineLemmas.{both_are, plain_done, plain_failed}
 use Rattle.rl_play.proofs.line.write_burst.Goals as goal
 
 pub returns-in_err-log_job-clause-run : goal.returns-in_err-log_job-clause-run
 returns-in_err-log_job-clause-run g c =
-    let here = map (λ b. (goal.Adapter-dyn g (b.vtable, b.value)).standing b.value) c.args.adapters.now.items in
-    let i = c.in-Some.mem in
-    let t = c.in-Some-map_asked.through in
-    let first = c.args.first in
-    let values = c.args.values.now in
-    plain_failed _ _ c.args.model.now _ here _ _
-    (λ w. entry_of w (say.BurstWrite c.args.mem.now first values c.args.name.now))
-    (burst_write_course i t first c.items.result.now) _ _ _ _ _ _
-    c.from_residual.ensures.0
-    (λ d.
-    both_are _ _ i t (λ i t. plain (burst_write_course i t first values (world c.args.model.now here d)))
+    let asks = both_are _ _ c.in-Some.mem c.in-Some-map_asked.through
+    (λ i t. burst_write_work c.args.model.now i t c.args.first c.args.values.now)
     (sym c.mem_at.ensures.named ∙ c.in-Some.is) (sym c.map_asked.ensures.named ∙ c.in-Some-map_asked.is)
-    ∙ ap (λ values. Some (plain (burst_write_course i t first values (world c.args.model.now here d)))) (sym c.items.ensures.items))
-    c.in_err-log_job.ensures.recorded
+    ∙ ap (λ values. Ok (burst_write_work c.args.model.now c.in-Some.mem c.in-Some-map_asked.through c.args.first values))
+    (sym c.items.ensures.items) in
+    plain_failed _ _ _ _ _ _ _ c.from_residual.ensures.0 asks (λ told. refl) c.in_err-log_job.ensures.logs.logs
+
+pub returns-clause-run : goal.returns-clause-run
+returns-clause-run g c =
+    let asks = both_are _ _ c.in-Some.mem c.in-Some-map_asked.through
+    (λ i t. burst_write_work c.args.model.now i t c.args.first c.args.values.now)
+    (sym c.mem_at.ensures.named ∙ c.in-Some.is) (sym c.map_asked.ensures.named ∙ c.in-Some-map_asked.is)
+    ∙ ap (λ values. Ok (burst_write_work c.args.model.now c.in-Some.mem c.in-Some-map_asked.through c.args.first values))
+    (sym c.items.ensures.items) in
+    plain_done _ _ _ _ _ _ asks (λ told. refl) c.in_ok-log_job.ensures.logs.logs

@@ -1,10 +1,10 @@
 use Rattle.std.proofs.Common.{map}
 use Rattle.rl_access.specs.Call.{Performs, scene}
-use Rattle.rl_play.proofs.Recorded.{op_recorded}
+use Rattle.rl_play.proofs.Recorded.{op_logged}
 use Rattle.rl_play.proofs.perform.perform.Goals as goal
 
-pub returns-clause-recorded : goal.returns-clause-recorded
-returns-clause-recorded g c =
+pub returns-clause-logs : goal.returns-clause-logs
+returns-clause-logs g c =
     let after = c.perform-event.new in
     let performs : Performs
     (scene c.args.model.now (map (λ b. (goal.Adapter-dyn g (b.vtable, b.value)).standing b.value) c.args.adapters.now.items)
@@ -12,4 +12,4 @@ returns-clause-recorded g c =
     (scene after.model (map (λ b. (goal.Adapter-dyn g (b.vtable, b.value)).standing b.value) after.adapters.items)
     (g.D.Device.errors after.device) (g.D.Device.state after.device)) c.args.op c.perform-event.result =
     c.perform-event.ensures.performs in
-    op_recorded _ _ _ _ _ _ _ _ _ _ _ _ _ _ _ performs c.record.ensures.whole c.record.ensures.part
+    op_logged _ _ _ _ _ _ _ _ _ performs c.record.ensures.whole c.record.ensures.part

@@ -1,4 +1,5 @@
 use Rattle.rl_play.proofs.DoneLemmas.{does_first}
+use Rattle.rl_play.proofs.AnyLemmas.{plays_all}
 use Rattle.rl_play.proofs.WrittenLemmas.{played_written}
 use Rattle.rl_play.proofs.playing.play.Goals as goal
 
@@ -12,6 +13,10 @@ returns-clause-ends g c = record {
 pub returns-clause-log : goal.returns-clause-log
 returns-clause-log g c =
     played_written _ _ _ _ _ _ _ _ _ _ c.add.ensures (rw c.new-own.ensures at c.play_through-status.ensures.log)
+
+pub returns-clause-any_device : goal.returns-clause-any_device
+returns-clause-any_device g c =
+    plays_all _ _ _ _ _ _ _ _ _ c.add.ensures (rw c.new-own.ensures at c.play_through-status.ensures.plays)
 
 pub returns-clause-done : goal.returns-clause-done
 returns-clause-done g c =

@@ -1,10 +1,13 @@
 use Rattle.std.proofs.Common.{◌≡◌, ◌≢◌, false, Err, refl, ap, subst, ◌∙◌}
 use Rattle.rl_report.specs.declared.lines.Got.TheVariants as got
+use Rattle.rl_play.specs.declared.playing.Turn.TheVariants.{Next, Stop}
 use Rattle.rl_log.specs.declared.status.Status.TheVariants.{SourceFault}
 use Rattle.rl_log.specs.Statuses.{is_complete}
 use Rattle.rl_play.proofs.EndingLemmas.{counted_none, counted_other}
 use Rattle.rl_play.proofs.FaultLemmas.{still_going, breaks_here, breaks_later, no_source}
 use Rattle.rl_play.proofs.DoneLemmas.{does_none, does_next, does_stop}
+use Rattle.rl_play.proofs.Judging.{judged_turn}
+use Rattle.rl_play.proofs.AnyLemmas.{plays_cut, plays_end, plays_next, plays_stop}
 use Rattle.rl_play.proofs.PlayLemmas.{early_stops, ends_at_end, next_passes, stop_ends}
 use Rattle.rl_play.proofs.playing.play_line.Goals as goal
 
@@ -29,6 +32,9 @@ returns-in-Err-clause-plays g c =
     let e = c.take_line.ensures in
     record {
       next = λ is. absurd (cc);
+      plays_next = λ is. absurd (cc);
+      plays_stop = λ status is. let same : c.in-Err.status ≡ status = cc in
+          plays_cut _ _ _ _ c.in-Err.status status same c.in-Err.ensures.broken c.in-Err.ensures.told;
       stop = λ status is. let same : c.in-Err.status ≡ status = cc in
           early_stops _ c.in-Err.status status _ _ _ _ _ _ same c.in-Err.ensures.broken c.in-Err.ensures.told;
       at_fault = λ is. let fault : c.in-Err.status ≡ SourceFault = cc in
@@ -44,6 +50,10 @@ returns-then-is_end-clause-plays g c =
     let is_end : c.in-Ok.got ≡ got.End = c.is_end.ensures.end c.if-is_end.true in
     record {
       next = λ is. absurd (cc);
+      plays_next = λ is. absurd (cc);
+      plays_stop = λ status is. let same : c.end.result ≡ status = cc in
+          plays_end _ _ _ _ _ c.in-Ok.got c.take_line.new.lines _ c.end.result status is_end same
+          c.in-Ok.ensures.handed c.in-Ok.ensures.told (no_source _ _ _ c.end.ensures.cause) c.end.ensures.tells;
       stop = λ status is. let same : c.end.result ≡ status = cc in
           ends_at_end _ _ _ _ _ _ c.in-Ok.got c.take_line.new.lines _ c.end.result status _ _ _ is_end same
           c.in-Ok.ensures.handed c.in-Ok.ensures.told c.end.ensures.tells;
@@ -60,15 +70,19 @@ returns-clause-plays g c =
     let told = c.in-Ok.ensures.told in
     let r = c.run_taken.ensures in
     record {
+      plays_next = λ is last status p. plays_next _ _ _ _ last _ c.in-Ok.got _ c.take_line.new.lines _ _ status not_end
+          (r.short is) handed c.line-line.ensures refl told (rw is at r.turn) p;
+      plays_stop = λ status is. plays_stop _ _ _ _ _ c.in-Ok.got _ c.take_line.new.lines _ _ status not_end handed
+          c.line-line.ensures refl told (no_source _ _ _ (r.cause status is)) (rw is at r.turn);
       next = λ is. next_passes _ _ _ _ _ _ _ _ _ _ c.in-Ok.got _ c.take_line.new.lines _ _ _ _ _ not_end
-          (r.short is) handed c.line.ensures refl told (rw is at r.turn);
+          (r.short is) handed c.line-line.ensures refl told (judged_turn c.args.number _ _ _ _ _ _ _ _ _ _ _ _ _ Next (rw is at r.turn));
       stop = λ status is. stop_ends _ _ _ _ _ _ _ _ _ _ c.in-Ok.got _ c.take_line.new.lines _ _ status _ _ _ not_end
-          handed c.line.ensures refl told (rw is at r.turn);
+          handed c.line-line.ensures refl told (judged_turn c.args.number _ _ _ _ _ _ _ _ _ _ _ _ _ (Stop status) (rw is at r.turn));
       at_fault = λ is. absurd (no_source _ _ _ (r.cause _ is) refl);
       later_fault = λ is going left last f. breaks_later _ _ _ _ _ _ _ _ _ _ c.in-Ok.got _ c.take_line.new.lines
-          _ _ _ _ _ left last not_end (r.short is) handed c.line.ensures refl told (rw is at r.turn) going f;
+          _ _ _ _ _ left last not_end (r.short is) handed c.line-line.ensures refl told (judged_turn c.args.number _ _ _ _ _ _ _ _ _ _ _ _ _ Next (rw is at r.turn)) going f;
       done_next = λ is total last standings state f. does_next _ _ _ total _ _ last _ _ standings _ _ state _ c.in-Ok.got
-          _ c.take_line.new.lines _ _ _ _ not_end (r.short is) handed c.line.ensures refl (rw is at r.turn) f;
+          _ c.take_line.new.lines _ _ _ _ not_end (r.short is) handed c.line-line.ensures refl (judged_turn c.args.number _ _ _ _ _ _ _ _ _ _ _ _ _ Next (rw is at r.turn)) f;
       done_stop = λ status is. does_stop _ _ _ _ _ _ _ _ _ _ c.in-Ok.got _ c.take_line.new.lines _ _ status _ _ not_end
-          handed c.line.ensures refl (rw is at r.turn);
+          handed c.line-line.ensures refl (judged_turn c.args.number _ _ _ _ _ _ _ _ _ _ _ _ _ (Stop status) (rw is at r.turn));
     }

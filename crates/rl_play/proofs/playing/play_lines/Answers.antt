@@ -18,6 +18,7 @@ loop-number-init g c = record {
   unended = λ ended. ended;
   breaking = λ ended left last h. h;
   doing = λ total last standings state h. h;
+  playing = λ last status p. p;
   ends_kept = refl;
   same_target = refl;
 }
@@ -41,6 +42,7 @@ loop-number-preserved g c =
           (e.plays.later_fault c.in-Next.is ended left last h);
       doing = λ total last standings state h. i.doing total last standings state
           (e.plays.done_next c.in-Next.is total last standings state h);
+      playing = λ last status p. i.playing last status (e.plays.plays_next c.in-Next.is last status p);
       ends_kept = e.ends_kept ∙ i.ends_kept;
       same_target = e.same_target ∙ i.same_target;
     }
@@ -64,6 +66,9 @@ returns-in-Stop-clause-unended g c =
 
 pub returns-in-Stop-clause-done : goal.returns-in-Stop-clause-done
 returns-in-Stop-clause-done g c = c.loop-number.invariant.doing _ _ _ _ (c.play_line.ensures.plays.done_stop _ c.in-Stop.is)
+
+pub returns-in-Stop-clause-plays : goal.returns-in-Stop-clause-plays
+returns-in-Stop-clause-plays g c = c.loop-number.invariant.playing _ _ (c.play_line.ensures.plays.plays_stop _ c.in-Stop.is)
 
 pub returns-in-Stop-clause-again : goal.returns-in-Stop-clause-again
 returns-in-Stop-clause-again g c = λ is. c.play_line.ensures.again (c.in-Stop.is ∙ ap Stop is)

@@ -6,6 +6,9 @@ use Rattle.rl_bus.specs.Standing.{Standing}
 use Rattle.rl_bus.specs.State.{State}
 use Rattle.rl_report.specs.Reading.{input_of}
 use Rattle.rl_log.specs.declared.counts.Counts.{Counts}
+use Rattle.rl_log.specs.declared.status.Status.{Status}
+use Rattle.rl_access.specs.Call.{scene}
+use Rattle.rl_play.specs.AnyDevice.{Point, PlaysInput}
 use Rattle.rl_play.specs.Done.{Does}
 use Rattle.rl_play.specs.Played.{coming, Breaks, PassesTo}
 use Rattle.rl_play.proofs.playing.play_lines.Given as goal
@@ -44,6 +47,20 @@ invariant-loop-number g l =
           (map (λ b. (goal.Adapter-dyn g (b.vtable, b.value)).standing b.value) l.initial.adapters.items)
           (g.D.Device.state l.initial.device)
           (input_of l.initial.lines (g.S.Source.left l.initial.source)) l.initial.counts total last standings state;
+      playing : (last : Point) (status : Status) → PlaysInput l.number
+          (record {
+            scene = scene l.model (map (λ b. (goal.Adapter-dyn g (b.vtable, b.value)).standing b.value) l.adapters.items)
+                (g.D.Device.errors l.device) (g.D.Device.state l.device);
+            text = g.L.Sink.written l.out;
+            counts = l.counts;
+          }) (input_of l.lines (g.S.Source.left l.source)) last status
+          → PlaysInput 1
+          (record {
+            scene = scene l.initial.model (map (λ b. (goal.Adapter-dyn g (b.vtable, b.value)).standing b.value) l.initial.adapters.items)
+                (g.D.Device.errors l.initial.device) (g.D.Device.state l.initial.device);
+            text = g.L.Sink.written l.initial.out;
+            counts = l.initial.counts;
+          }) (input_of l.initial.lines (g.S.Source.left l.initial.source)) last status;
       ends_kept : g.L.Sink.ends l.out ≡ g.L.Sink.ends l.initial.out;
       same_target : g.L.Sink.target l.out ≡ g.L.Sink.target l.initial.out;
     }

@@ -1,6 +1,7 @@
 use Rattle.std.proofs.Common.{rules}
 use Rattle.rl_play.proofs.EndingLemmas.{counted_kept}
 use Rattle.rl_play.proofs.FaultLemmas.{breaks_written, same_status}
+use Rattle.rl_play.proofs.AnyLemmas.{plays_written}
 use Rattle.rl_play.proofs.WrittenLemmas.{ends_written}
 use Rattle.rl_play.proofs.playing.play_through.Goals as goal
 
@@ -27,6 +28,16 @@ returns-clause-at_fault g c = λ is.
     let fault = same_status _ _ s.kept is in
     let w = breaks_written _ _ _ _ _ _ _ _ _ (rw c.new-out.ensures.told at (p.at_fault fault))
     (s.at_fault fault (p.flushed fault)) in
+    search (rules, w)
+
+pub returns-clause-plays : goal.returns-clause-plays
+returns-clause-plays g c =
+    let s = c.settle.ensures in
+    let p = c.play_lines-status.ensures in
+    let keeps = rw (← c.requires.earlier) at c.settle.new.out.keeps_earlier in
+    let w = plays_written _ _ _ _ _ _ _ _ s.kept keeps s.told s.whole
+    (λ is. let fault = same_status _ _ s.kept is in s.at_fault fault (p.flushed fault))
+    (rw c.new-out.ensures.told at p.plays) in
     search (rules, w)
 
 pub returns-clause-again : goal.returns-clause-again

@@ -1,20 +1,29 @@
-use Rattle.std.proofs.Common.{map, refl}
-use Rattle.rl_script.specs.Reading.{read_of}
-use Rattle.rl_log.specs.declared.status.Status.TheVariants.{Memory}
-use Rattle.rl_log.specs.Log.{said_by}
-use Rattle.rl_play.proofs.BufferLemmas.{keeps_refl}
-use Rattle.rl_play.proofs.PlayLemmas.{early_turn, read_ok, unknown_turn}
+use Rattle.std.proofs.Common.{Err, ap, refl, sym, ◌∙◌}
+use Rattle.rl_log.specs.declared.status.Status.TheVariants.{Memory, SinkFault}
+use Rattle.rl_play.specs.AnyDevice.{asked}
+use Rattle.rl_play.specs.declared.playing.Turn.TheVariants.{Stop}
+use Rattle.rl_play.proofs.LineLemmas.{read_refused, stops_early, turns_as, unknown_stops}
+use Rattle.rl_play.proofs.PlayLemmas.{read_not, read_ok, refusal_is}
 use Rattle.rl_play.proofs.playing.run_read.Goals as goal
 
 pub returns-in-Ok-Some-clause-turn : goal.returns-in-Ok-Some-clause-turn
 returns-in-Ok-Some-clause-turn g c =
-    unknown_turn _ _ _ _ _ _ _ _ _ _ _ _ _ _ _ _ _
-    (read_ok c.args.line.now c.args.read.now _ c.in-Ok.is c.requires.read) c.in-Ok-Some.field-0-is
-    c.in-Ok-Some.ensures.run c.refuse.ensures.tells
+    unknown_stops _ _ _ _ _ _ _ _ _
+    (ap (asked c.args.model.now) (read_ok c.args.line.now c.args.read.now _ c.in-Ok.is c.requires.read))
+    c.in-Ok-Some.field-0-is c.in-Ok-Some.ensures.run c.refuse.ensures.tells
 
 pub returns-in-None-clause-turn : goal.returns-in-None-clause-turn
-returns-in-None-clause-turn g c =
-    let here = map (λ b. (goal.Adapter-dyn g (b.vtable, b.value)).standing b.value) c.args.adapters.now.items in
-    let text = g.L.Sink.written c.args.out.now in
-    early_turn _ c.args.number c.args.model.now here
-    (said_by (read_of c.args.line.now)) Memory text text c.args.counts.now refl (keeps_refl text)
+returns-in-None-clause-turn g c = stops_early c.args.number _ Memory _ refl
+
+pub returns-in-Err-run_line-clause-turn : goal.returns-in-Err-run_line-clause-turn
+returns-in-Err-run_line-clause-turn g c =
+    let says = read_ok c.args.line.now c.args.read.now _ c.in-Ok.is c.requires.read in
+    turns_as c.args.number _ _ _ _ (Stop SinkFault) (ap (asked c.args.model.now) (sym says))
+    (c.in-Err-run_line.ensures.run c.args.number)
+
+pub returns-in-Some-clause-turn : goal.returns-in-Some-clause-turn
+returns-in-Some-clause-turn g c =
+    let r = c.refusal_of.ensures in
+    let why = refusal_is c.in-Err.fault _ c.in-Some.refusal c.in-Some.is r.refusal r.memory in
+    let says = read_not c.args.line.now c.args.read.now c.in-Err.fault c.in-Err.is c.requires.read why.0 ∙ ap Err why.1 in
+    read_refused c.args.number _ _ _ _ _ (ap (asked c.args.model.now) says) c.refuse-in-Some.ensures.tells

@@ -1,0 +1,285 @@
+-- What a script does over any device, one that tells its state or one that tells nothing: events, each of which performs its operation from
+-- where the one before ended.
+use Rattle.std.specs.Prelude.{◌≡◌, ◌⊎◌, ℕ, ◌+◌, List, [], ◌∷◌, ◌++◌, length, true, false, Option, Some, None, IfSome, option_map, map, Result, Ok, Err, OnOk, OnErr, IfOk, MatchResult}
+use Rattle.std.specs.Io.KnownBytes.{Appends}
+use Rattle.std.specs.Option.{ok_or}
+use Rattle.rl_access.specs.declared.event.Event.{Event}
+use Rattle.rl_access.specs.declared.event.Op.{Op}
+use Rattle.rl_access.specs.declared.event.Op.TheVariants as op
+use Rattle.rl_access.specs.declared.event.Refused.{Refused}
+use Rattle.rl_access.specs.declared.event.Tally.{Tally}
+use Rattle.rl_access.specs.Call.{Scene, scene_of, IsRefused}
+use Rattle.rl_access.specs.HandsOver.{Told}
+use Rattle.rl_access.specs.Model.{ModelData}
+use Rattle.rl_access.specs.Rules.{Grant, grant}
+use Rattle.rl_access.specs.Runs.{RunsThrough, RunsInto, write_grant, writes_of, reads_of, no_tally, counted_all}
+use Rattle.rl_bus.specs.declared.device.Failed.{Failed}
+use Rattle.rl_bus.specs.Standing.{Standing}
+use Rattle.rl_bus.specs.State.{State}
+use Rattle.rl_report.specs.Lines.{lines_of}
+use Rattle.rl_report.specs.Pieces.{AppendsFront, joined}
+use Rattle.rl_script.specs.declared.line.Line.{Line}
+use Rattle.rl_script.specs.declared.line.Line.TheVariants as line
+use Rattle.rl_script.specs.declared.line.Sequence.{Sequence}
+use Rattle.rl_seq.specs.Plan.{Plan, stop, step, Runs, Breaks}
+use Rattle.rl_log.specs.declared.counts.Counts.{Counts}
+use Rattle.rl_log.specs.declared.refusal.LineRefusal.{LineRefusal}
+use Rattle.rl_log.specs.declared.refusal.LineRefusal.TheVariants.{NoSuchName}
+use Rattle.rl_log.specs.declared.status.Status.{Status}
+use Rattle.rl_log.specs.declared.status.Status.TheVariants as ended
+use Rattle.rl_log.specs.Endings.{added, end_status}
+use Rattle.rl_log.specs.Entry.{plan_of, begin_text, closed_text, with_both}
+use Rattle.rl_log.specs.Log.{said}
+use Rattle.rl_log.specs.Named.{mem_named, map_asked, block_asked, op_named}
+use Rattle.rl_log.specs.Recording.{no_counts, with_events, events_text}
+use Rattle.rl_log.specs.Statuses.{is_complete}
+use Rattle.rl_log.specs.Texts.{refused_text, end_text}
+use Rattle.rl_play.specs.Moment.{Moment, moment}
+use Rattle.rl_play.specs.declared.playing.Turn.{Turn}
+use Rattle.rl_play.specs.declared.playing.Turn.TheVariants.{Next, Stop}
+
+-- ---- what a line asks for
+
+pub data Work : Type 0 where
+  -- operations one after another
+  planned : Plan → Work
+  -- the same between the two lines of a sequence
+  sequence : Sequence → (over : Option (List ℕ)) → Plan → Work
+  -- operations up to the first bus error, unless the burst is refused as a whole
+  burst : Grant → Op → List Op → Work
+
+abbrev pub single : Op → Work
+single op = planned (step op stop)
+
+-- values to consecutive locations of a memory
+abbrev pub burst_write_work : ModelData → (mem : ℕ) → (map : Option ℕ) → (first : ℕ) → (values : List ℕ) → Work
+burst_write_work m mem map first values =
+    burst (write_grant m mem map first values) (op.BurstWrite mem map first (length values)) (writes_of mem map first values)
+
+-- so many consecutive locations
+abbrev pub burst_read_work : ModelData → (mem : ℕ) → (map : Option ℕ) → (first count : ℕ) → Work
+burst_read_work m mem map first count =
+    let asked = op.BurstRead mem map first count in burst (grant m asked) asked (reads_of mem map first count)
+
+-- none where a name isn't there
+abbrev pub work_of : ModelData → Line → Option Work
+work_of m line.Blank = Some (planned stop)
+work_of m (line.BurstWrite mem first values map) =
+    with_both (mem_named m.chip mem) (map_asked m.layout map)
+    (λ i t. burst_write_work m i t first values)
+work_of m (line.BurstRead mem first count map) =
+    with_both (mem_named m.chip mem) (map_asked m.layout map)
+    (λ i t. burst_read_work m i t first count)
+work_of m (line.Seq which over) = option_map (λ block. sequence which over (plan_of which m block)) (block_asked m.chip over)
+work_of m line = option_map single (op_named m line)
+
+-- of a line that is one operation
+abbrev pub one_op : ModelData → Line → Result Work LineRefusal
+one_op m line = ok_or (option_map single (op_named m line)) NoSuchName
+
+-- what a line asks for, or why it is refused
+abbrev pub asked : ModelData → Result Line LineRefusal → Result Work LineRefusal
+asked m (Ok line) = ok_or (work_of m line) NoSuchName
+asked m (Err why) = Err why
+
+-- ---- its events
+
+-- the one event of a burst that is refused as a whole
+pub record IsRefusedAlone (s new : Scene) (op : Op) (why : Refused) (told : List Told) : Type 0 where
+  pub event : Event
+  pub refused : IsRefused s new op why event
+  pub told_is : told ≡ record { model = s.model; event = event } ∷ []
+
+-- these are its events, each performed from where the one before ended
+abbrev pub Does : Work → Scene → List Told → Scene → Type 0
+Does (planned p) s told new = Runs p s told new
+Does (sequence which over p) s told new = Runs p s told new
+Does (burst (Ok place) op ops) s told new = RunsThrough s ops told new
+Does (burst (Err why) op ops) s told new = IsRefusedAlone s new op why told
+
+-- these are the first of its events, and it broke off at the last of them
+abbrev pub BreaksOff : Work → Scene → List Told → Scene → Type 0
+BreaksOff (planned p) s told new = Breaks p s told new
+BreaksOff (sequence which over p) s told new = Breaks p s told new
+BreaksOff (burst (Ok place) op ops) s told new = RunsInto s ops told new
+BreaksOff (burst (Err why) op ops) s told new = IsRefusedAlone s new op why told
+
+-- the text of all its events
+abbrev pub text_of : Work → List Told → List ℕ
+text_of (planned p) told = events_text told
+text_of (sequence which over p) told =
+    joined (begin_text which over ∷ events_text told ∷ closed_text which over (counted_all no_tally told) ∷ [])
+text_of (burst granted op ops) told = events_text told
+
+-- and of the first of them
+abbrev pub begun_text : Work → List Told → List ℕ
+begun_text (planned p) told = events_text told
+begun_text (sequence which over p) told = begin_text which over ++ events_text told
+begun_text (burst granted op ops) told = events_text told
+
+-- ---- a run at one moment, over any device
+
+pub record Point : Type 0 where
+  pub scene : Scene
+  -- what was written until then, where the sink tells it
+  pub text : Option (List ℕ)
+  -- what was counted until then
+  pub counts : Counts
+
+abbrev pub spot : {A D K : Type 0} → (A → Standing) → (D → ℕ) → (D → Option State) → (K → Option (List ℕ))
+    → ModelData → List A → D → K → Counts → Point
+spot standing errors state written model adapters device sink counts =
+    record { scene = scene_of standing errors state model adapters device; text = written sink; counts = counts }
+
+abbrev pub moment_at : Point → Moment
+moment_at p = moment p.scene.model p.scene.adapters p.scene.device p.text p.counts
+
+-- each event was written and counted; where the sink failed, it failed at the last of these
+pub record Logs {T E : Type 0} (work : Work) (before after : Point) (r : Result T E) : Type 0 where
+  pub told : List Told
+  pub run : MatchResult r (λ x. Does work before.scene told after.scene) (λ e. BreaksOff work before.scene told after.scene)
+  pub whole : OnOk r (Appends before.text after.text (events_text told))
+  pub part : OnErr r (AppendsFront before.text after.text (events_text told))
+  pub counted : after.counts ≡ with_events before.counts told
+
+-- and this is the tally of them
+pub record LogsTallied {E : Type 0} (work : Work) (before after : Point) (r : Result Tally E) : Type 0 where
+  pub logs : Logs work before after r
+  pub tally : IfOk r (λ tally. tally ≡ counted_all no_tally logs.told)
+
+-- ---- a line
+
+-- it was run, written and counted
+pub record RanWhole (given : Result Work LineRefusal) (before after : Point) : Type 0 where
+  pub work : Work
+  pub told : List Told
+  pub is : given ≡ Ok work
+  pub does : Does work before.scene told after.scene
+  pub text : Appends before.text after.text (text_of work told)
+  pub counted : after.counts ≡ with_events before.counts told
+
+-- ---- how a script ends behind the lines that were run whole
+
+pub data Close : Type 0 where
+  -- with the last line of its log
+  at_end : Close
+  -- at the line of that number, which is refused
+  refused : (number : ℕ) → LineRefusal → Close
+  -- within a line, after the first of its events
+  broken : Work → List Told → Close
+  -- within the text of a line that was done
+  unwritten : Work → List Told → Close
+  -- with nothing more
+  cut : Close
+
+-- at a line of that number, which asks for this
+abbrev pub ClosesAt : (number : ℕ) → (given : Result Work LineRefusal) → Scene → Close → Scene → Type 0
+ClosesAt number given s at_end new = ⊥
+ClosesAt number given s (refused n why) new = (n ≡ number) × (given ≡ Err why) × (new ≡ s)
+ClosesAt number given s (broken work told) new = (given ≡ Ok work) × (((told ≡ []) × (new ≡ s)) ⊎ BreaksOff work s told new)
+ClosesAt number given s (unwritten work told) new = (given ≡ Ok work) × Does work s told new
+ClosesAt number given s cut new = new ≡ s
+
+-- behind the last line
+abbrev pub ClosesBehind : Scene → Close → Scene → Type 0
+ClosesBehind s at_end new = new ≡ s
+ClosesBehind s (refused n why) new = ⊥
+ClosesBehind s (broken work told) new = ⊥
+ClosesBehind s (unwritten work told) new = ⊥
+ClosesBehind s cut new = new ≡ s
+
+-- its events, its text, and which status it has
+abbrev pub told_at : Close → List Told
+told_at at_end = []
+told_at (refused n why) = []
+told_at (broken work told) = told
+told_at (unwritten work told) = told
+told_at cut = []
+
+abbrev pub text_at : Counts → Close → List ℕ
+text_at counts at_end = end_text counts
+text_at counts (refused n why) = refused_text n why
+text_at counts (broken work told) = begun_text work told
+text_at counts (unwritten work told) = text_of work told
+text_at counts cut = []
+
+abbrev pub HasStatus : Counts → Close → Status → Type 0
+HasStatus counts at_end s = is_complete s ≡ true → s ≡ end_status counts
+HasStatus counts (refused n why) s = is_complete s ≡ true → s ≡ ended.Refused
+HasStatus counts (broken work told) s = is_complete s ≡ false
+HasStatus counts (unwritten work told) s = is_complete s ≡ false
+HasStatus counts cut s = is_complete s ≡ false
+
+-- The script ended at a line: the text was written, or a front of it where the sink failed.
+pub record StopsAt (number : ℕ) (given : Result Work LineRefusal) (before after : Point) (status : Status) : Type 0 where
+  pub close : Close
+  pub closes : ClosesAt number given before.scene close after.scene
+  pub counted : after.counts ≡ with_events before.counts (told_at close)
+  pub status_is : HasStatus after.counts close status
+  pub whole : is_complete status ≡ true → Appends before.text after.text (text_at after.counts close)
+  pub part : AppendsFront before.text after.text (text_at after.counts close)
+
+-- a line that asks for this was run, or a name of it isn't there and nothing was done, or the sink failed
+abbrev pub RunsOn : (given : Result Work LineRefusal) → (before after : Point) → Result (Option LineRefusal) Failed → Type 0
+RunsOn given before after (Ok None) = RanWhole given before after
+RunsOn given before after (Ok (Some why)) = (given ≡ Err why) × (after ≡ before)
+RunsOn given before after (Err failed) = (number : ℕ) → StopsAt number given before after ended.SinkFault
+
+-- a line of that number was run, or the script ended at it
+abbrev pub Turns : (number : ℕ) → (given : Result Work LineRefusal) → (before after : Point) → Turn → Type 0
+Turns number given before after Next = RanWhole given before after
+Turns number given before after (Stop s) = StopsAt number given before after s
+
+-- ---- a script
+
+-- a line that was run whole: what it asked for, its events, and what stands right after it
+pub record DoneLine : Type 0 where
+  pub work : Work
+  pub told : List Told
+  pub scene : Scene
+
+-- The lines from that number on: each was run from where the one before ended, and then the script ended so.
+abbrev pub Happens : (number : ℕ) → Scene → List (List ℕ) → List DoneLine → Close → Scene → Type 0
+Happens number s [] [] close new = ClosesBehind s close new
+Happens number s [] (d ∷ done) close new = ⊥
+Happens number s (line ∷ lines) [] close new = ClosesAt number (asked s.model (said number line)) s close new
+Happens number s (line ∷ lines) (d ∷ done) close new =
+    (asked s.model (said number line) ≡ Ok d.work) × Does d.work s d.told d.scene × Happens (number + 1) d.scene lines done close new
+
+-- all events
+abbrev pub told_by : List DoneLine → Close → List Told
+told_by [] close = told_at close
+told_by (d ∷ done) close = d.told ++ told_by done close
+
+-- the whole text
+abbrev pub text_by : Counts → List DoneLine → Close → List ℕ
+text_by counts [] close = text_at counts close
+text_by counts (d ∷ done) close = text_of d.work d.told ++ text_by counts done close
+
+-- Lines were played: what was written is the text of their events, or a front of it where the sink failed.
+pub record Plays (number : ℕ) (before : Point) (lines : List (List ℕ)) (after : Point) (status : Status) : Type 0 where
+  pub done : List DoneLine
+  pub close : Close
+  pub happens : Happens number before.scene lines done close after.scene
+  pub counted : after.counts ≡ with_events before.counts (told_by done close)
+  pub status_is : HasStatus after.counts close status
+  pub whole : is_complete status ≡ true → Appends before.text after.text (text_by after.counts done close)
+  -- after a source that failed it was written whole
+  pub at_fault : status ≡ ended.SourceFault → Appends before.text after.text (text_by after.counts done close)
+  pub part : AppendsFront before.text after.text (text_by after.counts done close)
+
+-- the lines of an input, where the source tells its bytes
+abbrev pub PlaysInput : (number : ℕ) → (before : Point) → (input : Option (List ℕ)) → (after : Point) → Status → Type 0
+PlaysInput number before input after s = IfSome input (λ bytes. Plays number before (lines_of bytes) after s)
+
+abbrev pub counting : Point → Counts → Point
+counting p counts = record p { counts = counts }
+
+-- A whole script, counted from nothing; its counts were added to those before.
+pub record PlaysAll (before : Point) (lines : List (List ℕ)) (after : Point) (status : Status) : Type 0 where
+  pub own : Counts
+  pub risen : after.counts ≡ added before.counts own
+  pub plays : Plays 1 (counting before no_counts) lines (counting after own) status
+
+abbrev pub PlaysOnAnyDevice : (before : Point) → (input : Option (List ℕ)) → (after : Point) → Status → Type 0
+PlaysOnAnyDevice before input after s = IfSome input (λ bytes. PlaysAll before (lines_of bytes) after s)
