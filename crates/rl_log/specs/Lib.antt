@@ -2,6 +2,8 @@ pub mod Causes
 pub mod Course
 pub mod Endings
 pub mod Entry
+pub mod Events
+pub mod Laws
 pub mod Log
 pub mod Named
 pub mod Recording

@@ -2,6 +2,7 @@
 #![tactic(auto)]
 
 mod counts;
+pub mod law;
 mod refusal;
 mod status;
 

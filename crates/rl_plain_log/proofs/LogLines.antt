@@ -116,7 +116,8 @@ end_flush rest = refl
 pub end_is_line : (counts : Counts) → IsLine (end_text counts)
 end_is_line counts = record {
   one = fixed (codes "end: ") _ (unbroken-fixed _ refl) (fixed (decimal counts.events) _ (unbroken-decimal counts.events) (fixed (codes " events, ") _ (unbroken-fixed _ refl)
-      (fixed (decimal counts.differences) _ (unbroken-decimal counts.differences) (fixed (codes " differences, ") _ (unbroken-fixed _ refl) (fixed (decimal counts.errors) _ (unbroken-decimal counts.errors)
+      (fixed (decimal counts.differences) _ (unbroken-decimal counts.differences) (fixed (codes " differences, ") _ (unbroken-fixed _ refl) (fixed (decimal counts.errors) _ (unbroken-decimal
+      counts.errors)
       (last_ends (codes " bus errors\n") refl))))));
   flush = end_flush _;
 }
@@ -182,10 +183,13 @@ refusal_is_line spot reason u = record {
 
 description_stays : (fault : DescFault) → plain_part (description_refused_text fault) ≡ description_refused_text fault
 description_stays (Bad cause spot) = line_stays (refusal_text spot (bad_reason cause)) (refusal_is_line spot (bad_reason cause) (unbroken-bad cause))
-description_stays (Model cause spot) = line_stays (refusal_text (Some spot) (model_reason cause ∷ [])) (refusal_is_line (Some spot) (model_reason cause ∷ []) (unbroken-last (model_reason cause) (unbroken-model cause)))
+description_stays (Model cause spot) = line_stays (refusal_text (Some spot) (model_reason cause ∷ [])) (refusal_is_line (Some spot) (model_reason cause ∷ []) (unbroken-last (model_reason cause)
+    (unbroken-model cause)))
 description_stays (Map cause spot) = line_stays (refusal_text (Some spot) (map_reason cause)) (refusal_is_line (Some spot) (map_reason cause) (unbroken-map cause))
-description_stays (TooManyFlaws row) = line_stays (refusal_text (flaw_at row) (codes "too many" ∷ [])) (refusal_is_line (flaw_at row) (codes "too many" ∷ []) (unbroken-last (codes "too many") (unbroken-fixed _ refl)))
-description_stays (Flaw row) = line_stays (refusal_text (flaw_at row) (codes "bad flaw" ∷ [])) (refusal_is_line (flaw_at row) (codes "bad flaw" ∷ []) (unbroken-last (codes "bad flaw") (unbroken-fixed _ refl)))
+description_stays (TooManyFlaws row) = line_stays (refusal_text (flaw_at row) (codes "too many" ∷ [])) (refusal_is_line (flaw_at row) (codes "too many" ∷ []) (unbroken-last (codes "too many")
+    (unbroken-fixed _ refl)))
+description_stays (Flaw row) = line_stays (refusal_text (flaw_at row) (codes "bad flaw" ∷ [])) (refusal_is_line (flaw_at row) (codes "bad flaw" ∷ []) (unbroken-last (codes "bad flaw")
+    (unbroken-fixed _ refl)))
 description_stays Memory = plain_part-nil
 
 -- ---- a session that is refused before its script

@@ -57,16 +57,19 @@ both_plain c l (Some i) map make other h = made_plain c l map (make i) (other i)
 module _ (law : CallIsPlain) (keeps : CallKeepsModel) (c : ChipData) (l : LayoutData) (chip : IsSound c) (names : HasNames c l) where
   -- a line that is one operation
   op_plain : (w : World) (p : Machine) (said : Line) → IsPlainWorld c l w p
-      → IsPlainOption c l (option_map (λ op. entry_made (alone (step_of w op))) (op_named w.model said)) (option_map (λ op. plain_entry c l (plain.through c l p (op ∷ []))) (op_named (seen c l p) said))
+      → IsPlainOption c l (option_map (λ op. entry_made (alone (step_of w op))) (op_named w.model said)) (option_map (λ op. plain_entry c l (plain.through c l p (op ∷ []))) (op_named (seen c l p)
+      said))
   op_plain w p said h =
-      subst (λ m. IsPlainOption c l (option_map (λ op. entry_made (alone (step_of w op))) (op_named m said)) (option_map (λ op. plain_entry c l (plain.through c l p (op ∷ []))) (op_named (seen c l p) said))) (sym h.model)
+      subst (λ m. IsPlainOption c l (option_map (λ op. entry_made (alone (step_of w op))) (op_named m said)) (option_map (λ op. plain_entry c l (plain.through c l p (op ∷ []))) (op_named (seen c l p)
+      said))) (sym h.model)
       (made_plain c l (op_named (seen c l p) said) (λ op. entry_made (alone (step_of w op))) (λ op. plain_entry c l (plain.through c l p (op ∷ [])))
       (λ op is. entry_plain c l chip names (alone (step_of w op)) (plain.through c l p (op ∷ [])) (one_plain law keeps c l w p op h (op_numbers (seen c l p) said op is))))
 
   write_plain : (w : World) (p : Machine) (mem : List ℕ) (first : ℕ) (values : List ℕ) (map : Option (List ℕ)) → IsPlainWorld c l w p
       → IsPlainOption c l (entry_of w (line.BurstWrite mem first values map)) (plain_entry_of c l p (line.BurstWrite mem first values map))
   write_plain w p mem first values map h =
-      let make = λ (m : ModelData). with_both (mem_named m.chip mem) (map_asked m.layout map) (λ i t. entry_made (burst w (write_grant w.model i t first values) (op.BurstWrite i t first (length values)) (writes_of i t first values))) in
+      let make = λ (m : ModelData). with_both (mem_named m.chip mem) (map_asked m.layout map) (λ i t. entry_made (burst w (write_grant w.model i t first values) (op.BurstWrite i t first
+      (length values)) (writes_of i t first values))) in
       subst (λ m. IsPlainOption c l (make m) (plain_entry_of c l p (line.BurstWrite mem first values map))) (sym h.model)
       (both_plain c l (mem_named c mem) (map_asked l map) _ _
       (λ i t a b. entry_plain c l chip names _ _ (write_burst_plain law keeps c l (λ m. write_grant m i t first values) i t first values w p h (mem_in c mem i a) (map_in l map t b))))
@@ -74,7 +77,8 @@ module _ (law : CallIsPlain) (keeps : CallKeepsModel) (c : ChipData) (l : Layout
   read_plain : (w : World) (p : Machine) (mem : List ℕ) (first count : ℕ) (map : Option (List ℕ)) → IsPlainWorld c l w p
       → IsPlainOption c l (entry_of w (line.BurstRead mem first count map)) (plain_entry_of c l p (line.BurstRead mem first count map))
   read_plain w p mem first count map h =
-      let make = λ (m : ModelData). with_both (mem_named m.chip mem) (map_asked m.layout map) (λ i t. entry_made (burst w (grant w.model (op.BurstRead i t first count)) (op.BurstRead i t first count) (reads_of i t first count))) in
+      let make = λ (m : ModelData). with_both (mem_named m.chip mem) (map_asked m.layout map) (λ i t. entry_made (burst w (grant w.model (op.BurstRead i t first count)) (op.BurstRead i t first count)
+      (reads_of i t first count))) in
       subst (λ m. IsPlainOption c l (make m) (plain_entry_of c l p (line.BurstRead mem first count map))) (sym h.model)
       (both_plain c l (mem_named c mem) (map_asked l map) _ _
       (λ i t a b. entry_plain c l chip names _ _ (read_burst_plain law keeps c l (λ m. grant m (op.BurstRead i t first count)) i t first count w p h (mem_in c mem i a) (map_in l map t b))))
@@ -84,7 +88,8 @@ module _ (law : CallIsPlain) (keeps : CallKeepsModel) (c : ChipData) (l : Layout
   sequence_plain w p which over h =
       let make = λ (m : ModelData). option_map (λ block. framed which over (along w (plan_of which m block))) (block_asked m.chip over) in
       subst (λ m. IsPlainOption c l (make m) (plain_entry_of c l p (line.Seq which over))) (sym h.model)
-      (made_plain c l (block_asked c over) (λ block. framed which over (along w (plan_of which (seen c l p) block))) (λ block. plain_framed which over c l (plain.along c l p (plan_of which (seen c l p) block)))
+      (made_plain c l (block_asked c over) (λ block. framed which over (along w (plan_of which (seen c l p) block))) (λ block. plain_framed which over c l (plain.along c l p (plan_of which
+      (seen c l p) block)))
       (λ block is. framed_plain c l chip names which over (along w (plan_of which (seen c l p) block)) (plain.along c l p (plan_of which (seen c l p) block)) (over_unbroken c over block chip is)
       (along_plain law keeps c l (plan_of which (seen c l p) block) w p h (plan_numbers c l chip h.sound.layout which (seen c l p) block refl refl))))
 
@@ -132,7 +137,8 @@ module _ (law : CallIsPlain) (keeps : CallKeepsModel) (c : ChipData) (l : Layout
   going_plain : (number : ℕ) (counts : Counts) (w : World) (r : Result Entry LineRefusal) (other : Result PlainEntry LineRefusal) (lines : List (List ℕ)) → IsPlainResult c l r other
       → ((counts : Counts) (w : World) (p : Machine) → IsPlainWorld c l w p → plain_part (script_from (number + 1) counts w lines).text ≡ plain_from c l (number + 1) counts p lines)
       → plain_part (goes_on number counts w r (λ counts w. script_from (number + 1) counts w lines)).text ≡ plain_goes_on number counts other (λ counts p. plain_from c l (number + 1) counts p lines)
-  going_plain number counts w (Err why) (Err other) lines same next = line_stays _ (refused_is_line number why) ∙ ap (λ why. plain_goes_on number counts (Err why) (λ counts p. plain_from c l (number + 1) counts p lines)) same
+  going_plain number counts w (Err why) (Err other) lines same next = line_stays _ (refused_is_line number why) ∙ ap (λ why. plain_goes_on number counts (Err why) (λ counts p. plain_from c l
+      (number + 1) counts p lines)) same
   going_plain number counts w (Ok e) (Ok other) lines h next =
       h.text (script_from (number + 1) (with_events counts e.course.told) e.course.world lines).text
       ∙ ap (λ t. other.text ++ t) (next (with_events counts e.course.told) e.course.world other.machine h.world)

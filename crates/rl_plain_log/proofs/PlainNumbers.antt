@@ -20,7 +20,28 @@ use Rattle.rl_script.specs.declared.line.Sequence.TheVariants.{HwReset, BitBash,
 use Rattle.rl_seq.specs.declared.sequence.Sequence.{Sequence as Walk}
 use Rattle.rl_seq.specs.declared.sequence.Sequence.TheVariants as over
 use Rattle.rl_seq.specs.Plan.{Plan, stop, step, look, followed_by, only_if, each_below}
-use Rattle.rl_seq.specs.Sequences.{map_at, check_at, bash_once, bash_bit, check_other, fill, check_filled, settle_before, check_last, walk_location, items_of, at_place, visit, visit_all, walk, hw_reset_plan, bit_bash_plan, access_test_plan, shared_access_plan, mem_walk_plan}
+use Rattle.rl_seq.specs.Sequences.{
+  map_at,
+  check_at,
+  bash_once,
+  bash_bit,
+  check_other,
+  fill,
+  check_filled,
+  settle_before,
+  check_last,
+  walk_location,
+  items_of,
+  at_place,
+  visit,
+  visit_all,
+  walk,
+  hw_reset_plan,
+  bit_bash_plan,
+  access_test_plan,
+  shared_access_plan,
+  mem_walk_plan,
+}
 use Rattle.rl_log.specs.Entry.{plan_of}
 use Rattle.rl_log.specs.Named.{number_of, reg_named, mem_named, field_named, kind_named, map_asked, with_number, with_map, op_named}
 
@@ -61,7 +82,8 @@ map_in l (Some name) t is =
 
 -- ---- the operation of a line
 
-by_map : (number : Option ℕ) (map : Option (Option ℕ)) (make : ℕ → Option ℕ → Op) (op : Op) (P : Op → Type 0) → ((n : ℕ) (t : Option ℕ) → number ≡ Some n → map ≡ Some t → P (make n t)) → with_map number map make ≡ Some op → P op
+by_map : (number : Option ℕ) (map : Option (Option ℕ)) (make : ℕ → Option ℕ → Op) (op : Op) (P : Op → Type 0) → ((n : ℕ) (t : Option ℕ) → number ≡ Some n → map ≡ Some t → P (make n t)) →
+    with_map number map make ≡ Some op → P op
 by_map None map make op P h is = absurd (cc)
 by_map (Some n) None make op P h is = absurd (cc)
 by_map (Some n) (Some t) make op P h is = subst P (some_is is) (h n t refl refl)

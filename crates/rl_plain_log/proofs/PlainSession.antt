@@ -33,17 +33,20 @@ first_is_plain : (desc : DescData) (adapters : List Standing) → FirstOnesArePl
 first_is_plain desc adapters first steady sound = record {
   model = first_model desc adapters;
   sound = subst IsModel (first_model desc adapters) sound;
-  machine = first (scene_at (first_world desc adapters) 0) sound steady.fields refl (none_gathered (length desc.layout.places)) (ap (λ (flaws : List Flaw). Some (first_of desc.chip desc.layout flaws)) steady.flaws);
+  machine = first (scene_at (first_world desc adapters) 0) sound steady.fields refl (none_gathered (length desc.layout.places)) (ap (λ (flaws : List Flaw). Some (first_of desc.chip desc.layout
+      flaws)) steady.flaws);
 }
 
 pub session_is_plain : (bytes : List ℕ) (adapters : List Standing) (desc : DescData) → CallIsPlain → CallKeepsModel → FirstOnesArePlain → opening_of bytes (kinds_of adapters) ≡ Ok desc
     → IsSteady desc → IsModel (first_world desc adapters).model → HasNames desc.chip desc.layout → plain_part (judged bytes adapters).text ≡ plain_log bytes (kinds_of adapters)
 session_is_plain bytes adapters desc law keeps first is steady sound names =
     ap (λ o. plain_part (judged_by o bytes adapters).text) is
-    ∙ script_is_plain law keeps desc.chip desc.layout sound.chip names (script_of bytes) 1 no_counts (first_world desc adapters) (first_machine desc.chip) (first_is_plain desc adapters first steady sound)
+    ∙ script_is_plain law keeps desc.chip desc.layout sound.chip names (script_of bytes) 1 no_counts (first_world desc adapters) (first_machine desc.chip) (first_is_plain desc adapters first steady
+    sound)
     ∙ ap (λ o. plain_by o bytes) (sym is)
 
-pub refused_is_plain : (bytes : List ℕ) (adapters : List Standing) (line : List ℕ) → opening_of bytes (kinds_of adapters) ≡ Err line → plain_part (judged bytes adapters).text ≡ plain_log bytes (kinds_of adapters)
+pub refused_is_plain : (bytes : List ℕ) (adapters : List Standing) (line : List ℕ) → opening_of bytes (kinds_of adapters) ≡ Err line → plain_part (judged bytes adapters).text ≡ plain_log bytes
+    (kinds_of adapters)
 refused_is_plain bytes adapters line is =
     ap (λ o. plain_part (judged_by o bytes adapters).text) is
     ∙ opening_stays bytes (kinds_of adapters) line is
@@ -58,7 +61,8 @@ pub record HaveLaws : Type 0 where
   pub first : FirstOnesArePlain
   pub names : BuiltOnesHaveNames
 
-pub log_of_desc : HaveLaws → (bytes : List ℕ) (adapters : List Standing) (desc : DescData) → opening_of bytes (kinds_of adapters) ≡ Ok desc → IsModel (first_world desc adapters).model → IsPlainLog bytes adapters
+pub log_of_desc : HaveLaws → (bytes : List ℕ) (adapters : List Standing) (desc : DescData) → opening_of bytes (kinds_of adapters) ≡ Ok desc → IsModel (first_world desc adapters).model →
+    IsPlainLog bytes adapters
 log_of_desc laws bytes adapters desc is sound = record {
   same = λ steady. session_is_plain bytes adapters desc laws.calls laws.keeps laws.first is (subst IsSteadyOpening is steady) sound (opening_named laws.names bytes (kinds_of adapters) desc is);
 }

@@ -1,5 +1,30 @@
 -- What is written of operations, without the lines of items, is what is written of the plain machine's.
-use Rattle.std.proofs.Common.{◌≡◌, ℕ, ◌<◌, List, [], ◌∷◌, ◌++◌, codes, take, get_or, Option, Some, None, option_map, refl, sym, ap, subst, ◌∙◌, append_assoc, append-nil, get_or-take, arith, length-take}
+use Rattle.std.proofs.Common.{
+  ◌≡◌,
+  ℕ,
+  ◌<◌,
+  List,
+  [],
+  ◌∷◌,
+  ◌++◌,
+  codes,
+  take,
+  get_or,
+  Option,
+  Some,
+  None,
+  option_map,
+  refl,
+  sym,
+  ap,
+  subst,
+  ◌∙◌,
+  append_assoc,
+  append-nil,
+  get_or-take,
+  arith,
+  length-take,
+}
 use Rattle.std.specs.Prelude.{bytes_eq}
 use Rattle.std.proofs.lemmas.List.Quantifiers.{position-Some}
 use Rattle.std.proofs.lemmas.Option.{unwrap_or-slice_get}
@@ -113,7 +138,8 @@ module _ (c : ChipData) (l : LayoutData) (chip : IsSound c) (names : HasNames c 
     world = h.world;
   }
 
-  three_plain : (x y z new rest : List ℕ) → ((r : List ℕ) → plain_part (x ++ r) ≡ x ++ plain_part r) → ((r : List ℕ) → plain_part (y ++ r) ≡ new ++ plain_part r) → ((r : List ℕ) → plain_part (z ++ r) ≡ z ++ plain_part r)
+  three_plain : (x y z new rest : List ℕ) → ((r : List ℕ) → plain_part (x ++ r) ≡ x ++ plain_part r) → ((r : List ℕ) → plain_part (y ++ r) ≡ new ++ plain_part r) → ((r : List ℕ) →
+      plain_part (z ++ r) ≡ z ++ plain_part r)
       → plain_part (joined (x ∷ y ∷ z ∷ []) ++ rest) ≡ joined (x ∷ new ∷ z ∷ []) ++ plain_part rest
   unfolding joined
   three_plain x y z new rest first second third =

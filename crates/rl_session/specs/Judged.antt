@@ -7,6 +7,7 @@ use Rattle.rl_report.specs.Lines.{whole_lines, lines_of}
 use Rattle.rl_report.specs.Opening.{separator_at}
 use Rattle.rl_log.specs.declared.status.Status.{Status}
 use Rattle.rl_log.specs.declared.status.Status.TheVariants.{Refused}
+use Rattle.rl_log.specs.Events.{Happened, events_from}
 use Rattle.rl_log.specs.Log.{Ending, lines_text, script_from}
 use Rattle.rl_session.specs.Session.{behind, opening_of, map_text, map_status, script_of}
 use Rattle.rl_session.specs.Soak.{mirror_sum, soak_line_text, soak_text}
@@ -66,6 +67,16 @@ judged_by (Err line) bytes adapters = refused line adapters
 -- the judged log of a session
 abbrev pub judged : List ℕ → List Standing → Judged
 judged bytes adapters = judged_by (opening_of bytes (kinds_of adapters)) bytes adapters
+
+-- ---- the events of `run`
+
+abbrev pub events_by : Result DescData (List ℕ) → List ℕ → List Standing → List Happened
+events_by (Ok desc) bytes adapters = events_from 1 (first_world desc adapters) (script_of bytes)
+events_by (Err line) bytes adapters = []
+
+-- each event of the judged log, between the models before it and after it
+abbrev pub judged_events : List ℕ → List Standing → List Happened
+judged_events bytes adapters = events_by (opening_of bytes (kinds_of adapters)) bytes adapters
 
 -- ---- `map`
 

@@ -1,15 +1,7 @@
 // The parts of a session, from its description.
 ghost use Rattle.std.specs.Prelude.{◌≡◌, ◌≢◌, ◌<◌, ◌^◌, List, map, length, Some, Ok, Err, IfOk, IfErr};
-ghost use Rattle.rl_bus.specs.Standing.{Standing, kinds_of};
-ghost use Rattle.rl_map.specs.Maps.{IsBuiltWith};
-ghost use Rattle.rl_access.specs.Model.{IsModel, IsReady};
-ghost use Rattle.rl_bench.specs.Flaws.{AreFlawsOf};
-ghost use Rattle.rl_bench.specs.State.{bench_state};
-ghost use Rattle.rl_session.specs.Judged.{first_world};
-ghost use Rattle.rl_session.specs.Opened.{IsOpened};
-ghost use Rattle.rl_session.specs.Refusals.{description_refused_text};
-ghost use Rattle.rl_session.specs.Session.{opening_after};
-ghost use Rattle.rl_access.specs.World.{IsAt};
+ghost use Rattle.rl_session.specs.Prelude.{AreFlawsOf, IsAt, IsBuiltWith, IsModel, IsOpened, Standing};
+ghost use Rattle.rl_session.specs.Prelude.{bench_state, description_refused_text, first_world, kinds_of, opening_after};
 
 use rl_access::Model;
 use rl_bench::Bench;
@@ -41,7 +33,8 @@ pub fn described(alloc: Global, head: &[u8], adapters: &Adapters) -> Result<Desc
     ensures read { IfOk result (λ desc.
         opening_after (Ok head.now) (kinds_of (map standing adapters.now.items)) ≡ Ok desc) }
     ensures refused { IfErr result (λ fault. fault ≢ DescFault.Memory
-        → opening_after (Ok head.now) (kinds_of (map standing adapters.now.items)) ≡ Err (description_refused_text fault)) }
+        → opening_after (Ok head.now) (kinds_of (map standing adapters.now.items))
+        ≡ Err (description_refused_text fault)) }
     ensures built_with { IfOk result (λ desc. IsBuiltWith desc.layout desc.chip) }
     ensures flaws { IfOk result (λ desc. AreFlawsOf desc.chip desc.layout desc.flaws) }
 {

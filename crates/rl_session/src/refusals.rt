@@ -2,7 +2,8 @@
 ghost use Rattle.std.specs.Prelude.{◌≡◌, ◌≢◌, [], ◌∷◌, map, Some};
 ghost use Rattle.rl_bus.specs.Causes.{HasCause};
 ghost use Rattle.rl_report.specs.Pieces.{Puts};
-ghost use Rattle.rl_session.specs.Refusals.{array_name, field_text, where_text, bad_reason, model_reason, map_reason, refusal_text, flaw_at, description_refused_text};
+ghost use Rattle.rl_session.specs.Refusals.{array_name, field_text, where_text, bad_reason, model_reason, map_reason};
+ghost use Rattle.rl_session.specs.Refusals.{refusal_text, flaw_at, description_refused_text};
 
 use crate::digits::front;
 use itoa::Buffer;
@@ -151,7 +152,8 @@ fn put_shared<K: Sink>(sink: &mut K, spot: Spot, address: u64, other: u32) -> Re
 }
 
 fn put_map_refused<K: Sink>(sink: &mut K, cause: MapCause, spot: Spot) -> Result<(), Failed>
-    ensures bytes { Puts (K.written sink.old) (K.written sink.new) (refusal_text (Some spot) (map_reason cause)) result }
+    ensures bytes { Puts (K.written sink.old) (K.written sink.new)
+        (refusal_text (Some spot) (map_reason cause)) result }
     ensures cause { HasCause (K.faults sink.old) (K.faults sink.new) result }
     ensures ends_kept { K.ends sink.new ≡ K.ends sink.old }
     ensures same_target { K.target sink.new ≡ K.target sink.old }

@@ -3,7 +3,9 @@ ghost use Rattle.std.specs.Prelude.{◌≡◌, ◌<◌, ◌≤◌, ◌++◌, [],
 ghost use Rattle.rl_bus.specs.Causes.{HasCause};
 ghost use Rattle.rl_policy.specs.Numbers.{hex_digits};
 ghost use Rattle.rl_report.specs.Pieces.{Puts, joined};
-ghost use Rattle.rl_session.specs.Soak.{next_state, drawn, policy_of, map_of, reg_text, maps_text, place_text, rows_text, step_of, verb_text, value_pieces, line_text, script_text, description_text, soak_text, mirror_sum, soak_line_text};
+ghost use Rattle.rl_session.specs.Soak.{next_state, drawn, policy_of, map_of, reg_text, maps_text, place_text};
+ghost use Rattle.rl_session.specs.Soak.{rows_text, step_of, verb_text, value_pieces, line_text, script_text};
+ghost use Rattle.rl_session.specs.Soak.{description_text, soak_text, mirror_sum, soak_line_text};
 
 use crate::digits::front;
 use itoa::Buffer;
