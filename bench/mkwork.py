@@ -181,11 +181,88 @@ def largest():
     return text + "---\nmem-write ram63 1023 0x1122334455667788 @q\nmem-read ram63 1023 @p\n"
 
 
+def register(name, size, cuts, policy="RW", **keys):
+    """A register of fields of one policy, cut at these bits."""
+    text = table("reg", name=name, bytes=size, **keys)
+    for low, high in zip(cuts, cuts[1:]):
+        text += f'[[reg.field]]\nname = "f{low}"\nlsb = {low}\nwidth = {high - low}\npolicy = "{policy}"\n'
+    return text
+
+
+def fifo():
+    """Registers of 8 bytes, each through the one address of a FIFO map of a byte, predicted by what is seen on the bus."""
+    draw = Draw(1800)
+    text = "".join(register(f"reg{n}", 8, [0, 64]) for n in range(64))
+    text += table("map", name="bus", bytes=1, endian="little-fifo", predict="explicit")
+    text += "".join(table("place", map="bus", item=f"reg{n}", offset=64 * n) for n in range(64))
+    out = [f"write reg{draw(64)} {draw.bits(64):#x}" if draw(2) else f"check reg{draw(64)}" for _ in range(20000)]
+    return text + "---\n" + "\n".join(out) + "\n"
+
+
+def narrow():
+    """Fields of 4 bits over APB, written and read alone where the bus can."""
+    draw = Draw(24)
+    text = "".join(register(f"reg{n}", 4, list(range(0, 33, 4))) for n in range(64))
+    text += table("map", name="apb", bytes=4, adapter="apb")
+    text += "".join(table("place", map="apb", item=f"reg{n}", offset=64 * n) for n in range(64))
+    out = []
+    for _ in range(50000):
+        name = f"reg{draw(64)}.f{4 * draw(8)}"
+        out.append(f"field-write {name} {draw(16):#x}" if draw(2) else f"field-read {name}")
+    return text + "---\n" + "\n".join(out) + "\n"
+
+
+def bursts():
+    """Bursts over 256 locations."""
+    draw = Draw(256)
+    text = table("mem", name="ram", bytes=4, size=1024) + table("map", name="bus", bytes=4) + table("place", map="bus", item="ram", offset=0)
+    out = []
+    for _ in range(200):
+        first = draw(768)
+        out.append(f"burst-write ram {first} " + " ".join(f"{draw.bits(32):#x}" for _ in range(256)))
+        out.append(f"burst-read ram {first} 256")
+    return text + "---\n" + "\n".join(out) + "\n"
+
+
+def bash():
+    """A bit bash of 1,024 registers."""
+    text = "".join(register(f"reg{n}", 4, [0, 16, 32]) for n in range(1024))
+    text += table("map", name="bus", bytes=4)
+    text += "".join(table("place", map="bus", item=f"reg{n}", offset=4 * n) for n in range(1024))
+    return text + "---\nseq bit-bash *\n"
+
+
+def tree():
+    """Paths of 8 names, the last of them a field's."""
+    draw = Draw(8)
+    text, path = "", []
+    for depth in range(6):
+        name = f"a_block_with_a_long_name_{depth}"
+        text += table("block", name=name, **({"of": ".".join(path)} if path else {}))
+        path.append(name)
+    where = ".".join(path)
+    text += "".join(register(f"register_{n}", 4, [0, 8, 16, 32], of=where) for n in range(256))
+    text += table("map", name="bus", bytes=4)
+    text += "".join(table("place", map="bus", item=f"{where}.register_{n}", offset=4 * n) for n in range(256))
+    out = []
+    for _ in range(50000):
+        item = f"{where}.register_{draw(256)}"
+        out.append((f"write {item} {draw.bits(32):#x}", f"read {item}", f"field-write {item}.f8 {draw(256):#x}")[draw(3)])
+    return text + "---\n" + "\n".join(out) + "\n"
+
+
+def start():
+    """A session of 20 lines, which is started 1,000 times."""
+    return SMALLEST + "write a 0x12345678\ncheck a\n" * 10
+
+
 def main():
     where = sys.argv[1]
     os.makedirs(where, exist_ok=True)
     for name, text in (("mixed", mixed()), ("woven", woven()), ("memwalk", memwalk()),
-                       ("blank", SMALLEST + "\n" * 1000000), ("places", places()), ("largest", largest())):
+                       ("blank", SMALLEST + "\n" * 1000000), ("places", places()), ("largest", largest()),
+                       ("fifo", fifo()), ("narrow", narrow()), ("bursts", bursts()), ("bash", bash()),
+                       ("tree", tree()), ("start", start())):
         with open(os.path.join(where, name + ".session"), "w") as f:
             f.write(text)
 
