@@ -70,9 +70,10 @@ impl<'a> Row<'a> {
             (at_spot self.now.spot (optional (word W.named) key (table_view self.now.table.now)))
             (held (word W.named) key (table_view self.now.table.now)) }
     {
-        match self.optional::<Listed<W>>(key)? {
-            Some(Listed(word)) => Ok(Some(word)),
-            None => Ok(None),
+        match self.optional::<Listed<W>>(key) {
+            Ok(Some(Listed(word))) => Ok(Some(word)),
+            Ok(None) => Ok(None),
+            Err(fault) => Err(fault),
         }
     }
 
