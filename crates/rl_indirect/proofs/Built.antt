@@ -58,7 +58,8 @@ refused_outside m told w size index fault found window is =
       answer = subst (λ o. Answers m w size index held o (Err fault)) (sym first) refl;
     }
 
-pub no_memory : (m : ModelData) (told : Option State) (w : Window) (size index held : ℕ) (r : Result BankData WindowFault) → IsFound told w.index_reg index → IsFound told w.data_reg held → window_fault m.chip w size ≡ None
+pub no_memory : (m : ModelData) (told : Option State) (w : Window) (size index held : ℕ) (r : Result BankData WindowFault) → IsFound told w.index_reg index → IsFound told w.data_reg held →
+    window_fault m.chip w size ≡ None
     → outside_fault size index (mirrored_of m.mirror w.index_reg) ≡ None → IsErrAnd r (λ why. why ≡ Memory) → IsBuilt m told w size r
 no_memory m told w size index held (Ok b) index_found held_found window inside is = absurd is
 no_memory m told w size index held (Err why) index_found held_found window inside is = record {
@@ -80,8 +81,10 @@ built_as m w size index held bytes there believed bytes_are there_are believed_a
     ∙ ap (λ d. bank_by w size (size_of m.chip w.data_reg) d believed) there_are
     ∙ ap (λ e. bank_by w size (size_of m.chip w.data_reg) (all_entries held size index) e) believed_are
 
-pub built : (m : ModelData) (told : Option State) (w : Window) (size index held bytes : ℕ) (there believed : EntryData) → IsFound told w.index_reg index → IsFound told w.data_reg held → window_fault m.chip w size ≡ None
-    → outside_fault size index (mirrored_of m.mirror w.index_reg) ≡ None → bytes ≡ size_of m.chip w.data_reg → there ≡ all_entries held size index → believed ≡ all_entries (mirrored_of m.mirror w.data_reg) size (mirrored_of m.mirror w.index_reg)
+pub built : (m : ModelData) (told : Option State) (w : Window) (size index held bytes : ℕ) (there believed : EntryData) → IsFound told w.index_reg index → IsFound told w.data_reg held →
+    window_fault m.chip w size ≡ None
+    → outside_fault size index (mirrored_of m.mirror w.index_reg) ≡ None → bytes ≡ size_of m.chip w.data_reg → there ≡ all_entries held size index →
+    believed ≡ all_entries (mirrored_of m.mirror w.data_reg) size (mirrored_of m.mirror w.index_reg)
     → IsBuilt m told w size (Ok (record { window = w; size = size; bytes = bytes; device = there; model = believed }))
 built m told w size index held bytes there believed index_found held_found window inside bytes_are there_are believed_are = record {
   index = index;

@@ -97,9 +97,17 @@ pub record IsOnData (m : ModelData) (o : Op) (reg : ℕ) (step : Step) : Type 0 
   pub answers : (place : ℕ) (r : Register) (read : ℕ) → end_of m o place r ≡ end.Value read → read ≡ ranswer (fields_of m.chip reg) every r
 
 pub on_write : (m : ModelData) (reg value : ℕ) (map : Option ℕ) → reg < length m.chip.regs → IsMapIn (length m.layout.maps) map → IsOnData m (op.Write reg map value) reg (write_step every value)
-on_write m reg value map inside mapped = record { access = tt; numbers = (inside, mapped); register = refl; step_is = λ place. refl; granted = λ place r. refl; answers = λ place r read e. absurd (cc) }
+on_write m reg value map inside mapped = record {
+  access = tt;
+  numbers = (inside, mapped);
+  register = refl;
+  step_is = λ place. refl;
+  granted = λ place r. refl;
+  answers = λ place r read e. absurd (cc);
+}
 
-pub on_read : (m : ModelData) (reg : ℕ) (map : Option ℕ) (check : Bool) → reg < length m.chip.regs → IsMapIn (length m.layout.maps) map → IsOnData m (cond check (op.Check reg map) (op.Mirror reg map)) reg (read_step every)
+pub on_read : (m : ModelData) (reg : ℕ) (map : Option ℕ) (check : Bool) → reg < length m.chip.regs → IsMapIn (length m.layout.maps) map →
+    IsOnData m (cond check (op.Check reg map) (op.Mirror reg map)) reg (read_step every)
 on_read m reg map true inside mapped = record {
   access = tt;
   numbers = (inside, mapped);
@@ -131,7 +139,8 @@ ends_at (Some reg) o e m = refl
 refused_ends : (m : ModelData) (o : Op) (why : Refused) (event : Event) → event ≡ refused_event m o why → event.end ≡ end.Refused why
 refused_ends m o why event is = ap (λ (e : Event). e.end) is ∙ ends_at (register_of m.chip o) o (end.Refused why) m
 
-data_by : (s t : Scene) (b : BankData) (k : ℕ) (step : Step) (o : Op) (access : Event) → (h : BankAgree s b) → IsModel s.model → IsModel t.model → IsBankOf s.model.chip b → IsBank b → b.model.selected ≡ k
+data_by : (s t : Scene) (b : BankData) (k : ℕ) (step : Step) (o : Op) (access : Event) → (h : BankAgree s b) → IsModel s.model → IsModel t.model → IsBankOf s.model.chip b → IsBank b →
+    b.model.selected ≡ k
     → IsOnData s.model o b.window.data_reg step → Performs s t o access → (g : Grant) → grant s.model o ≡ g → IsDataStep s t b k step access
 data_by s t b k step o access h ok later of bank selected on performs (Ok place) granted =
     let reg = b.window.data_reg in
@@ -191,7 +200,8 @@ data_by s t b k step o access h ok later of bank selected on performs (Err why) 
 
 -- ---- the whole access by index
 
-stepped_same : (b new : BankData) (m mid : ModelData) (k : ℕ) (step : Step) → entries_believed new mid ≡ entries_believed b m → mid.chip ≡ m.chip → new.window ≡ b.window → entries_stepped new mid k step ≡ entries_stepped b m k step
+stepped_same : (b new : BankData) (m mid : ModelData) (k : ℕ) (step : Step) → entries_believed new mid ≡ entries_believed b m → mid.chip ≡ m.chip → new.window ≡ b.window →
+    entries_stepped new mid k step ≡ entries_stepped b m k step
 stepped_same b new m mid k step entries chip window =
     let by : List ℕ → List FieldSeen → List ℕ = λ l fs. slice_set l k (register_after fs step (record { bits = slice_index l k; spent = λ field. false })).bits in
     ap (λ l. by l (fields_of mid.chip new.window.data_reg)) entries
@@ -206,7 +216,8 @@ answers_same b new m mid k entries chip window =
     ∙ ap (λ (c : ChipData). by (entries_believed b m) (fields_of c new.window.data_reg)) chip
     ∙ ap (λ (w : Window). by (entries_believed b m) (fields_of m.chip w.data_reg)) window
 
-pub entry_step : (s mid t : Scene) (b new : BankData) (k : ℕ) (step : Step) (o : Op) (index access : Event) → KeepsEntries s mid b new k index → is_done index.end ≡ true → IsModel mid.model → IsModel t.model → IsBankOf mid.model.chip new → IsBank new
+pub entry_step : (s mid t : Scene) (b new : BankData) (k : ℕ) (step : Step) (o : Op) (index access : Event) → KeepsEntries s mid b new k index → is_done index.end ≡ true → IsModel mid.model →
+    IsModel t.model → IsBankOf mid.model.chip new → IsBank new
     → mid.model.chip ≡ s.model.chip → new.window ≡ b.window → IsOnData mid.model o new.window.data_reg step → Performs mid t o access → IsEntryStep s t b new k step (At index access)
 entry_step s mid t b new k step o index access keeps done ok later of bank chip window on performs =
     let d = data_by mid t new k step o access keeps.agree ok later of bank (keeps.selected done) on performs (grant mid.model o) refl in

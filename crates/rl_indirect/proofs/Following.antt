@@ -1,5 +1,6 @@
 -- From agreement, both sides of a bank follow the index to the same entry.
-use Rattle.std.proofs.Common.{◌≡◌, ◌⊎◌, ℕ, ◌^◌, ◌<◌, ◌≤◌, Bool, true, false, not, ◌&&◌, cond, eqb, eq-eqb, nat_lt, List, length, length-set, get_or, Option, None, Some, option_map, Result, Ok, Err, MatchResult, refl, sym, ap, ◌∙◌, subst, inl, inr, arith}
+use Rattle.std.proofs.Common.{◌≡◌, ◌⊎◌, ℕ, ◌^◌, ◌<◌, ◌≤◌, Bool, true, false, not, ◌&&◌, cond, eqb, eq-eqb, nat_lt, List, length, length-set, get_or}
+use Rattle.std.proofs.Common.{Option, None, Some, option_map, Result, Ok, Err, MatchResult, refl, sym, ap, ◌∙◌, subst, inl, inr, arith}
 use Rattle.std.specs.Prelude.{All, slice_index, slice_set, nat_le}
 use Rattle.std.specs.Option.{option_map_or}
 use Rattle.std.proofs.lemmas.Bool.Decides.{nat_tests}
@@ -29,7 +30,8 @@ use Rattle.rl_plain.specs.Believed.{IsBelievedDeposit, IsStored, IsTakenOver}
 use Rattle.rl_plain.proofs.Backdoor.{peeked_is}
 use Rattle.rl_plain.proofs.Believed.{access_is_believed, deposit_is_believed, write_is_stored}
 use Rattle.rl_indirect.specs.Agree.{BankAgree, KeepsEntries}
-use Rattle.rl_indirect.specs.Bank.{EntryData, BankData, IsSide, IsBank, IsBankOf, SettlesDevice, bank_believed, device_settled, entries_believed, entries_of, entries_there, model_believed, moved, selecting, selects_other, settled}
+use Rattle.rl_indirect.specs.Bank.{EntryData, BankData, IsSide, IsBank, IsBankOf, SettlesDevice, bank_believed, device_settled, entries_believed}
+use Rattle.rl_indirect.specs.Bank.{entries_of, entries_there, model_believed, moved, selecting, selects_other, settled}
 use Rattle.rl_indirect.specs.Indexed.{is_done}
 use Rattle.rl_indirect.specs.Window.{is_index, is_index_field, is_rw, is_size}
 use Rattle.rl_indirect.proofs.Found.{not_other, is_other}
@@ -216,8 +218,10 @@ index_of c b k of inside =
 -- ---- the index register is accessed
 
 -- what stands once the write was done
-after_write : (s w : Scene) (b : BankData) (k : ℕ) (map : Option ℕ) (event : Event) (place : ℕ) → (h : BankAgree s b) → IsModel s.model → IsModel w.model → IsBankOf s.model.chip b → IsBank b → IsMapIn (length s.model.layout.maps) map → k < b.size
-    → grant s.model (op.Write b.window.index_reg map k) ≡ Ok place → Performs s w (op.Write b.window.index_reg map k) event → (Meets w b k) × (event.end ≡ end.Done) × (entries_believed b w.model ≡ entries_believed b s.model)
+after_write : (s w : Scene) (b : BankData) (k : ℕ) (map : Option ℕ) (event : Event) (place : ℕ) → (h : BankAgree s b) → IsModel s.model → IsModel w.model → IsBankOf s.model.chip b → IsBank b →
+    IsMapIn (length s.model.layout.maps) map → k < b.size
+    → grant s.model (op.Write b.window.index_reg map k) ≡ Ok place → Performs s w (op.Write b.window.index_reg map k) event → (Meets w b k) × (event.end ≡ end.Done) × (entries_believed b w.model ≡
+    entries_believed b s.model)
 after_write s w b k map event place h ok later of bank mapped inside granted performs =
     let reg = b.window.data_reg in
     let c = s.model.chip in
@@ -252,7 +256,8 @@ refused_stays : (s t : Scene) (b new : BankData) (i held : ℕ) → (h : BankAgr
     → new ≡ record b { device = settled b.device held i } → (t.device ≡ s.device) × (new ≡ b)
 refused_stays s t b new i held h same device model is =
     let off : selects_other b.device i ≡ false = by (nat_lt i (length b.device.kept)) in (
-      device ∙ ap (λ t. option_map (λ (s : State). option_map_or (λ value. poked s (cell.Reg b.window.data_reg) value) (cond t (Some (slice_index b.device.kept i)) None) s) s.device) off ∙ none_moved s.device,
+      device ∙ ap (λ t. option_map (λ (s : State). option_map_or (λ value. poked s (cell.Reg b.window.data_reg) value) (cond t (Some (slice_index b.device.kept i)) None) s) s.device) off ∙ none_moved
+          s.device,
       is ∙ ap (λ t. let x : BankData = record b { device = cond t (selecting b.device held i) b.device } in x) off,
     )
   where
@@ -260,7 +265,8 @@ refused_stays s t b new i held h same device model is =
     by true = ap not (eq-eqb i b.device.selected same)
     by false = refl
 
-selection_by : (s w t : Scene) (b half new : BankData) (map : Option ℕ) (k : ℕ) (index : Event) → (h : BankAgree s b) → IsModel s.model → IsModel w.model → Performs s w (op.Write b.window.index_reg map k) index
+selection_by : (s w t : Scene) (b half new : BankData) (map : Option ℕ) (k : ℕ) (index : Event) → (h : BankAgree s b) → IsModel s.model → IsModel w.model →
+    Performs s w (op.Write b.window.index_reg map k) index
     → SettlesDevice b half w.device t.device → t.model ≡ cond (is_done index.end) (model_believed half w.model k) w.model → new ≡ cond (is_done index.end) (bank_believed half w.model k) half
     → IsBankOf s.model.chip b → IsBank b → IsMapIn (length s.model.layout.maps) map → k < b.size → (g : Grant) → grant s.model (op.Write b.window.index_reg map k) ≡ g → KeepsEntries s t b new k index
 selection_by s w t b half_new new map k index h ok later performs device_is model_is bank_is of bank mapped inside (Ok place) granted =
@@ -275,7 +281,8 @@ selection_by s w t b half_new new map k index h ok later performs device_is mode
     device_is.bank ∙ ap (λ n. with_sides b (settled b.device n device_is.index) b.model) held ∙ ap (λ n. with_sides b (settled b.device x n) b.model) i in
     let device : t.device ≡ option_map (device_settled b k) w.device = device_is.goes ∙ ap (λ n. option_map (device_settled b n) w.device) i in
     let model : t.model ≡ model_believed b wm k = model_is ∙ ap (λ t. cond t (model_believed half_new wm k) wm) on ∙ ap (λ (n : BankData). model_believed n wm k) half in
-    let sides : new ≡ with_sides b (settled b.device x k) (settled b.model x k) = bank_is ∙ ap (λ t. cond t (bank_believed half_new wm k) half_new) on ∙ ap (λ (n : BankData). bank_believed n wm k) half in
+    let sides : new ≡ with_sides b (settled b.device x k) (settled b.model x k) = bank_is ∙ ap (λ t. cond t (bank_believed half_new wm k) half_new) on ∙ ap (λ (n : BankData). bank_believed n wm k)
+    half in
     let f = both_follow w t b new k meets device model sides in
     record { agree = f.agree; entries = f.entries ∙ aw.2; selected = λ done. f.selected; no_error = ap is_bus_error aw.1 }
 selection_by s w t b half_new new map k index h ok later performs device_is model_is bank_is of bank mapped inside (Err why) refused =
@@ -296,14 +303,16 @@ selection_by s w t b half_new new map k index h ok later performs device_is mode
       no_error = ap is_bus_error ends;
     }
 
-pub selection : (s w t : Scene) (b half new : BankData) (map : Option ℕ) (k : ℕ) (index : Event) → BankAgree s b → IsModel s.model → IsModel w.model → Performs s w (op.Write b.window.index_reg map k) index
+pub selection : (s w t : Scene) (b half new : BankData) (map : Option ℕ) (k : ℕ) (index : Event) → BankAgree s b → IsModel s.model → IsModel w.model → Performs s w (op.Write b.window.index_reg map k)
+    index
     → SettlesDevice b half w.device t.device → t.model ≡ cond (is_done index.end) (model_believed half w.model k) w.model → new ≡ cond (is_done index.end) (bank_believed half w.model k) half
     → IsBankOf s.model.chip b → IsBank b → IsMapIn (length s.model.layout.maps) map → k < b.size → KeepsEntries s t b new k index
 selection s w t b half new map k index h ok later performs device model bank_is of bank mapped inside =
     selection_by s w t b half new map k index h ok later performs device model bank_is of bank mapped inside (grant s.model (op.Write b.window.index_reg map k)) refl
 
 -- the register that was written is the index register
-pub selection_at : (s w t : Scene) (b half new : BankData) (map : Option ℕ) (k reg : ℕ) (index : Event) → reg ≡ b.window.index_reg → Performs s w (op.Write reg map k) index → BankAgree s b → IsModel s.model → IsModel w.model
+pub selection_at : (s w t : Scene) (b half new : BankData) (map : Option ℕ) (k reg : ℕ) (index : Event) → reg ≡ b.window.index_reg → Performs s w (op.Write reg map k) index → BankAgree s b →
+    IsModel s.model → IsModel w.model
     → SettlesDevice b half w.device t.device → t.model ≡ cond (is_done index.end) (model_believed half w.model k) w.model → new ≡ cond (is_done index.end) (bank_believed half w.model k) half
     → IsBankOf s.model.chip b → IsBank b → IsMapIn (length s.model.layout.maps) map → k < b.size → KeepsEntries s t b new k index
 selection_at s w t b half new map k reg index same performs h ok later device model bank_is of bank mapped inside =

@@ -1,5 +1,6 @@
 -- What a check finds, over any device.
-use Rattle.std.proofs.Common.{◌≡◌, ◌⊎◌, ℕ, ◌+◌, ◌<◌, ◌≤◌, Bool, true, false, not, ◌&&◌, cond, eqb, List, length, get_or, Option, None, Some, Result, Ok, Err, MatchResult, refl, sym, ap, ◌∙◌, subst, inl, inr, arith}
+use Rattle.std.proofs.Common.{◌≡◌, ◌⊎◌, ℕ, ◌+◌, ◌<◌, ◌≤◌, Bool, true, false, not, ◌&&◌, cond, eqb, List, length, get_or, Option}
+use Rattle.std.proofs.Common.{None, Some, Result, Ok, Err, MatchResult, refl, sym, ap, ◌∙◌, subst, inl, inr, arith}
 use Rattle.std.specs.Prelude.{slice_index, slice_set, nat_lt}
 use Rattle.std.specs.Option.{option_map_or}
 use Rattle.std.proofs.lemmas.Bool.{cases_eq, eq-eqb}
@@ -66,7 +67,9 @@ write_many : (c : ChipData) (reg word fields : ℕ) (m : MirrorData) → length 
 unfolding predict_write
 write_many c reg word fields m = length-set m.mirrored reg _
 
-outcome_leaves : (m : ModelData) (reg word fields q : ℕ) (e : End) (o : Option ℕ) → (q ≡ reg → ⊥) → Leaves m (or_error o m (quiet e (record m { mirror = predict_write m.chip reg word fields m.mirror }))).model q
+outcome_leaves : (m : ModelData) (reg word fields q : ℕ) (e : End) (o : Option ℕ) → (q ≡ reg → ⊥) → Leaves m (or_error o m (quiet e (record m {
+  mirror = predict_write m.chip reg word fields m.mirror;
+}))).model q
 outcome_leaves m reg word fields q e None other = record { chip = refl; many = write_many m.chip reg word fields m.mirror; mirrored = write_elsewhere m.chip reg word fields q m.mirror other }
 outcome_leaves m reg word fields q e (Some k) other = record { chip = refl; many = refl; mirrored = refl }
 
@@ -130,7 +133,8 @@ selected_by b s t wm k bits false side low list inside left other is =
       differs_as = λ read. ap (differing (fields_of c reg) read) (here ∙ sym entry);
     }
 
-pub selected : (b new : BankData) (s t : Scene) (map : Option ℕ) (k : ℕ) (index : Event) → IsModel s.model → IsBankOf s.model.chip b → IsBank b → k < b.size → Selects b new s t map k index → is_done index.end ≡ true → IsSelected b s t k
+pub selected : (b new : BankData) (s t : Scene) (map : Option ℕ) (k : ℕ) (index : Event) → IsModel s.model → IsBankOf s.model.chip b → IsBank b → k < b.size → Selects b new s t map k index →
+    is_done index.end ≡ true → IsSelected b s t k
 selected b new s t map k index ok of bank low selects done =
     let reg = b.window.data_reg in
     let apart : reg ≡ b.window.index_reg → ⊥ = λ same. (window_parts s.model.chip b.window b.size of.window).apart (sym same) in
@@ -166,7 +170,8 @@ unfolding differ
 check_differs c reg read m = refl
 
 -- a check of entry k names the fields that differ from it
-pub check_finds : (b new : BankData) (s mid t : Scene) (map : Option ℕ) (k : ℕ) (index access : Event) → IsModel s.model → IsBankOf s.model.chip b → IsBank b → k < b.size → Selects b new s mid map k index → is_done index.end ≡ true
+pub check_finds : (b new : BankData) (s mid t : Scene) (map : Option ℕ) (k : ℕ) (index access : Event) → IsModel s.model → IsBankOf s.model.chip b → IsBank b → k < b.size →
+    Selects b new s mid map k index → is_done index.end ≡ true
     → Performs mid t (op.Check b.window.data_reg map) access → (read : ℕ) → access.end ≡ end.Value read
     → access.differ ≡ differing (fields_of s.model.chip b.window.data_reg) read (slice_index (entries_believed b s.model) k)
 check_finds b new s mid t map k index access ok of bank low selects done performs read e =
@@ -178,7 +183,8 @@ check_finds b new s mid t map k index access ok of bank low selects done perform
     ∙ is.differs_as read
 
 -- and so does a read that is one where it is to check
-pub read_finds : (b new : BankData) (s mid t : Scene) (map : Option ℕ) (k reg : ℕ) (check : Bool) (index access : Event) → IsModel s.model → IsBankOf s.model.chip b → IsBank b → k < b.size → Selects b new s mid map k index
+pub read_finds : (b new : BankData) (s mid t : Scene) (map : Option ℕ) (k reg : ℕ) (check : Bool) (index access : Event) → IsModel s.model → IsBankOf s.model.chip b → IsBank b → k < b.size →
+    Selects b new s mid map k index
     → is_done index.end ≡ true → reg ≡ b.window.data_reg → Performs mid t (cond check (op.Check reg map) (op.Mirror reg map)) access → check ≡ true → (read : ℕ) → access.end ≡ end.Value read
     → access.differ ≡ differing (fields_of s.model.chip b.window.data_reg) read (slice_index (entries_believed b s.model) k)
 read_finds b new s mid t map k reg check index access ok of bank low selects done same performs on =

@@ -28,7 +28,8 @@ new_banks_agree s w size index held a ok index_in data_in index_found held_found
           ap (entries_of (all_entries held size index)) there
           ∙ ap (λ h. entries_of (all_entries h size index) x) same
           ∙ ap (λ n. entries_of (all_entries x size n) x) selected;
-      values = All-set (IsValueOf s.model.chip w.data_reg) _ i x (ok.mirror.mirrored w.data_reg data_in) (All-replicate (IsValueOf s.model.chip w.data_reg) size x (ok.mirror.mirrored w.data_reg data_in));
+      values = All-set (IsValueOf s.model.chip w.data_reg) _ i x (ok.mirror.mirrored w.data_reg data_in) (All-replicate (IsValueOf s.model.chip w.data_reg) size x (ok.mirror.mirrored w.data_reg
+          data_in));
       device = selected;
       model = refl;
     }

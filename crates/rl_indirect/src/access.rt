@@ -35,7 +35,8 @@ fn select<D: Device>(
     ensures bank { IsBankOf model.new.chip bank.new }
     ensures same { IsSameBank bank.old bank.new }
     ensures fits { EventFits model.new result }
-    ensures selects { Selects bank.old bank.new (scene_of standing D.errors D.state model.old adapters.old.items device.old)
+    ensures selects { Selects bank.old bank.new
+        (scene_of standing D.errors D.state model.old adapters.old.items device.old)
         (scene_of standing D.errors D.state model.new adapters.new.items device.new) map k result }
     ensures agree { BankAgree (scene_of standing D.errors D.state model.old adapters.old.items device.old) bank.old
         → KeepsEntries (scene_of standing D.errors D.state model.old adapters.old.items device.old)
@@ -70,11 +71,14 @@ pub fn indexed_write<D: Device>(
     ensures data { IsOverData (D.state device.new) bank.new }
     ensures same { IsSameBank bank.old bank.new }
     ensures fits { IndexedFits model.new result }
-    ensures indexed { IsIndexed bank.old bank.new (scene_of standing D.errors D.state model.old adapters.old.items device.old)
-        (scene_of standing D.errors D.state model.new adapters.new.items device.new) map k (op.Write bank.old.window.data_reg map value) result }
+    ensures indexed { IsIndexed bank.old bank.new
+        (scene_of standing D.errors D.state model.old adapters.old.items device.old)
+        (scene_of standing D.errors D.state model.new adapters.new.items device.new) map k
+        (op.Write bank.old.window.data_reg map value) result }
     ensures agree { BankAgree (scene_of standing D.errors D.state model.old adapters.old.items device.old) bank.old
         → IsEntryStep (scene_of standing D.errors D.state model.old adapters.old.items device.old)
-        (scene_of standing D.errors D.state model.new adapters.new.items device.new) bank.old bank.new k (write_step every value) result }
+        (scene_of standing D.errors D.state model.new adapters.new.items device.new) bank.old bank.new k
+        (write_step every value) result }
 {
     if k >= bank.size() {
         return Indexed::NoSuchEntry;
@@ -108,13 +112,15 @@ pub fn indexed_read<D: Device>(
     ensures data { IsOverData (D.state device.new) bank.new }
     ensures same { IsSameBank bank.old bank.new }
     ensures fits { IndexedFits model.new result }
-    ensures indexed { IsIndexed bank.old bank.new (scene_of standing D.errors D.state model.old adapters.old.items device.old)
+    ensures indexed { IsIndexed bank.old bank.new
+        (scene_of standing D.errors D.state model.old adapters.old.items device.old)
         (scene_of standing D.errors D.state model.new adapters.new.items device.new) map k
         (if check then op.Check bank.old.window.data_reg map else op.Mirror bank.old.window.data_reg map) result }
     ensures found { IsTrue check → NamesDiffering bank.old model.old k result }
     ensures agree { BankAgree (scene_of standing D.errors D.state model.old adapters.old.items device.old) bank.old
         → IsEntryStep (scene_of standing D.errors D.state model.old adapters.old.items device.old)
-        (scene_of standing D.errors D.state model.new adapters.new.items device.new) bank.old bank.new k (read_step every) result }
+        (scene_of standing D.errors D.state model.new adapters.new.items device.new) bank.old bank.new k
+        (read_step every) result }
 {
     let _sound = model.chip(); // a model that is looked at is known to be sound
     if k >= bank.size() {

@@ -1,5 +1,6 @@
 //! A bank: the entries behind a window.
-ghost use Rattle.std.specs.Prelude.{◌≡◌, ◌≢◌, ◌<◌, ◌≤◌, ℕ, List, length, slice_index, option_map, IfOk, IfNone, Some, if◌then◌else◌};
+ghost use Rattle.std.specs.Prelude.{◌≡◌, ◌≢◌, ◌<◌, ◌≤◌, ℕ, List, length, slice_index, option_map, IfOk, IfNone, Some};
+ghost use Rattle.std.specs.Prelude.{if◌then◌else◌};
 ghost use Rattle.std.specs.Option.{option_map_or};
 ghost use Rattle.rl_bus.specs.Standing.{Standing};
 ghost use Rattle.rl_bus.specs.State.{State, poked};
@@ -9,7 +10,8 @@ ghost use Rattle.rl_access.specs.Model.{IsDeviceOf, IsSameChip};
 ghost use Rattle.rl_access.specs.Rules.{taking_raw};
 ghost use Rattle.rl_plain.specs.Agree.{Agree};
 ghost use Rattle.rl_indirect.specs.Agree.{BankAgree};
-ghost use Rattle.rl_indirect.specs.Bank.{IsBank, IsBankOf, IsBuilt, IsFound, IsOverData, SettlesDevice, bank_believed, model_believed, entries_there, entries_believed};
+ghost use Rattle.rl_indirect.specs.Bank.{IsBank, IsBankOf, IsBuilt, IsFound, IsOverData, SettlesDevice};
+ghost use Rattle.rl_indirect.specs.Bank.{bank_believed, model_believed, entries_there, entries_believed};
 ghost use Rattle.rl_indirect.specs.Indexed.{is_done};
 ghost use Rattle.rl_indirect.specs.Window.{outside_fault};
 
@@ -39,9 +41,21 @@ impl std::marker::Model for Bank {
 
     ghost Value = { BankData };
 
-    ghost view = { λ b. record { window = b.window; size = b.size; bytes = b.bytes; device = b.device; model = b.model } };
+    ghost view = { λ b. record {
+      window = b.window;
+      size = b.size;
+      bytes = b.bytes;
+      device = b.device;
+      model = b.model;
+    } };
 
-    ghost invariant = { λ b. IsBank (record { window = b.window; size = b.size; bytes = b.bytes; device = b.device; model = b.model }) };
+    ghost invariant = { λ b. IsBank (record {
+      window = b.window;
+      size = b.size;
+      bytes = b.bytes;
+      device = b.device;
+      model = b.model;
+    }) };
 }
 
 impl Bank {
@@ -61,7 +75,8 @@ impl Bank {
         ensures data { IfOk result (IsOverData (D.state device.now)) }
         ensures window { IfOk result (λ bank. bank.window ≡ window) }
         ensures size { IfOk result (λ bank. bank.size ≡ size) }
-        ensures agree { (adapters : List Standing) (errors : ℕ) → Agree (scene model.now adapters errors (D.state device.now))
+        ensures agree { (adapters : List Standing) (errors : ℕ)
+            → Agree (scene model.now adapters errors (D.state device.now))
             → IfOk result (BankAgree (scene model.now adapters errors (D.state device.now))) }
     {
         if let Some(fault) = window.fault(model.chip(), size) {
@@ -198,7 +213,8 @@ fn bits_of<D: Device>(model: &Model, device: &D, reg: u32) -> u64
 fn deposit<D: Device>(model: &Model, device: &mut D, reg: u32, value: Option<u64>)
     requires device { IsDeviceOf model.now (D.state device.old) }
     requires reg { reg < length model.now.chip.regs }
-    ensures step { D.state device.new ≡ option_map (λ s. option_map_or (λ v. poked s (cell.Reg reg) v) value s) (D.state device.old) }
+    ensures step { D.state device.new ≡ option_map (λ s. option_map_or (λ v. poked s (cell.Reg reg) v) value s)
+        (D.state device.old) }
     ensures device { IsDeviceOf model.now (D.state device.new) }
     ensures later { D.errors device.old ≤ D.errors device.new }
 {

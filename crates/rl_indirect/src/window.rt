@@ -1,7 +1,8 @@
 //! The two registers of a window, and why they are none.
 ghost use Rattle.std.specs.Prelude.{◌≡◌, ◌+◌, ◌<◌, ◌≤◌, true, length};
 ghost use Rattle.rl_model.specs.Fields.{first_of, fields_of, field_in};
-ghost use Rattle.rl_indirect.specs.Window.{is_rw, is_index, is_index_field, is_data, is_data_field, is_size, window_fault};
+ghost use Rattle.rl_indirect.specs.Window.{is_rw, is_index, is_index_field, is_data, is_data_field, is_size};
+ghost use Rattle.rl_indirect.specs.Window.{window_fault};
 ghost use Rattle.rl_indirect.specs.declared.window.WindowFault.TheVariants.{Memory};
 
 use rl_model::{Chip, Field};

@@ -1,5 +1,6 @@
 -- A search for the lowest free run that is long enough, or for the longest one.
-use Rattle.std.proofs.Common.{◌≡◌, ◌⊎◌, ℕ, suc, ◌+◌, ◌-◌, ◌<◌, ◌≤◌, max, Bool, true, false, nat_le, cond, List, [], ◌∷◌, length, get_or, drop, drop-cons, Result, Ok, Err, refl, sym, ap, ◌∙◌, subst, inl, inr, arith}
+use Rattle.std.proofs.Common.{◌≡◌, ◌⊎◌, ℕ, suc, ◌+◌, ◌-◌, ◌<◌, ◌≤◌, max, Bool, true, false, nat_le, cond, List, [], ◌∷◌, length}
+use Rattle.std.proofs.Common.{get_or, drop, drop-cons, Result, Ok, Err, refl, sym, ap, ◌∙◌, subst, inl, inr, arith}
 use Rattle.std.proofs.lemmas.Bool.{cases_lt}
 use Rattle.std.proofs.lemmas.Bool.Decides.{nat_tests}
 use Rattle.std.proofs.lemmas.List.{drop_all}
@@ -88,7 +89,8 @@ max_cases a b = by (cases_lt a b)
 last_longest : (size from before : ℕ) → from ≤ size → IsLongest size from before [] (max before (size - from))
 last_longest size from before low = record { least = omega arith; most = λ f n later some inside clear. omega arith; reached = by (max before (size - from)) (max_cases before (size - from)) }
   where
-    by : (longest : ℕ) → ((longest ≡ before) × (size - from ≤ before)) ⊎ ((longest ≡ size - from) × (before ≤ size - from)) → (longest ≡ before) ⊎ ((f : ℕ) × (from ≤ f) × (f + longest ≤ size) × IsClear f longest [])
+    by : (longest : ℕ) → ((longest ≡ before) × (size - from ≤ before)) ⊎ ((longest ≡ size - from) × (before ≤ size - from)) → (longest ≡ before) ⊎ ((f : ℕ) × (from ≤ f) × (f + longest ≤ size) ×
+        IsClear f longest [])
     by longest (inl old) = inl old.0
     by longest (inr new) = let e : longest ≡ size - from = new.0 in inr (from, omega arith, omega arith, tt)
 
@@ -100,7 +102,8 @@ more_most size from before r rs longest h there f n later some inside clear = by
     by (inl meets) = there.most f n (clear.0 meets) some inside clear.1
     by (inr short) = let l : max before (r.first - from) ≤ longest = there.least in omega arith
 
-more_reached : (size from before : ℕ) (r : Region) (rs : List Region) (longest m : ℕ) → AreApart from size (r ∷ rs) → ((m ≡ before) × (r.first - from ≤ before)) ⊎ ((m ≡ r.first - from) × (before ≤ r.first - from))
+more_reached : (size from before : ℕ) (r : Region) (rs : List Region) (longest m : ℕ) → AreApart from size (r ∷ rs) → ((m ≡ before) × (r.first - from ≤ before)) ⊎ ((m ≡ r.first - from) ×
+    (before ≤ r.first - from))
     → (longest ≡ m) ⊎ ((f : ℕ) × (r.first + r.len ≤ f) × (f + longest ≤ size) × IsClear f longest rs)
     → (longest ≡ before) ⊎ ((f : ℕ) × (from ≤ f) × (f + longest ≤ size) × IsClear f longest (r ∷ rs))
 more_reached size from before r rs longest m h (inl old) (inl e) = let k : m ≡ before = old.0 in inl (e ∙ k)
@@ -114,14 +117,16 @@ more_reached size from before r rs longest m h either (inr run) =
     let after : r.first + r.len ≤ run.0 = run.1 in
     inr (run.0, omega arith, run.2, ((λ meets. after), run.3))
 
-more_longest : (size from before : ℕ) (r : Region) (rs : List Region) (longest : ℕ) → AreApart from size (r ∷ rs) → IsLongest size (r.first + r.len) (max before (r.first - from)) rs longest → IsLongest size from before (r ∷ rs) longest
+more_longest : (size from before : ℕ) (r : Region) (rs : List Region) (longest : ℕ) → AreApart from size (r ∷ rs) → IsLongest size (r.first + r.len) (max before (r.first - from)) rs longest →
+    IsLongest size from before (r ∷ rs) longest
 more_longest size from before r rs longest h there = record {
   least = (let l : max before (r.first - from) ≤ longest = there.least in omega arith);
   most = more_most size from before r rs longest h there;
   reached = more_reached size from before r rs longest (max before (r.first - from)) h (max_cases before (r.first - from)) there.reached;
 }
 
-pub search_err : (len size from before : ℕ) (rs : List Region) (e : MamFault) → AreApart from size rs → from ≤ size → before < len → search_from len size from before rs ≡ Err e → NoneFits len size from before rs e
+pub search_err : (len size from before : ℕ) (rs : List Region) (e : MamFault) → AreApart from size rs → from ≤ size → before < len → search_from len size from before rs ≡ Err e →
+    NoneFits len size from before rs e
 search_err len size from before [] e h low short is = by (nat_le len (size - from)) refl is
   where
     by : (t : Bool) → nat_le len (size - from) ≡ t → cond t (Ok from) (Err (NoRoom (max before (size - from)))) ≡ Err e → NoneFits len size from before [] e

@@ -50,12 +50,14 @@ pub record IsReached (m : ModelData) (mem index : ℕ) (write : Bool) (place : �
   pub right : has_right (place_at m.layout place).rights write ≡ true
   pub index_in : index < memory_size m.chip mem
 
-reached : (m : ModelData) (mem index : ℕ) (map : Option ℕ) (write : Bool) (place : ℕ) → IsModel m → way m (item.Mem mem) map write ≡ Ok place → index < memory_size m.chip mem → IsReached m mem index write place
+reached : (m : ModelData) (mem index : ℕ) (map : Option ℕ) (write : Bool) (place : ℕ) → IsModel m → way m (item.Mem mem) map write ≡ Ok place → index < memory_size m.chip mem →
+    IsReached m mem index write place
 reached m mem index map write place ok e low =
     let l = m.layout in
     let both = right_ok l write (placed (place_of l (item.Mem mem) map)) place e in
     let at = position-Some (λ (p : PlaceRow). same_item p.item (item.Mem mem) && is_in map p.map) l.places place no_place (placed_ok (place_of l (item.Mem mem) map) place both.0) in
-    let mem_is : (place_at l place).item ≡ item.Mem mem = same_mems (place_at l place).item mem (first_holds (same_item (place_at l place).item (item.Mem mem)) (is_in map (place_at l place).map) at.1) in
+    let mem_is : (place_at l place).item ≡ item.Mem mem = same_mems (place_at l place).item mem (first_holds (same_item (place_at l place).item (item.Mem mem)) (is_in map (place_at l place).map)
+    at.1) in
     let sizes = (ok.built place at.0).1 mem mem_is in
     record {
       there = record { place_in = at.0; index_in = subst (λ n. index < n) (size_of_some (λ m. m.size) (slice_get m.chip.mems mem) (place_at l place).size sizes) low };

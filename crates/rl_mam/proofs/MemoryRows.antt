@@ -51,7 +51,8 @@ apart c l flaws mem index m i inside low within below same =
     by equal = let first : (row_in 0 c.mems m).first ≡ (row_in 0 c.mems mem).first = ap (λ k. (row_in 0 c.mems k).first) equal in omega (arith, first, same)
 
 -- the same over the setup of a device
-pub other_place : (c : ChipData) (l : LayoutData) (flaws : Flaws) (t : Setup) (mem index m i : ℕ) → t ≡ setup_of c l flaws → mem < length c.mems → index < memory_size c mem → m < length c.mems → i < memory_size c m →
+pub other_place : (c : ChipData) (l : LayoutData) (flaws : Flaws) (t : Setup) (mem index m i : ℕ) → t ≡ setup_of c l flaws → mem < length c.mems → index < memory_size c mem → m < length c.mems →
+    i < memory_size c m →
     ((m ≡ mem) → (i ≡ index) → ⊥) → location t m i ≢ location t mem index
 other_place c l flaws t mem index m i is inside low within below other same =
     let both = apart c l flaws mem index m i inside low within below (subst (λ (x : Setup). location x m i ≡ location x mem index) is same) in

@@ -59,7 +59,8 @@ after_same s new mem r d same told = record {
   kept = λ m i inside low other. refl;
 }
 
-after_sent : (s new : Scene) (mem index chosen value place : ℕ) (write : Bool) (trace : List TraceItem) (r : Region) (d : State) → Meets s mem d → IsIn r index → IsReached s.model mem index write place
+after_sent : (s new : Scene) (mem index chosen value place : ℕ) (write : Bool) (trace : List TraceItem) (r : Region) (d : State) → Meets s mem d → IsIn r index →
+    IsReached s.model mem index write place
     → AreItemsOf (standing_at s.adapters (adapter_for s.model.layout place)) (port_for s.model.layout place) (ops_of s.model.layout place index chosen value write) trace
     → new.device ≡ option_map (λ d. state_after_all d trace) s.device → new.model ≡ s.model → After s new mem r d
 after_sent s new mem index chosen value place write trace r d meets inside reached are goes model =
@@ -86,19 +87,25 @@ model_stays (Some k) m good e = refl
 
 -- ---- one access
 
-pub after_write : (s new : Scene) (mem index value : ℕ) (map : Option ℕ) (event : Event) (r : Region) (d : State) → Meets s mem d → IsIn r index → Performs s new (op.MemWrite mem map index value) event → After s new mem r d
+pub after_write : (s new : Scene) (mem index value : ℕ) (map : Option ℕ) (event : Event) (r : Region) (d : State) → Meets s mem d → IsIn r index → Performs s new (op.MemWrite mem map index value)
+    event → After s new mem r d
 after_write s new mem index value map event r d meets inside performs = by (grant s.model (op.MemWrite mem map index value)) refl performs
   where
-    by : (g : Grant) → grant s.model (op.MemWrite mem map index value) ≡ g → MatchResult g (λ place. IsDone s new (op.MemWrite mem map index value) place event) (λ why. IsRefused s new (op.MemWrite mem map index value) why event) → After s new mem r d
-    by (Ok place) granted done = after_sent s new mem index (location_bytes s.model mem) value place true event.trace r d meets inside (write_reaches s.model mem index value map place meets.ok granted) done.items done.goes
+    by : (g : Grant) → grant s.model (op.MemWrite mem map index value) ≡ g → MatchResult g (λ place. IsDone s new (op.MemWrite mem map index value) place event) (λ why. IsRefused s new
+        (op.MemWrite mem map index value) why event) → After s new mem r d
+    by (Ok place) granted done = after_sent s new mem index (location_bytes s.model mem) value place true event.trace r d meets inside (write_reaches s.model mem index value map place meets.ok
+        granted) done.items done.goes
         (done.model ∙ model_stays (failed_at event.trace) s.model (quiet end.Done s.model) refl)
     by (Err why) granted refused = after_same s new mem r d refused.unchanged meets.told
 
-pub after_read : (s new : Scene) (mem index : ℕ) (map : Option ℕ) (event : Event) (r : Region) (d : State) → Meets s mem d → IsIn r index → Performs s new (op.MemRead mem map index) event → After s new mem r d
+pub after_read : (s new : Scene) (mem index : ℕ) (map : Option ℕ) (event : Event) (r : Region) (d : State) → Meets s mem d → IsIn r index → Performs s new (op.MemRead mem map index) event →
+    After s new mem r d
 after_read s new mem index map event r d meets inside performs = by (grant s.model (op.MemRead mem map index)) refl performs
   where
-    by : (g : Grant) → grant s.model (op.MemRead mem map index) ≡ g → MatchResult g (λ place. IsDone s new (op.MemRead mem map index) place event) (λ why. IsRefused s new (op.MemRead mem map index) why event) → After s new mem r d
-    by (Ok place) granted done = after_sent s new mem index (location_bytes s.model mem) 0 place false event.trace r d meets inside (read_reaches s.model mem index map place meets.ok granted) done.items done.goes
+    by : (g : Grant) → grant s.model (op.MemRead mem map index) ≡ g → MatchResult g (λ place. IsDone s new (op.MemRead mem map index) place event) (λ why. IsRefused s new (op.MemRead mem map index)
+        why event) → After s new mem r d
+    by (Ok place) granted done = after_sent s new mem index (location_bytes s.model mem) 0 place false event.trace r d meets inside (read_reaches s.model mem index map place meets.ok granted)
+        done.items done.goes
         (done.model ∙ model_stays (failed_at event.trace) s.model (quiet (end.Value (location_value s.model mem place index event.trace)) s.model) refl)
     by (Err why) granted refused = after_same s new mem r d refused.unchanged meets.told
 
@@ -123,7 +130,8 @@ after_both s mid new mem r d a b = record {
       ∙ a.kept m i inside low other;
 }
 
-pub after_run : (s new : Scene) (mem first : ℕ) (map : Option ℕ) (values : List ℕ) (told : List Told) (r : Region) (d : State) → Meets s mem d → r.first ≤ first → first + length values ≤ r.first + r.len
+pub after_run : (s new : Scene) (mem first : ℕ) (map : Option ℕ) (values : List ℕ) (told : List Told) (r : Region) (d : State) → Meets s mem d → r.first ≤ first →
+    first + length values ≤ r.first + r.len
     → RunsThrough s (writes_of mem map first values) told new → After s new mem r d
 after_run s new mem first map [] [] r d meets low high run = after_same s new mem r d run meets.told
 after_run s new mem first map [] (t ∷ told) r d meets low high run = absurd run
@@ -137,7 +145,8 @@ after_run s new mem first map (v ∷ values) (t ∷ told) r d meets low high run
     by step true ends rest = subst (λ (x : Scene). After s x mem r d) (sym ends.1) step
     by step false more rest = after_both s run.0 new mem r d step (rest more)
 
-pub after_break : (s new : Scene) (mem first : ℕ) (map : Option ℕ) (values : List ℕ) (told : List Told) (r : Region) (d : State) → Meets s mem d → r.first ≤ first → first + length values ≤ r.first + r.len
+pub after_break : (s new : Scene) (mem first : ℕ) (map : Option ℕ) (values : List ℕ) (told : List Told) (r : Region) (d : State) → Meets s mem d → r.first ≤ first →
+    first + length values ≤ r.first + r.len
     → RunsInto s (writes_of mem map first values) told new → After s new mem r d
 after_break s new mem first map [] [] r d meets low high run = absurd run
 after_break s new mem first map (v ∷ values) [] r d meets low high run = absurd run
@@ -161,20 +170,25 @@ leaves s new mem r ok mem_in device after d t before told m i inside low other =
 abbrev pub IsDeviceAt : Scene → Type 0
 IsDeviceAt s = (d : State) → s.device ≡ Some d → IsSetupOf s.model.chip s.model.layout d.setup
 
-pub write_leaves : (s new : Scene) (mem index value : ℕ) (map : Option ℕ) (event : Event) (r : Region) → Performs s new (op.MemWrite mem map index value) event → IsModel s.model → mem < length s.model.chip.mems → IsDeviceAt s → IsIn r index → LeavesOutside s.model.chip mem r s.device new.device
+pub write_leaves : (s new : Scene) (mem index value : ℕ) (map : Option ℕ) (event : Event) (r : Region) → Performs s new (op.MemWrite mem map index value) event → IsModel s.model →
+    mem < length s.model.chip.mems → IsDeviceAt s → IsIn r index → LeavesOutside s.model.chip mem r s.device new.device
 write_leaves s new mem index value map event r performs ok mem_in device inside = leaves s new mem r ok mem_in device (λ d meets. after_write s new mem index value map event r d meets inside performs)
 
-pub read_leaves : (s new : Scene) (mem index : ℕ) (map : Option ℕ) (event : Event) (r : Region) → Performs s new (op.MemRead mem map index) event → IsModel s.model → mem < length s.model.chip.mems → IsDeviceAt s → IsIn r index → LeavesOutside s.model.chip mem r s.device new.device
+pub read_leaves : (s new : Scene) (mem index : ℕ) (map : Option ℕ) (event : Event) (r : Region) → Performs s new (op.MemRead mem map index) event → IsModel s.model → mem < length s.model.chip.mems →
+    IsDeviceAt s → IsIn r index → LeavesOutside s.model.chip mem r s.device new.device
 read_leaves s new mem index map event r performs ok mem_in device inside = leaves s new mem r ok mem_in device (λ d meets. after_read s new mem index map event r d meets inside performs)
 
-after_burst : {R E : Type 0} (takes breaks : R → ModelData → Event → R → Type 0) (old rec : R) (s new : Scene) (granted : Grant) (o : Op) (mem first : ℕ) (map : Option ℕ) (values : List ℕ) (result : Result Tally E) (r : Region) (d : State)
+after_burst : {R E : Type 0} (takes breaks : R → ModelData → Event → R → Type 0) (old rec : R) (s new : Scene) (granted : Grant) (o : Op) (mem first : ℕ) (map : Option ℕ) (values : List ℕ)
+    (result : Result Tally E) (r : Region) (d : State)
     → IsBurst takes breaks old rec s new granted o (writes_of mem map first values) result → Meets s mem d → r.first ≤ first → first + length values ≤ r.first + r.len → After s new mem r d
 after_burst takes breaks old rec s new (Ok place) o mem first map values (Ok tally) r d burst meets low high = after_run s new mem first map values burst.told r d meets low high burst.run.0
 after_burst takes breaks old rec s new (Ok place) o mem first map values (Err e) r d burst meets low high = after_break s new mem first map values burst.told r d meets low high burst.run
 after_burst takes breaks old rec s new (Err why) o mem first map values result r d burst meets low high = after_same s new mem r d burst.refused.unchanged meets.told
 
-pub burst_leaves : {R E : Type 0} (takes breaks : R → ModelData → Event → R → Type 0) (old rec : R) (s new : Scene) (granted : Grant) (o : Op) (mem first : ℕ) (map : Option ℕ) (values : List ℕ) (result : Result Tally E) (r : Region)
-    → IsBurst takes breaks old rec s new granted o (writes_of mem map first values) result → IsModel s.model → mem < length s.model.chip.mems → IsDeviceAt s → r.first ≤ first → first + length values ≤ r.first + r.len → LeavesOutside s.model.chip mem r s.device new.device
+pub burst_leaves : {R E : Type 0} (takes breaks : R → ModelData → Event → R → Type 0) (old rec : R) (s new : Scene) (granted : Grant) (o : Op) (mem first : ℕ) (map : Option ℕ) (values : List ℕ)
+    (result : Result Tally E) (r : Region)
+    → IsBurst takes breaks old rec s new granted o (writes_of mem map first values) result → IsModel s.model → mem < length s.model.chip.mems → IsDeviceAt s → r.first ≤ first →
+    first + length values ≤ r.first + r.len → LeavesOutside s.model.chip mem r s.device new.device
 burst_leaves takes breaks old rec s new granted o mem first map values result r burst ok mem_in device low high =
     leaves s new mem r ok mem_in device (λ d meets. after_burst takes breaks old rec s new granted o mem first map values result r d burst meets low high)
 
@@ -185,7 +199,8 @@ nothing_left c mem r before after same s t is_s is_t m i inside low other =
 
 -- ---- the region of an access
 
-pub where_ok : (rs : List Region) (first k count at : ℕ) (Q : Region → Type 0) → Ok at ≡ location_in rs first k count → ((r : Region) → r.first ≤ at → at + count ≤ r.first + r.len → Q r) → IfSome (region_at rs first) Q
+pub where_ok : (rs : List Region) (first k count at : ℕ) (Q : Region → Type 0) → Ok at ≡ location_in rs first k count → ((r : Region) → r.first ≤ at → at + count ≤ r.first + r.len → Q r) →
+    IfSome (region_at rs first) Q
 where_ok rs first k count at Q is each = by (region_at rs first) is
   where
     fits : (r : Region) (t : Bool) → nat_le (k + count) r.len ≡ t → Ok at ≡ cond t (Ok (r.first + k)) (Err (OutsideRegion r.len)) → Q r

@@ -1,5 +1,6 @@
 -- Lists of regions that are apart: what comes, goes and is found.
-use Rattle.std.proofs.Common.{◌≡◌, ◌⊎◌, ℕ, zero, suc, ◌+◌, ◌<◌, ◌≤◌, Bool, true, false, nat_lt, nat_le, ◌==◌, not, ◌&&◌, cond, Result, Ok, Err, List, [], ◌∷◌, length, get_or, Option, Some, None, refl, sym, subst, inl, inr, arith}
+use Rattle.std.proofs.Common.{◌≡◌, ◌⊎◌, ℕ, zero, suc, ◌+◌, ◌<◌, ◌≤◌, Bool, true, false, nat_lt, nat_le, ◌==◌, not, ◌&&◌, cond, Result}
+use Rattle.std.proofs.Common.{Ok, Err, List, [], ◌∷◌, length, get_or, Option, Some, None, refl, sym, subst, inl, inr, arith}
 use Rattle.std.specs.Prelude.{find, filter, insert, position, All, Any, AllPairs, IfSome, IfOk}
 use Rattle.std.specs.List.{position_or_len}
 use Rattle.std.proofs.lemmas.Bool.{cases_lt}
@@ -99,7 +100,8 @@ ends_before r s before apart = by (cases_lt s.first (r.first + r.len))
     by (inl over) = let done : s.first + s.len ≤ r.first = apart over in omega arith
     by (inr clear) = clear
 
-pub apart-added : (from size : ℕ) (r : Region) (rs : List Region) → AreApart from size rs → from ≤ r.first → 0 < r.len → r.first + r.len ≤ size → IsClear r.first r.len rs → AreApart from size (added r rs)
+pub apart-added : (from size : ℕ) (r : Region) (rs : List Region) → AreApart from size rs → from ≤ r.first → 0 < r.len → r.first + r.len ≤ size → IsClear r.first r.len rs →
+    AreApart from size (added r rs)
 apart-added from size r [] h low some inside clear = (low, some, inside, tt)
 apart-added from size r (s ∷ rs) h low some inside clear = by (nat_lt r.first s.first) refl (apart-added (s.first + s.len) size r rs h.3)
   where

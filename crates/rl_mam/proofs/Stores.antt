@@ -37,14 +37,19 @@ stored x false deaf f g mem index k other = refl
 stored x true true f g mem index k other = refl
 stored x true false f g mem index k other = by (mem_of x.setup mem).writable
   where
-    by : (t : Bool) → slice_index (cond t (record x { locations = set x.locations (location x.setup mem index) (from_bits 64 (λ b. cond (g b) (f b) (bit (slice_index x.locations (location x.setup mem index)) b))) }) x).locations k ≡ slice_index x.locations k
+    by : (t : Bool) → slice_index (cond t (record x {
+      locations = set x.locations (location x.setup mem index) (from_bits 64 (λ b. cond (g b) (f b) (bit (slice_index x.locations (location x.setup mem
+          index)) b)));
+    }) x).locations k ≡ slice_index x.locations k
     by true = get_or-set_other x.locations (location x.setup mem index) k _ 0 other
     by false = refl
 
-word_stored : (x : State) (op : BusOp) (w : WordRow) (mem index k : ℕ) → w.cell ≡ Loc mem index → k ≢ location x.setup mem index → slice_index (after_word x op w).locations k ≡ slice_index x.locations k
+word_stored : (x : State) (op : BusOp) (w : WordRow) (mem index k : ℕ) → w.cell ≡ Loc mem index → k ≢ location x.setup mem index → slice_index (after_word x op w).locations k ≡ slice_index
+    x.locations k
 word_stored x op w mem index k cell other =
     let lanes = lanes_in w.lanes op.lanes in
-    subst (λ (c : Cell). slice_index (cond (not op.write) (after_reading x (lane_bit lanes) c) (cond (is_deaf x.setup w.cell) x (after_writing x (spread_bit lanes (bit op.word)) (lane_bit lanes) c))).locations k ≡ slice_index x.locations k)
+    subst (λ (c : Cell). slice_index (cond (not op.write) (after_reading x (lane_bit lanes) c) (cond (is_deaf x.setup w.cell) x (after_writing x (spread_bit lanes (bit op.word)) (lane_bit lanes)
+    c))).locations k ≡ slice_index x.locations k)
     (sym cell) (stored x op.write (is_deaf x.setup w.cell) (spread_bit lanes (bit op.word)) (lane_bit lanes) mem index k other)
 
 touch_stored : (x : State) (port : ℕ) (op : BusOp) (o : Option WordRow) (mem index k : ℕ) → ((row : WordRow) → o ≡ Some row → row.cell ≡ Loc mem index) → k ≢ location x.setup mem index
@@ -56,19 +61,22 @@ touch_stored x port op (Some w) mem index k at other = by (is_faulty x port op)
     by true = refl
     by false = word_stored x op w mem index k (at w refl) other
 
-item_stored : (s : State) (port : ℕ) (op : BusOp) (mem index k : ℕ) → IsAtLocation s.setup port mem index op → k ≢ location s.setup mem index → slice_index (state_after s port op).locations k ≡ slice_index s.locations k
+item_stored : (s : State) (port : ℕ) (op : BusOp) (mem index k : ℕ) → IsAtLocation s.setup port mem index op → k ≢ location s.setup mem index → slice_index (state_after s port op).locations k ≡
+    slice_index s.locations k
 unfolding state_after
 item_stored s port op mem index k at other = touch_stored (counted s) port op (word_at (counted s) port op) mem index k (at (s.beats port op.address)) other
 
 -- ---- items, one after another
 
-pub items_stored : (a : Standing) (port mem index : ℕ) (ops : List BusOp) (items : List TraceItem) (t : Setup) (s : State) (k : ℕ) → AreItemsOf a port ops items → All (IsAtLocation t port mem index) ops → s.setup ≡ t → k ≢ location t mem index
+pub items_stored : (a : Standing) (port mem index : ℕ) (ops : List BusOp) (items : List TraceItem) (t : Setup) (s : State) (k : ℕ) → AreItemsOf a port ops items →
+    All (IsAtLocation t port mem index) ops → s.setup ≡ t → k ≢ location t mem index
     → slice_index (state_after_all s items).locations k ≡ slice_index s.locations k
 items_stored a port mem index [] [] t s k are at same other = refl
 items_stored a port mem index [] (i ∷ items) t s k are at same other = absurd are
 items_stored a port mem index (op ∷ ops) [] t s k are at same other = absurd are
 items_stored a port mem index (op ∷ ops) (i ∷ items) t s k are at same other =
-    by i.answer.failed are.1 (λ rest. items_stored (took_item a i) port mem index ops items t (state_after s i.port i.op) k rest (All-tail (IsAtLocation t port mem index) op ops at) (setup-state_after s i.port i.op ∙ same) other) ∙ first
+    by i.answer.failed are.1 (λ rest. items_stored (took_item a i) port mem index ops items t (state_after s i.port i.op) k rest (All-tail (IsAtLocation t port mem index) op ops at)
+    (setup-state_after s i.port i.op ∙ same) other) ∙ first
   where
     port_is : i.port ≡ port
     port_is = ap (λ (x : TraceItem). x.port) are.0
@@ -100,7 +108,8 @@ words_stand : (c : ChipData) (l : LayoutData) (flaws : Flaws) (port address : �
 unfolding setup_of
 words_stand c l flaws port address write = refl
 
-pub ops_at : (c : ChipData) (l : LayoutData) (flaws : Flaws) (place mem index chosen value : ℕ) (write : Bool) → IsSound l → IsLocation l place index → (place_at l place).item ≡ item.Mem mem → has_right (place_at l place).rights write ≡ true
+pub ops_at : (c : ChipData) (l : LayoutData) (flaws : Flaws) (place mem index chosen value : ℕ) (write : Bool) → IsSound l → IsLocation l place index → (place_at l place).item ≡ item.Mem mem →
+    has_right (place_at l place).rights write ≡ true
     → All (IsAtLocation (setup_of c l flaws) (place_at l place).port mem index) (ops_of l place index chosen value write)
 unfolding ops_of sent_of
 ops_at c l flaws place mem index chosen value write sound there is right =

@@ -2,7 +2,8 @@
 ghost use Rattle.std.specs.Prelude.{◌≡◌, ◌+◌, ◌<◌, ◌≤◌, [], length, All, AllPairs, OnOk, OnErr, IfOk, IfErr, IfSome};
 ghost use Rattle.rl_access.specs.Rules.{memory_size};
 ghost use Rattle.rl_mam.specs.Mam.{adding, releasing};
-ghost use Rattle.rl_mam.specs.Regions.{region, region_at, location_in, IsFree, IsLowestFree, ReserveCause, RequestCause};
+ghost use Rattle.rl_mam.specs.Regions.{region, region_at, location_in, IsFree, IsLowestFree, ReserveCause};
+ghost use Rattle.rl_mam.specs.Regions.{RequestCause};
 
 use crate::region::{MamFault, Region, RegionFault};
 use crate::search::{first_met, lowest_free, place_of, region_at};

@@ -103,7 +103,8 @@ impl Mam {
         ensures model { m.new ≡ m.old }
         ensures ready { IsReady m.new (each standing a.new.items) (D.state d.new) }
         ensures cause { IfErr (location_in self.now.regions first k (length values.now)) (λ why. result ≡ Err why) }
-        ensures hands_over { OnOk (location_in self.now.regions first k (length values.now)) (IsBurst R.takes R.breaks rec.old rec.new
+        ensures hands_over { OnOk (location_in self.now.regions first k (length values.now)) (IsBurst R.takes R.breaks
+            rec.old rec.new
             (scene_of standing D.errors D.state m.old a.old.items d.old)
             (scene_of standing D.errors D.state m.new a.new.items d.new)
             (write_grant m.old self.now.mem map (first + k) values.now)

@@ -33,7 +33,8 @@ use Rattle.rl_plain.proofs.PlainSteps.{plain_state}
 
 -- ---- the machine's row is the step of the operation
 
-after_is : (c : ChipData) (l : LayoutData) (op : Op) (place reg : ℕ) (p : Machine) → IsAccess op → register_of c op ≡ Some reg → stepped c reg (step_of (seen c l p) op place) p ≡ machine_after c l op place p
+after_is : (c : ChipData) (l : LayoutData) (op : Op) (place reg : ℕ) (p : Machine) → IsAccess op → register_of c op ≡ Some reg → stepped c reg (step_of (seen c l p) op place) p ≡ machine_after c l op
+    place p
 after_is c l (op.Write n map value) place reg p is e = let same : reg ≡ n = cc in ap (λ k. stepped c k (write_step every value) p) same
 after_is c l (op.Read n map) place reg p is e = let same : reg ≡ n = cc in ap (λ k. stepped c k (read_step every) p) same
 after_is c l (op.Mirror n map) place reg p is e = let same : reg ≡ n = cc in ap (λ k. stepped c k (read_step every) p) same
@@ -47,7 +48,8 @@ after_is c l (op.OtherWrite n map value) place reg p is e = let same : reg ≡ n
 after_is c l (op.OtherRead n map) place reg p is e = let same : reg ≡ n = cc in ap (λ k. stepped c k (read_step every) p) same
 after_is c l _ place reg p is e = absurd is
 
-ends_as : (c : ChipData) (l : LayoutData) (op : Op) (place reg : ℕ) (p : Machine) → IsAccess op → register_of c op ≡ Some reg → end_of (seen c l p) op place (register_at c p reg) ≡ machine_end c l op place p
+ends_as : (c : ChipData) (l : LayoutData) (op : Op) (place reg : ℕ) (p : Machine) → IsAccess op → register_of c op ≡ Some reg → end_of (seen c l p) op place (register_at c p reg) ≡ machine_end c l op
+    place p
 ends_as c l (op.Write n map value) place reg p is e = refl
 ends_as c l (op.Read n map) place reg p is e = let same : reg ≡ n = cc in ap (λ k. end.Value (ranswer (fields_of c n) every (register_at c p k))) same
 ends_as c l (op.Mirror n map) place reg p is e = let same : reg ≡ n = cc in ap (λ k. end.Value (ranswer (fields_of c n) every (register_at c p k))) same
@@ -91,9 +93,11 @@ locations_after c d reg no_step r count = refl
 
 -- ---- each access
 
-access_by : {which : ℕ → ℕ → Type 0} (c : ChipData) (l : LayoutData) (p : Machine) (adapters : List Standing) (errors : ℕ) (told : Option State) (new : Scene) (op : Op) (event : Event) (place reg : ℕ) →
+access_by : {which : ℕ → ℕ → Type 0} (c : ChipData) (l : LayoutData) (p : Machine) (adapters : List Standing) (errors : ℕ) (told : Option State) (new : Scene) (op : Op) (event : Event)
+    (place reg : ℕ) →
     let s = scene (seen c l p) adapters errors told in
-    IsAccess op → IsModel s.model → (a : Agree s) → HasContents which c a.device p → register_of c op ≡ Some reg → reg < length c.regs → IsStepped s new op event place reg a.device (register_at c p reg) → IsMachineStep which c l p new op place event
+    IsAccess op → IsModel s.model → (a : Agree s) → HasContents which c a.device p → register_of c op ≡ Some reg → reg < length c.regs → IsStepped s new op event place reg a.device (register_at c p
+    reg) → IsMachineStep which c l p new op place event
 access_by {which} c l p adapters errors told new op event place reg is ok a has register inside st =
     let s = scene (seen c l p) adapters errors told in
     let m = s.model in
@@ -113,14 +117,17 @@ access_by {which} c l p adapters errors told new op event place reg is ok a has 
       told = st.stepped.told;
       contents = subst (HasContents which c st.stepped.after) row
           (contents_stay c a.device st.stepped.after p (stepped c reg step p) has
-          (ap (λ (x : State). x.setup) moved ∙ setup_after c a.device reg step r count) (ap (λ (x : State). x.locations) moved ∙ locations_after c a.device reg step r count) (stepped_locations c reg step p));
+          (ap (λ (x : State). x.setup) moved ∙ setup_after c a.device reg step r count) (ap (λ (x : State). x.locations) moved ∙ locations_after c a.device reg step r count) (stepped_locations c reg
+          step p));
       ends = st.stepped.ends ∙ ends_as c l op place reg p is register;
       finds = st.finds ∙ finds_as c op reg p is ok.chip inside;
     }
 
-pub access_step : {which : ℕ → ℕ → Type 0} (c : ChipData) (l : LayoutData) (p : Machine) (adapters : List Standing) (errors : ℕ) (told : Option State) (new : Scene) (op : Op) (event : Event) (place : ℕ) →
+pub access_step : {which : ℕ → ℕ → Type 0} (c : ChipData) (l : LayoutData) (p : Machine) (adapters : List Standing) (errors : ℕ) (told : Option State) (new : Scene) (op : Op) (event : Event)
+    (place : ℕ) →
     let s = scene (seen c l p) adapters errors told in
-    IsAccess op → HasNumbers c (length l.maps) op → IsModel s.model → (a : Agree s) → HasContents which c a.device p → grant s.model op ≡ Ok place → IsDone s new op place event → IsMachineStep which c l p new op place event
+    IsAccess op → HasNumbers c (length l.maps) op → IsModel s.model → (a : Agree s) → HasContents which c a.device p → grant s.model op ≡ Ok place → IsDone s new op place event →
+    IsMachineStep which c l p new op place event
 access_step c l p adapters errors told new op event place is numbers ok a has granted done =
     let s = scene (seen c l p) adapters errors told in
     let n = register_in c (length l.maps) op ok.chip is numbers in

@@ -51,7 +51,8 @@ pub record IsAccessBy (s : Scene) (op : Op) (place reg : ℕ) (ops : List BusOp)
 abbrev pub event_by : Op → (reg : ℕ) → List TraceItem → End → ModelData → ℕ → Event
 event_by told reg items e m difference = register_event told reg items (record { end = e; model = m; differ = difference })
 
-pub by_parts : (told : Op) (reg : ℕ) (event : Event) (new : ModelData) (o : Outcome) → event ≡ register_event told reg event.trace o → new ≡ o.model → event ≡ event_by told reg event.trace event.end new event.differ
+pub by_parts : (told : Op) (reg : ℕ) (event : Event) (new : ModelData) (o : Outcome) → event ≡ register_event told reg event.trace o → new ≡ o.model → event ≡ event_by told reg event.trace event.end
+    new event.differ
 by_parts told reg event new o is model =
     is
     ∙ ap (λ e. event_by told reg event.trace e o.model o.differ) (sym (ap (λ (e : Event). e.end) is))
@@ -70,9 +71,11 @@ pub record IsStepped (s new : Scene) (op : Op) (event : Event) (place reg : ℕ)
   pub event_is : event ≡ event_by (named s.model op) reg event.trace event.end new.model event.differ
   pub finds : event.differ ≡ differ_in s.model.chip op reg r s.model.mirror
 
-pub writes : (s new : Scene) (op : Op) (event : Event) (place reg : ℕ) (d : State) (r : Register) (ops : List BusOp) (o : List TraceItem → Outcome) (good : End) (left : ModelData) (chosen : ℕ → Bool) (word : ℕ) →
+pub writes : (s new : Scene) (op : Op) (event : Event) (place reg : ℕ) (d : State) (r : Register) (ops : List BusOp) (o : List TraceItem → Outcome) (good : End) (left : ModelData) (chosen : ℕ →
+    Bool) (word : ℕ) →
     IsDone s new op place event → Meets s d reg r → IsAccessBy s op place reg ops o (λ words. good) (λ words. left) (λ words. 0) → IsWrite s.model.chip s.model.layout d place reg chosen word r ops →
-    step_of s.model op place ≡ write_step chosen word → good ≡ end_of s.model op place r → is_bus_error good ≡ false → ((v : ModelData) → v ≡ left → Followed s.model v reg (write_step chosen word) r) → 0 ≡ differ_in s.model.chip op reg r s.model.mirror →
+    step_of s.model op place ≡ write_step chosen word → good ≡ end_of s.model op place r → is_bus_error good ≡ false → ((v : ModelData) → v ≡ left → Followed s.model v reg (write_step chosen word) r)
+    → 0 ≡ differ_in s.model.chip op reg r s.model.mirror →
     IsStepped s new op event place reg d r
 writes s new op event place reg d r ops o good left chosen word done meets by w step ends fine follow silent =
     let c = s.model.chip in
@@ -93,10 +96,13 @@ writes s new op event place reg d r ops o good left chosen word done meets by w 
       finds = ap (λ (e : Event). e.differ) run.event_is ∙ by.finds event.trace run.none ∙ silent;
     }
 
-pub reads : (s new : Scene) (op : Op) (event : Event) (place reg : ℕ) (d : State) (r : Register) (ops : List BusOp) (o : List TraceItem → Outcome) (value : List ℕ → ℕ) (good : ℕ → End) (left : ℕ → ModelData) (found : ℕ → ℕ) (chosen : ℕ → Bool) →
-    IsDone s new op place event → Meets s d reg r → IsAccessBy s op place reg ops o (λ words. good (value words)) (λ words. left (value words)) (λ words. found (value words)) → IsRead s.model.chip s.model.layout d place reg chosen r ops value →
+pub reads : (s new : Scene) (op : Op) (event : Event) (place reg : ℕ) (d : State) (r : Register) (ops : List BusOp) (o : List TraceItem → Outcome) (value : List ℕ → ℕ) (good : ℕ → End) (left : ℕ →
+    ModelData) (found : ℕ → ℕ) (chosen : ℕ → Bool) →
+    IsDone s new op place event → Meets s d reg r → IsAccessBy s op place reg ops o (λ words. good (value words)) (λ words. left (value words)) (λ words. found (value words)) →
+    IsRead s.model.chip s.model.layout d place reg chosen r ops value →
     step_of s.model op place ≡ read_step chosen → good (ranswer (fields_of s.model.chip reg) chosen r) ≡ end_of s.model op place r → ((v : ℕ) → is_bus_error (good v) ≡ false) →
-    ((v : ModelData) → v ≡ left (ranswer (fields_of s.model.chip reg) chosen r) → Followed s.model v reg (read_step chosen) r) → found (ranswer (fields_of s.model.chip reg) chosen r) ≡ differ_in s.model.chip op reg r s.model.mirror →
+    ((v : ModelData) → v ≡ left (ranswer (fields_of s.model.chip reg) chosen r) → Followed s.model v reg (read_step chosen) r) → found (ranswer (fields_of s.model.chip reg) chosen r) ≡ differ_in
+    s.model.chip op reg r s.model.mirror →
     IsStepped s new op event place reg d r
 reads s new op event place reg d r ops o value good left found chosen done meets by w step ends fine follow seen =
     let c = s.model.chip in
@@ -133,7 +139,8 @@ pub whole_shown : (s : Scene) (place reg : ℕ) (d : State) (r : Register) → M
     let chosen = all_bytes (size_of s.model.chip reg) in
     IsRead s.model.chip s.model.layout d place reg every r (ops_of s.model.layout place 0 chosen 0 false) (joined s.model.layout place 0 chosen)
 whole_shown s place reg d r meets at =
-    subst (λ n. IsRead s.model.chip s.model.layout d place reg every r (ops_of s.model.layout place 0 (all_bytes n) 0 false) (joined s.model.layout place 0 (all_bytes n))) (whole_size s.model reg place false meets.model at)
+    subst (λ n. IsRead s.model.chip s.model.layout d place reg every r (ops_of s.model.layout place 0 (all_bytes n) 0 false) (joined s.model.layout place 0 (all_bytes n))) (whole_size s.model reg
+    place false meets.model at)
     (whole_read_is_step s.model.chip s.model.layout d place reg r (place_for s.model reg place false meets.model at) meets.ready meets.holds)
 
 abbrev pub end_in : Outcome → End
@@ -145,13 +152,16 @@ model_in o = o.model
 abbrev pub differ_of : Outcome → ℕ
 differ_of o = o.differ
 
-pub write_is_step : (s new : Scene) (op : Op) (event : Event) (place reg value : ℕ) (d : State) (r : Register) (good : End) → IsDone s new op place event → Meets s d reg r → IsWay s.model.layout (item.Reg reg) true place →
+pub write_is_step : (s new : Scene) (op : Op) (event : Event) (place reg value : ℕ) (d : State) (r : Register) (good : End) → IsDone s new op place event → Meets s d reg r →
+    IsWay s.model.layout (item.Reg reg) true place →
     IsOverBus s.model op place reg (access_ops s.model (whole s.model reg place value) true) (λ items. write_outcome (forgetting s.model place) good (whole s.model reg place value) items) →
-    step_of s.model op place ≡ write_step every value → good ≡ end_of s.model op place r → is_bus_error good ≡ false → reg < length s.model.chip.regs → 0 ≡ differ_in s.model.chip op reg r s.model.mirror →
+    step_of s.model op place ≡ write_step every value → good ≡ end_of s.model op place r → is_bus_error good ≡ false → reg < length s.model.chip.regs →
+    0 ≡ differ_in s.model.chip op reg r s.model.mirror →
     IsStepped s new op event place reg d r
 write_is_step s new op event place reg value d r good done meets at over step ends fine inside silent =
     let m = s.model in
-    writes s new op event place reg d r (access_ops m (whole m reg place value) true) (λ items. write_outcome (forgetting m place) good (whole m reg place value) items) good (good_write (forgetting m place) good reg value every_field).model every value done meets
+    writes s new op event place reg d r (access_ops m (whole m reg place value) true) (λ items. write_outcome (forgetting m place) good (whole m reg place value) items) good (good_write
+    (forgetting m place) good reg value every_field).model every value done meets
     (record {
       over = over;
       ends = λ items none. ap end_in (whole_write_is m (forgetting m place) good reg place value items none);
@@ -161,14 +171,16 @@ write_is_step s new op event place reg value d r good done meets at over step en
     (whole_written s place reg value d r meets at) step ends fine
     (λ v e. write_follows m (forgetting m place) reg value every_field every r v (whole_entry m place) (all_chosen m.chip reg meets.model.chip inside) e) silent
 
-pub read_is_step : (s new : Scene) (op : Op) (event : Event) (place reg : ℕ) (check : Bool) (d : State) (r : Register) → IsDone s new op place event → Meets s d reg r → IsWay s.model.layout (item.Reg reg) false place →
+pub read_is_step : (s new : Scene) (op : Op) (event : Event) (place reg : ℕ) (check : Bool) (d : State) (r : Register) → IsDone s new op place event → Meets s d reg r →
+    IsWay s.model.layout (item.Reg reg) false place →
     IsOverBus s.model op place reg (access_ops s.model (whole s.model reg place 0) false) (λ items. read_outcome (forgetting s.model place) check (whole s.model reg place 0) items) →
     step_of s.model op place ≡ read_step every → end.Value (ranswer (fields_of s.model.chip reg) every r) ≡ end_of s.model op place r → reg < length s.model.chip.regs →
     (if check then differ s.model.chip reg (ranswer (fields_of s.model.chip reg) every r) s.model.mirror else 0) ≡ differ_in s.model.chip op reg r s.model.mirror →
     IsStepped s new op event place reg d r
 read_is_step s new op event place reg check d r done meets at over step ends inside seen =
     let m = s.model in
-    reads s new op event place reg d r (access_ops m (whole m reg place 0) false) (λ items. read_outcome (forgetting m place) check (whole m reg place 0) items) (whole_value m reg place) end.Value (λ v. (good_read (forgetting m place) check reg v every_field).model) (λ v. if check then differ m.chip reg v m.mirror else 0) every done meets
+    reads s new op event place reg d r (access_ops m (whole m reg place 0) false) (λ items. read_outcome (forgetting m place) check (whole m reg place 0) items) (whole_value m reg place) end.Value
+    (λ v. (good_read (forgetting m place) check reg v every_field).model) (λ v. if check then differ m.chip reg v m.mirror else 0) every done meets
     (record {
       over = over;
       ends = λ items none. ap end_in (whole_read_is m (forgetting m place) check reg place items refl none);

@@ -60,7 +60,8 @@ mirrored-write c reg word fields m l = get_or-set_same m.mirrored reg (learned_b
 
 mirrored-write_other : (c : ChipData) (reg q word fields : ℕ) (m : MirrorData) → (q ≡ reg → ⊥) → mirrored_of (predict_write c reg word fields m) q ≡ mirrored_of m q
 unfolding predict_write
-mirrored-write_other c reg q word fields m other = get_or-set_other m.mirrored reg q (learned_by_write (fields_of c reg) (bit fields) (marks_in c m.spent reg) (mirrored_of m reg) word (mirrored_of m reg)) 0 other
+mirrored-write_other c reg q word fields m other = get_or-set_other m.mirrored reg q (learned_by_write (fields_of c reg) (bit fields) (marks_in c m.spent reg) (mirrored_of m reg) word
+    (mirrored_of m reg)) 0 other
 
 spent-write : (c : ChipData) (reg word fields : ℕ) (m : MirrorData) → (predict_write c reg word fields m).spent ≡ spent_after c reg fields m.spent
 unfolding predict_write
@@ -168,14 +169,16 @@ none_spent false t true e f = absurd (cc)
 none_spent false true false e f = refl
 none_spent false false false e f = refl
 
-still_alone : (c : ChipData) (d : State) (reg : ℕ) (chosen : ℕ → Bool) (word : ℕ) (r : Register) (b : ℕ) (o : Option ℕ) → b < 64 → Holds c d reg r → place_at (fields_of c reg) b ≡ o → is_spendable (fields_of c reg) o ≡ false →
+still_alone : (c : ChipData) (d : State) (reg : ℕ) (chosen : ℕ → Bool) (word : ℕ) (r : Register) (b : ℕ) (o : Option ℕ) → b < 64 → Holds c d reg r → place_at (fields_of c reg) b ≡ o →
+    is_spendable (fields_of c reg) o ≡ false →
     bit (slice_index d.marks reg) b ≡ false → marked_bit (wstep (fields_of c reg) chosen word r).spent o (bit (slice_index d.marks reg) b) ≡ false
 still_alone c d reg chosen word r b None low h at e was = was
 still_alone c d reg chosen word r b (Some k) low h at e was =
     spent-wstep (fields_of c reg) chosen word r k
     ∙ none_spent (r.spent k) (chosen k) (spends_mark (policy_in (fields_of c reg) k)) (sym (h.marks b k low at) ∙ was) e
 
-pub here_alone : (c : ChipData) (l : LayoutData) (d : State) (reg : ℕ) (step : Step) (r : Register) (count : ℕ) → IsReady c l d → reg < length c.regs → Holds c d reg r → IsMarkedAlone c d reg → IsMarkedAlone c (device_after c d reg step r count) reg
+pub here_alone : (c : ChipData) (l : LayoutData) (d : State) (reg : ℕ) (step : Step) (r : Register) (count : ℕ) → IsReady c l d → reg < length c.regs → Holds c d reg r → IsMarkedAlone c d reg →
+    IsMarkedAlone c (device_after c d reg step r count) reg
 here_alone c l d reg (write_step chosen word) r count ready inside h alone b low e =
     let fs = fields_of c reg in
     let within : reg < length d.marks = subst (λ n. reg < n) (sym ready.marks) inside in
@@ -205,7 +208,8 @@ as_believed s new op event place reg d ok a inside st =
           elim (cases_eq q reg) [
             | inl same ↦
                 subst (λ n. Holds c after n (believed c new.model.mirror n)) (sym same)
-                (holds_as c after reg (register_after (fields_of c reg) step r) (believed c new.model.mirror reg) (here_same c reg old new.model.mirror step ok.chip inside ok.mirror st.follows.mirror) st.stepped.holds)
+                (holds_as c after reg (register_after (fields_of c reg) step r) (believed c new.model.mirror reg) (here_same c reg old new.model.mirror step ok.chip inside ok.mirror
+                st.follows.mirror) st.stepped.holds)
             | inr other ↦
                 subst (λ x. Holds c x q (believed c new.model.mirror q)) (sym moved)
                 (other_holds c d reg q step r (believed c new.model.mirror q) count other
@@ -213,12 +217,14 @@ as_believed s new op event place reg d ok a inside st =
           ];
       alone = λ q l.
           elim (cases_eq q reg) [
-            | inl same ↦ subst (λ n. IsMarkedAlone c after n) (sym same) (subst (λ x. IsMarkedAlone c x reg) (sym moved) (here_alone c s.model.layout d reg step r count a.ready inside (a.holds reg inside) (a.alone reg inside)))
+            | inl same ↦ subst (λ n. IsMarkedAlone c after n) (sym same) (subst (λ x. IsMarkedAlone c x reg) (sym moved) (here_alone c s.model.layout d reg step r count a.ready inside
+                (a.holds reg inside) (a.alone reg inside)))
             | inr other ↦ λ b low e. ap (λ (x : State). bit (slice_index x.marks q) b) moved ∙ ap (λ n. bit n b) (other_marked c d reg q step r count other) ∙ a.alone q l b low e
           ];
     }
 
-pub agree_after : (s new : Scene) (op : Op) (event : Event) (place reg : ℕ) → IsModel s.model → (a : Agree s) → reg < length s.model.chip.regs → IsStepped s new op event place reg a.device (believed s.model.chip s.model.mirror reg) → Agree new
+pub agree_after : (s new : Scene) (op : Op) (event : Event) (place reg : ℕ) → IsModel s.model → (a : Agree s) → reg < length s.model.chip.regs → IsStepped s new op event place reg a.device
+    (believed s.model.chip s.model.mirror reg) → Agree new
 agree_after s new op event place reg ok a inside st = record {
   device = st.stepped.after;
   told = st.stepped.told;
@@ -248,7 +254,8 @@ register_in c maps (op.OtherRead reg map) sound is numbers = record { reg = reg;
 register_in c maps _ sound is numbers = absurd is
 
 -- a refused operation changes nothing
-pub refused_agree : (s new : Scene) (op : Op) (event : Event) (g : Grant) → Agree s → MatchResult g (λ place. IsDone s new op place event) (λ why. IsRefused s new op why event) → ((place : ℕ) → g ≡ Ok place → IsDone s new op place event → Agree new) → Agree new
+pub refused_agree : (s new : Scene) (op : Op) (event : Event) (g : Grant) → Agree s → MatchResult g (λ place. IsDone s new op place event) (λ why. IsRefused s new op why event) → ((place : ℕ) →
+    g ≡ Ok place → IsDone s new op place event → Agree new) → Agree new
 refused_agree s new op event (Ok place) a is granted = granted place refl is
 refused_agree s new op event (Err why) a is granted = subst Agree (sym is.unchanged) a
 

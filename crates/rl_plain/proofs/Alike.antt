@@ -32,7 +32,8 @@ watch_alike : (c : ChipData) (k l : LayoutData) (g : Grant) → AreAlike c k l �
 watch_alike c k l (Ok place) alike = ap (λ t. only_where (Ok place) t NotObserved) (alike.roots place)
 watch_alike c k l (Err why) alike = refl
 
-way_alike : (c : ChipData) (k l : LayoutData) (i : Item) (map : Option ℕ) (write : Bool) → AreAlike c k l → with_right k write (placed (place_of k i map)) ≡ with_right l write (placed (place_of l i map))
+way_alike : (c : ChipData) (k l : LayoutData) (i : Item) (map : Option ℕ) (write : Bool) → AreAlike c k l → with_right k write (placed (place_of k i map)) ≡ with_right l write
+    (placed (place_of l i map))
 way_alike c k l i map write alike = ap (λ o. with_right k write (placed o)) (alike.places i map) ∙ right_alike c k l write (placed (place_of l i map)) alike
 
 watched_alike : (c : ChipData) (k l : LayoutData) (i : Item) (map : Option ℕ) (write : Bool) → AreAlike c k l
@@ -103,15 +104,18 @@ left_alike c k l p _ place alike = refl
 
 ends_alike : (c : ChipData) (k l : LayoutData) (p : Machine) (o : Op) (place : ℕ) → AreAlike c k l → machine_end c k o place p ≡ machine_end c l o place p
 ends_alike c k l p (op.FieldRead field map) place alike =
-    ap (λ t. end.Value (part_of (field_of c field).shape (ranswer (fields_of c (reg_of c field)) (cond t (own_field c field) every) (register_at c p (reg_of c field))))) (alike.narrow field place false)
+    ap (λ t. end.Value (part_of (field_of c field).shape (ranswer (fields_of c (reg_of c field)) (cond t (own_field c field) every) (register_at c p (reg_of c field))))) (alike.narrow field place
+    false)
 ends_alike c k l p _ place alike = refl
 
 -- ---- the step
 
 done_alike : (c : ChipData) (k l : LayoutData) (p : Machine) (o : Op) (g : Grant) → AreAlike c k l → done_by c k o p g ≡ done_by c l o p g
 done_alike c k l p o (Ok place) alike =
-    ap (λ n. let d : Done = record { event = told c n (machine_end c k o place p) (machine_differ o p) (machine_after c k o place p); machine = machine_after c k o place p } in d) (names_alike c k l p o alike)
-    ∙ ap (λ e. let d : Done = record { event = told c (named (seen c l p) o) e (machine_differ o p) (machine_after c k o place p); machine = machine_after c k o place p } in d) (ends_alike c k l p o place alike)
+    ap (λ n. let d : Done = record { event = told c n (machine_end c k o place p) (machine_differ o p) (machine_after c k o place p); machine = machine_after c k o place p } in d) (names_alike c k l
+    p o alike)
+    ∙ ap (λ e. let d : Done = record { event = told c (named (seen c l p) o) e (machine_differ o p) (machine_after c k o place p); machine = machine_after c k o place p } in d) (ends_alike c k l p o
+    place alike)
     ∙ ap (λ a. let d : Done = record { event = told c (named (seen c l p) o) (machine_end c l o place p) (machine_differ o p) a; machine = a } in d) (left_alike c k l p o place alike)
 done_alike c k l p o (Err why) alike = ap (λ n. let d : Done = record { event = told c n (end.Refused why) 0 p; machine = p } in d) (names_alike c k l p o alike)
 

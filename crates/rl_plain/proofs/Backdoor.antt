@@ -82,7 +82,8 @@ deposited c l d reg value sound inside ready own =
 
 -- ---- the model believes what was deposited
 
-pub agree_deposit : (s new : Scene) (a : Agree s) (reg v : ℕ) (mirror : MirrorData) → new.device ≡ Some (with_bits a.device reg v) → new.model ≡ record s.model { mirror = mirror } → reg < length s.model.chip.regs →
+pub agree_deposit : (s new : Scene) (a : Agree s) (reg v : ℕ) (mirror : MirrorData) → new.device ≡ Some (with_bits a.device reg v) → new.model ≡ record s.model { mirror = mirror } →
+    reg < length s.model.chip.regs →
     mirrored_of mirror reg ≡ v → ((q : ℕ) → (q ≡ reg → ⊥) → mirrored_of mirror q ≡ mirrored_of s.model.mirror q) → mirror.spent ≡ s.model.mirror.spent → Agree new
 agree_deposit s new a reg v mirror told is inside here others spent =
     let c = s.model.chip in
@@ -121,7 +122,8 @@ raw_spent : (c : ChipData) (reg value : ℕ) (m : MirrorData) → (predict_raw c
 unfolding predict_raw
 raw_spent c reg value m = refl
 
-read_here : (c : ChipData) (reg read : ℕ) (m : MirrorData) → reg < length m.mirrored → mirrored_of (predict_read c reg read every_field m) reg ≡ learned_by_read (fields_of c reg) (bit every_field) read (mirrored_of m reg)
+read_here : (c : ChipData) (reg read : ℕ) (m : MirrorData) → reg < length m.mirrored → mirrored_of (predict_read c reg read every_field m) reg ≡ learned_by_read (fields_of c reg) (bit every_field)
+    read (mirrored_of m reg)
 unfolding predict_read
 read_here c reg read m l = get_or-set_same m.mirrored reg (learned_by_read (fields_of c reg) (bit every_field) read (mirrored_of m reg)) 0 l
 
@@ -151,7 +153,8 @@ left_learned fs m few =
     (λ b low. by b low (place_at fs b) refl)
   where
     by : (b : ℕ) → b < 64 → (o : Option ℕ) → place_at fs b ≡ o →
-        option_map_or (λ k. after_read (policy_in fs k) (bit m b)) o false ≡ option_map_or (λ k. cond (bit every_field k) (learned_bit (policy_in fs k) (bit (shown fs m) b) (bit m b)) (bit m b)) o false
+        option_map_or (λ k. after_read (policy_in fs k) (bit m b)) o false ≡ option_map_or (λ k. cond (bit every_field k) (learned_bit (policy_in fs k) (bit (shown fs m) b) (bit m b)) (bit m b)) o
+        false
     by b low None at = refl
     by b low (Some k) at =
         let seen : bit (shown fs m) b ≡ value_read (policy_in fs k) (bit m b) = bit-shown fs m b low ∙ ap (λ (o : Option ℕ). option_map_or (λ k. value_read (policy_in fs k) (bit m b)) o false) at in
@@ -166,7 +169,8 @@ pub record IsAlone (s new : Scene) (op : Op) (place : ℕ) (d : State) (sampled 
   pub told : new.device ≡ Some (device_after s.model op sampled [] d)
   pub model : new.model ≡ (outcome s.model op place sampled []).model
 
-pub alone_by : (s new : Scene) (op : Op) (event : Event) (place : ℕ) (d : State) → (done : IsDone s new op place event) → s.device ≡ Some d → sends s.model op place ≡ [] → IsAlone s new op place d done.sampled
+pub alone_by : (s new : Scene) (op : Op) (event : Event) (place : ℕ) (d : State) → (done : IsDone s new op place event) → s.device ≡ Some d → sends s.model op place ≡ [] →
+    IsAlone s new op place d done.sampled
 alone_by s new op event place d done told none =
     let trace : event.trace ≡ [] = done.answers d told ∙ ap (items_of _ d (port_for s.model.layout place)) none in
     record {
@@ -220,7 +224,8 @@ read_agrees s new a reg sampled ok inside found told is =
     (read_here c reg (back_value s.model reg sampled) s.model.mirror h.within ∙ ap (λ x. learned_by_read fs (bit every_field) (shown fs x) m) sample ∙ sym (left_learned fs m few))
     (λ q other. read_other c reg (back_value s.model reg sampled) q s.model.mirror other) (read_spent c reg (back_value s.model reg sampled) s.model.mirror)
 
-pub back_done : (s new : Scene) (op : Op) (event : Event) (place : ℕ) → IsBackdoor op → HasNumbers s.model.chip (length s.model.layout.maps) op → IsModel s.model → Agree s → IsDone s new op place event → Agree new
+pub back_done : (s new : Scene) (op : Op) (event : Event) (place : ℕ) → IsBackdoor op → HasNumbers s.model.chip (length s.model.layout.maps) op → IsModel s.model → Agree s →
+    IsDone s new op place event → Agree new
 back_done s new (op.BackWrite reg value) event place is numbers ok a done =
     let by = alone_by s new (op.BackWrite reg value) event place a.device done a.told refl in
     raw_agrees s new a reg (back_written s.model reg value done.sampled) ok numbers by.told by.model

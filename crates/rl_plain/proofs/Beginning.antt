@@ -66,6 +66,7 @@ pub new_ones_agree : NewOnesAgree
 new_ones_agree s count sound steady mirror gathered told = record {
   device = first_state (setup_of s.model.chip s.model.layout no_flaws) count;
   told = told;
-  believed_is = subst (λ m. IsAsBelieved s.model.chip s.model.layout m (first_state (setup_of s.model.chip s.model.layout no_flaws) count)) (sym mirror) (believed_first s.model.chip s.model.layout count sound steady);
+  believed_is = subst (λ m. IsAsBelieved s.model.chip s.model.layout m (first_state (setup_of s.model.chip s.model.layout no_flaws) count)) (sym mirror) (believed_first s.model.chip s.model.layout
+      count sound steady);
   gathered = gathered;
 }

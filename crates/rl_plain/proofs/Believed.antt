@@ -1,5 +1,6 @@
 -- What is believed of each register after an access, and after a deposit that the model takes over.
-use Rattle.std.proofs.Common.{◌≡◌, ◌⊎◌, ℕ, ◌+◌, ◌^◌, ◌<◌, ◌≤◌, Bool, true, false, ◌&&◌, ltb, le-ltb, lt-ltb, List, length, Option, None, Some, option_map, Result, Ok, Err, MatchResult, refl, sym, ap, ◌∙◌, subst, inl, inr, arith}
+use Rattle.std.proofs.Common.{◌≡◌, ◌⊎◌, ℕ, ◌+◌, ◌^◌, ◌<◌, ◌≤◌, Bool, true, false, ◌&&◌, ltb, le-ltb, lt-ltb, List, length, Option}
+use Rattle.std.proofs.Common.{None, Some, option_map, Result, Ok, Err, MatchResult, refl, sym, ap, ◌∙◌, subst, inl, inr, arith}
 use Rattle.std.specs.Prelude.{slice_index, nat_le, nat_lt}
 use Rattle.std.specs.Option.{option_map_or}
 use Rattle.std.proofs.Math.Pow.{pow_mono}
@@ -75,7 +76,8 @@ within_width width b lsb zero none = by (cases_lt b width)
     by (inl low) = absurd (let on : (nat_le lsb b && nat_lt b (lsb + width)) ≡ true = grind (arith, nat_tests) in cc)
     by (inr over) = over
 
-stored_bits : (fs : List FieldSeen) (width value : ℕ) (r : Register) → length fs ≡ 1 → (field_in fs 0).shape.lsb ≡ 0 → (field_in fs 0).shape.width ≡ width → policy_in fs 0 ≡ Rw → width ≤ 64 → value < 2 ^ width
+stored_bits : (fs : List FieldSeen) (width value : ℕ) (r : Register) → length fs ≡ 1 → (field_in fs 0).shape.lsb ≡ 0 → (field_in fs 0).shape.width ≡ width → policy_in fs 0 ≡ Rw → width ≤ 64 →
+    value < 2 ^ width
     → r.bits ≡ owned fs r.bits → (wstep fs every value r).bits ≡ value
 unfolding wstep
 stored_bits fs width value r one lsb width_is policy small fits own =
@@ -94,7 +96,8 @@ stored_bits fs width value r one lsb width_is policy small fits own =
         let first : k ≡ 0 = omega arith in
         ap (λ (p : Policy). after_write p (bit r.bits b) (bit value b) (r.spent k)) (ap (policy_in fs) first ∙ policy)
 
-stored_by : (s new : Scene) (event : Event) (reg width value : ℕ) (map : Option ℕ) → reg < length s.model.chip.regs → IsMapIn (length s.model.layout.maps) map → IsStored s.model.chip reg width → value < 2 ^ width
+stored_by : (s new : Scene) (event : Event) (reg width value : ℕ) (map : Option ℕ) → reg < length s.model.chip.regs → IsMapIn (length s.model.layout.maps) map → IsStored s.model.chip reg width →
+    value < 2 ^ width
     → IsModel s.model → Agree s → Performs s new (op.Write reg map value) event → event.end ≡ end.Done
     → (g : Grant) → grant s.model (op.Write reg map value) ≡ g → mirrored_of new.model.mirror reg ≡ value
 stored_by s new event reg width value map inside mapped stored fits ok a performs done (Ok place) granted =

@@ -36,7 +36,8 @@ broken_run_is_plain s new (op ∷ ops) (t ∷ u ∷ told) p numbers ok is (mid, 
     let after = plain_after s mid op t.event p (All-head (HasNumbers c maps) op ops numbers) ok is first.performs in
     let next = (machine_step c l p op).machine in
     let others : All (HasNumbers mid.model.chip (length mid.model.layout.maps)) ops =
-    subst (λ x. All (HasNumbers x (length mid.model.layout.maps)) ops) (sym after.same.chip) (subst (λ (x : LayoutData). All (HasNumbers c (length x.maps)) ops) (sym after.same.layout) (All-tail (HasNumbers c maps) op ops numbers)) in
+    subst (λ x. All (HasNumbers x (length mid.model.layout.maps)) ops) (sym after.same.chip) (subst (λ (x : LayoutData). All (HasNumbers c (length x.maps)) ops) (sym after.same.layout)
+    (All-tail (HasNumbers c maps) op ops numbers)) in
     let more : IsPlainCourse mid new (u ∷ told) (through mid.model.chip mid.model.layout next some) = broken_run_is_plain mid new ops (u ∷ told) next others after.ok after.machine rest in
     let here : IsPlainCourse mid new (u ∷ told) (through c l next some) =
     subst (λ x. IsPlainCourse mid new (u ∷ told) (through x l next some)) after.same.chip (subst (λ x. IsPlainCourse mid new (u ∷ told) (through mid.model.chip x next some)) after.same.layout more) in
@@ -50,7 +51,8 @@ none_along c l p stop = refl
 none_along c l p (step op plan) = refl
 none_along c l p (look f) = none_along c l p (f (seen c l p))
 
-first_step : (c : ChipData) (l : LayoutData) (p : Machine) (count : ℕ) (op : Op) (plan : Plan) → first_along c l p (suc count) (step op plan) ≡ then_on (machine_step c l p op) (λ after. first_along c l after count plan)
+first_step : (c : ChipData) (l : LayoutData) (p : Machine) (count : ℕ) (op : Op) (plan : Plan) → first_along c l p (suc count) (step op plan) ≡ then_on (machine_step c l p op) (λ after. first_along c
+    l after count plan)
 unfolding first_along
 first_step c l p count op plan = refl
 
@@ -78,7 +80,8 @@ broken_plan_is_plain s new (step op plan) (t ∷ u ∷ told) p numbers ok is (mi
     subst (λ x. PlanHasNumbers x mid.model.layout plan) (sym after.same.chip) (subst (λ x. PlanHasNumbers c x plan) (sym after.same.layout) numbers.1) in
     let more : IsPlainCourse mid new (u ∷ told) (first_along mid.model.chip mid.model.layout next count plan) = broken_plan_is_plain mid new plan (u ∷ told) next others after.ok after.machine rest in
     let here : IsPlainCourse mid new (u ∷ told) (first_along c l next count plan) =
-    subst (λ x. IsPlainCourse mid new (u ∷ told) (first_along x l next count plan)) after.same.chip (subst (λ x. IsPlainCourse mid new (u ∷ told) (first_along mid.model.chip x next count plan)) after.same.layout more) in
+    subst (λ x. IsPlainCourse mid new (u ∷ told) (first_along x l next count plan)) after.same.chip (subst (λ x. IsPlainCourse mid new (u ∷ told) (first_along mid.model.chip x next count plan))
+    after.same.layout more) in
     subst (IsPlainCourse s new (t ∷ u ∷ told)) (sym (first_step c l p count op plan)) (one_more s mid new t (u ∷ told) p op (λ after. first_along c l after count plan) after here)
 broken_plan_is_plain s new (look f) told p numbers ok is run =
     let c = s.model.chip in

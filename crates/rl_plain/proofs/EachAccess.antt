@@ -74,36 +74,71 @@ update_by s new reg map event place d r false is meets at done inside =
 -- ---- each operation
 
 pub one_step : (s new : Scene) (op : Op) (event : Event) (place reg : ℕ) (d : State) (r : Register) →
-    IsAccess op → HasNumbers s.model.chip (length s.model.layout.maps) op → register_of s.model.chip op ≡ Some reg → Meets s d reg r → grant s.model op ≡ Ok place → IsDone s new op place event → IsStepped s new op event place reg d r
+    IsAccess op → HasNumbers s.model.chip (length s.model.layout.maps) op → register_of s.model.chip op ≡ Some reg → Meets s d reg r → grant s.model op ≡ Ok place → IsDone s new op place event →
+    IsStepped s new op event place reg d r
 one_step s new (op.Write n map value) event place reg d r is numbers register meets granted done =
     let same : n ≡ reg = cc in
     subst (λ k. Meets s d k r → IsStepped s new (op.Write n map value) event place k d r) same
-    (λ it. write_is_step s new (op.Write n map value) event place n value d r end.Done done it (write_way s.model n map value place granted) (record { sends_are = refl; outcome_is = λ sampled items. refl; register = refl; goes = λ sampled items d. refl }) refl refl refl numbers.0 refl)
+    (λ it. write_is_step s new (op.Write n map value) event place n value d r end.Done done it (write_way s.model n map value place granted) (record {
+      sends_are = refl;
+      outcome_is = λ sampled items.
+          refl;
+      register = refl;
+      goes = λ sampled items d. refl;
+    }) refl refl refl numbers.0 refl)
     meets
 one_step s new (op.OtherWrite n map value) event place reg d r is numbers register meets granted done =
     let same : n ≡ reg = cc in
     subst (λ k. Meets s d k r → IsStepped s new (op.OtherWrite n map value) event place k d r) same
-    (λ it. write_is_step s new (op.OtherWrite n map value) event place n value d r end.Done done it (other_write_way s.model n map value place granted) (record { sends_are = refl; outcome_is = λ sampled items. refl; register = refl; goes = λ sampled items d. refl }) refl refl refl numbers.0 refl)
+    (λ it. write_is_step s new (op.OtherWrite n map value) event place n value d r end.Done done it (other_write_way s.model n map value place granted) (record {
+      sends_are = refl;
+      outcome_is = λ
+          sampled items. refl;
+      register = refl;
+      goes = λ sampled items d. refl;
+    }) refl refl refl numbers.0 refl)
     meets
 one_step s new (op.Read n map) event place reg d r is numbers register meets granted done =
     let same : n ≡ reg = cc in
     subst (λ k. Meets s d k r → IsStepped s new (op.Read n map) event place k d r) same
-    (λ it. read_is_step s new (op.Read n map) event place n false d r done it (way_found s.model (item.Reg n) map false place granted) (record { sends_are = refl; outcome_is = λ sampled items. refl; register = refl; goes = λ sampled items d. refl }) refl refl numbers.0 refl)
+    (λ it. read_is_step s new (op.Read n map) event place n false d r done it (way_found s.model (item.Reg n) map false place granted) (record {
+      sends_are = refl;
+      outcome_is = λ sampled items. refl;
+      register = refl;
+      goes = λ sampled items d. refl;
+    }) refl refl numbers.0 refl)
     meets
 one_step s new (op.Mirror n map) event place reg d r is numbers register meets granted done =
     let same : n ≡ reg = cc in
     subst (λ k. Meets s d k r → IsStepped s new (op.Mirror n map) event place k d r) same
-    (λ it. read_is_step s new (op.Mirror n map) event place n false d r done it (way_found s.model (item.Reg n) map false place granted) (record { sends_are = refl; outcome_is = λ sampled items. refl; register = refl; goes = λ sampled items d. refl }) refl refl numbers.0 refl)
+    (λ it. read_is_step s new (op.Mirror n map) event place n false d r done it (way_found s.model (item.Reg n) map false place granted) (record {
+      sends_are = refl;
+      outcome_is = λ sampled items.
+          refl;
+      register = refl;
+      goes = λ sampled items d. refl;
+    }) refl refl numbers.0 refl)
     meets
 one_step s new (op.Check n map) event place reg d r is numbers register meets granted done =
     let same : n ≡ reg = cc in
     subst (λ k. Meets s d k r → IsStepped s new (op.Check n map) event place k d r) same
-    (λ it. read_is_step s new (op.Check n map) event place n true d r done it (way_found s.model (item.Reg n) map false place granted) (record { sends_are = refl; outcome_is = λ sampled items. refl; register = refl; goes = λ sampled items d. refl }) refl refl numbers.0 refl)
+    (λ it. read_is_step s new (op.Check n map) event place n true d r done it (way_found s.model (item.Reg n) map false place granted) (record {
+      sends_are = refl;
+      outcome_is = λ sampled items. refl;
+      register = refl;
+      goes = λ sampled items d. refl;
+    }) refl refl numbers.0 refl)
     meets
 one_step s new (op.OtherRead n map) event place reg d r is numbers register meets granted done =
     let same : n ≡ reg = cc in
     subst (λ k. Meets s d k r → IsStepped s new (op.OtherRead n map) event place k d r) same
-    (λ it. read_is_step s new (op.OtherRead n map) event place n false d r done it (watched_way_found s.model n map false place granted) (record { sends_are = refl; outcome_is = λ sampled items. refl; register = refl; goes = λ sampled items d. refl }) refl refl numbers.0 refl)
+    (λ it. read_is_step s new (op.OtherRead n map) event place n false d r done it (watched_way_found s.model n map false place granted) (record {
+      sends_are = refl;
+      outcome_is = λ sampled items.
+          refl;
+      register = refl;
+      goes = λ sampled items d. refl;
+    }) refl refl numbers.0 refl)
     meets
 one_step s new (op.FieldWrite field map value) event place reg d r is numbers register meets granted done =
     let same : reg_of s.model.chip field ≡ reg = cc in

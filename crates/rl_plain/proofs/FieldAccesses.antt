@@ -25,7 +25,8 @@ use Rattle.rl_model.specs.declared.rows.Item.TheVariants as item
 -- ---- an access to a field
 
 -- whole, or to the field alone
-pub field_write_by : (s new : Scene) (field : ℕ) (map : Option ℕ) (value : ℕ) (event : Event) (place : ℕ) (d : State) (r : Register) (alone : Bool) → is_alone s.model field place true ≡ alone → field < length s.model.chip.fields →
+pub field_write_by : (s new : Scene) (field : ℕ) (map : Option ℕ) (value : ℕ) (event : Event) (place : ℕ) (d : State) (r : Register) (alone : Bool) → is_alone s.model field place true ≡ alone →
+    field < length s.model.chip.fields →
     Meets s d (reg_of s.model.chip field) r → IsWay s.model.layout (item.Reg (reg_of s.model.chip field)) true place → IsDone s new (op.FieldWrite field map value) place event →
     IsStepped s new (op.FieldWrite field map value) event place (reg_of s.model.chip field) d r
 field_write_by s new field map value event place d r true is inside meets at done =
@@ -34,7 +35,8 @@ field_write_by s new field map value event place d r true is inside meets at don
     let entry = forgetting_field m field place true in
     let word = neutral_around m.chip field value m.mirror in
     let good = end.Done in
-    writes s new (op.FieldWrite field map value) event place reg d r (access_ops m (field_alone m field place value) true) (λ items. write_outcome entry good (field_alone m field place value) items) good (good_write entry good reg (narrow_word m field value) (narrow_fields m field)).model (own_field m.chip field) (narrow_word m field value) done meets
+    writes s new (op.FieldWrite field map value) event place reg d r (access_ops m (field_alone m field place value) true) (λ items. write_outcome entry good (field_alone m field place value) items)
+    good (good_write entry good reg (narrow_word m field value) (narrow_fields m field)).model (own_field m.chip field) (narrow_word m field value) done meets
     (record {
       over = record {
         sends_are = ap (λ b. access_ops m (if b then field_alone m field place value else whole m reg place word) true) is;
@@ -48,14 +50,16 @@ field_write_by s new field map value event place d r true is inside meets at don
     })
     (narrow_write_is_step m.chip m.layout d place field (narrow_word m field value) r inside is (place_for m reg place true meets.model at) meets.ready meets.holds)
     (ap (λ b. write_step (if b then own_field m.chip field else every) (if b then narrow_word m field value else word)) is) refl refl
-    (λ v e. write_follows m entry reg (narrow_word m field value) (narrow_fields m field) (own_field m.chip field) r v (field_entry m field place true) (own_chosen m field (fields_of m.chip reg)) e) refl
+    (λ v e. write_follows m entry reg (narrow_word m field value) (narrow_fields m field) (own_field m.chip field) r v (field_entry m field place true) (own_chosen m field (fields_of m.chip reg)) e)
+    refl
 field_write_by s new field map value event place d r false is inside meets at done =
     let m = s.model in
     let reg = reg_of m.chip field in
     let entry = forgetting_field m field place true in
     let word = neutral_around m.chip field value m.mirror in
     let good = end.Done in
-    writes s new (op.FieldWrite field map value) event place reg d r (access_ops m (whole m reg place word) true) (λ items. write_outcome entry good (whole m reg place word) items) good (good_write entry good reg word every_field).model every word done meets
+    writes s new (op.FieldWrite field map value) event place reg d r (access_ops m (whole m reg place word) true) (λ items. write_outcome entry good (whole m reg place word) items) good
+    (good_write entry good reg word every_field).model every word done meets
     (record {
       over = record {
         sends_are = ap (λ b. access_ops m (if b then field_alone m field place value else whole m reg place word) true) is;
@@ -71,7 +75,8 @@ field_write_by s new field map value event place d r false is inside meets at do
     (ap (λ b. write_step (if b then own_field m.chip field else every) (if b then narrow_word m field value else word)) is) refl refl
     (λ v e. write_follows m entry reg word every_field every r v (field_entry m field place true) (all_chosen m.chip reg meets.model.chip (seated m.chip field meets.model.chip inside).reg) e) refl
 
-pub field_read_by : (s new : Scene) (field : ℕ) (map : Option ℕ) (event : Event) (place : ℕ) (d : State) (r : Register) (alone : Bool) → is_alone s.model field place false ≡ alone → field < length s.model.chip.fields →
+pub field_read_by : (s new : Scene) (field : ℕ) (map : Option ℕ) (event : Event) (place : ℕ) (d : State) (r : Register) (alone : Bool) → is_alone s.model field place false ≡ alone →
+    field < length s.model.chip.fields →
     Meets s d (reg_of s.model.chip field) r → IsWay s.model.layout (item.Reg (reg_of s.model.chip field)) false place → IsDone s new (op.FieldRead field map) place event →
     IsStepped s new (op.FieldRead field map) event place (reg_of s.model.chip field) d r
 field_read_by s new field map event place d r true is inside meets at done =
@@ -80,7 +85,8 @@ field_read_by s new field map event place d r true is inside meets at done =
     let f = (field_of m.chip field).shape in
     let entry = forgetting_field m field place false in
     let good : ℕ → End = λ v. end.Value (part_of f v) in
-    reads s new (op.FieldRead field map) event place reg d r (access_ops m (field_alone m field place 0) false) (λ items. in_field m.chip field (read_outcome entry false (field_alone m field place 0) items)) (narrow_value m field place) good (λ v. (good_read entry false reg v (narrow_fields m field)).model) (λ v. 0) (own_field m.chip field) done meets
+    reads s new (op.FieldRead field map) event place reg d r (access_ops m (field_alone m field place 0) false) (λ items. in_field m.chip field (read_outcome entry false (field_alone m field place 0)
+    items)) (narrow_value m field place) good (λ v. (good_read entry false reg v (narrow_fields m field)).model) (λ v. 0) (own_field m.chip field) done meets
     (record {
       over = record {
         sends_are = ap (λ b. access_ops m (if b then field_alone m field place 0 else whole m reg place 0) false) is;
@@ -102,7 +108,8 @@ field_read_by s new field map event place d r false is inside meets at done =
     let f = (field_of m.chip field).shape in
     let entry = forgetting_field m field place false in
     let good : ℕ → End = λ v. end.Value (part_of f v) in
-    reads s new (op.FieldRead field map) event place reg d r (access_ops m (whole m reg place 0) false) (λ items. in_field m.chip field (read_outcome entry false (whole m reg place 0) items)) (whole_value m reg place) good (λ v. (good_read entry false reg v every_field).model) (λ v. 0) every done meets
+    reads s new (op.FieldRead field map) event place reg d r (access_ops m (whole m reg place 0) false) (λ items. in_field m.chip field (read_outcome entry false (whole m reg place 0) items))
+    (whole_value m reg place) good (λ v. (good_read entry false reg v every_field).model) (λ v. 0) every done meets
     (record {
       over = record {
         sends_are = ap (λ b. access_ops m (if b then field_alone m field place 0 else whole m reg place 0) false) is;

@@ -41,7 +41,8 @@ first_content c l mem index inside low =
     let room : location t mem index < count = location_within c l mem index inside low in
     let at : location (first_device c l).setup mem index ≡ location t mem index = ap (λ (u : Setup). location u mem index) (first_setup t count) in
     let held : slice_index (first_device c l).locations (location (first_device c l).setup mem index) ≡ 0 =
-    ap (λ xs. slice_index xs (location (first_device c l).setup mem index)) (first_locations t count) ∙ ap (slice_index (replicate count 0)) at ∙ get_or-replicate count (location t mem index) 0 0 room in
+    ap (λ xs. slice_index xs (location (first_device c l).setup mem index)) (first_locations t count) ∙ ap (slice_index (replicate count 0)) at ∙ get_or-replicate count (location t mem index) 0 0
+    room in
     record {
       has = record {
         inside = subst (λ n. n < length (first_device c l).locations) (sym at) (subst (λ n. location t mem index < n) (sym (ap length (first_locations t count) ∙ length-replicate count 0)) room);

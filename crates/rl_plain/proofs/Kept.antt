@@ -33,7 +33,8 @@ one_set c values reg x q inside here old =
 abbrev with_register : MirrorData → (reg x y : ℕ) → List Bool → MirrorData
 with_register m reg x y spent = record { mirrored = slice_set m.mirrored reg x; desired = slice_set m.desired reg y; spent = spent }
 
-built_with : (c : ChipData) (m : MirrorData) (reg x y : ℕ) (spent : List Bool) → reg < length c.regs → IsMirrorOf c m → IsValueOf c reg x → IsValueOf c reg y → length spent ≡ length c.fields → IsMirrorOf c (with_register m reg x y spent)
+built_with : (c : ChipData) (m : MirrorData) (reg x y : ℕ) (spent : List Bool) → reg < length c.regs → IsMirrorOf c m → IsValueOf c reg x → IsValueOf c reg y → length spent ≡ length c.fields →
+    IsMirrorOf c (with_register m reg x y spent)
 built_with c m reg x y spent inside built first second long = record {
   registers = length-set m.mirrored reg x ∙ built.registers;
   wishes = length-set m.desired reg y ∙ built.wishes;
@@ -44,7 +45,8 @@ built_with c m reg x y spent inside built first second long = record {
 
 -- ---- predictions
 
-written_value : (c : ChipData) (reg : ℕ) (chosen marks : ℕ → Bool) (mirrored word kept : ℕ) → IsSound c → reg < length c.regs → IsValueOf c reg (learned_by_write (fields_of c reg) chosen marks mirrored word kept)
+written_value : (c : ChipData) (reg : ℕ) (chosen marks : ℕ → Bool) (mirrored word kept : ℕ) → IsSound c → reg < length c.regs → IsValueOf c reg (learned_by_write (fields_of c reg) chosen marks
+    mirrored word kept)
 unfolding learned_by_write
 written_value c reg chosen marks mirrored word kept sound inside = word_is_value c reg _ sound inside
 
@@ -57,7 +59,8 @@ unfolding predict_write
 write_built c reg word fields m sound inside built =
     let fs = fields_of c reg in
     let marks = marks_in c m.spent reg in
-    built_with c m reg (learned_by_write fs (bit fields) marks (mirrored_of m reg) word (mirrored_of m reg)) (learned_by_write fs (bit fields) marks (mirrored_of m reg) word (desired_of m reg)) (spent_after c reg fields m.spent) inside built
+    built_with c m reg (learned_by_write fs (bit fields) marks (mirrored_of m reg) word (mirrored_of m reg)) (learned_by_write fs (bit fields) marks (mirrored_of m reg) word (desired_of m reg))
+    (spent_after c reg fields m.spent) inside built
     (written_value c reg (bit fields) marks (mirrored_of m reg) word (mirrored_of m reg) sound inside) (written_value c reg (bit fields) marks (mirrored_of m reg) word (desired_of m reg) sound inside)
     (length-spent_after c reg fields m.spent ∙ built.marks)
 

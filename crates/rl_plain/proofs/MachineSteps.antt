@@ -35,7 +35,8 @@ abbrev pub everywhere : ℕ → ℕ → Type 0
 everywhere mem index = Unit {0}
 
 -- both stay
-stays_at : (c : ChipData) (d after : State) (p q : Machine) (mem index : ℕ) → HasContent c d p mem index → after.setup ≡ d.setup → after.locations ≡ d.locations → q.locations ≡ p.locations → HasContent c after q mem index
+stays_at : (c : ChipData) (d after : State) (p q : Machine) (mem index : ℕ) → HasContent c d p mem index → after.setup ≡ d.setup → after.locations ≡ d.locations → q.locations ≡ p.locations →
+    HasContent c after q mem index
 stays_at c d after p q mem index h setup locations same =
     let at : location after.setup mem index ≡ location d.setup mem index = ap (λ (t : Setup). location t mem index) setup in
     let held : slice_index after.locations (location after.setup mem index) ≡ slice_index d.locations (location d.setup mem index) =
@@ -48,7 +49,8 @@ stays_at c d after p q mem index h setup locations same =
       holds = held ∙ h.holds ∙ ap (λ f. f mem index) (sym same);
     }
 
-pub contents_stay : {which : ℕ → ℕ → Type 0} (c : ChipData) (d after : State) (p q : Machine) → HasContents which c d p → after.setup ≡ d.setup → after.locations ≡ d.locations → q.locations ≡ p.locations → HasContents which c after q
+pub contents_stay : {which : ℕ → ℕ → Type 0} (c : ChipData) (d after : State) (p q : Machine) → HasContents which c d p → after.setup ≡ d.setup → after.locations ≡ d.locations →
+    q.locations ≡ p.locations → HasContents which c after q
 contents_stay c d after p q has setup locations same = record { at = λ mem index on inside low. stays_at c d after p q mem index (has.at mem index on inside low) setup locations same }
 
 -- one gets a value
@@ -60,7 +62,8 @@ here_or_there m mem i index value kept (inr a) b differ = ap (λ t. cond (t && e
 here_is : (m mem i index value kept : ℕ) → m ≡ mem → i ≡ index → cond (eqb m mem && eqb i index) value kept ≡ value
 here_is m mem i index value kept a b = ap (λ t. cond (t && eqb i index) value kept) (eq-eqb m mem a) ∙ ap (λ t. cond t value kept) (eq-eqb i index b)
 
-one_stored : (c : ChipData) (l : LayoutData) (d after : State) (p : Machine) (mem index value m i : ℕ) → HasContents everywhere c d p → d.setup ≡ setup_of c l no_flaws → mem < length c.mems → index < memory_size c mem → value < 256 ^ location_size c mem →
+one_stored : (c : ChipData) (l : LayoutData) (d after : State) (p : Machine) (mem index value m i : ℕ) → HasContents everywhere c d p → d.setup ≡ setup_of c l no_flaws → mem < length c.mems →
+    index < memory_size c mem → value < 256 ^ location_size c mem →
     after.setup ≡ d.setup → after.locations ≡ slice_set d.locations (location d.setup mem index) value → m < length c.mems → i < memory_size c m →
     (location d.setup m i ≡ location d.setup mem index) ⊎ (location d.setup m i ≡ location d.setup mem index → ⊥) → HasContent c after (with_location mem index value p) m i
 one_stored c l d after p mem index value m i has setup inside low fits same locations within below (inl e) =
@@ -94,7 +97,8 @@ one_stored c l d after p mem index value m i has setup inside low fits same loca
       holds = held ∙ h.holds ∙ sym (here_or_there m mem i index value (p.locations m i) (cases_eq m mem) (cases_eq i index) other);
     }
 
-pub contents_stored : (c : ChipData) (l : LayoutData) (d after : State) (p : Machine) (mem index value : ℕ) → HasContents everywhere c d p → d.setup ≡ setup_of c l no_flaws → mem < length c.mems → index < memory_size c mem → value < 256 ^ location_size c mem →
+pub contents_stored : (c : ChipData) (l : LayoutData) (d after : State) (p : Machine) (mem index value : ℕ) → HasContents everywhere c d p → d.setup ≡ setup_of c l no_flaws → mem < length c.mems →
+    index < memory_size c mem → value < 256 ^ location_size c mem →
     after.setup ≡ d.setup → after.locations ≡ slice_set d.locations (location d.setup mem index) value → HasContents everywhere c after (with_location mem index value p)
 contents_stored c l d after p mem index value has setup inside low fits same locations = record {
   at = λ m i on within below. one_stored c l d after p mem index value m i has setup inside low fits same locations within below (cases_eq (location d.setup m i) (location d.setup mem index));

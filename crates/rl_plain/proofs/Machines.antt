@@ -39,17 +39,20 @@ access_kept c l p ok = record { built = ok.mirror; reach = ok.reach }
 
 loads : (c : ChipData) (l : LayoutData) (p : Machine) (adapters : List Standing) (errors : ℕ) (told : Option State) (new : Scene) (op : Op) (event : Event) (place count : ℕ) (e : End) (found : ℕ) →
     let s = scene (seen c l p) adapters errors told in
-    IsModel s.model → (a : Agree s) → HasContents everywhere c a.device p → IsMemoryStep s new event (loaded a.device count) e found → machine_after c l op place p ≡ p → e ≡ machine_end c l op place p → found ≡ machine_differ op p →
+    IsModel s.model → (a : Agree s) → HasContents everywhere c a.device p → IsMemoryStep s new event (loaded a.device count) e found → machine_after c l op place p ≡ p →
+    e ≡ machine_end c l op place p → found ≡ machine_differ op p →
     IsMachineStep everywhere c l p new op place event
 loads c l p adapters errors told new op event place count e found ok a has st same ended differs =
     let s = scene (seen c l p) adapters errors told in
     let after = loaded a.device count in
-    quiet_step c l p new op place event after (mirror_of p) e found (memory_agrees s new event after e found a st refl refl) st.model st.told st.ends st.finds (access_kept c l p ok) (ap mirror_of (sym same)) ended differs
+    quiet_step c l p new op place event after (mirror_of p) e found (memory_agrees s new event after e found a st refl refl) st.model st.told st.ends st.finds (access_kept c l p ok) (ap mirror_of
+    (sym same)) ended differs
     (subst (HasContents everywhere c after) (sym same) (contents_stay c a.device after p p has refl refl refl))
 
 memory_access_step : (c : ChipData) (l : LayoutData) (p : Machine) (adapters : List Standing) (errors : ℕ) (told : Option State) (new : Scene) (op : Op) (event : Event) (place : ℕ) →
     let s = scene (seen c l p) adapters errors told in
-    IsMemoryAccess op → HasNumbers c (length l.maps) op → IsModel s.model → (a : Agree s) → HasContents everywhere c a.device p → grant s.model op ≡ Ok place → IsDone s new op place event → IsMachineStep everywhere c l p new op place event
+    IsMemoryAccess op → HasNumbers c (length l.maps) op → IsModel s.model → (a : Agree s) → HasContents everywhere c a.device p → grant s.model op ≡ Ok place → IsDone s new op place event →
+    IsMachineStep everywhere c l p new op place event
 memory_access_step c l p adapters errors told new (op.MemWrite mem map index value) event place is numbers ok a has granted done =
     let s = scene (seen c l p) adapters errors told in
     let d = a.device in
@@ -57,7 +60,8 @@ memory_access_step c l p adapters errors told new (op.MemWrite mem map index val
     let count = length (ops_of l place index (location_bytes s.model mem) value true) in
     let after = stored d mem index value count in
     let st = write_step_is s new mem index value map event place ok a numbers.0 (has.at mem index tt numbers.0 at.0).has granted done in
-    quiet_step c l p new (op.MemWrite mem map index value) place event after (mirror_of p) end.Done 0 (memory_agrees s new event after end.Done 0 a st refl refl) st.model st.told st.ends st.finds (access_kept c l p ok) refl refl refl
+    quiet_step c l p new (op.MemWrite mem map index value) place event after (mirror_of p) end.Done 0 (memory_agrees s new event after end.Done 0 a st refl refl) st.model st.told st.ends st.finds
+    (access_kept c l p ok) refl refl refl
     (contents_stored c l d after p mem index value has a.believed_is.ready.setup numbers.0 at.0 at.1 refl refl)
 memory_access_step c l p adapters errors told new (op.MemRead mem map index) event place is numbers ok a has granted done =
     let s = scene (seen c l p) adapters errors told in
@@ -78,12 +82,14 @@ memory_access_step c l p adapters errors told new _ event place is numbers ok a 
 
 off_step : {which : ℕ → ℕ → Type 0} (c : ChipData) (l : LayoutData) (p : Machine) (adapters : List Standing) (errors : ℕ) (told : Option State) (new : Scene) (op : Op) (event : Event) (place : ℕ) →
     let s = scene (seen c l p) adapters errors told in
-    IsOffMemory op → HasNumbers c (length l.maps) op → IsModel s.model → (a : Agree s) → HasContents which c a.device p → grant s.model op ≡ Ok place → IsDone s new op place event → IsMachineStep which c l p new op place event
+    IsOffMemory op → HasNumbers c (length l.maps) op → IsModel s.model → (a : Agree s) → HasContents which c a.device p → grant s.model op ≡ Ok place → IsDone s new op place event →
+    IsMachineStep which c l p new op place event
 off_step c l p ad er t new (op.Write n map value) event place off numbers ok a has granted done = access_step c l p ad er t new (op.Write n map value) event place tt numbers ok a has granted done
 off_step c l p ad er t new (op.Read n map) event place off numbers ok a has granted done = access_step c l p ad er t new (op.Read n map) event place tt numbers ok a has granted done
 off_step c l p ad er t new (op.Mirror n map) event place off numbers ok a has granted done = access_step c l p ad er t new (op.Mirror n map) event place tt numbers ok a has granted done
 off_step c l p ad er t new (op.Check n map) event place off numbers ok a has granted done = access_step c l p ad er t new (op.Check n map) event place tt numbers ok a has granted done
-off_step c l p ad er t new (op.FieldWrite field map value) event place off numbers ok a has granted done = access_step c l p ad er t new (op.FieldWrite field map value) event place tt numbers ok a has granted done
+off_step c l p ad er t new (op.FieldWrite field map value) event place off numbers ok a has granted done = access_step c l p ad er t new (op.FieldWrite field map value) event place tt numbers ok a
+    has granted done
 off_step c l p ad er t new (op.FieldRead field map) event place off numbers ok a has granted done = access_step c l p ad er t new (op.FieldRead field map) event place tt numbers ok a has granted done
 off_step c l p ad er t new (op.Set field value) event place off numbers ok a has granted done = wish_step c l p ad er t new (op.Set field value) event place tt numbers ok a has done
 off_step c l p ad er t new (op.Show n) event place off numbers ok a has granted done = wish_step c l p ad er t new (op.Show n) event place tt numbers ok a has done
@@ -93,9 +99,12 @@ off_step c l p ad er t new (op.BackRead n) event place off numbers ok a has gran
 off_step c l p ad er t new (op.BackCheck n) event place off numbers ok a has granted done = back_step c l p ad er t new (op.BackCheck n) event place tt numbers ok a has done
 off_step c l p ad er t new (op.Peek n) event place off numbers ok a has granted done = back_step c l p ad er t new (op.Peek n) event place tt numbers ok a has done
 off_step c l p ad er t new (op.Poke n value) event place off numbers ok a has granted done = back_step c l p ad er t new (op.Poke n value) event place tt numbers ok a has done
-off_step c l p ad er t new (op.BurstWrite mem map first count) event place off numbers ok a has granted done = burst_step c l p ad er t new (op.BurstWrite mem map first count) event place tt ok a has done
-off_step c l p ad er t new (op.BurstRead mem map first count) event place off numbers ok a has granted done = burst_step c l p ad er t new (op.BurstRead mem map first count) event place tt ok a has done
-off_step c l p ad er t new (op.OtherWrite n map value) event place off numbers ok a has granted done = access_step c l p ad er t new (op.OtherWrite n map value) event place tt numbers ok a has granted done
+off_step c l p ad er t new (op.BurstWrite mem map first count) event place off numbers ok a has granted done = burst_step c l p ad er t new (op.BurstWrite mem map first count) event place tt ok a has
+    done
+off_step c l p ad er t new (op.BurstRead mem map first count) event place off numbers ok a has granted done = burst_step c l p ad er t new (op.BurstRead mem map first count) event place tt ok a has
+    done
+off_step c l p ad er t new (op.OtherWrite n map value) event place off numbers ok a has granted done = access_step c l p ad er t new (op.OtherWrite n map value) event place tt numbers ok a has
+    granted done
 off_step c l p ad er t new (op.OtherRead n map) event place off numbers ok a has granted done = access_step c l p ad er t new (op.OtherRead n map) event place tt numbers ok a has granted done
 off_step c l p ad er t new (op.Hw field value) event place off numbers ok a has granted done =
     let clash : false ≡ true = sym (a.believed_is.steady field numbers) ∙ volatile_where (seen c l p) field value place granted in
@@ -105,12 +114,17 @@ off_step c l p ad er t new _ event place off numbers ok a has granted done = abs
 
 each_step : (c : ChipData) (l : LayoutData) (p : Machine) (adapters : List Standing) (errors : ℕ) (told : Option State) (new : Scene) (op : Op) (event : Event) (place : ℕ) →
     let s = scene (seen c l p) adapters errors told in
-    HasNumbers c (length l.maps) op → IsModel s.model → (a : Agree s) → HasContents everywhere c a.device p → grant s.model op ≡ Ok place → IsDone s new op place event → IsMachineStep everywhere c l p new op place event
-each_step c l p ad er t new (op.MemWrite mem map index value) event place numbers ok a has granted done = memory_access_step c l p ad er t new (op.MemWrite mem map index value) event place tt numbers ok a has granted done
-each_step c l p ad er t new (op.MemRead mem map index) event place numbers ok a has granted done = memory_access_step c l p ad er t new (op.MemRead mem map index) event place tt numbers ok a has granted done
-each_step c l p ad er t new (op.MemCheck mem map index value) event place numbers ok a has granted done = memory_access_step c l p ad er t new (op.MemCheck mem map index value) event place tt numbers ok a has granted done
+    HasNumbers c (length l.maps) op → IsModel s.model → (a : Agree s) → HasContents everywhere c a.device p → grant s.model op ≡ Ok place → IsDone s new op place event →
+    IsMachineStep everywhere c l p new op place event
+each_step c l p ad er t new (op.MemWrite mem map index value) event place numbers ok a has granted done = memory_access_step c l p ad er t new (op.MemWrite mem map index value) event place tt numbers
+    ok a has granted done
+each_step c l p ad er t new (op.MemRead mem map index) event place numbers ok a has granted done = memory_access_step c l p ad er t new (op.MemRead mem map index) event place tt numbers ok a has
+    granted done
+each_step c l p ad er t new (op.MemCheck mem map index value) event place numbers ok a has granted done = memory_access_step c l p ad er t new (op.MemCheck mem map index value) event place tt numbers
+    ok a has granted done
 each_step c l p ad er t new (op.MemPeek mem index) event place numbers ok a has granted done = memory_step c l p ad er t new (op.MemPeek mem index) event place tt numbers ok a has granted done
-each_step c l p ad er t new (op.MemPoke mem index value) event place numbers ok a has granted done = memory_step c l p ad er t new (op.MemPoke mem index value) event place tt numbers ok a has granted done
+each_step c l p ad er t new (op.MemPoke mem index value) event place numbers ok a has granted done = memory_step c l p ad er t new (op.MemPoke mem index value) event place tt numbers ok a has granted
+    done
 each_step c l p ad er t new other event place numbers ok a has granted done = off_step c l p ad er t new other event place tt numbers ok a has granted done
 
 -- ---- the device and the model are the machine's again
@@ -135,17 +149,20 @@ pub record IsPlainAfter (old : ModelData) (new : Scene) (event : Event) (done : 
   pub same : IsSameChip old new.model
   pub event_is : without_items event ≡ done.event
 
-step_model : {which : ℕ → ℕ → Type 0} (c : ChipData) (l : LayoutData) (p : Machine) (new : Scene) (op : Op) (place : ℕ) (event : Event) → IsMachineStep which c l p new op place event → new.model ≡ seen c l (machine_after c l op place p)
+step_model : {which : ℕ → ℕ → Type 0} (c : ChipData) (l : LayoutData) (p : Machine) (new : Scene) (op : Op) (place : ℕ) (event : Event) → IsMachineStep which c l p new op place event →
+    new.model ≡ seen c l (machine_after c l op place p)
 step_model c l p new op place event st =
     seen_is c l (machine_after c l op place p) new.model st.chip st.layout st.mirror (none_of new.model.gathered (length l.places) st.many st.agree.gathered)
 
 -- as its own chip and layout have it
-own_model : {which : ℕ → ℕ → Type 0} (c : ChipData) (l : LayoutData) (p : Machine) (new : Scene) (op : Op) (place : ℕ) (event : Event) → IsMachineStep which c l p new op place event → new.model ≡ seen new.model.chip new.model.layout (machine_after c l op place p)
+own_model : {which : ℕ → ℕ → Type 0} (c : ChipData) (l : LayoutData) (p : Machine) (new : Scene) (op : Op) (place : ℕ) (event : Event) → IsMachineStep which c l p new op place event →
+    new.model ≡ seen new.model.chip new.model.layout (machine_after c l op place p)
 own_model c l p new op place event st =
     let q = machine_after c l op place p in
     step_model c l p new op place event st ∙ ap (λ x. seen x l q) (sym st.chip) ∙ ap (λ x. seen new.model.chip x q) (sym st.layout)
 
-machine_again : (c : ChipData) (l : LayoutData) (p : Machine) (new : Scene) (op : Op) (place : ℕ) (event : Event) → IsMachineStep everywhere c l p new op place event → IsMachineOf new (machine_after c l op place p)
+machine_again : (c : ChipData) (l : LayoutData) (p : Machine) (new : Scene) (op : Op) (place : ℕ) (event : Event) → IsMachineStep everywhere c l p new op place event →
+    IsMachineOf new (machine_after c l op place p)
 machine_again c l p new op place event st =
     let q = machine_after c l op place p in
     let both : Some st.after ≡ Some st.agree.device = sym st.told ∙ st.agree.told in
@@ -153,10 +170,12 @@ machine_again c l p new op place event st =
     record {
       agree = st.agree;
       model = own_model c l p new op place event st;
-      locations = λ mem index inside low. (subst (λ k. HasContents everywhere k st.agree.device q) (sym st.chip) (subst (λ x. HasContents everywhere c x q) same st.contents)).at mem index tt inside low;
+      locations = λ mem index inside low. (subst (λ k. HasContents everywhere k st.agree.device q) (sym st.chip) (subst (λ x. HasContents everywhere c x q) same st.contents)).at mem index tt inside
+          low;
     }
 
-model_again : {which : ℕ → ℕ → Type 0} (c : ChipData) (l : LayoutData) (p : Machine) (new : Scene) (op : Op) (place : ℕ) (event : Event) → IsModel (seen c l p) → IsMachineStep which c l p new op place event → IsModel new.model
+model_again : {which : ℕ → ℕ → Type 0} (c : ChipData) (l : LayoutData) (p : Machine) (new : Scene) (op : Op) (place : ℕ) (event : Event) → IsModel (seen c l p) →
+    IsMachineStep which c l p new op place event → IsModel new.model
 model_again c l p new op place event ok st =
     let q = machine_after c l op place p in
     let kept : IsKept c (mirror_of q) = subst (IsKept c) st.mirror st.kept in
@@ -173,7 +192,8 @@ model_again c l p new op place event ok st =
 
 by_grant : (c : ChipData) (l : LayoutData) (p : Machine) (ad : List Standing) (er : ℕ) (t : Option State) (new : Scene) (op : Op) (event : Event) (g : Grant) →
     let s = scene (seen c l p) ad er t in
-    grant s.model op ≡ g → HasNumbers c (length l.maps) op → IsModel s.model → IsMachineOf s p → MatchResult g (λ place. IsDone s new op place event) (λ why. IsRefused s new op why event) → IsPlainAfter s.model new event (done_by c l op p g)
+    grant s.model op ≡ g → HasNumbers c (length l.maps) op → IsModel s.model → IsMachineOf s p → MatchResult g (λ place. IsDone s new op place event) (λ why. IsRefused s new op why event) →
+    IsPlainAfter s.model new event (done_by c l op p g)
 by_grant c l p ad er t new op event (Ok place) granted numbers ok is done =
     let s = scene (seen c l p) ad er t in
     let st = each_step c l p ad er t new op event place numbers ok is.agree (record { at = λ mem index on inside low. is.locations mem index inside low }) granted done in
@@ -223,7 +243,8 @@ IsSeenAfter new event done = Agree new × (new.model ≡ seen new.model.chip new
 
 off_grant : (c : ChipData) (l : LayoutData) (p : Machine) (ad : List Standing) (er : ℕ) (t : Option State) (new : Scene) (op : Op) (event : Event) (g : Grant) →
     let s = scene (seen c l p) ad er t in
-    grant s.model op ≡ g → IsOffMemory op → HasNumbers c (length l.maps) op → IsModel s.model → Agree s → MatchResult g (λ place. IsDone s new op place event) (λ why. IsRefused s new op why event) → IsSeenAfter new event (done_by c l op p g)
+    grant s.model op ≡ g → IsOffMemory op → HasNumbers c (length l.maps) op → IsModel s.model → Agree s → MatchResult g (λ place. IsDone s new op place event) (λ why. IsRefused s new op why event) →
+    IsSeenAfter new event (done_by c l op p g)
 off_grant c l p ad er t new op event (Ok place) granted off numbers ok a done =
     let s = scene (seen c l p) ad er t in
     let none : HasContents nowhere c a.device p = record { at = λ mem index on inside low. absurd on } in

@@ -1,5 +1,6 @@
 -- Other masters' accesses to different registers, in any order.
-use Rattle.std.proofs.Common.{◌≡◌, ◌⊎◌, ℕ, ◌+◌, ◌-◌, ◌<◌, ◌≤◌, Bool, true, false, ◌&&◌, ◌||◌, cond, eqb, eq-eqb, ne_eqb, List, [], length, get_or, map, Option, None, Some, Result, Ok, Err, refl, sym, ap, ◌∙◌, subst, inl, inr, arith}
+use Rattle.std.proofs.Common.{◌≡◌, ◌⊎◌, ℕ, ◌+◌, ◌-◌, ◌<◌, ◌≤◌, Bool, true, false, ◌&&◌, ◌||◌, cond, eqb, eq-eqb, ne_eqb, List, [], length}
+use Rattle.std.proofs.Common.{get_or, map, Option, None, Some, Result, Ok, Err, refl, sym, ap, ◌∙◌, subst, inl, inr, arith}
 use Rattle.std.specs.Prelude.{slice_set}
 use Rattle.std.specs.List.{range_with_len}
 use Rattle.std.proofs.lemmas.Bool.{cases_eq}
@@ -40,7 +41,8 @@ itself : (c : ChipData) (p : Machine) (reg : ℕ) → Shares c p p reg
 itself c p reg = record { bits = refl; desired = refl; marks = λ k low. refl }
 
 -- a step looks at no more of a register
-written_alike : (fs : List FieldSeen) (chosen : ℕ → Bool) (word : ℕ) (r x : Register) → r.bits ≡ x.bits → ((k : ℕ) → k < length fs → r.spent k ≡ x.spent k) → (wstep fs chosen word r).bits ≡ (wstep fs chosen word x).bits
+written_alike : (fs : List FieldSeen) (chosen : ℕ → Bool) (word : ℕ) (r x : Register) → r.bits ≡ x.bits → ((k : ℕ) → k < length fs → r.spent k ≡ x.spent k) →
+    (wstep fs chosen word r).bits ≡ (wstep fs chosen word x).bits
 unfolding wstep
 written_alike fs chosen word r x bits marks =
     from_bits-same 64 (λ b. written_bit fs chosen r.spent (place_at fs b) (bit r.bits b) (bit word b)) (λ b. written_bit fs chosen x.spent (place_at fs b) (bit x.bits b) (bit word b))
@@ -58,7 +60,8 @@ answers_alike : (fs : List FieldSeen) (chosen : ℕ → Bool) (r x : Register) �
 unfolding ranswer
 answers_alike fs chosen r x bits = ap (λ n. from_bits 64 (λ b. shown_bit fs chosen (place_at fs b) (bit n b))) bits
 
-bits_alike : (fs : List FieldSeen) (step : Step) (r x : Register) → r.bits ≡ x.bits → ((k : ℕ) → k < length fs → r.spent k ≡ x.spent k) → (register_after fs step r).bits ≡ (register_after fs step x).bits
+bits_alike : (fs : List FieldSeen) (step : Step) (r x : Register) → r.bits ≡ x.bits → ((k : ℕ) → k < length fs → r.spent k ≡ x.spent k) → (register_after fs step r).bits ≡ (register_after fs step
+    x).bits
 bits_alike fs (write_step chosen word) r x bits marks = written_alike fs chosen word r x bits marks
 bits_alike fs (read_step chosen) r x bits marks = left_alike fs chosen r x bits
 bits_alike fs no_step r x bits marks = bits
@@ -71,7 +74,8 @@ marks_alike fs no_step r x k same = same
 
 -- ---- a step of another register
 
-mark_there : (c : ChipData) (p : Machine) (reg : ℕ) (step : Step) (n : ℕ) → n < length p.spent → get_or (taking c reg step p).spent n false ≡ mark_after c reg (register_after (fields_of c reg) step (register_at c p reg)) p n
+mark_there : (c : ChipData) (p : Machine) (reg : ℕ) (step : Step) (n : ℕ) → n < length p.spent → get_or (taking c reg step p).spent n false ≡ mark_after c reg (register_after (fields_of c reg) step
+    (register_at c p reg)) p n
 mark_there c p reg step n inside =
     get_or-map-range_with_len (mark_after c reg (register_after (fields_of c reg) step (register_at c p reg)) p) 0 (length p.spent) n n false inside (omega arith)
 
@@ -98,11 +102,13 @@ same_marks : (c : ChipData) (p q : Machine) (reg : ℕ) (step : Step) (k : ℕ) 
     → (register_after (fields_of c reg) step (register_at c q reg)).spent k ≡ (register_after (fields_of c reg) step (register_at c p reg)).spent k
 same_marks c p q reg step k shares low = marks_alike (fields_of c reg) step (register_at c q reg) (register_at c p reg) k (shares.marks k low)
 
-same_bits : (c : ChipData) (p q : Machine) (reg : ℕ) (step : Step) → Shares c p q reg → (register_after (fields_of c reg) step (register_at c q reg)).bits ≡ (register_after (fields_of c reg) step (register_at c p reg)).bits
+same_bits : (c : ChipData) (p q : Machine) (reg : ℕ) (step : Step) → Shares c p q reg → (register_after (fields_of c reg) step (register_at c q reg)).bits ≡ (register_after (fields_of c reg) step
+    (register_at c p reg)).bits
 same_bits c p q reg step shares = bits_alike (fields_of c reg) step (register_at c q reg) (register_at c p reg) shares.bits shares.marks
 
 -- a mark that both orders set
-mark_by : (c : ChipData) (p : Machine) (i j : ℕ) (one two : Step) (n : ℕ) → IsSound c → IsMirrorOf c (mirror_of p) → i < length c.regs → j < length c.regs → (i ≡ j → ⊥) → n < length p.spent → (field_of c n).shape.reg ≡ j
+mark_by : (c : ChipData) (p : Machine) (i j : ℕ) (one two : Step) (n : ℕ) → IsSound c → IsMirrorOf c (mirror_of p) → i < length c.regs → j < length c.regs → (i ≡ j → ⊥) → n < length p.spent →
+    (field_of c n).shape.reg ≡ j
     → get_or (taking c j two (taking c i one p)).spent n false ≡ get_or (taking c i one (taking c j two p)).spent n false
 mark_by c p i j one two n sound built li lj differ inside own =
     let pi = taking c i one p in
@@ -122,7 +128,8 @@ mark_by c p i j one two n sound built li lj differ inside own =
     ∙ ap (λ t. cond t ((register_after (fields_of c j) two (register_at c pi j)).spent (n - first_of c j)) (get_or pi.spent n false)) here
     ∙ same_marks c p pi j two (n - first_of c j) (takes_elsewhere c p i j one sound built lj other) low
     ∙ sym (mark_there c p j two n inside ∙ ap (λ t. cond t ((register_after (fields_of c j) two (register_at c p j)).spent (n - first_of c j)) (get_or p.spent n false)) here)
-    ∙ sym (mark_there c pj i one n (omega (arith, inside, long j two)) ∙ ap (λ t. cond t ((register_after (fields_of c i) one (register_at c pj i)).spent (n - first_of c i)) (get_or pj.spent n false)) off)
+    ∙ sym (mark_there c pj i one n (omega (arith, inside, long j two)) ∙ ap (λ t. cond t ((register_after (fields_of c i) one (register_at c pj i)).spent (n - first_of c i)) (get_or pj.spent n
+    false)) off)
 
 -- and one that neither sets
 mark_beside : (c : ChipData) (p : Machine) (i j : ℕ) (one two : Step) (n : ℕ) → n < length p.spent → ((field_of c n).shape.reg ≡ i → ⊥) → ((field_of c n).shape.reg ≡ j → ⊥)
@@ -250,7 +257,8 @@ stepped_by : (c : ChipData) (l : LayoutData) (o : Op) (reg : ℕ) (q : Machine) 
 stepped_by c l o reg q (Ok place) m = m.after_is place q
 stepped_by c l o reg q (Err why) m = refl
 
-told_by : (c : ChipData) (l : LayoutData) (o : Op) (reg : ℕ) (q : Machine) (g : Grant) → (m : IsMaster c l o reg) → (done_by c l o q g).event ≡ event_by c m.name (m.ends q) g q (moved c reg m.step g q)
+told_by : (c : ChipData) (l : LayoutData) (o : Op) (reg : ℕ) (q : Machine) (g : Grant) → (m : IsMaster c l o reg) → (done_by c l o q g).event ≡ event_by c m.name (m.ends q) g q (moved c reg m.step g
+    q)
 told_by c l o reg q (Ok place) m =
     ap (λ n. told c n (machine_end c l o place q) (machine_differ o q) (machine_after c l o place q)) (m.named_is q)
     ∙ ap (λ e. told c m.name e (machine_differ o q) (machine_after c l o place q)) (m.ends_are place q)
@@ -262,7 +270,8 @@ machine_is : (c : ChipData) (l : LayoutData) (o : Op) (reg : ℕ) (q : Machine) 
 unfolding machine_step
 machine_is c l o reg q m = ap (λ g. (done_by c l o q g).machine) (m.granted q) ∙ stepped_by c l o reg q m.answer m
 
-event_is : (c : ChipData) (l : LayoutData) (o : Op) (reg : ℕ) (q : Machine) → (m : IsMaster c l o reg) → (machine_step c l q o).event ≡ event_by c m.name (m.ends q) m.answer q (moved c reg m.step m.answer q)
+event_is : (c : ChipData) (l : LayoutData) (o : Op) (reg : ℕ) (q : Machine) → (m : IsMaster c l o reg) → (machine_step c l q o).event ≡ event_by c m.name (m.ends q) m.answer q (moved c reg m.step
+    m.answer q)
 unfolding machine_step
 event_is c l o reg q m = ap (λ g. (done_by c l o q g).event) (m.granted q) ∙ told_by c l o reg q m.answer m
 
@@ -273,7 +282,8 @@ record Has (reg : ℕ) (q : Machine) : Type 0 where
   bits : reg < length q.bits
   desired : reg < length q.desired
 
-told_alike : (c : ChipData) (o : Op) (reg : ℕ) (e : End) (p q : Machine) → register_of c o ≡ Some reg → get_or q.bits reg 0 ≡ get_or p.bits reg 0 → get_or q.desired reg 0 ≡ get_or p.desired reg 0 → told c o e 0 q ≡ told c o e 0 p
+told_alike : (c : ChipData) (o : Op) (reg : ℕ) (e : End) (p q : Machine) → register_of c o ≡ Some reg → get_or q.bits reg 0 ≡ get_or p.bits reg 0 → get_or q.desired reg 0 ≡ get_or p.desired reg 0 →
+    told c o e 0 q ≡ told c o e 0 p
 told_alike c o reg e p q register bits desired =
     let by : Option ℕ → (v w : Machine) → Event = λ r v w. record { op = o; end = e; trace = []; mirrored = value_at r v.bits; desired = value_at r w.desired; differ = 0 } in
     ap (λ r. by r q q) register

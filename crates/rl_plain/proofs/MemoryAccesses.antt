@@ -49,7 +49,8 @@ granted_at m mem index map write place e =
     record { there = way_found m (item.Mem mem) map write place both.0; index_in = ltb-true index (memory_size m.chip mem) both.1 }
 
 -- a value that the location can hold
-fits_at : (m : ModelData) (mem value place : ℕ) (g : Grant) → only_where g (nat_lt value (256 ^ item_size m.chip (item.Mem mem))) TooWide ≡ Ok place → (g ≡ Ok place) × (value < 256 ^ location_size m.chip mem)
+fits_at : (m : ModelData) (mem value place : ℕ) (g : Grant) → only_where g (nat_lt value (256 ^ item_size m.chip (item.Mem mem))) TooWide ≡ Ok place →
+    (g ≡ Ok place) × (value < 256 ^ location_size m.chip mem)
 fits_at m mem value place g e =
     let both = only_ok g (nat_lt value (256 ^ item_size m.chip (item.Mem mem))) TooWide place e in
     (both.0, ltb-true value (256 ^ location_size m.chip mem) both.1)
@@ -72,7 +73,8 @@ write_granted m mem index value map place e =
     }
 
 -- where a granted operation goes, and what it writes there
-pub write_place : (m : ModelData) (mem index value : ℕ) (map : Option ℕ) (place : ℕ) → grant m (op.MemWrite mem map index value) ≡ Ok place → (index < memory_size m.chip mem) × (value < 256 ^ location_size m.chip mem)
+pub write_place : (m : ModelData) (mem index value : ℕ) (map : Option ℕ) (place : ℕ) → grant m (op.MemWrite mem map index value) ≡ Ok place → (index < memory_size m.chip mem) ×
+    (value < 256 ^ location_size m.chip mem)
 write_place m mem index value map place e = let by = write_granted m mem index value map place e in (by.granted.index_in, by.small)
 
 pub read_place : (m : ModelData) (mem index : ℕ) (map : Option ℕ) (place : ℕ) → grant m (op.MemRead mem map index) ≡ Ok place → index < memory_size m.chip mem
@@ -105,7 +107,8 @@ location_for m mem index write place ok granted =
 bytes_there : (m : ModelData) (mem index : ℕ) (write : Bool) (place : ℕ) → IsModel m → IsGranted m mem index write place → (place_at m.layout place).bytes ≡ location_size m.chip mem
 bytes_there m mem index write place ok granted = place_size m (item.Mem mem) place ok granted.there.there
 
-stored_at : (s : Scene) (mem index value place : ℕ) (d : State) → IsModel s.model → IsReady s.model.chip s.model.layout d → mem < length s.model.chip.mems → HasLocation d mem index (location_size s.model.chip mem) → IsWriteGranted s.model mem index value place →
+stored_at : (s : Scene) (mem index value place : ℕ) (d : State) → IsModel s.model → IsReady s.model.chip s.model.layout d → mem < length s.model.chip.mems →
+    HasLocation d mem index (location_size s.model.chip mem) → IsWriteGranted s.model mem index value place →
     IsStore s.model.chip s.model.layout d place mem index value (ops_of s.model.layout place index (location_bytes s.model mem) value true)
 stored_at s mem index value place d ok ready inside has by =
     let m = s.model in
@@ -117,7 +120,8 @@ stored_at s mem index value place d ok ready inside has by =
     (memory_write_is_store c l d place mem index value (location_for m mem index true place ok by.granted) ready (subst (HasLocation d mem index) (sym size) has) open_to
     (subst (λ n. value < 256 ^ n) (sym size) by.small))
 
-loaded_at : (s : Scene) (mem index place : ℕ) (d : State) → IsModel s.model → IsReady s.model.chip s.model.layout d → HasLocation d mem index (location_size s.model.chip mem) → IsGranted s.model mem index false place →
+loaded_at : (s : Scene) (mem index place : ℕ) (d : State) → IsModel s.model → IsReady s.model.chip s.model.layout d → HasLocation d mem index (location_size s.model.chip mem) →
+    IsGranted s.model mem index false place →
     let chosen = location_bytes s.model mem in
     IsLoad s.model.chip s.model.layout d place mem index (ops_of s.model.layout place index chosen 0 false) (joined s.model.layout place index chosen)
 loaded_at s mem index place d ok ready has granted =
@@ -143,7 +147,8 @@ pub record IsMemoryStep (s new : Scene) (event : Event) (after : State) (e : End
   pub ends : event.end ≡ e
   pub finds : event.differ ≡ differ
 
-pub write_step_is : (s new : Scene) (mem index value : ℕ) (map : Option ℕ) (event : Event) (place : ℕ) → IsModel s.model → (a : Agree s) → mem < length s.model.chip.mems → HasLocation a.device mem index (location_size s.model.chip mem) →
+pub write_step_is : (s new : Scene) (mem index value : ℕ) (map : Option ℕ) (event : Event) (place : ℕ) → IsModel s.model → (a : Agree s) → mem < length s.model.chip.mems →
+    HasLocation a.device mem index (location_size s.model.chip mem) →
     grant s.model (op.MemWrite mem map index value) ≡ Ok place → IsDone s new (op.MemWrite mem map index value) place event →
     let ops = ops_of s.model.layout place index (location_bytes s.model mem) value true in
     IsMemoryStep s new event (stored a.device mem index value (length ops)) end.Done 0
@@ -171,7 +176,8 @@ good_load m found value = record { end = end.Value value; model = m; differ = fo
 abbrev load_outcome : ModelData → (mem place index : ℕ) → (found : ℕ → ℕ) → List TraceItem → Outcome
 load_outcome m mem place index found items = or_error (failed_at items) m (good_load m found (location_value m mem place index items))
 
-load_step_by : (s new : Scene) (op : Op) (mem index : ℕ) (event : Event) (place : ℕ) (found : ℕ → ℕ) → IsModel s.model → (a : Agree s) → HasLocation a.device mem index (location_size s.model.chip mem) → IsGranted s.model mem index false place → IsDone s new op place event →
+load_step_by : (s new : Scene) (op : Op) (mem index : ℕ) (event : Event) (place : ℕ) (found : ℕ → ℕ) → IsModel s.model → (a : Agree s) → HasLocation a.device mem index (location_size s.model.chip
+    mem) → IsGranted s.model mem index false place → IsDone s new op place event →
     let ops = ops_of s.model.layout place index (location_bytes s.model mem) 0 false in
     IsSentAs s.model op place None ops (load_outcome s.model mem place index found) →
     let held = slice_index a.device.locations (location a.device.setup mem index) in
@@ -203,7 +209,8 @@ read_step_is s new mem index map event place ok a has granted done =
     load_step_by s new (op.MemRead mem map index) mem index event place (λ v. 0) ok a has (granted_at s.model mem index map false place granted) done
     (record { sends_are = refl; outcome_is = λ sampled items. refl; register = refl; goes = λ sampled items d. refl })
 
-pub check_step_is : (s new : Scene) (mem index value : ℕ) (map : Option ℕ) (event : Event) (place : ℕ) → IsModel s.model → (a : Agree s) → HasLocation a.device mem index (location_size s.model.chip mem) →
+pub check_step_is : (s new : Scene) (mem index value : ℕ) (map : Option ℕ) (event : Event) (place : ℕ) → IsModel s.model → (a : Agree s) → HasLocation a.device mem index (location_size s.model.chip
+    mem) →
     grant s.model (op.MemCheck mem map index value) ≡ Ok place → IsDone s new (op.MemCheck mem map index value) place event →
     let ops = ops_of s.model.layout place index (location_bytes s.model mem) 0 false in
     let held = slice_index a.device.locations (location a.device.setup mem index) in
@@ -227,7 +234,8 @@ believed_there c l m d after a ready bits marks = record {
   alone = λ reg inside b low e. ap (λ x. bit (slice_index x reg) b) marks ∙ a.alone reg inside b low e;
 }
 
-pub memory_agrees : (s new : Scene) (event : Event) (after : State) (e : End) (differ : ℕ) → (a : Agree s) → IsMemoryStep s new event after e differ → after.bits ≡ a.device.bits → after.marks ≡ a.device.marks → Agree new
+pub memory_agrees : (s new : Scene) (event : Event) (after : State) (e : End) (differ : ℕ) → (a : Agree s) → IsMemoryStep s new event after e differ → after.bits ≡ a.device.bits →
+    after.marks ≡ a.device.marks → Agree new
 memory_agrees s new event after e differ a st bits marks =
     let m = s.model in
     record {
@@ -237,7 +245,8 @@ memory_agrees s new event after e differ a st bits marks =
       gathered = subst (λ (x : ModelData). IsNothingGathered x.gathered) (sym st.model) a.gathered;
     }
 
-memory_access_done : (s new : Scene) (op : Op) (event : Event) (place : ℕ) → IsMemoryAccess op → HasNumbers s.model.chip (length s.model.layout.maps) op → IsModel s.model → (a : Agree s) → HasLocations s.model.chip a.device → grant s.model op ≡ Ok place → IsDone s new op place event → Agree new
+memory_access_done : (s new : Scene) (op : Op) (event : Event) (place : ℕ) → IsMemoryAccess op → HasNumbers s.model.chip (length s.model.layout.maps) op → IsModel s.model → (a : Agree s) →
+    HasLocations s.model.chip a.device → grant s.model op ≡ Ok place → IsDone s new op place event → Agree new
 memory_access_done s new (op.MemWrite mem map index value) event place is numbers ok a has granted done =
     let low = (write_place s.model mem index value map place granted).0 in
     memory_agrees s new event _ _ _ a (write_step_is s new mem index value map event place ok a numbers.0 (has mem index numbers.0 low) granted done) refl refl

@@ -30,7 +30,8 @@ good_read m check reg value fields = record {
   differ = if check then differ m.chip reg value m.mirror else 0;
 }
 
-pub whole_write_is : (m entry : ModelData) (good : End) (reg place value : ℕ) (items : List TraceItem) → failed_at items ≡ None → write_outcome entry good (whole m reg place value) items ≡ good_write entry good reg value every_field
+pub whole_write_is : (m entry : ModelData) (good : End) (reg place value : ℕ) (items : List TraceItem) → failed_at items ≡ None → write_outcome entry good (whole m reg place value) items ≡ good_write
+    entry good reg value every_field
 whole_write_is m entry good reg place value items none = good_is (failed_at items) entry (good_write entry good reg value every_field) none
 
 -- the value of a whole read
@@ -63,5 +64,6 @@ narrow_value m field place words = joined m.layout place 0 (bytes_of_field (fiel
 pub narrow_read_is : (m entry : ModelData) (check : Bool) (field place value : ℕ) (items : List TraceItem) → entry.layout ≡ m.layout → failed_at items ≡ None →
     read_outcome entry check (field_alone m field place value) items ≡ good_read entry check (narrow_reg m field) (narrow_value m field place (words_answered items)) (narrow_fields m field)
 narrow_read_is m entry check field place value items same none =
-    good_is (failed_at items) entry (good_read entry check (narrow_reg m field) (joined entry.layout place 0 (bytes_of_field (field_of m.chip field).shape) (words_answered items)) (narrow_fields m field)) none
+    good_is (failed_at items) entry (good_read entry check (narrow_reg m field) (joined entry.layout place 0 (bytes_of_field (field_of m.chip field).shape) (words_answered items)) (narrow_fields m
+    field)) none
     ∙ ap (λ l. good_read entry check (narrow_reg m field) (joined l place 0 (bytes_of_field (field_of m.chip field).shape) (words_answered items)) (narrow_fields m field)) same

@@ -92,7 +92,8 @@ run_is_plain s new (op ∷ ops) (t ∷ told) p numbers ok is (mid, first, rest) 
     let fine : is_bus_error t.event.end ≡ false = ap (λ (e : Event). is_bus_error e.end) after.event_is ∙ step_error c l p op in
     let next = (machine_step c l p op).machine in
     let others : All (HasNumbers mid.model.chip (length mid.model.layout.maps)) ops =
-    subst (λ x. All (HasNumbers x (length mid.model.layout.maps)) ops) (sym after.same.chip) (subst (λ (x : LayoutData). All (HasNumbers c (length x.maps)) ops) (sym after.same.layout) (All-tail (HasNumbers c maps) op ops numbers)) in
+    subst (λ x. All (HasNumbers x (length mid.model.layout.maps)) ops) (sym after.same.chip) (subst (λ (x : LayoutData). All (HasNumbers c (length x.maps)) ops) (sym after.same.layout)
+    (All-tail (HasNumbers c maps) op ops numbers)) in
     let more = run_is_plain mid new ops told next others after.ok after.machine (going_on _ _ (is_bus_error t.event.end) fine rest) in
     let here : IsPlainCourse mid new told (through c l next ops) =
     subst (λ x. IsPlainCourse mid new told (through x l next ops)) after.same.chip (subst (λ x. IsPlainCourse mid new told (through mid.model.chip x next ops)) after.same.layout more) in

@@ -1,5 +1,6 @@
 -- What is believed after a prediction is the plain machine after a step.
-use Rattle.std.proofs.Common.{◌≡◌, ◌⊎◌, ℕ, ◌+◌, ◌-◌, ◌<◌, ◌≤◌, Bool, true, false, cond, not, ◌&&◌, ◌||◌, eqb, eq-eqb, ne_eqb, List, length, map, get_or, Option, None, Some, refl, sym, ap, ◌∙◌, subst, inl, inr, arith}
+use Rattle.std.proofs.Common.{◌≡◌, ◌⊎◌, ℕ, ◌+◌, ◌-◌, ◌<◌, ◌≤◌, Bool, true, false, cond, not, ◌&&◌, ◌||◌, eqb, eq-eqb, ne_eqb}
+use Rattle.std.proofs.Common.{List, length, map, get_or, Option, None, Some, refl, sym, ap, ◌∙◌, subst, inl, inr, arith}
 use Rattle.std.specs.Prelude.{slice_set}
 use Rattle.std.specs.List.{range_with_len}
 use Rattle.std.specs.Option.{option_map_or}
@@ -29,7 +30,8 @@ use Rattle.rl_plain.proofs.Agreement.{spent-wstep, spent-rstep}
 
 -- ---- desired values
 
-bit-wstep : (fs : List FieldSeen) (chosen : ℕ → Bool) (word : ℕ) (r : Register) (b : ℕ) → b < 64 → bit (wstep fs chosen word r).bits b ≡ written_bit fs chosen r.spent (place_at fs b) (bit r.bits b) (bit word b)
+bit-wstep : (fs : List FieldSeen) (chosen : ℕ → Bool) (word : ℕ) (r : Register) (b : ℕ) → b < 64 → bit (wstep fs chosen word r).bits b ≡ written_bit fs chosen r.spent (place_at fs b) (bit r.bits b)
+    (bit word b)
 unfolding wstep
 bit-wstep fs chosen word r b low = bit-from_bits 64 (λ b. written_bit fs chosen r.spent (place_at fs b) (bit r.bits b) (bit word b)) b low
 
@@ -52,7 +54,8 @@ desired_written fs chosen fields word desired r are =
     (λ b low. by b low (place_at fs b) refl)
   where
     by : (b : ℕ) → b < 64 → (o : Option ℕ) → place_at fs b ≡ o →
-        option_map_or (λ k. cond (bit fields k) (after_write (policy_in fs k) (bit r.bits b) (bit word b) (r.spent k)) (bit desired b)) o false ≡ option_map_or (λ k. cond (chosen k) (bit (wstep fs chosen word r).bits b) (bit desired b)) o false
+        option_map_or (λ k. cond (bit fields k) (after_write (policy_in fs k) (bit r.bits b) (bit word b) (r.spent k)) (bit desired b)) o false ≡ option_map_or (λ k. cond (chosen k)
+        (bit (wstep fs chosen word r).bits b) (bit desired b)) o false
     by b low None at = refl
     by b low (Some k) at =
         settled_write (chosen k) (bit fields k) (after_write (policy_in fs k) (bit r.bits b) (bit word b) (r.spent k)) (bit r.bits b) (bit (wstep fs chosen word r).bits b)
@@ -187,7 +190,8 @@ read_stepped c reg fields chosen p sound l built are =
     (replaced c reg x.spent m.spent m.spent sound l built.marks (record { many = refl; own = λ k place. spent-rstep fs chosen r k; others = λ n inside other. refl }))
 
 -- what is believed after a step is the machine's
-pub plain_state : (c : ChipData) (reg : ℕ) (p : Machine) (new : MirrorData) (step : Step) → IsSound c → reg < length c.regs → IsMirrorOf c (mirror_of p) → FollowsStep c reg (mirror_of p) new (register_at c p reg) step → new ≡ mirror_of (stepped c reg step p)
+pub plain_state : (c : ChipData) (reg : ℕ) (p : Machine) (new : MirrorData) (step : Step) → IsSound c → reg < length c.regs → IsMirrorOf c (mirror_of p) → FollowsStep c reg (mirror_of p) new
+    (register_at c p reg) step → new ≡ mirror_of (stepped c reg step p)
 plain_state c reg p new (write_step chosen word) sound l built f = f.is ∙ write_stepped c reg word f.fields chosen p sound l built f.are
 plain_state c reg p new (read_step chosen) sound l built f = f.is ∙ read_stepped c reg f.fields chosen p sound l built f.are
 plain_state c reg p new no_step sound l built f = f

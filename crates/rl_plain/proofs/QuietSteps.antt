@@ -64,7 +64,8 @@ pub record IsToldAlone (s new : Scene) (op : Op) (event : Event) (place sampled 
   pub model : new.model ≡ (outcome s.model op place sampled []).model
   pub event_is : event ≡ event_of s.model (named s.model op) [] (outcome s.model op place sampled [])
 
-pub told_alone : (s new : Scene) (op : Op) (event : Event) (place : ℕ) (d : State) → (done : IsDone s new op place event) → s.device ≡ Some d → sends s.model op place ≡ [] → IsToldAlone s new op event place done.sampled
+pub told_alone : (s new : Scene) (op : Op) (event : Event) (place : ℕ) (d : State) → (done : IsDone s new op place event) → s.device ≡ Some d → sends s.model op place ≡ [] →
+    IsToldAlone s new op event place done.sampled
 told_alone s new op event place d done told none =
     let trace : event.trace ≡ [] = done.answers d told ∙ ap (items_of _ d (port_for s.model.layout place)) none in
     record {
@@ -73,8 +74,10 @@ told_alone s new op event place d done told none =
     }
 
 -- the mirror alone changes in the model
-pub quiet_step : {which : ℕ → ℕ → Type 0} (c : ChipData) (l : LayoutData) (p : Machine) (new : Scene) (op : Op) (place : ℕ) (event : Event) (after : State) (mirror : MirrorData) (e : End) (found : ℕ) → Agree new → new.model ≡ record (seen c l p) { mirror = mirror } → new.device ≡ Some after →
-    event.end ≡ e → event.differ ≡ found → IsKept c mirror → mirror ≡ mirror_of (machine_after c l op place p) → e ≡ machine_end c l op place p → found ≡ machine_differ op p → HasContents which c after (machine_after c l op place p) → IsMachineStep which c l p new op place event
+pub quiet_step : {which : ℕ → ℕ → Type 0} (c : ChipData) (l : LayoutData) (p : Machine) (new : Scene) (op : Op) (place : ℕ) (event : Event) (after : State) (mirror : MirrorData) (e : End) (found : ℕ)
+    → Agree new → new.model ≡ record (seen c l p) { mirror = mirror } → new.device ≡ Some after →
+    event.end ≡ e → event.differ ≡ found → IsKept c mirror → mirror ≡ mirror_of (machine_after c l op place p) → e ≡ machine_end c l op place p → found ≡ machine_differ op p →
+    HasContents which c after (machine_after c l op place p) → IsMachineStep which c l p new op place event
 quiet_step c l p new op place event after mirror e found agree model told ends finds kept state ended differs contents = record {
   agree = agree;
   chip = ap (λ (m : ModelData). m.chip) model;
@@ -113,7 +116,8 @@ owned-written fs marks m value = owned-word_by_field fs _
 shown_is : (fs : List FieldSeen) (r : Register) → shown fs r.bits ≡ ranswer fs every r
 unfolding shown ranswer word_by_field
 shown_is fs r =
-    from_bits-same 64 (λ b. option_map_or (λ k. value_read (policy_in fs k) (bit r.bits b)) (place_at fs b) false) (λ b. shown_bit fs every (place_at fs b) (bit r.bits b)) (λ b low. by b (place_at fs b))
+    from_bits-same 64 (λ b. option_map_or (λ k. value_read (policy_in fs k) (bit r.bits b)) (place_at fs b) false) (λ b. shown_bit fs every (place_at fs b) (bit r.bits b)) (λ b low. by b
+    (place_at fs b))
   where
     by : (b : ℕ) → (o : Option ℕ) → option_map_or (λ k. value_read (policy_in fs k) (bit r.bits b)) o false ≡ shown_bit fs every o (bit r.bits b)
     by b None = refl
@@ -157,7 +161,8 @@ record IsFoundIn (c : ChipData) (l : LayoutData) (p : Machine) (reg sampled : �
   sample : owned (fields_of c reg) sampled ≡ get_or p.bits reg 0
   value : back_value (seen c l p) reg sampled ≡ ranswer (fields_of c reg) every (register_at c p reg)
 
-found_in : (c : ChipData) (l : LayoutData) (p : Machine) (adapters : List Standing) (errors : ℕ) (told : Option State) (reg sampled : ℕ) (d : State) → IsHeld (scene (seen c l p) adapters errors told) d reg → sampled ≡ slice_index d.bits reg → IsFoundIn c l p reg sampled
+found_in : (c : ChipData) (l : LayoutData) (p : Machine) (adapters : List Standing) (errors : ℕ) (told : Option State) (reg sampled : ℕ) (d : State) → IsHeld (scene (seen c l p) adapters errors told)
+    d reg → sampled ≡ slice_index d.bits reg → IsFoundIn c l p reg sampled
 found_in c l p adapters errors told reg sampled d h found =
     let fs = fields_of c reg in
     let sample : owned fs sampled ≡ get_or p.bits reg 0 = ap (owned fs) found ∙ sym h.own ∙ h.bits in
@@ -165,7 +170,8 @@ found_in c l p adapters errors told reg sampled d h found =
 
 -- ---- each operation of the backdoor on registers
 
-pub back_step : {which : ℕ → ℕ → Type 0} (c : ChipData) (l : LayoutData) (p : Machine) (adapters : List Standing) (errors : ℕ) (told : Option State) (new : Scene) (op : Op) (event : Event) (place : ℕ) →
+pub back_step : {which : ℕ → ℕ → Type 0} (c : ChipData) (l : LayoutData) (p : Machine) (adapters : List Standing) (errors : ℕ) (told : Option State) (new : Scene) (op : Op) (event : Event)
+    (place : ℕ) →
     let s = scene (seen c l p) adapters errors told in
     IsBackdoor op → HasNumbers c (length l.maps) op → IsModel s.model → (a : Agree s) → HasContents which c a.device p → IsDone s new op place event → IsMachineStep which c l p new op place event
 back_step c l p adapters errors told new (op.BackWrite n value) event place is numbers ok a has done =
@@ -178,8 +184,13 @@ back_step c l p adapters errors told new (op.BackWrite n value) event place is n
     let v = back_written s.model n value done.sampled in
     let marks = marks_in c p.spent n in
     let keeps = poked_keeps d n v in
-    quiet_step c l p new (op.BackWrite n value) place event (poked d (cell.Reg n) v) (predict_raw c n v (mirror_of p)) end.Done 0 (back_done s new (op.BackWrite n value) event place is numbers ok a done)
-    by.model by.told (ap (λ (e : Event). e.end) tells.event_is) (ap (λ (e : Event). e.differ) tells.event_is) (raw_kept c n v (mirror_of p) ok.chip numbers (record { built = ok.mirror; reach = ok.reach }))
+    quiet_step c l p new (op.BackWrite n value) place event (poked d (cell.Reg n) v) (predict_raw c n v (mirror_of p)) end.Done 0 (back_done s new (op.BackWrite n value) event place is numbers ok a
+    done)
+    by.model by.told (ap (λ (e : Event). e.end) tells.event_is) (ap (λ (e : Event). e.differ) tells.event_is) (raw_kept c n v (mirror_of p) ok.chip numbers (record {
+      built = ok.mirror;
+      reach =
+          ok.reach;
+    }))
     (raw_is c n v p ∙ ap (λ x. mirror_of (with_both n x p)) (owned-written fs marks (owned fs done.sampled) value ∙ ap (λ x. written fs marks x value) found.sample)) refl refl
     (contents_stay c d (poked d (cell.Reg n) v) p _ has keeps.setup keeps.locations refl)
 back_step c l p adapters errors told new (op.Poke n value) event place is numbers ok a has done =
@@ -188,8 +199,13 @@ back_step c l p adapters errors told new (op.Poke n value) event place is number
     let by = alone_by s new (op.Poke n value) event place d done a.told refl in
     let tells = told_alone s new (op.Poke n value) event place d done a.told refl in
     let keeps = poked_keeps d n value in
-    quiet_step c l p new (op.Poke n value) place event (poked d (cell.Reg n) value) (predict_raw c n value (mirror_of p)) end.Done 0 (back_done s new (op.Poke n value) event place is numbers ok a done)
-    by.model by.told (ap (λ (e : Event). e.end) tells.event_is) (ap (λ (e : Event). e.differ) tells.event_is) (raw_kept c n value (mirror_of p) ok.chip numbers (record { built = ok.mirror; reach = ok.reach }))
+    quiet_step c l p new (op.Poke n value) place event (poked d (cell.Reg n) value) (predict_raw c n value (mirror_of p)) end.Done 0 (back_done s new (op.Poke n value) event place is numbers ok a
+    done)
+    by.model by.told (ap (λ (e : Event). e.end) tells.event_is) (ap (λ (e : Event). e.differ) tells.event_is) (raw_kept c n value (mirror_of p) ok.chip numbers (record {
+      built = ok.mirror;
+      reach =
+          ok.reach;
+    }))
     (raw_is c n value p) refl refl
     (contents_stay c d (poked d (cell.Reg n) value) p _ has keeps.setup keeps.locations refl)
 back_step c l p adapters errors told new (op.Peek n) event place is numbers ok a has done =
@@ -201,7 +217,11 @@ back_step c l p adapters errors told new (op.Peek n) event place is numbers ok a
     let found = found_in c l p adapters errors told n done.sampled d (held_by s n ok a numbers) (done.found d a.told ∙ peeked_is d n) in
     let v = owned fs done.sampled in
     quiet_step c l p new (op.Peek n) place event d (predict_raw c n v (mirror_of p)) (end.Value v) 0 (back_done s new (op.Peek n) event place is numbers ok a done)
-    by.model by.told (ap (λ (e : Event). e.end) tells.event_is) (ap (λ (e : Event). e.differ) tells.event_is) (raw_kept c n v (mirror_of p) ok.chip numbers (record { built = ok.mirror; reach = ok.reach }))
+    by.model by.told (ap (λ (e : Event). e.end) tells.event_is) (ap (λ (e : Event). e.differ) tells.event_is) (raw_kept c n v (mirror_of p) ok.chip numbers (record {
+      built = ok.mirror;
+      reach =
+          ok.reach;
+    }))
     (raw_is c n v p ∙ ap (λ x. mirror_of (with_both n x p)) (owned-word_by_field fs (λ k b. bit done.sampled b) ∙ found.sample)) (ap end.Value found.sample) refl
     (contents_stay c d d p _ has refl refl refl)
 back_step c l p adapters errors told new (op.BackRead n) event place is numbers ok a has done =
@@ -213,9 +233,14 @@ back_step c l p adapters errors told new (op.BackRead n) event place is numbers 
     let v = back_value s.model n done.sampled in
     let left = back_left s.model n done.sampled in
     let keeps = poked_keeps d n left in
-    quiet_step c l p new (op.BackRead n) place event (poked d (cell.Reg n) left) (predict_read c n v every_field (mirror_of p)) (end.Value v) 0 (back_done s new (op.BackRead n) event place is numbers ok a done)
-    by.model by.told (ap (λ (e : Event). e.end) tells.event_is) (ap (λ (e : Event). e.differ) tells.event_is) (read_kept c n v every_field (mirror_of p) ok.chip numbers (record { built = ok.mirror; reach = ok.reach }))
-    (ap (λ x. predict_read c n x every_field (mirror_of p)) found.value ∙ read_stepped c n every_field every p ok.chip numbers ok.mirror (all_chosen c n ok.chip numbers)) (ap end.Value found.value) refl
+    quiet_step c l p new (op.BackRead n) place event (poked d (cell.Reg n) left) (predict_read c n v every_field (mirror_of p)) (end.Value v) 0 (back_done s new (op.BackRead n) event place is numbers
+    ok a done)
+    by.model by.told (ap (λ (e : Event). e.end) tells.event_is) (ap (λ (e : Event). e.differ) tells.event_is) (read_kept c n v every_field (mirror_of p) ok.chip numbers (record {
+      built = ok.mirror;
+      reach = ok.reach;
+    }))
+    (ap (λ x. predict_read c n x every_field (mirror_of p)) found.value ∙ read_stepped c n every_field every p ok.chip numbers ok.mirror (all_chosen c n ok.chip numbers)) (ap end.Value found.value)
+    refl
     (contents_stay c d (poked d (cell.Reg n) left) p _ has keeps.setup keeps.locations refl)
 back_step c l p adapters errors told new (op.BackCheck n) event place is numbers ok a has done =
     let s = scene (seen c l p) adapters errors told in
@@ -226,8 +251,12 @@ back_step c l p adapters errors told new (op.BackCheck n) event place is numbers
     let v = back_value s.model n done.sampled in
     let left = back_left s.model n done.sampled in
     let keeps = poked_keeps d n left in
-    quiet_step c l p new (op.BackCheck n) place event (poked d (cell.Reg n) left) (predict_read c n v every_field (mirror_of p)) (end.Value v) (differ c n v (mirror_of p)) (back_done s new (op.BackCheck n) event place is numbers ok a done)
-    by.model by.told (ap (λ (e : Event). e.end) tells.event_is) (ap (λ (e : Event). e.differ) tells.event_is) (read_kept c n v every_field (mirror_of p) ok.chip numbers (record { built = ok.mirror; reach = ok.reach }))
+    quiet_step c l p new (op.BackCheck n) place event (poked d (cell.Reg n) left) (predict_read c n v every_field (mirror_of p)) (end.Value v) (differ c n v (mirror_of p)) (back_done s new
+    (op.BackCheck n) event place is numbers ok a done)
+    by.model by.told (ap (λ (e : Event). e.end) tells.event_is) (ap (λ (e : Event). e.differ) tells.event_is) (read_kept c n v every_field (mirror_of p) ok.chip numbers (record {
+      built = ok.mirror;
+      reach = ok.reach;
+    }))
     (ap (λ x. predict_read c n x every_field (mirror_of p)) found.value ∙ read_stepped c n every_field every p ok.chip numbers ok.mirror (all_chosen c n ok.chip numbers)) (ap end.Value found.value)
     (ap (λ x. differ c n x (mirror_of p)) found.value ∙ check_finds c n p ok.chip numbers)
     (contents_stay c d (poked d (cell.Reg n) left) p _ has keeps.setup keeps.locations refl)
@@ -235,7 +264,8 @@ back_step c l p adapters errors told new _ event place is numbers ok a has done 
 
 -- ---- desired values
 
-pub wish_step : {which : ℕ → ℕ → Type 0} (c : ChipData) (l : LayoutData) (p : Machine) (adapters : List Standing) (errors : ℕ) (told : Option State) (new : Scene) (op : Op) (event : Event) (place : ℕ) →
+pub wish_step : {which : ℕ → ℕ → Type 0} (c : ChipData) (l : LayoutData) (p : Machine) (adapters : List Standing) (errors : ℕ) (told : Option State) (new : Scene) (op : Op) (event : Event)
+    (place : ℕ) →
     let s = scene (seen c l p) adapters errors told in
     IsWish op → HasNumbers c (length l.maps) op → IsModel s.model → (a : Agree s) → HasContents which c a.device p → IsDone s new op place event → IsMachineStep which c l p new op place event
 wish_step c l p adapters errors told new (op.Set field value) event place is numbers ok a has done =
@@ -258,7 +288,8 @@ wish_step c l p adapters errors told new _ event place is numbers ok a has done 
 
 -- ---- a reset
 
-pub reset_step : {which : ℕ → ℕ → Type 0} (c : ChipData) (l : LayoutData) (p : Machine) (adapters : List Standing) (errors : ℕ) (told : Option State) (new : Scene) (kind : ℕ) (event : Event) (place : ℕ) →
+pub reset_step : {which : ℕ → ℕ → Type 0} (c : ChipData) (l : LayoutData) (p : Machine) (adapters : List Standing) (errors : ℕ) (told : Option State) (new : Scene) (kind : ℕ) (event : Event)
+    (place : ℕ) →
     let s = scene (seen c l p) adapters errors told in
     IsModel s.model → (a : Agree s) → HasContents which c a.device p → IsDone s new (op.Reset kind) place event → IsMachineStep which c l p new (op.Reset kind) place event
 reset_step c l p adapters errors told new kind event place ok a has done =
@@ -275,18 +306,24 @@ reset_step c l p adapters errors told new kind event place ok a has done =
 -- ---- the backdoor of a memory, and a burst by its name alone
 
 -- the device and the model stay
-pub stays_step : {which : ℕ → ℕ → Type 0} (c : ChipData) (l : LayoutData) (p : Machine) (adapters : List Standing) (errors : ℕ) (told : Option State) (new : Scene) (op : Op) (event : Event) (place : ℕ) (e : End) →
+pub stays_step : {which : ℕ → ℕ → Type 0} (c : ChipData) (l : LayoutData) (p : Machine) (adapters : List Standing) (errors : ℕ) (told : Option State) (new : Scene) (op : Op) (event : Event)
+    (place : ℕ) (e : End) →
     let s = scene (seen c l p) adapters errors told in
     IsModel s.model → (a : Agree s) → HasContents which c a.device p → new.model ≡ s.model → new.device ≡ Some a.device → event.end ≡ e → event.differ ≡ 0 →
     machine_after c l op place p ≡ p → e ≡ machine_end c l op place p → 0 ≡ machine_differ op p → IsMachineStep which c l p new op place event
 stays_step {which} c l p adapters errors told new op event place e ok a has model device ends finds same ended differs =
     let s = scene (seen c l p) adapters errors told in
-    quiet_step c l p new op place event a.device (mirror_of p) e 0 (stays_agreed s new (mirror_of p) a device model (λ reg. refl)) model device ends finds (record { built = ok.mirror; reach = ok.reach })
+    quiet_step c l p new op place event a.device (mirror_of p) e 0 (stays_agreed s new (mirror_of p) a device model (λ reg. refl)) model device ends finds (record {
+      built = ok.mirror;
+      reach =
+          ok.reach;
+    })
     (ap mirror_of (sym same)) ended differs (subst (HasContents which c a.device) (sym same) has)
 
 pub memory_step : (c : ChipData) (l : LayoutData) (p : Machine) (adapters : List Standing) (errors : ℕ) (told : Option State) (new : Scene) (op : Op) (event : Event) (place : ℕ) →
     let s = scene (seen c l p) adapters errors told in
-    IsMemoryBackdoor op → HasNumbers c (length l.maps) op → IsModel s.model → (a : Agree s) → HasContents everywhere c a.device p → grant s.model op ≡ Ok place → IsDone s new op place event → IsMachineStep everywhere c l p new op place event
+    IsMemoryBackdoor op → HasNumbers c (length l.maps) op → IsModel s.model → (a : Agree s) → HasContents everywhere c a.device p → grant s.model op ≡ Ok place → IsDone s new op place event →
+    IsMachineStep everywhere c l p new op place event
 memory_step c l p adapters errors told new (op.MemPeek mem index) event place is numbers ok a has granted done =
     let s = scene (seen c l p) adapters errors told in
     let d = a.device in
@@ -295,7 +332,8 @@ memory_step c l p adapters errors told new (op.MemPeek mem index) event place is
     let low : index < memory_size c mem = ltb-true index (memory_size c mem) (only_ok (by_backdoor s.model (item.Mem mem)) (nat_lt index (memory_size c mem)) OutOfRange place granted).1 in
     let h = has.at mem index tt numbers low in
     let found : done.sampled ≡ slice_index d.locations (location d.setup mem index) = done.found d a.told ∙ peeked_at d mem index in
-    let value : low_bytes (location_size c mem) done.sampled ≡ p.locations mem index = ap (low_bytes (location_size c mem)) found ∙ low_is (location_size c mem) (slice_index d.locations (location d.setup mem index)) h.has.fits ∙ h.holds in
+    let value : low_bytes (location_size c mem) done.sampled ≡ p.locations mem index = ap (low_bytes (location_size c mem)) found ∙ low_is (location_size c mem) (slice_index d.locations
+    (location d.setup mem index)) h.has.fits ∙ h.holds in
     stays_step c l p adapters errors told new (op.MemPeek mem index) event place (end.Value (low_bytes (location_size c mem) done.sampled)) ok a has by.model by.told
     (ap (λ (e : Event). e.end) tells.event_is) (ap (λ (e : Event). e.differ) tells.event_is) refl (ap end.Value value) refl
 memory_step c l p adapters errors told new (op.MemPoke mem index value) event place is numbers ok a has granted done =
@@ -316,17 +354,20 @@ memory_step c l p adapters errors told new (op.MemPoke mem index value) event pl
     (contents_stored c l d after p mem index value has ready.setup numbers low small poke.setup (poke.locations ∙ ap (slice_set d.locations (location d.setup mem index)) whole))
 memory_step c l p adapters errors told new _ event place is numbers ok a has granted done = absurd is
 
-pub burst_step : {which : ℕ → ℕ → Type 0} (c : ChipData) (l : LayoutData) (p : Machine) (adapters : List Standing) (errors : ℕ) (told : Option State) (new : Scene) (op : Op) (event : Event) (place : ℕ) →
+pub burst_step : {which : ℕ → ℕ → Type 0} (c : ChipData) (l : LayoutData) (p : Machine) (adapters : List Standing) (errors : ℕ) (told : Option State) (new : Scene) (op : Op) (event : Event)
+    (place : ℕ) →
     let s = scene (seen c l p) adapters errors told in
     IsBurstName op → IsModel s.model → (a : Agree s) → HasContents which c a.device p → IsDone s new op place event → IsMachineStep which c l p new op place event
 burst_step c l p adapters errors told new (op.BurstWrite mem map first count) event place is ok a has done =
     let s = scene (seen c l p) adapters errors told in
     let by = alone_by s new (op.BurstWrite mem map first count) event place a.device done a.told refl in
     let tells = told_alone s new (op.BurstWrite mem map first count) event place a.device done a.told refl in
-    stays_step c l p adapters errors told new (op.BurstWrite mem map first count) event place end.Done ok a has by.model by.told (ap (λ (e : Event). e.end) tells.event_is) (ap (λ (e : Event). e.differ) tells.event_is) refl refl refl
+    stays_step c l p adapters errors told new (op.BurstWrite mem map first count) event place end.Done ok a has by.model by.told (ap (λ (e : Event). e.end) tells.event_is)
+    (ap (λ (e : Event). e.differ) tells.event_is) refl refl refl
 burst_step c l p adapters errors told new (op.BurstRead mem map first count) event place is ok a has done =
     let s = scene (seen c l p) adapters errors told in
     let by = alone_by s new (op.BurstRead mem map first count) event place a.device done a.told refl in
     let tells = told_alone s new (op.BurstRead mem map first count) event place a.device done a.told refl in
-    stays_step c l p adapters errors told new (op.BurstRead mem map first count) event place end.Done ok a has by.model by.told (ap (λ (e : Event). e.end) tells.event_is) (ap (λ (e : Event). e.differ) tells.event_is) refl refl refl
+    stays_step c l p adapters errors told new (op.BurstRead mem map first count) event place end.Done ok a has by.model by.told (ap (λ (e : Event). e.end) tells.event_is)
+    (ap (λ (e : Event). e.differ) tells.event_is) refl refl refl
 burst_step c l p adapters errors told new _ event place is ok a has done = absurd is

@@ -33,7 +33,8 @@ written_bits fs chosen fields word r own are =
     (λ b l. by b l (place_at fs b) refl)
   where
     by : (b : ℕ) → b < 64 → (o : Option ℕ) → place_at fs b ≡ o →
-        written_bit fs chosen r.spent o (bit r.bits b) (bit word b) ≡ option_map_or (λ k. cond (bit fields k) (after_write (policy_in fs k) (bit r.bits b) (bit word b) (r.spent k)) (bit r.bits b)) o false
+        written_bit fs chosen r.spent o (bit r.bits b) (bit word b) ≡ option_map_or (λ k. cond (bit fields k) (after_write (policy_in fs k) (bit r.bits b) (bit word b) (r.spent k)) (bit r.bits b)) o
+        false
     by b l None at = owned_bit fs r.bits b own l ∙ ap (λ (o : Option ℕ). option_map_or (λ k. bit r.bits b) o false) at
     by b l (Some k) at = ap (λ t. cond t (after_write (policy_in fs k) (bit r.bits b) (bit word b) (r.spent k)) (bit r.bits b)) (are.same k (place_is fs b k at).0)
 
@@ -70,7 +71,8 @@ left_bits fs chosen fields r own are =
 
 -- ---- marks
 
-pub marks_after : (c : ChipData) (reg fields k : ℕ) (spent : List Bool) (chosen : ℕ → Bool) → IsSound c → reg < length c.regs → length spent ≡ length c.fields → k < length (fields_of c reg) → AreChosen (fields_of c reg) chosen fields →
+pub marks_after : (c : ChipData) (reg fields k : ℕ) (spent : List Bool) (chosen : ℕ → Bool) → IsSound c → reg < length c.regs → length spent ≡ length c.fields → k < length (fields_of c reg) →
+    AreChosen (fields_of c reg) chosen fields →
     (marks_in c spent reg k || (chosen k && spends_mark (policy_in (fields_of c reg) k))) ≡ marks_in c (spent_after c reg fields spent) reg k
 unfolding spent_after
 marks_after c reg fields k spent chosen sound l long place are =

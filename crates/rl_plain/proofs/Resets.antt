@@ -1,5 +1,6 @@
 -- A reset gives a device what is then believed.
-use Rattle.std.proofs.Common.{◌≡◌, ◌⊎◌, ℕ, suc, ◌+◌, ◌-◌, ◌<◌, ◌≤◌, Bool, true, false, cond, ◌&&◌, eqb, eqb-true, eq-eqb, ne_eqb, List, [], ◌∷◌, ◌++◌, length, map, get_or, replicate, Option, None, Some, option_map, refl, sym, ap, ◌∙◌, subst, inl, inr, arith}
+use Rattle.std.proofs.Common.{◌≡◌, ◌⊎◌, ℕ, suc, ◌+◌, ◌-◌, ◌<◌, ◌≤◌, Bool, true, false, cond, ◌&&◌, eqb, eqb-true, eq-eqb, ne_eqb, List, [], ◌∷◌}
+use Rattle.std.proofs.Common.{◌++◌, length, map, get_or, replicate, Option, None, Some, option_map, refl, sym, ap, ◌∙◌, subst, inl, inr, arith}
 use Rattle.std.specs.Prelude.{slice_index, is_some, find}
 use Rattle.std.specs.Option.{option_map_or, option_or}
 use Rattle.std.proofs.lemmas.Bool.{cases_eq, and_parts}
@@ -44,11 +45,13 @@ rows_of field rs = map (λ (r : Reset). let x : ResetRow = record { field = fiel
 own_rows : (field kind a : ℕ) (rs : List Reset) (more : List ResetRow) → eqb a field ≡ true → value_in (rows_of a rs ++ more) field kind ≡ option_or (value_for kind rs) (value_in more field kind)
 own_rows field kind a [] more e = refl
 own_rows field kind a (r ∷ rs) more e =
-    ap (λ t. option_map (λ (x : ResetRow). x.value) (cond (t && eqb r.kind kind) (Some (record { field = a; kind = r.kind; value = r.value })) (find (λ (x : ResetRow). eqb x.field field && eqb x.kind kind) (rows_of a rs ++ more)))) e
+    ap (λ t. option_map (λ (x : ResetRow). x.value) (cond (t && eqb r.kind kind) (Some (record { field = a; kind = r.kind; value = r.value })) (find (λ (x : ResetRow). eqb x.field field && eqb x.kind
+    kind) (rows_of a rs ++ more)))) e
     ∙ by (eqb r.kind kind) (own_rows field kind a rs more e)
   where
     by : (t : Bool) → value_in (rows_of a rs ++ more) field kind ≡ option_or (value_for kind rs) (value_in more field kind) →
-        option_map (λ (x : ResetRow). x.value) (cond t (Some (record { field = a; kind = r.kind; value = r.value })) (find (λ (x : ResetRow). eqb x.field field && eqb x.kind kind) (rows_of a rs ++ more)))
+        option_map (λ (x : ResetRow). x.value) (cond t (Some (record { field = a; kind = r.kind; value = r.value })) (find (λ (x : ResetRow). eqb x.field field && eqb x.kind kind) (rows_of a rs ++
+        more)))
         ≡ option_or (cond t (Some r.value) (value_for kind rs)) (value_in more field kind)
     by true h = refl
     by false h = h
@@ -56,7 +59,8 @@ own_rows field kind a (r ∷ rs) more e =
 other_rows : (field kind a : ℕ) (rs : List Reset) (more : List ResetRow) → eqb a field ≡ false → value_in (rows_of a rs ++ more) field kind ≡ value_in more field kind
 other_rows field kind a [] more e = refl
 other_rows field kind a (r ∷ rs) more e =
-    ap (λ t. option_map (λ (x : ResetRow). x.value) (cond (t && eqb r.kind kind) (Some (record { field = a; kind = r.kind; value = r.value })) (find (λ (x : ResetRow). eqb x.field field && eqb x.kind kind) (rows_of a rs ++ more)))) e
+    ap (λ t. option_map (λ (x : ResetRow). x.value) (cond (t && eqb r.kind kind) (Some (record { field = a; kind = r.kind; value = r.value })) (find (λ (x : ResetRow). eqb x.field field && eqb x.kind
+    kind) (rows_of a rs ++ more)))) e
     ∙ other_rows field kind a rs more e
 
 later_rows : (field kind a : ℕ) (fs : List FieldSeen) → field < a → value_in (reset_rows a fs) field kind ≡ None
@@ -71,7 +75,8 @@ rows_at : (field kind a : ℕ) (fs : List FieldSeen) → a ≤ field → field <
 rows_at field kind a [] low high = absurd (omega arith)
 rows_at field kind a (f ∷ fs) low high = by (λ from to. rows_at field kind (a + 1) fs from to) (cases_eq a field)
   where
-    by : (a + 1 ≤ field → field < a + 1 + length fs → value_in (reset_rows (a + 1) fs) field kind ≡ value_for kind (get_or fs (field - (a + 1)) no_field).resets) → (a ≡ field) ⊎ (a ≡ field → ⊥) → value_in (reset_rows a (f ∷ fs)) field kind ≡ value_for kind (get_or (f ∷ fs) (field - a) no_field).resets
+    by : (a + 1 ≤ field → field < a + 1 + length fs → value_in (reset_rows (a + 1) fs) field kind ≡ value_for kind (get_or fs (field - (a + 1)) no_field).resets) → (a ≡ field) ⊎ (a ≡ field → ⊥) →
+        value_in (reset_rows a (f ∷ fs)) field kind ≡ value_for kind (get_or (f ∷ fs) (field - a) no_field).resets
     by rest (inl same) =
         let none : field - a ≡ 0 = omega (arith, same) in
         own_rows field kind a f.resets (reset_rows (a + 1) fs) (eq-eqb a field same)
@@ -97,14 +102,16 @@ row_is c l field inside = get_or-map field_row c.fields field no_field no_row in
 
 -- ---- the field of a bit, counted through all registers
 
-first_field : (c : ChipData) (l : LayoutData) (reg b n : ℕ) → field_at (setup_of c l no_flaws) reg b ≡ Some n → (n < length c.fields) × (covers_bit (row_of_field (setup_of c l no_flaws) n) reg b ≡ true)
+first_field : (c : ChipData) (l : LayoutData) (reg b n : ℕ) → field_at (setup_of c l no_flaws) reg b ≡ Some n → (n < length c.fields) × (covers_bit (row_of_field (setup_of c l no_flaws) n) reg b ≡
+    true)
 unfolding setup_of
 first_field c l reg b n e =
     let at = position-Some (λ (f : FieldRow). covers_bit f reg b) (map field_row c.fields) n no_row e in
     let inside : n < length c.fields = subst (λ k. n < k) (length-map c.fields field_row) at.0 in
     (inside, at.1)
 
-field_found : (c : ChipData) (l : LayoutData) (reg b k : ℕ) → IsSound c → reg < length c.regs → place_at (fields_of c reg) b ≡ Some k → field_at (setup_of c l no_flaws) reg b ≡ Some (first_of c reg + k)
+field_found : (c : ChipData) (l : LayoutData) (reg b k : ℕ) → IsSound c → reg < length c.regs → place_at (fields_of c reg) b ≡ Some k → field_at (setup_of c l no_flaws) reg b ≡ Some (first_of c reg +
+    k)
 field_found c l reg b k sound inside at = by (field_at (setup_of c l no_flaws) reg b) refl
   where
     by : (o : Option ℕ) → field_at (setup_of c l no_flaws) reg b ≡ o → o ≡ Some (first_of c reg + k)
@@ -171,18 +178,21 @@ reset_bits c l reg kind m sound inside own =
         ∙ field_reset c l reg kind m b k sound inside at
 
 -- a register of the device after a reset
-reg_is : (c : ChipData) (l : LayoutData) (d : State) (m : MirrorData) (kind reg : ℕ) → IsSound c → IsMirrorOf c m → IsAsBelieved c l m d → reg < length c.regs → reg_reset d kind reg ≡ after_reset (fields_of c reg) kind (mirrored_of m reg)
+reg_is : (c : ChipData) (l : LayoutData) (d : State) (m : MirrorData) (kind reg : ℕ) → IsSound c → IsMirrorOf c m → IsAsBelieved c l m d → reg < length c.regs → reg_reset d kind reg ≡ after_reset
+    (fields_of c reg) kind (mirrored_of m reg)
 reg_is c l d m kind reg sound built a inside =
     ap (λ (t : Setup). held t reg (λ b. device_bit t kind (field_at t reg b) b (bit (slice_index d.bits reg) b))) a.ready.setup
     ∙ ap (λ x. held (setup_of c l no_flaws) reg (λ b. device_bit (setup_of c l no_flaws) kind (field_at (setup_of c l no_flaws) reg b) b (bit x b))) (a.holds reg inside).bits
     ∙ reset_bits c l reg kind (mirrored_of m reg) sound inside (built.mirrored reg inside).owned
 
-bits_after : (c : ChipData) (l : LayoutData) (d : State) (m : MirrorData) (kind reg : ℕ) → IsSound c → IsMirrorOf c m → IsAsBelieved c l m d → reg < length c.regs → slice_index (reset_by d kind).bits reg ≡ mirrored_of (reset c kind m) reg
+bits_after : (c : ChipData) (l : LayoutData) (d : State) (m : MirrorData) (kind reg : ℕ) → IsSound c → IsMirrorOf c m → IsAsBelieved c l m d → reg < length c.regs →
+    slice_index (reset_by d kind).bits reg ≡ mirrored_of (reset c kind m) reg
 unfolding reset_by reset
 bits_after c l d m kind reg sound built a inside =
     get_or-map-range_with_len (reg_reset d kind) 0 (length d.bits) reg reg 0 (subst (λ n. reg < n) (sym a.ready.bits) inside) (omega arith)
     ∙ reg_is c l d m kind reg sound built a inside
-    ∙ sym (get_or-map-range_with_len (λ reg. after_reset (fields_of c reg) kind (get_or m.mirrored reg 0)) 0 (length m.mirrored) reg reg 0 (subst (λ n. reg < n) (sym built.registers) inside) (omega arith))
+    ∙ sym (get_or-map-range_with_len (λ reg. after_reset (fields_of c reg) kind (get_or m.mirrored reg 0)) 0 (length m.mirrored) reg reg 0 (subst (λ n. reg < n) (sym built.registers) inside)
+    (omega arith))
 
 -- ---- marks: a hard reset clears all of them
 

@@ -30,7 +30,8 @@ differ_at : (on : Option ℕ) (op : Op) (items : List TraceItem) (o : Outcome) �
 differ_at None op items o = refl
 differ_at (Some reg) op items o = refl
 
-pub done_told : (s new : Scene) (op : Op) (place : ℕ) (event : Event) (e : End) (differ : ℕ) (p : Machine) → IsDone s new op place event → event.end ≡ e → event.differ ≡ differ → new.model.mirror ≡ mirror_of p →
+pub done_told : (s new : Scene) (op : Op) (place : ℕ) (event : Event) (e : End) (differ : ℕ) (p : Machine) → IsDone s new op place event → event.end ≡ e → event.differ ≡ differ →
+    new.model.mirror ≡ mirror_of p →
     without_items event ≡ told s.model.chip (named s.model op) e differ p
 done_told s new op place event e differ p done ends finds mirror =
     let is = named s.model op in

@@ -1,5 +1,7 @@
 -- Each drawn line of the session that is made from a number reads as what was drawn.
-use Rattle.std.proofs.Common.{◌≡◌, ℕ, zero, suc, ◌+◌, ◌-◌, ◌^◌, ◌<◌, ◌≤◌, Bool, true, false, not, subst, cond, eqb, nat_lt, nat_le, ◌&&◌, IsTrue, List, [], ◌∷◌, ◌++◌, length, get_or, map, decimal, None, Result, Ok, Err, codes, length-append, refl, sym, ap, ◌∙◌, append_assoc, append-nil, le-ltb, inl, inr, below_more, arith}
+use Rattle.std.proofs.Common.{◌≡◌, ℕ, zero, suc, ◌+◌, ◌-◌, ◌^◌, ◌<◌, ◌≤◌, Bool, true, false, not, subst, cond, eqb, nat_lt, nat_le}
+use Rattle.std.proofs.Common.{◌&&◌, IsTrue, List, [], ◌∷◌, ◌++◌, length, get_or, map, decimal, None, Result, Ok, Err, codes, length-append}
+use Rattle.std.proofs.Common.{refl, sym, ap, ◌∙◌, append_assoc, append-nil, le-ltb, inl, inr, below_more, arith}
 use Rattle.std.specs.Fmt.{digits}
 use Rattle.std.specs.Char.{digit_char}
 use Rattle.std.specs.Int.Digits.{digits_of}

@@ -1,5 +1,6 @@
 -- Where the description of the session that is made from a number ends, and its script begins.
-use Rattle.std.proofs.Common.{subst, ◌≡◌, ℕ, suc, ◌+◌, ◌-◌, Bool, true, false, not, ◌&&◌, cond, eqb, List, [], ◌∷◌, ◌++◌, length, take, codes, nat_le, if◌then◌else◌, Some, Result, Ok, Err, refl, sym, ap, ◌∙◌, append-nil, zero-add, inl, inr, arith}
+use Rattle.std.proofs.Common.{subst, ◌≡◌, ℕ, suc, ◌+◌, ◌-◌, Bool, true, false, not, ◌&&◌, cond, eqb, List, [], ◌∷◌, ◌++◌, length, take, codes}
+use Rattle.std.proofs.Common.{nat_le, if◌then◌else◌, Some, Result, Ok, Err, refl, sym, ap, ◌∙◌, append-nil, zero-add, inl, inr, arith}
 use Rattle.std.specs.Fmt.{digits}
 use Rattle.std.specs.Io.BufRead.{strip_last, ends_with_byte}
 use Rattle.std.proofs.Math.Seq.{drop-append_seam, take-append_seam}

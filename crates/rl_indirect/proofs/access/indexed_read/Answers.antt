@@ -41,5 +41,6 @@ returns-clause-agree g c = λ h.
     let map = subst (λ (l : LayoutData). IsMapIn (length l.maps) c.args.map) (sym s.parts.layout) c.requires.map in
     entry_step _ _ _ c.args.bank.now c.select-index.new.bank c.args.k _ _ c.select-index.result c.mirror-access.result (s.agree h) (sym c.is_done.ensures ∙ c.if-not-is_done.false)
     s.sound c.chip-left.ensures.sound s.bank c.window.ensures.sound s.parts.chip s.same.window
-    (subst (λ (w : Window). IsOnData c.select-index.new.model (cond c.args.check (op.Check c.window.result.data_reg c.args.map) (op.Mirror c.window.result.data_reg c.args.map)) w.data_reg (read_step every)) c.window.ensures.window
+    (subst (λ (w : Window). IsOnData c.select-index.new.model (cond c.args.check (op.Check c.window.result.data_reg c.args.map) (op.Mirror c.window.result.data_reg c.args.map)) w.data_reg
+    (read_step every)) c.window.ensures.window
     (on_read c.select-index.new.model c.window.result.data_reg c.args.map c.args.check reg map)) c.mirror-access.ensures.performs

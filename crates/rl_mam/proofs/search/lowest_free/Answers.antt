@@ -16,4 +16,5 @@ returns-then-len-free-2-clause-place c =
 pub returns-clause-cause : goal.returns-clause-cause
 returns-clause-cause c =
     no_room c.args.len c.args.size c.args.regions.now (NoRoom c.max-longest-2.result) c.requires.apart c.requires.some
-    (sym c.loop-region.invariant.same ∙ none_hit c.args.len c.args.size c.loop-region.from c.loop-region.longest c.args.regions.now c.loop-region.region-index (omega arith) (omega arith) ∙ ap (λ n. Err (NoRoom n)) (sym c.max-longest-2.ensures))
+    (sym c.loop-region.invariant.same ∙ none_hit c.args.len c.args.size c.loop-region.from c.loop-region.longest c.args.regions.now c.loop-region.region-index (omega arith) (omega arith) ∙ ap
+    (λ n. Err (NoRoom n)) (sym c.max-longest-2.ensures))
