@@ -215,7 +215,8 @@ def narrow():
 def bursts():
     """Bursts over 256 locations."""
     draw = Draw(256)
-    text = table("mem", name="ram", bytes=4, size=1024) + table("map", name="bus", bytes=4) + table("place", map="bus", item="ram", offset=0)
+    text = table("mem", name="ram", bytes=4, size=1024)
+    text += table("map", name="bus", bytes=4) + table("place", map="bus", item="ram", offset=0)
     out = []
     for _ in range(200):
         first = draw(768)
@@ -247,7 +248,7 @@ def tree():
     out = []
     for _ in range(50000):
         item = f"{where}.register_{draw(256)}"
-        out.append((f"write {item} {draw.bits(32):#x}", f"read {item}", f"field-write {item}.f8 {draw(256):#x}")[draw(3)])
+        out.append((f"write {item} {draw.bits(32):#x}", f"read {item}", f"field-write {item}.f8 0x5a")[draw(3)])
     return text + "---\n" + "\n".join(out) + "\n"
 
 

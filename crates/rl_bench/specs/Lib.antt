@@ -4,6 +4,7 @@ pub mod Cells
 pub mod Flaws
 pub mod Found
 pub mod Masks
+pub mod Prelude
 pub mod Rows
 pub mod Shape
 pub mod State

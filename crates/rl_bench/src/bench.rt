@@ -1,13 +1,12 @@
 //! The device.
 ghost use Rattle.std.specs.Prelude.{◌≡◌, ◌+◌, ◌-◌, ◌<◌, ◌≤◌, ◌^◌, length, if◌then◌else◌, nat_lt, IfOk, replicate};
-ghost use Rattle.std.specs.Prelude.{slice_get, option_copied, min, true, All};
-ghost use Rattle.rl_bus.specs.Causes.{AnswerHasCause};
-ghost use Rattle.rl_bus.specs.Setup.{stands_at};
-ghost use Rattle.rl_bench.specs.Beats.{IsQuiet, HasBeats, BeatsAreWords};
-ghost use Rattle.rl_bench.specs.Stretch.{IsStretch, IsHint, AreOrdered};
-ghost use Rattle.rl_bench.specs.Board.{FitCells, IsSetup, HasRoom};
-ghost use Rattle.rl_bench.specs.Found.{words_on, words_for, beat_for, item_is_faulty};
-ghost use Rattle.rl_bench.specs.Tables.{setup_held};
+ghost use Rattle.std.specs.Prelude.{slice_get, option_copied, option_map, Some, min, true, All};
+ghost use Rattle.rl_bench.specs.Prelude.{AnswerHasCause, IsStep, IsPortOf, IsCellOf, IsFieldOf, IsWidth, stands_at};
+ghost use Rattle.rl_bench.specs.Prelude.{state_after, answer_of, first_state, poked, reset_by, hw_set};
+ghost use Rattle.rl_bench.specs.Prelude.{carried_by, IsWellFormed, IsReplyTo, IsAtOnce, answered_by, IsBuiltWith};
+ghost use Rattle.rl_bench.specs.Prelude.{IsQuiet, HasBeats, BeatsAreWords, IsStretch, IsHint, AreOrdered, FitCells};
+ghost use Rattle.rl_bench.specs.Prelude.{IsSetup, HasRoom, AreFlawsOf, first_of, words_on, words_for, beat_for};
+ghost use Rattle.rl_bench.specs.Prelude.{item_is_faulty, setup_held};
 
 use crate::access::touch;
 use crate::backdoor::{peek_cell, poke_cell, set_field};
@@ -133,10 +132,6 @@ fn zeros(alloc: Global, count: usize) -> Result<Vec<u64>, AllocError>
 }
 
 impl Bench {
-    ghost use Rattle.rl_bus.specs.Lanes.{IsWidth};
-    ghost use Rattle.rl_bus.specs.State.{state_after, answer_of, first_state};
-    ghost use Rattle.rl_map.specs.Maps.{IsBuiltWith};
-    ghost use Rattle.rl_bench.specs.Flaws.{AreFlawsOf, first_of};
     ghost use Rattle.rl_bench.specs.State.{bench_state, failures_of, failures_after};
 
     /// The device of a chip and a layout with these flaws, after a hard reset and with no item so far.
@@ -228,10 +223,6 @@ impl Bench {
 }
 
 impl Device for Bench {
-    ghost use Rattle.std.specs.Prelude.{Some, option_map};
-    ghost use Rattle.rl_bus.specs.Device.{IsStep, IsPortOf, IsCellOf, IsFieldOf};
-    ghost use Rattle.rl_bus.specs.State.{poked, reset_by, hw_set};
-    ghost use Rattle.rl_bus.specs.Wire.{carried_by, IsWellFormed, IsReplyTo, IsAtOnce, answered_by};
     ghost use Rattle.rl_bench.specs.State.{bench_state, state_told, failures_of, failures_after, item_fails};
 
     ghost state = { λ b. Some (bench_state b) };
