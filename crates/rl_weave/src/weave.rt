@@ -134,8 +134,10 @@ impl Weave {
             woven.items.len(),
             woven.access.value,
         );
-        let end = self.take_in(model, which, item);
-        Step { item, end }
+        Step {
+            item,
+            end: self.take_in(model, which, item),
+        }
     }
 
     /// Empties the weave.
@@ -190,9 +192,8 @@ impl Weave {
         self.fresh = false;
         let woven = &mut self.accesses[which as usize];
         if woven.is_over(&item) {
-            let event = woven.close(model, item);
             self.still_open.retain(|&number| number != which);
-            Some(event)
+            Some(woven.close(model, item))
         } else {
             woven.items.push(item);
             None

@@ -25,5 +25,5 @@ send_word-item-requires-clause-value g c =
 
 pub returns-clause-fewer : goal.returns-clause-fewer
 returns-clause-fewer g c =
-    subst (λ x. words_left x < words_left c.args.self.now) (sym c.take_in-end.ensures.stepped)
+    subst (λ x. words_left x < words_left c.args.self.now) (sym c.take_in.ensures.stepped)
     (step_takes c.args.self.now c.args.which c.send_word-item.result (subst IsWeave c.self.view_is c.self.invariant.0) c.requires.open)

@@ -29,7 +29,7 @@ invariant_of-self c =
     let f = is_found m w c.args.which v c.self.invariant.0 (subst (λ (x : WeaveData). Contains x.still_open c.args.which) (sym c.self.view_is) c.requires.open)
     (subst (λ (x : WeaveData). All (IsWovenOn m) x.accesses) (sym c.self.view_is) c.requires.on) c.index_mut-woven.ensures.value in
     let left : c.retain.new.self.items ≡ without c.args.which c.self.inside.still_open.items = filter_same _ _ _ (λ x b f' k. search rules) _ _ c.retain.ensures.filtered in (
-      rw left (weave_closed w c.args.which c.close-event.new.self c.self.invariant.0 f.inside (ap (λ (u : Woven). u.access.reg) c.close-event.ensures.left ∙ ap (λ (u : Woven). u.access.reg) f.here)),
+      rw left (weave_closed w c.args.which c.close.new.self c.self.invariant.0 f.inside (ap (λ (u : Woven). u.access.reg) c.close.ensures.left ∙ ap (λ (u : Woven). u.access.reg) f.here)),
       c.self.invariant.1,
       omega (arith, c.retain.ensures.capacity, c.self.invariant.2),
     )
@@ -55,7 +55,7 @@ returns-then-is_over-clause-stepped c =
     let f = is_found m w c.args.which v c.self.invariant.0 (subst (λ (x : WeaveData). Contains x.still_open c.args.which) (sym c.self.view_is) c.requires.open)
     (subst (λ (x : WeaveData). All (IsWovenOn m) x.accesses) (sym c.self.view_is) c.requires.on) c.index_mut-woven.ensures.value in
     let left : c.retain.new.self.items ≡ without c.args.which c.self.inside.still_open.items = filter_same _ _ _ (λ x b f' k. search rules) _ _ c.retain.ensures.filtered in
-    stepped_over w c.args.which v c.close-event.new.self c.args.item c.retain.new.self.items f.here (sym c.is_over.ensures ∙ c.if-is_over.true) c.close-event.ensures.left left
+    stepped_over w c.args.which v c.close.new.self c.args.item c.retain.new.self.items f.here (sym c.is_over.ensures ∙ c.if-is_over.true) c.close.ensures.left left
     ∙ ap (λ (x : WeaveData). stepped x c.args.which c.args.item) c.self.view_is
 
 pub returns-then-is_over-clause-on : goal.returns-then-is_over-clause-on
@@ -65,7 +65,7 @@ returns-then-is_over-clause-on c =
     let v = c.index_mut-woven.result.now in
     let all = subst (λ (x : WeaveData). All (IsWovenOn m) x.accesses) (sym c.self.view_is) c.requires.on in
     let f = is_found m w c.args.which v c.self.invariant.0 (subst (λ (x : WeaveData). Contains x.still_open c.args.which) (sym c.self.view_is) c.requires.open) all c.index_mut-woven.ensures.value in
-    on_kept m w.accesses c.args.which c.close-event.new.self all (subst (IsWovenOn m) (sym c.close-event.ensures.left) (on_with m v [] f.on (All-nil (ItemFits m.layout))))
+    on_kept m w.accesses c.args.which c.close.new.self all (subst (IsWovenOn m) (sym c.close.ensures.left) (on_with m v [] f.on (All-nil (ItemFits m.layout))))
 
 pub returns-else-is_over-clause-on : goal.returns-else-is_over-clause-on
 returns-else-is_over-clause-on c =
