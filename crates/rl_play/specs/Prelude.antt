@@ -15,7 +15,7 @@ pub use Rattle.rl_play.specs.Earlier.{KeepsEarlier}
 pub use Rattle.rl_play.specs.Heard.{heard}
 pub use Rattle.rl_play.specs.Job.{job_work, JobHasNumbers}
 pub use Rattle.rl_play.specs.Moment.{moment_of}
-pub use Rattle.rl_play.specs.Played.{BreaksFrom, Ends, PlaysLine, PlaysScript}
+pub use Rattle.rl_play.specs.Played.{BreaksFrom, Ends, PlaysLine, PlaysScript, PlaysThrough}
 pub use Rattle.rl_play.specs.Told.{told}
 pub use Rattle.rl_report.specs.Got.{Hands}
 pub use Rattle.rl_report.specs.Lines.{first_line}
