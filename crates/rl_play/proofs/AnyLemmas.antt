@@ -23,30 +23,8 @@ use Rattle.rl_log.specs.Recording.{no_counts, with_event, with_events}
 use Rattle.rl_log.specs.Statuses.{is_complete}
 use Rattle.rl_log.specs.Telling.{Tells}
 use Rattle.rl_log.specs.Texts.{end_text}
-use Rattle.rl_play.specs.AnyDevice.{
-  asked,
-  text_of,
-  Point,
-  RanWhole,
-  StopsAt,
-  ClosesAt,
-  Close,
-  at_end,
-  refused,
-  broken,
-  unwritten,
-  cut,
-  HasStatus,
-  Happens,
-  told_by,
-  text_by,
-  DoneLine,
-  Plays,
-  PlaysInput,
-  PlaysAll,
-  PlaysOnAnyDevice,
-  counting,
-}
+use Rattle.rl_play.specs.AnyDevice.{Point, RanWhole, StopsAt, ClosesAt, Close, at_end, refused, broken, unwritten, cut, HasStatus, Happens, told_by, text_by, DoneLine, Plays, PlaysInput, PlaysAll, PlaysOnAnyDevice, counting}
+use Rattle.rl_play.specs.Work.{asked, text_of}
 use Rattle.rl_play.specs.Earlier.{KeepsEarlier}
 use Rattle.rl_play.specs.Heard.{heard}
 use Rattle.rl_play.proofs.BufferLemmas.{keeps_then_appends}

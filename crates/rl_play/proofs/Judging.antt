@@ -58,36 +58,8 @@ use Rattle.rl_log.specs.Named.{block_asked, map_asked, mem_named, op_named}
 use Rattle.rl_log.specs.Recording.{with_event, with_events, events_text}
 use Rattle.rl_log.specs.Statuses.{is_complete}
 use Rattle.rl_log.specs.Texts.{refused_text}
-use Rattle.rl_play.specs.AnyDevice.{
-  Work,
-  planned,
-  sequence,
-  burst,
-  single,
-  burst_write_work,
-  burst_read_work,
-  work_of,
-  asked,
-  Does,
-  BreaksOff,
-  IsRefusedAlone,
-  text_of,
-  begun_text,
-  Point,
-  RanWhole,
-  Close,
-  at_end,
-  refused,
-  broken,
-  unwritten,
-  cut,
-  ClosesAt,
-  StopsAt,
-  HasStatus,
-  text_at,
-  told_at,
-  Turns,
-}
+use Rattle.rl_play.specs.AnyDevice.{Point, RanWhole, Close, at_end, refused, broken, unwritten, cut, ClosesAt, StopsAt, HasStatus, text_at, told_at, Turns}
+use Rattle.rl_play.specs.Work.{Work, planned, sequence, burst, single, burst_write_work, burst_read_work, work_of, asked, Does, BreaksOff, IsRefusedAlone, text_of, begun_text}
 use Rattle.rl_play.specs.declared.playing.Turn.{Turn}
 use Rattle.rl_play.specs.declared.playing.Turn.TheVariants.{Next, Stop}
 use Rattle.rl_play.specs.Played.{IsTurn, RanOn, Stopped, EndsAs}

@@ -29,7 +29,8 @@ use Rattle.rl_log.specs.Recording.{events_text}
 use Rattle.rl_log.specs.Statuses.{is_complete}
 use Rattle.rl_log.specs.Telling.{Tells}
 use Rattle.rl_log.specs.Texts.{refused_text}
-use Rattle.rl_play.specs.AnyDevice.{Work, planned, sequence, single, asked, text_of, begun_text, Point, Logs, LogsTallied, RanWhole, StopsAt, RunsOn, Turns, refused, broken, unwritten, cut}
+use Rattle.rl_play.specs.AnyDevice.{Point, Logs, LogsTallied, RanWhole, StopsAt, RunsOn, Turns, refused, broken, unwritten, cut}
+use Rattle.rl_play.specs.Work.{Work, planned, sequence, single, asked, text_of, begun_text}
 use Rattle.rl_play.specs.declared.playing.Turn.{Turn}
 use Rattle.rl_play.proofs.BufferLemmas.{keeps_refl}
 use Rattle.rl_play.proofs.EndingLemmas.{front_none}

@@ -16,7 +16,8 @@ use Rattle.rl_report.specs.Pieces.{AppendsFront}
 use Rattle.rl_report.proofs.PieceLemmas.{front_after, front_before}
 use Rattle.rl_log.specs.declared.counts.Counts.{Counts}
 use Rattle.rl_log.specs.Recording.{with_events, told_text, events_text}
-use Rattle.rl_play.specs.AnyDevice.{Logs, LogsTallied, Point, planned, burst, single}
+use Rattle.rl_play.specs.AnyDevice.{Logs, LogsTallied, Point}
+use Rattle.rl_play.specs.Work.{planned, burst, single}
 use Rattle.rl_play.specs.Recording.{IsWritten, IsBegun}
 
 pub events_append : (told more : List Told) → events_text (told ++ more) ≡ events_text told ++ events_text more

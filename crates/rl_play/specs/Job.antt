@@ -4,7 +4,7 @@ use Rattle.rl_access.specs.Operation.{IsMapIn}
 use Rattle.rl_model.specs.Rows.{ChipData}
 use Rattle.rl_access.specs.Model.{ModelData}
 use Rattle.rl_log.specs.Entry.{plan_of}
-use Rattle.rl_play.specs.AnyDevice.{Work, planned, burst_write_work, burst_read_work}
+use Rattle.rl_play.specs.Work.{Work, planned, burst_write_work, burst_read_work}
 use Rattle.rl_play.specs.declared.line.Job.{Job}
 use Rattle.rl_play.specs.declared.line.Job.TheVariants.{Sequence, BurstWrite, BurstRead}
 

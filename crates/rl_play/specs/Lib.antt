@@ -9,3 +9,4 @@ pub mod Played
 pub mod Prelude
 pub mod Recording
 pub mod Told
+pub mod Work

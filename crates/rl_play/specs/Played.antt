@@ -162,3 +162,13 @@ pub record PlaysLine (number : ℕ) (before : Point) (input : Option (List ℕ))
   pub later_fault : turn ≡ Next → ended ≡ false → BreaksAsRest number (moment_at before) input (moment_at after) rest
   pub done_next : turn ≡ Next → DoesWithRest number (moment_at before) input (moment_at after) rest
   pub done_stop : (status : Status) → turn ≡ Stop status → DoesFrom number (moment_at before) input (moment_at after)
+
+-- ---- the lines that are left
+
+-- They were played from one moment to the other, and this is left of the input.
+pub record PlaysThrough (before : Point) (input left : Option (List ℕ)) (after : Point) (status : Status) : Type 0 where
+  pub on_any_device : PlaysInput 1 before input after status
+  -- where the device tells its state
+  pub log : Ends 1 (moment_at before) input (moment_at after) status
+  pub at_fault : status ≡ SourceFault → BreaksFrom 1 (moment_at before) input left after.text
+  pub done : DoesFrom 1 (moment_at before) input (moment_at after)

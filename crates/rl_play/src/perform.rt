@@ -3,7 +3,8 @@ ghost use Rattle.std.specs.Prelude.{◌≡◌, true, length, map as each};
 ghost use Rattle.rl_bus.specs.Causes.{HasCause};
 ghost use Rattle.rl_access.specs.Model.{IsReady, IsSameChip};
 ghost use Rattle.rl_access.specs.Operation.{HasNumbers, is_single};
-ghost use Rattle.rl_play.specs.AnyDevice.{Logs, spot, single};
+ghost use Rattle.rl_play.specs.AnyDevice.{Logs, spot};
+ghost use Rattle.rl_play.specs.Work.{single};
 
 use crate::log::Log;
 use crate::recorder::record;

@@ -1,7 +1,7 @@
 // The lines of a script, one after another.
 ghost use Rattle.std.specs.Prelude.{◌≡◌, ◌≢◌, ◌≤◌, map, true, false, Ok, Err, MatchResult, IfOk, IfErr, IfSome, OnOk};
 ghost use Rattle.std.specs.Io.KnownBytes.{Keeps};
-ghost use Rattle.rl_play.specs.Prelude.{Rose, IsReady, IsSameChip, IsCaused, NoneFailed, DoesFrom, DoesFirstEvents, KeepsEarlier, end_status, IsCounted, PlayEnds, said_by, moment_of, BreaksFrom, Ends, PlaysLine, PlaysScript, asked, spot, Turns, PlaysInput, PlaysOnAnyDevice, heard, is_complete, Tells, refused_text, end_text, told, Hands, read_of, line_said, first_line, input_of, HoldsLine};
+ghost use Rattle.rl_play.specs.Prelude.{Rose, IsReady, IsSameChip, IsCaused, NoneFailed, DoesFrom, DoesFirstEvents, KeepsEarlier, end_status, IsCounted, PlayEnds, said_by, moment_of, BreaksFrom, Ends, PlaysLine, PlaysScript, PlaysThrough, asked, spot, Turns, PlaysInput, PlaysOnAnyDevice, heard, is_complete, Tells, refused_text, end_text, told, Hands, read_of, line_said, first_line, input_of, HoldsLine};
 
 use crate::buffered::{Buffered, Earlier};
 use crate::line::run_line;
@@ -354,24 +354,13 @@ fn play_through<S: Source, K: Sink, D: Device, E: Earlier>(
     requires earlier { K.written sink.old ≡ E.bytes }
     ensures ready { IsReady model.new (map standing adapters.new.items) (D.state device.new) }
     ensures parts { IsSameChip model.old model.new }
-    ensures log { Ends 1
-        (moment_of standing D.state K.written model.old adapters.old.items device.old sink.old counts.old)
-        (input_of lines.old (S.left source.old))
-        (moment_of standing D.state K.written model.new adapters.new.items device.new sink.new counts.new) result }
-    ensures at_fault { result ≡ Status.SourceFault → BreaksFrom 1
-        (moment_of standing D.state K.written model.old adapters.old.items device.old sink.old counts.old)
-        (input_of lines.old (S.left source.old)) (S.left source.new) (K.written sink.new) }
+    ensures plays { PlaysThrough
+        (spot standing D.errors D.state K.written model.old adapters.old.items device.old sink.old counts.old)
+        (input_of lines.old (S.left source.old)) (S.left source.new)
+        (spot standing D.errors D.state K.written model.new adapters.new.items device.new sink.new counts.new) result }
     ensures found { lines.new.found ≡ true }
     ensures again { result ≡ Status.SourceFault → lines.new.refused ≡ false }
     ensures keeps_earlier { KeepsEarlier (K.written sink.old) (K.written sink.new) }
-    ensures plays { PlaysInput 1
-        (spot standing D.errors D.state K.written model.old adapters.old.items device.old sink.old counts.old)
-        (input_of lines.old (S.left source.old))
-        (spot standing D.errors D.state K.written model.new adapters.new.items device.new sink.new counts.new) result }
-    ensures done { DoesFrom 1
-        (moment_of standing D.state K.written model.old adapters.old.items device.old sink.old counts.old)
-        (input_of lines.old (S.left source.old))
-        (moment_of standing D.state K.written model.new adapters.new.items device.new sink.new counts.new) }
     ensures counted { IsCounted result counts.new }
     ensures source_later { S.faults source.old ≤ S.faults source.new }
     ensures sink_later { K.faults sink.old ≤ K.faults sink.new }

@@ -1,5 +1,5 @@
 use Rattle.std.proofs.Common.{refl, sym, ◌∙◌}
-use Rattle.rl_play.specs.AnyDevice.{single}
+use Rattle.rl_play.specs.Work.{single}
 use Rattle.rl_play.proofs.LineLemmas.{one_is, plain_done, plain_failed}
 use Rattle.rl_play.proofs.line.operation.Goals as goal
 

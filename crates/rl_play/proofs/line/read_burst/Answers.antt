@@ -1,5 +1,5 @@
 use Rattle.std.proofs.Common.{refl, sym, ◌∙◌}
-use Rattle.rl_play.specs.AnyDevice.{burst_read_work}
+use Rattle.rl_play.specs.Work.{burst_read_work}
 use Rattle.rl_play.proofs.LineLemmas.{both_are, plain_done, plain_failed}
 use Rattle.rl_play.proofs.line.read_burst.Goals as goal
 

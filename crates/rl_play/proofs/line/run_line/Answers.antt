@@ -1,6 +1,6 @@
 use Rattle.std.proofs.Common.{◌≡◌, Ok}
 use Rattle.rl_script.specs.Said.{line_said}
-use Rattle.rl_play.specs.AnyDevice.{asked, one_op}
+use Rattle.rl_play.specs.Work.{asked, one_op}
 use Rattle.rl_play.proofs.LineLemmas.{item_asks, runs_as}
 use Rattle.rl_play.proofs.line.run_line.Goals as goal
 

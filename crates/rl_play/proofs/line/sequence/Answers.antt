@@ -1,6 +1,6 @@
 use Rattle.std.proofs.Common.{sym, ◌∙◌}
 use Rattle.rl_log.specs.Entry.{plan_of}
-use Rattle.rl_play.specs.AnyDevice.{sequence}
+use Rattle.rl_play.specs.Work.{sequence}
 use Rattle.rl_play.proofs.LineLemmas.{begin_failed, events_failed, closing_failed, one_is, sequence_done}
 use Rattle.rl_play.proofs.line.sequence.Goals as goal
 

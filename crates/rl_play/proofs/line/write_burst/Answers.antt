@@ -1,5 +1,5 @@
 use Rattle.std.proofs.Common.{Ok, ap, refl, sym, ◌∙◌}
-use Rattle.rl_play.specs.AnyDevice.{burst_write_work}
+use Rattle.rl_play.specs.Work.{burst_write_work}
 use Rattle.rl_play.proofs.LineLemmas.{both_are, plain_done, plain_failed}
 use Rattle.rl_play.proofs.line.write_burst.Goals as goal
 

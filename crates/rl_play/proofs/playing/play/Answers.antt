@@ -12,12 +12,15 @@ returns-clause-ends g c = record {
 
 pub returns-clause-log : goal.returns-clause-log
 returns-clause-log g c =
-    played_written _ _ _ _ _ _ _ _ _ _ c.add.ensures (rw c.new-own.ensures at c.play_through-status.ensures.log)
+    played_written _ _ _ _ _ _ _ _ _ _ c.add.ensures (rw c.new-own.ensures at c.play_through-status.ensures.plays.log)
 
 pub returns-clause-any_device : goal.returns-clause-any_device
 returns-clause-any_device g c =
-    plays_all _ _ _ _ _ _ _ _ _ c.add.ensures (rw c.new-own.ensures at c.play_through-status.ensures.plays)
+    plays_all _ _ _ _ _ _ _ _ _ c.add.ensures (rw c.new-own.ensures at c.play_through-status.ensures.plays.on_any_device)
 
 pub returns-clause-done : goal.returns-clause-done
 returns-clause-done g c =
-    does_first _ _ _ _ _ _ _ _ _ _ c.add.ensures (rw c.new-own.ensures at c.play_through-status.ensures.done)
+    does_first _ _ _ _ _ _ _ _ _ _ c.add.ensures (rw c.new-own.ensures at c.play_through-status.ensures.plays.done)
+
+pub returns-clause-at_fault : goal.returns-clause-at_fault
+returns-clause-at_fault g c = c.play_through-status.ensures.plays.at_fault

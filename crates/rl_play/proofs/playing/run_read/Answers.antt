@@ -1,6 +1,6 @@
 use Rattle.std.proofs.Common.{Err, ap, refl, sym, ◌∙◌}
 use Rattle.rl_log.specs.declared.status.Status.TheVariants.{Memory, SinkFault}
-use Rattle.rl_play.specs.AnyDevice.{asked}
+use Rattle.rl_play.specs.Work.{asked}
 use Rattle.rl_play.specs.declared.playing.Turn.TheVariants.{Stop}
 use Rattle.rl_play.proofs.LineLemmas.{read_refused, stops_early, turns_as, unknown_stops}
 use Rattle.rl_play.proofs.PlayLemmas.{read_not, read_ok, refusal_is}

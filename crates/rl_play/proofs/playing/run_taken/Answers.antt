@@ -1,6 +1,6 @@
 use Rattle.std.proofs.Common.{◌≡◌, ◌≢◌, ◌<◌, ◌≤◌, ap, sym, ◌∙◌, arith}
 use Rattle.rl_report.specs.declared.lines.Got.TheVariants as got
-use Rattle.rl_play.specs.AnyDevice.{asked}
+use Rattle.rl_play.specs.Work.{asked}
 use Rattle.rl_play.proofs.LineLemmas.{ran_blank, read_refused, turns_as}
 use Rattle.rl_play.proofs.PlayLemmas.{empty_said, heard_long, heard_many, heard_read}
 use Rattle.rl_play.proofs.playing.run_taken.Goals as goal
