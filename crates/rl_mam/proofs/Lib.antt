@@ -1,7 +1,6 @@
 pub mod Arms
 pub mod FreeRuns
 pub mod Grants
-pub mod MemoryRows
 pub mod Outside
 pub mod RegionLists
 pub mod Stores

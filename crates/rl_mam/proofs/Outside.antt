@@ -28,7 +28,7 @@ use Rattle.rl_mam.specs.declared.region.RegionFault.TheVariants.{OutsideRegion}
 use Rattle.rl_mam.specs.Regions.{IsIn, region_at, location_at, location_in}
 use Rattle.rl_mam.specs.Outside.{IsWithin, LeavesOutside}
 use Rattle.rl_mam.proofs.Grants.{IsReached, write_reaches, read_reaches}
-use Rattle.rl_mam.proofs.MemoryRows.{other_place}
+use Rattle.rl_access.proofs.MemoryRows.{other_place}
 use Rattle.rl_mam.proofs.Stores.{IsAtLocation, items_stored, ops_at}
 
 -- from state d: the device tells a state of the same setup, the model is the same, and so are the locations outside the region

@@ -11,4 +11,4 @@ returns-in-Ok-clause-outside g c =
     rw (← c.mem.ensures) (where_ok c.args.self.now.regions c.args.first c.args.k (length c.args.values.now) c.in-Ok.at _ c.in-Ok.ensures.location (λ r low high.
     burst_leaves g.R.Recorder.takes g.R.Recorder.breaks c.args.rec.now c.burst_at.new.rec _ _ _ _ c.mem.result c.in-Ok.at c.args.map c.args.values.now _ r c.burst_at.ensures.hands_over
     c.chip-sound.ensures.sound
-    (subst (λ n. n < length c.args.m.now.chip.mems) (sym c.mem.ensures) c.requires.manager.mem) c.requires.ready.device low high))
+    (subst (λ n. n < length c.args.model.now.chip.mems) (sym c.mem.ensures) c.requires.manager.mem) c.requires.ready.device low high))

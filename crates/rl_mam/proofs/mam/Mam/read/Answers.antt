@@ -6,4 +6,4 @@ pub returns-in-Ok-clause-outside : goal.returns-in-Ok-clause-outside
 returns-in-Ok-clause-outside g c =
     rw (← c.mem.ensures) (where_ok c.args.self.now.regions c.args.first c.args.k 1 c.in-Ok.at _ c.in-Ok.ensures.location (λ r low high.
     read_leaves _ _ c.mem.result c.in-Ok.at c.args.map _ r c.mem_read.ensures.performs c.chip-sound.ensures.sound
-    (subst (λ n. n < length c.args.m.now.chip.mems) (sym c.mem.ensures) c.requires.manager.mem) c.requires.ready.device (low, omega arith)))
+    (subst (λ n. n < length c.args.model.now.chip.mems) (sym c.mem.ensures) c.requires.manager.mem) c.requires.ready.device (low, omega arith)))
