@@ -1,5 +1,5 @@
 -- What a grant of another master's access says of its place.
-use Rattle.std.proofs.Common.{◌≡◌, ℕ, ◌^◌, ◌<◌, nat_lt, ltb, Bool, true, false, ◌&&◌, eqb-true, Option, None, Some, is_some, Ok, Err, refl, sym, ap, ◌∙◌, subst, arith}
+use Rattle.std.proofs.Common.{◌≡◌, ℕ, ◌^◌, ◌<◌, nat_lt, ltb, Bool, true, false, ◌&&◌, eqb-true, Option, None, Some, is_some, Ok, Err, refl, sym, ap, subst, arith}
 use Rattle.std.specs.Prelude.{unwrap_or}
 use Rattle.std.proofs.lemmas.Bool.Decides.{nat_tests}
 use Rattle.std.proofs.lemmas.List.Quantifiers.{position-Some}
@@ -19,7 +19,7 @@ use Rattle.rl_access.specs.Rules.{Grant, only_where, placed, with_right, with_wa
 use Rattle.rl_access.proofs.Bytes.{zero_fits}
 use Rattle.rl_access.proofs.Places.{place_size}
 use Rattle.rl_weave.specs.declared.woven.Woven.{Woven}
-use Rattle.rl_weave.specs.Access.{op_with, op_of, IsWovenOn}
+use Rattle.rl_weave.specs.Access.{op_with, IsWovenOn}
 
 only_ok : (g : Grant) (holds : Bool) (why : Refused) (place : ℕ) → only_where g holds why ≡ Ok place → (g ≡ Ok place) × (holds ≡ true)
 only_ok (Ok p) true why place e = (e, refl)

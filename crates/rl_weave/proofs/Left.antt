@@ -1,6 +1,6 @@
 -- Each step takes one of the words that are left, and a weave has at most 512 of them.
-use Rattle.std.proofs.Common.{◌≡◌, ℕ, zero, suc, ◌+◌, ◌-◌, ◌*◌, ◌<◌, ◌≤◌, Bool, true, false, not, ◌==◌, cond, eqb, eq-eqb, eqb-true}
-use Rattle.std.proofs.Common.{List, [], ◌∷◌, ◌++◌, length, get_or, set, filter, All, refl, sym, ap, ◌∙◌, subst, inl, inr, arith}
+use Rattle.std.proofs.Common.{◌≡◌, ℕ, zero, suc, ◌+◌, ◌*◌, ◌<◌, ◌≤◌, Bool, true, false, not, cond, eqb, eq-eqb}
+use Rattle.std.proofs.Common.{List, [], ◌∷◌, ◌++◌, length, get_or, All, refl, sym, ap, ◌∙◌, subst, inl, inr, arith}
 use Rattle.std.specs.Prelude.{Contains, sum_by}
 use Rattle.std.proofs.lemmas.Bool.{cases_eq}
 use Rattle.std.proofs.lemmas.List.{length_push, get_or-set_same, get_or-set_other}
@@ -8,7 +8,7 @@ use Rattle.std.proofs.lemmas.List.Sums.{sum_by-cons}
 use Rattle.rl_access.specs.declared.trace.TraceItem.{TraceItem}
 use Rattle.rl_access.specs.Model.{ModelData, IsModel}
 use Rattle.rl_weave.specs.declared.woven.Woven.{Woven}
-use Rattle.rl_weave.specs.Access.{no_woven, woven_at, IsWovenOn}
+use Rattle.rl_weave.specs.Access.{no_woven, woven_at}
 use Rattle.rl_weave.specs.Weave.{WeaveData, IsWeave, IsWeaveOn, is_over, going_on, without, stepped, left_of, words_left}
 use Rattle.rl_weave.proofs.Endings.{few_words}
 use Rattle.rl_weave.proofs.Granted.{granted_is}

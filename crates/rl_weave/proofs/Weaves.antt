@@ -1,7 +1,7 @@
 -- What is added to a weave, and what a step leaves of it.
-use Rattle.std.proofs.Common.{◌≡◌, ◌⊎◌, ℕ, zero, suc, ◌+◌, ◌<◌, ◌≤◌, Bool, true, false, not, ◌||◌, ◌==◌, nat_lt, eqb, ltb, cond, eq-eqb, eqb-true}
-use Rattle.std.proofs.Common.{List, [], ◌∷◌, ◌++◌, length, get_or, set, filter, All, Option, Some, None, refl, sym, ap, ◌∙◌, subst, inl, inr, arith}
-use Rattle.std.specs.Prelude.{position, AllPairs, Contains, count_by}
+use Rattle.std.proofs.Common.{◌≡◌, ◌⊎◌, ℕ, suc, ◌+◌, ◌<◌, ◌≤◌, Bool, true, false, not, ◌||◌, ◌==◌, eqb, ltb, cond, eq-eqb}
+use Rattle.std.proofs.Common.{List, [], ◌∷◌, ◌++◌, length, get_or, set, filter, All, Some, None, refl, sym, ap, ◌∙◌, subst, inl, inr, arith}
+use Rattle.std.specs.Prelude.{position, AllPairs, Contains}
 use Rattle.std.specs.List.{position_or_len}
 use Rattle.std.proofs.lemmas.Bool.{cases_eq, cases_lt}
 use Rattle.std.proofs.lemmas.Bool.Decides.{nat_tests}
@@ -15,7 +15,7 @@ use Rattle.rl_weave.specs.declared.woven.Woven.{Woven}
 use Rattle.rl_access.specs.Event.{ItemFits}
 use Rattle.rl_access.specs.Model.{ModelData}
 use Rattle.rl_weave.specs.Access.{no_woven, woven_at, IsWovenOn}
-use Rattle.rl_weave.specs.Weave.{WeaveData, IsWeave, IsLeft, appended, is_over, going_on, without, stepped}
+use Rattle.rl_weave.specs.Weave.{WeaveData, IsWeave, IsLeft, appended, is_over, without, stepped}
 
 abbrev pub weave : List Woven → List ℕ → WeaveData
 weave accesses left = record { accesses = accesses; still_open = left; fresh = false }

@@ -1,6 +1,6 @@
 -- Whatever the order of its words, a weave is the course of its accesses in the order in which they were added.
-use Rattle.std.proofs.Common.{◌≡◌, ℕ, ◌<◌, ◌==◌, Bool, true, false, not, cond, List, [], ◌∷◌, length, get_or, map, All, Option, refl, sym, ap, ◌∙◌, subst, arith}
-use Rattle.std.specs.Prelude.{Contains, AllPairs}
+use Rattle.std.proofs.Common.{◌≡◌, ℕ, ◌<◌, Bool, true, false, cond, List, [], ◌∷◌, length, get_or, map, All, refl, sym, ap, ◌∙◌, subst, arith}
+use Rattle.std.specs.Prelude.{AllPairs}
 use Rattle.std.specs.List.Sorted.{IsPermutation}
 use Rattle.std.proofs.lemmas.List.{get_or-map, length-map}
 use Rattle.std.proofs.lemmas.List.Elements.{All-map}
@@ -8,15 +8,13 @@ use Rattle.std.proofs.lemmas.List.Kept.{AllPairs-cons}
 use Rattle.std.proofs.lemmas.List.Sorted.{IsPermutation-refl, IsPermutation-cons, IsPermutation-trans, IsPermutation-map, All-permutation}
 use Rattle.std.proofs.lemmas.Simd.{map-map}
 use Rattle.rl_access.specs.declared.event.Event.{Event}
-use Rattle.rl_access.specs.declared.event.Op.{Op}
 use Rattle.rl_access.specs.Call.{Scene}
 use Rattle.rl_access.specs.Model.{ModelData}
 use Rattle.rl_plain.specs.Calls.{without_items}
 use Rattle.rl_plain.specs.Courses.{Course, through}
-use Rattle.rl_plain.specs.Machine.{Machine, mirror_of, seen, machine_step}
+use Rattle.rl_plain.specs.Machine.{mirror_of, seen, machine_step}
 use Rattle.rl_plain.proofs.Kept.{IsKept}
 use Rattle.rl_weave.specs.declared.access.Access.{Access}
-use Rattle.rl_weave.specs.declared.woven.Woven.{Woven}
 use Rattle.rl_weave.specs.Access.{op_of, no_woven, woven_at, IsWovenOn}
 use Rattle.rl_weave.specs.Weave.{WeaveData, IsWeave, is_over, without, stepped}
 use Rattle.rl_weave.proofs.Endings.{reg_in}

@@ -1,17 +1,15 @@
 -- Steps of accesses to different registers, in any order.
-use Rattle.std.proofs.Common.{◌≡◌, ◌⊎◌, ℕ, zero, suc, ◌+◌, ◌-◌, ◌<◌, ◌≤◌, List, [], ◌∷◌, length, get_or, map, All, Bool, false, Option, None, Some, Ok, refl, sym, ap, ◌∙◌, subst, inl, inr, arith}
+use Rattle.std.proofs.Common.{◌≡◌, ◌⊎◌, ℕ, zero, suc, ◌+◌, ◌-◌, ◌<◌, List, [], ◌∷◌, length, get_or, map, All, false, Option, None, Some, Ok, refl, sym, ap, ◌∙◌, subst, inl, inr, arith}
 use Rattle.std.specs.Prelude.{Contains, AllPairs}
 use Rattle.std.specs.List.Sorted.{IsPermutation}
 use Rattle.std.proofs.lemmas.Bool.{cases_eq}
 use Rattle.std.proofs.lemmas.List.{get_or-set_same, get_or-set_other, get_or_default, same_lists}
-use Rattle.std.proofs.lemmas.List.Sorted.{IsPermutation-sym, All-permutation, Contains-permutation}
+use Rattle.std.proofs.lemmas.List.Sorted.{All-permutation, Contains-permutation}
 use Rattle.rl_model.specs.Rows.{ChipData}
 use Rattle.rl_model.specs.Chip.{IsSound}
 use Rattle.rl_model.specs.Fields.{field_of, fields_of, first_of}
-use Rattle.rl_model.specs.declared.rows.Item.TheVariants as item
-use Rattle.rl_map.specs.Layout.{LayoutData, place_of}
 use Rattle.rl_split.specs.Step.{every, ranswer}
-use Rattle.rl_mirror.specs.Mirror.{MirrorData, IsMirrorOf, marks_in}
+use Rattle.rl_mirror.specs.Mirror.{IsMirrorOf}
 use Rattle.rl_mirror.specs.Prediction.{predict_write, predict_read}
 use Rattle.rl_mirror.proofs.FieldLemmas.{seated, length-fields_of}
 use Rattle.rl_access.specs.declared.event.End.{End}
@@ -19,18 +17,17 @@ use Rattle.rl_access.specs.declared.event.Event.{Event}
 use Rattle.rl_access.specs.declared.event.Op.{Op}
 use Rattle.rl_access.specs.declared.event.Op.TheVariants as op
 use Rattle.rl_access.specs.Model.{ModelData}
-use Rattle.rl_access.specs.Rules.{every_field, grant, map_of_place, named}
+use Rattle.rl_access.specs.Rules.{every_field, grant, named}
 use Rattle.rl_plain.specs.Courses.{Course, then_on, through}
-use Rattle.rl_plain.specs.Machine.{Machine, Done, mirror_of, register_at, seen, stepped, desired_after, done_by, machine_step}
+use Rattle.rl_plain.specs.Machine.{Machine, mirror_of, register_at, stepped, desired_after, done_by, machine_step}
 use Rattle.rl_plain.specs.OneStep.{register_after}
-use Rattle.rl_plain.proofs.Agreement.{IsSame, here_same, other_same}
+use Rattle.rl_plain.proofs.Agreement.{here_same, other_same}
 use Rattle.rl_plain.proofs.Followed.{FollowsStep, all_chosen}
 use Rattle.rl_plain.proofs.Kept.{IsKept, step_kept}
 use Rattle.rl_plain.proofs.PlainSteps.{plain_state}
 use Rattle.rl_weave.specs.declared.access.Access.{Access}
 use Rattle.rl_weave.specs.Access.{op_of, op_with}
 use Rattle.rl_woven.specs.Half.{IsAlike, step_of, answered}
-use Rattle.rl_woven.proofs.Halves.{has_at}
 use Rattle.rl_woven.proofs.Lasts.{machine_is, seen_grant, alike, steps_alike, answers_alike}
 
 -- ---- what a machine has of one register

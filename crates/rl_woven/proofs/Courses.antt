@@ -1,5 +1,5 @@
 -- A weave that runs to its end is a course of the plain machine.
-use Rattle.std.proofs.Common.{◌≡◌, ℕ, Bool, true, false, cond, List, [], ◌∷◌, map, Option, None, Some, refl, sym, ap, ◌∙◌, subst}
+use Rattle.std.proofs.Common.{◌≡◌, Bool, true, false, cond, List, [], ◌∷◌, map, None, Some, refl, sym, ap, ◌∙◌, subst}
 use Rattle.std.specs.Prelude.{IfSome}
 use Rattle.rl_bus.specs.State.{State}
 use Rattle.rl_model.specs.Rows.{ChipData}
@@ -7,17 +7,15 @@ use Rattle.rl_map.specs.Layout.{LayoutData}
 use Rattle.rl_access.specs.declared.event.Event.{Event}
 use Rattle.rl_access.specs.declared.event.Op.{Op}
 use Rattle.rl_access.specs.Call.{Scene}
-use Rattle.rl_access.specs.Model.{ModelData, IsModel}
+use Rattle.rl_access.specs.Model.{ModelData}
 use Rattle.rl_plain.specs.Calls.{without_items}
 use Rattle.rl_plain.specs.Courses.{Course, then_on, through}
 use Rattle.rl_plain.specs.Machine.{Machine, Done, seen, machine_step}
-use Rattle.rl_weave.specs.declared.weave.Step.{Step}
-use Rattle.rl_weave.specs.declared.woven.Woven.{Woven}
 use Rattle.rl_weave.specs.Access.{op_of, woven_at}
-use Rattle.rl_weave.specs.Step.{IsStepOf, end_of, event_with}
+use Rattle.rl_weave.specs.Step.{event_with}
 use Rattle.rl_weave.specs.Weave.{WeaveData, IsWeave, is_over, stepped}
 use Rattle.rl_weave.proofs.Weaves.{weave_stepped}
-use Rattle.rl_woven.specs.Half.{IsHalf, IsOpen, machine_after_word, IsHalfAfter}
+use Rattle.rl_woven.specs.Half.{IsHalf, machine_after_word}
 use Rattle.rl_woven.specs.Runs.{Turn, RunsTo, ended, events_of, with_event, WeaveIsPlain}
 use Rattle.rl_woven.proofs.Halves.{fresh_is_half, step_keeps_half, none_open_agrees}
 

@@ -1,7 +1,7 @@
 -- A weave begins half done, each step leaves one, and with no access open it is an agreement.
-use Rattle.std.proofs.Common.{◌≡◌, ◌⊎◌, ℕ, zero, suc, ◌+◌, ◌^◌, ◌<◌, ◌≤◌, ◌==◌, Bool, true, false, not, ◌||◌, cond, eqb, eqb-true, List, [], ◌∷◌}
-use Rattle.std.proofs.Common.{◌++◌, length, get_or, map, take, set, replicate, Option, None, Some, is_some, Ok, refl, sym, ap, ◌∙◌, subst, inl, inr, arith, eq-eqb}
-use Rattle.std.specs.Prelude.{Contains, filter, unwrap_or, IfSome, slice_index, All}
+use Rattle.std.proofs.Common.{◌≡◌, ◌⊎◌, ℕ, zero, suc, ◌+◌, ◌<◌, ◌==◌, Bool, true, false, not, ◌||◌, cond, eqb, eqb-true, List, [], ◌∷◌}
+use Rattle.std.proofs.Common.{◌++◌, length, get_or, map, take, set, replicate, Option, None, Some, is_some, refl, sym, ap, ◌∙◌, subst, inl, inr, arith}
+use Rattle.std.specs.Prelude.{Contains, filter, unwrap_or, IfSome, slice_index}
 use Rattle.std.proofs.lemmas.Bool.{cases_lt}
 use Rattle.std.proofs.lemmas.List.{length-map, length_push, map-append, take_more, take_all, get_or_default, get_or-set_same, length-replicate, get_or-replicate, get_or_past, same_lists}
 use Rattle.std.proofs.lemmas.List.Elements.{All-get_or}
@@ -13,7 +13,7 @@ use Rattle.rl_bus.specs.State.{State, state_after, answer_of}
 use Rattle.rl_model.specs.Rows.{ChipData}
 use Rattle.rl_model.specs.Fields.{fields_of, size_of}
 use Rattle.rl_map.specs.Layout.{LayoutData, Occupies, place_at, words_of}
-use Rattle.rl_mirror.specs.Mirror.{MirrorData, IsMirrorOf}
+use Rattle.rl_mirror.specs.Mirror.{IsMirrorOf}
 use Rattle.rl_split.specs.Access.{all_bytes, joined}
 use Rattle.rl_split.specs.Law.{IsPlaceOf, IsReady, Holds}
 use Rattle.rl_split.specs.Runs.{state_after_all, answers_of}
@@ -23,34 +23,33 @@ use Rattle.rl_split.specs.UnderWay.{whole_ops, whole_op, alone, IsUnderWay, IsNe
 use Rattle.rl_split.proofs.Accesses.{here_of, whole_write_is_step, whole_read_is_step}
 use Rattle.rl_split.proofs.UnderWay.{none_sent_is_under_way, next_word_goes_on, others_stay_under_way, all_sent_is_write, all_sent_is_read}
 use Rattle.rl_access.specs.declared.event.End.TheVariants.{BusError}
-use Rattle.rl_access.specs.declared.event.Event.{Event}
 use Rattle.rl_access.specs.declared.predictor.Gathered.{Gathered}
 use Rattle.rl_access.specs.declared.trace.TraceItem.{TraceItem}
 use Rattle.rl_access.specs.Call.{Scene}
 use Rattle.rl_access.specs.Gathering.{no_words, gathered_at, IsNothingGathered}
 use Rattle.rl_access.specs.Items.{words_answered}
 use Rattle.rl_access.specs.Model.{ModelData, IsModel}
-use Rattle.rl_access.specs.Observed.{Seen, seen as seen_of, observed, taken_in, is_whole, predicted}
-use Rattle.rl_access.specs.Rules.{grant, value_of, whole}
-use Rattle.rl_plain.specs.Agree.{Agree, IsAsBelieved, IsMarkedAlone, believed}
+use Rattle.rl_access.specs.Observed.{Seen, seen as seen_of, taken_in, is_whole, predicted}
+use Rattle.rl_access.specs.Rules.{value_of, whole}
+use Rattle.rl_plain.specs.Agree.{believed}
 use Rattle.rl_plain.specs.Calls.{without_items}
-use Rattle.rl_plain.specs.Machine.{Machine, mirror_of, register_at, seen, stepped as machine_stepped, machine_step}
-use Rattle.rl_plain.specs.OneStep.{Step as RegisterStep, register_after, device_after}
-use Rattle.rl_plain.proofs.Agreement.{IsSame, holds_as, here_same, other_same, here_alone}
+use Rattle.rl_plain.specs.Machine.{Machine, mirror_of, register_at, stepped as machine_stepped, machine_step}
+use Rattle.rl_plain.specs.OneStep.{register_after, device_after}
+use Rattle.rl_plain.proofs.Agreement.{holds_as, here_same, other_same, here_alone}
 use Rattle.rl_plain.proofs.Followed.{FollowsStep}
 use Rattle.rl_plain.proofs.Machines.{seen_is}
 use Rattle.rl_weave.specs.declared.weave.Step.{Step}
 use Rattle.rl_weave.specs.declared.woven.Woven.{Woven}
-use Rattle.rl_weave.specs.Access.{op_of, op_with, no_woven, woven_at}
-use Rattle.rl_weave.specs.Step.{IsStepOf, good_end, end_with, event_with, end_of}
-use Rattle.rl_weave.specs.Weave.{WeaveData, IsWeave, IsWeaveOn, is_over, stepped, without}
+use Rattle.rl_weave.specs.Access.{op_of, no_woven, woven_at}
+use Rattle.rl_weave.specs.Step.{IsStepOf, good_end, end_with, event_with}
+use Rattle.rl_weave.specs.Weave.{WeaveData, IsWeave, is_over, stepped, without}
 use Rattle.rl_weave.proofs.Endings.{reg_in}
 use Rattle.rl_weave.proofs.Granted.{IsGranted, register_place, granted_value}
-use Rattle.rl_weave.proofs.Weaves.{weave, at_open, apart_from, stepped_over, stepped_going}
-use Rattle.rl_woven.specs.Half.{writes, carried, step_of, answered, IsAlike, register_after_word, gathered_of, IsHalfDone}
-use Rattle.rl_woven.specs.Half.{IsOpen, NoneOpen, IsHalf, IsUnsent, FreshIsHalf, machine_after_word, IsHalfAfter, StepKeepsHalf, NoneOpenAgrees}
+use Rattle.rl_weave.proofs.Weaves.{at_open, apart_from, stepped_over, stepped_going}
+use Rattle.rl_woven.specs.Half.{writes, carried, step_of, answered, IsAlike, register_after_word, gathered_of}
+use Rattle.rl_woven.specs.Half.{IsOpen, NoneOpen, IsHalf, FreshIsHalf, IsHalfAfter, StepKeepsHalf, NoneOpenAgrees}
 use Rattle.rl_woven.proofs.Lasts.{good_is, alike, alike_as_is, value_brought, follows, machine_is, believed_is, event_is, value_is}
-use Rattle.rl_woven.proofs.Moves.{half_granted, regs_differ, grant_with, model_with, IsShut, IsMoved, half_moved}
+use Rattle.rl_woven.proofs.Moves.{half_granted, regs_differ, grant_with, model_with, IsMoved, half_moved}
 use Rattle.rl_woven.proofs.Words.{place_granted, IsTold, told_word, ops_count, seen_word, gathered_whole}
 
 -- ---- lists

@@ -1,13 +1,12 @@
 -- The last word of an access: what is then believed is the machine after one step, and the event is the machine's.
-use Rattle.std.proofs.Common.{◌≡◌, ℕ, ◌^◌, ◌<◌, get_or, ◌∷◌, ◌++◌, ◌&&◌, ◌||◌, [], Bool, true, false, List, length, map, Option, None, Some, is_some, Ok, refl, sym, ap, ◌∙◌, subst}
-use Rattle.std.specs.Prelude.{unwrap_or, if◌then◌else◌}
+use Rattle.std.proofs.Common.{◌≡◌, ℕ, ◌^◌, ◌<◌, get_or, ◌∷◌, ◌++◌, ◌&&◌, ◌||◌, [], true, false, List, length, map, Option, None, Some, is_some, Ok, refl, sym, ap, ◌∙◌, subst}
+use Rattle.std.specs.Prelude.{unwrap_or}
 use Rattle.std.proofs.lemmas.Simd.{map-map}
 use Rattle.rl_bus.specs.declared.op.Answer.{Answer}
-use Rattle.rl_bus.specs.declared.op.BusOp.{BusOp}
 use Rattle.rl_bus.specs.State.{State}
 use Rattle.rl_model.specs.Rows.{ChipData, FieldSeen}
 use Rattle.rl_model.specs.Chip.{IsSound}
-use Rattle.rl_model.specs.Fields.{fields_of, size_of, policy_in, place_at as place_at_bit}
+use Rattle.rl_model.specs.Fields.{fields_of, policy_in, place_at as place_at_bit}
 use Rattle.rl_model.specs.declared.rows.Item.{Item}
 use Rattle.rl_model.specs.declared.rows.Item.TheVariants as item
 use Rattle.rl_map.specs.Layout.{LayoutData, place_at, place_of}
@@ -32,19 +31,19 @@ use Rattle.rl_access.specs.declared.event.Op.TheVariants as op
 use Rattle.rl_access.specs.declared.trace.TraceItem.{TraceItem}
 use Rattle.rl_access.specs.Items.{words_answered}
 use Rattle.rl_access.specs.Model.{ModelData, IsModel}
-use Rattle.rl_access.specs.Observed.{predicted, reg_in, implied}
+use Rattle.rl_access.specs.Observed.{predicted, reg_in}
 use Rattle.rl_access.specs.Rules.{every_field, grant, map_of_place, named, register_event, quiet, value_of, whole}
 use Rattle.rl_access.proofs.WholeGathered.{op_in, told_of, list_of, implied_is}
 use Rattle.rl_plain.specs.Calls.{without_items}
-use Rattle.rl_plain.specs.Machine.{Machine, Done, mirror_of, register_at, seen, stepped, machine_after, answer_in, done_by, machine_step}
-use Rattle.rl_plain.specs.OneStep.{Step, write_step, read_step, register_after}
+use Rattle.rl_plain.specs.Machine.{Machine, mirror_of, register_at, seen, stepped, machine_after, answer_in, done_by, machine_step}
+use Rattle.rl_plain.specs.OneStep.{register_after}
 use Rattle.rl_plain.proofs.Agreement.{IsSame, spent-wstep, spent-rstep}
 use Rattle.rl_plain.proofs.Followed.{FollowsStep, all_chosen}
 use Rattle.rl_plain.proofs.PlainSteps.{plain_state}
 use Rattle.rl_weave.specs.Access.{op_with}
 use Rattle.rl_weave.specs.Step.{good_end}
 use Rattle.rl_weave.proofs.Granted.{IsGranted, granted_size}
-use Rattle.rl_woven.specs.Half.{step_of, answered, IsAlike, told_by, gathered_of}
+use Rattle.rl_woven.specs.Half.{step_of, answered, IsAlike, gathered_of}
 use Rattle.rl_woven.proofs.Words.{gathered_whole}
 
 -- ---- the value of a read

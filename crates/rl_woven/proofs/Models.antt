@@ -1,29 +1,25 @@
 -- A step of a half done weave leaves a model.
-use Rattle.std.proofs.Common.{◌≡◌, ℕ, ◌+◌, ◌<◌, Bool, true, false, cond, eqb, eq-eqb, List, [], ◌∷◌, ◌++◌, length, get_or, set, refl, sym, ap, ◌∙◌, subst, inl, inr, arith}
+use Rattle.std.proofs.Common.{◌≡◌, ℕ, ◌+◌, ◌<◌, Bool, true, false, cond, eqb, eq-eqb, List, [], ◌∷◌, ◌++◌, length, set, refl, sym, ap, ◌∙◌, subst, inl, inr, arith}
 use Rattle.std.proofs.lemmas.Bool.{cases_eq, cases_lt}
 use Rattle.std.proofs.lemmas.List.{length-map, length-set, length_push, get_or-set_same, get_or-set_other}
-use Rattle.rl_bus.specs.State.{State}
 use Rattle.rl_map.specs.Layout.{LayoutData, words_of}
 use Rattle.rl_model.specs.Rows.{ChipData}
 use Rattle.rl_mirror.specs.Mirror.{MirrorData}
 use Rattle.rl_access.specs.declared.predictor.Gathered.{Gathered}
 use Rattle.rl_access.specs.declared.trace.TraceItem.{TraceItem}
-use Rattle.rl_access.specs.Call.{Scene}
 use Rattle.rl_access.specs.Gathering.{IsPredictorOf, no_words, gathered_at}
 use Rattle.rl_access.specs.Model.{ModelData, IsModel}
 use Rattle.rl_access.specs.Observed.{Seen, seen as seen_of, is_whole}
 use Rattle.rl_plain.specs.Machine.{Machine, mirror_of, machine_step}
 use Rattle.rl_plain.proofs.Kept.{IsKept}
-use Rattle.rl_weave.specs.declared.weave.Step.{Step}
 use Rattle.rl_weave.specs.declared.woven.Woven.{Woven}
 use Rattle.rl_weave.specs.Access.{op_of, woven_at}
-use Rattle.rl_weave.specs.Step.{IsStepOf}
-use Rattle.rl_weave.specs.Weave.{WeaveData, IsWeave, is_over}
+use Rattle.rl_weave.specs.Weave.{is_over}
 use Rattle.rl_weave.proofs.Endings.{reg_in}
 use Rattle.rl_weave.proofs.Weaves.{at_open}
-use Rattle.rl_woven.specs.Half.{writes, gathered_of, IsOpen, IsHalf, StepKeepsModel}
-use Rattle.rl_woven.proofs.Commuting.{kept_by, step_by}
-use Rattle.rl_woven.proofs.Halves.{IsWord, is_word, whole_is, step_keeps_half}
+use Rattle.rl_woven.specs.Half.{writes, gathered_of, StepKeepsModel}
+use Rattle.rl_woven.proofs.Commuting.{kept_by}
+use Rattle.rl_woven.proofs.Halves.{is_word, whole_is, step_keeps_half}
 use Rattle.rl_woven.proofs.Lasts.{machine_is}
 use Rattle.rl_woven.proofs.Words.{gathered_whole}
 

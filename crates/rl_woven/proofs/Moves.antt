@@ -1,8 +1,8 @@
 -- What a word of one access leaves of a half done weave.
 use Rattle.std.proofs.Common.{◌≡◌, ◌⊎◌, ℕ, zero, suc, ◌<◌, ◌≤◌, ◌∷◌, [], List, length, get_or, set, Some, Ok, Option, None, refl, sym, ap, ◌∙◌, subst, inl, inr, arith}
-use Rattle.std.specs.Prelude.{Contains, slice_index, AllPairs}
+use Rattle.std.specs.Prelude.{Contains, AllPairs}
 use Rattle.std.proofs.lemmas.Bool.{cases_eq, cases_lt}
-use Rattle.std.proofs.lemmas.List.{get_or-set_same, get_or-set_other, length-set}
+use Rattle.std.proofs.lemmas.List.{get_or-set_same, get_or-set_other}
 use Rattle.rl_policy.specs.Bits.{bit}
 use Rattle.rl_bus.specs.State.{State}
 use Rattle.rl_model.specs.Rows.{ChipData}
@@ -27,7 +27,7 @@ use Rattle.rl_weave.specs.Weave.{WeaveData, IsWeave}
 use Rattle.rl_weave.proofs.Endings.{reg_in}
 use Rattle.rl_weave.proofs.Granted.{IsGranted, granted_is}
 use Rattle.rl_weave.proofs.Weaves.{weave, at_open}
-use Rattle.rl_woven.specs.Half.{writes, carried, gathered_of, IsHalfDone, IsOpen, NoneOpen, IsHalf}
+use Rattle.rl_woven.specs.Half.{writes, carried, IsHalfDone, IsOpen, NoneOpen, IsHalf}
 
 -- ---- whether a word of a place stands at an address
 

@@ -1,5 +1,5 @@
 -- Each access that ends is one step of its register.
-use Rattle.std.proofs.Common.{◌≡◌, ℕ, ◌<◌, ◌==◌, Bool, true, false, not, cond, List, [], ◌∷◌, length, get_or, set, Option, None, Some, refl, sym, ap, ◌∙◌, subst, inl, inr, arith}
+use Rattle.std.proofs.Common.{◌≡◌, ℕ, ◌<◌, ◌==◌, Bool, true, false, not, cond, List, [], ◌∷◌, length, Some, refl, sym, ap, ◌∙◌, subst, inl, inr}
 use Rattle.std.specs.Prelude.{Contains, IfSome}
 use Rattle.std.proofs.lemmas.Bool.{cases_eq}
 use Rattle.std.proofs.lemmas.List.{get_or-set_same, get_or-set_other}
@@ -7,12 +7,11 @@ use Rattle.rl_bus.specs.State.{State}
 use Rattle.rl_model.specs.Rows.{ChipData}
 use Rattle.rl_model.specs.Fields.{fields_of}
 use Rattle.rl_map.specs.Layout.{LayoutData}
-use Rattle.rl_access.specs.declared.event.Event.{Event}
 use Rattle.rl_access.specs.declared.trace.TraceItem.{TraceItem}
 use Rattle.rl_access.specs.Call.{Scene}
 use Rattle.rl_access.specs.Model.{ModelData}
-use Rattle.rl_plain.specs.Courses.{Course, then_on, through}
-use Rattle.rl_plain.specs.Machine.{Machine, Done, register_at, machine_step}
+use Rattle.rl_plain.specs.Courses.{through}
+use Rattle.rl_plain.specs.Machine.{Machine, register_at, machine_step}
 use Rattle.rl_plain.specs.OneStep.{register_after}
 use Rattle.rl_weave.specs.declared.access.Access.{Access}
 use Rattle.rl_weave.specs.declared.weave.Step.{Step}
@@ -22,7 +21,7 @@ use Rattle.rl_weave.specs.Weave.{WeaveData, IsWeave, is_over, going_on, without,
 use Rattle.rl_weave.proofs.Endings.{reg_in}
 use Rattle.rl_weave.proofs.Weaves.{at_open, apart_from, weave_stepped}
 use Rattle.rl_woven.specs.Half.{IsHalf, IsOpen, NoneOpen, IsAlike, step_of, answered, register_after_word, machine_after_word, IsHalfAfter}
-use Rattle.rl_woven.specs.Runs.{Turn, RunsTo, ended, TellSteps, IsOnceEach, EachStepsOnce}
+use Rattle.rl_woven.specs.Runs.{Turn, RunsTo, ended, TellSteps, EachStepsOnce}
 use Rattle.rl_woven.proofs.Halves.{fresh_is_half, step_keeps_half, filter_has, filter_from, not_at}
 use Rattle.rl_woven.proofs.Lasts.{alike_as_is, alike_through, steps_alike, answers_alike}
 use Rattle.rl_woven.proofs.Moves.{regs_differ}

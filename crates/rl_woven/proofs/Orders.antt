@@ -1,20 +1,18 @@
 -- The accesses of a weave that ran to its end, in the order in which they ended.
-use Rattle.std.proofs.Common.{◌≡◌, ◌⊎◌, ℕ, zero, suc, ◌<◌, ◌==◌, Bool, true, false, not, cond, eqb, eq-eqb, eqb-true, List}
-use Rattle.std.proofs.Common.{[], ◌∷◌, ◌++◌, length, get_or, map, filter, set, refl, sym, ap, ◌∙◌, subst, inl, inr, arith}
+use Rattle.std.proofs.Common.{◌≡◌, ℕ, suc, ◌<◌, ◌==◌, Bool, true, false, not, cond, eqb, eq-eqb, eqb-true, List}
+use Rattle.std.proofs.Common.{[], ◌∷◌, ◌++◌, length, get_or, map, filter, refl, sym, ap, ◌∙◌, subst, inl, inr, arith}
 use Rattle.std.specs.Prelude.{Contains, AllPairs, All}
 use Rattle.std.specs.List.Sorted.{IsPermutation}
 use Rattle.std.proofs.lemmas.Bool.{cases_eq}
-use Rattle.std.proofs.lemmas.List.{get_or-set_same, get_or-set_other, get_or_past}
+use Rattle.std.proofs.lemmas.List.{get_or-set_same, get_or-set_other}
 use Rattle.std.proofs.lemmas.List.Sorted.{IsPermutation-refl, IsPermutation-cons, IsPermutation-trans, IsPermutation-map, IsPermutation-filter_both}
 use Rattle.rl_access.specs.declared.event.Op.{Op}
 use Rattle.rl_access.specs.declared.trace.TraceItem.{TraceItem}
-use Rattle.rl_access.specs.Call.{Scene}
 use Rattle.rl_weave.specs.declared.woven.Woven.{Woven}
 use Rattle.rl_weave.specs.Access.{op_of, no_woven, woven_at}
-use Rattle.rl_weave.specs.Weave.{WeaveData, IsWeave, is_over, going_on, without, stepped}
+use Rattle.rl_weave.specs.Weave.{WeaveData, is_over, going_on, without, stepped}
 use Rattle.rl_weave.proofs.Weaves.{at_open, weave_stepped}
-use Rattle.rl_woven.specs.Half.{IsOpen}
-use Rattle.rl_woven.specs.Runs.{Turn, RunsTo, ended, op_at, EndedAreAll}
+use Rattle.rl_woven.specs.Runs.{ended, op_at, EndedAreAll}
 use Rattle.rl_woven.proofs.Halves.{has_at}
 
 -- ---- one number of ascending ones

@@ -1,5 +1,5 @@
 -- One word of an open access: what the device answers, and what the predictor makes of it.
-use Rattle.std.proofs.Common.{◌≡◌, ◌⊎◌, ℕ, ◌<◌, Bool, true, false, eqb, eq-eqb, List, [], ◌∷◌, ◌++◌, length, map, get_or, Option, Some, is_some, option_map, refl, sym, ap, ◌∙◌, subst, inl, inr}
+use Rattle.std.proofs.Common.{◌≡◌, ◌⊎◌, ℕ, ◌<◌, Bool, true, false, eq-eqb, List, [], ◌∷◌, ◌++◌, length, map, get_or, Option, Some, is_some, option_map, refl, sym, ap, ◌∙◌, subst, inl, inr}
 use Rattle.std.proofs.lemmas.List.{length-map, get_or-map, map-append}
 use Rattle.rl_bus.specs.declared.op.BusOp.{BusOp}
 use Rattle.rl_bus.specs.State.{State, state_after, answer_of}

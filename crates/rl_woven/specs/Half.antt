@@ -1,5 +1,5 @@
 -- A weave that is half done, on a device without flaws, beside the plain machine.
-use Rattle.std.specs.Prelude.{◌≡◌, ℕ, ◌+◌, ◌<◌, Bool, false, if◌then◌else◌, List, [], ◌∷◌, length, map, take, Option, None, Some, Ok, is_some, unwrap_or, IfSome, Contains, All}
+use Rattle.std.specs.Prelude.{◌≡◌, ℕ, ◌<◌, Bool, false, if◌then◌else◌, List, [], ◌∷◌, length, map, take, Option, None, Some, Ok, is_some, unwrap_or, IfSome, Contains}
 use Rattle.rl_bus.specs.State.{State}
 use Rattle.rl_model.specs.Fields.{fields_of}
 use Rattle.rl_model.specs.Rows.{ChipData}

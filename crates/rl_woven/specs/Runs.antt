@@ -1,5 +1,5 @@
 -- The steps of a weave one after another, whatever the order of its accesses.
-use Rattle.std.specs.Prelude.{◌≡◌, ℕ, ◌<◌, length, IfSome, if◌then◌else◌, List, [], ◌∷◌, ◌++◌, map, Option, None, Some}
+use Rattle.std.specs.Prelude.{◌≡◌, ℕ, ◌<◌, length, IfSome, if◌then◌else◌, List, [], ◌∷◌, map, Option, None, Some}
 use Rattle.std.specs.List.Sorted.{IsPermutation}
 use Rattle.rl_model.specs.Fields.{fields_of}
 use Rattle.rl_model.specs.Rows.{ChipData}

@@ -51,35 +51,38 @@ through_more c l p (o ∷ ops) op =
 
 -- ---- the entry of a line that is one operation
 
+abbrev entry_at : ModelData → Machine → Op → PlainEntry
+entry_at m p op = plain_entry m.chip m.layout (through m.chip m.layout p (op ∷ []))
+
 entry_named : (m : ModelData) (p : Machine) (l : Line) (op : Op) → op_named m l ≡ Some op
-    → plain_entry_of m.chip m.layout p l ≡ Some (plain_entry m.chip m.layout (through m.chip m.layout p (op ∷ [])))
+    → plain_entry_of m.chip m.layout p l ≡ Some (entry_at m p op)
 entry_named m p line.Blank op is = absurd (cc)
 entry_named m p (line.BurstWrite mem first values map) op is = absurd (cc)
 entry_named m p (line.BurstRead mem first count map) op is = absurd (cc)
 entry_named m p (line.Seq which over) op is = absurd (cc)
-entry_named m p (line.Write reg value map) op is = ap (option_map (λ op. plain_entry m.chip m.layout (through m.chip m.layout p (op ∷ [])))) is
-entry_named m p (line.Read reg map) op is = ap (option_map (λ op. plain_entry m.chip m.layout (through m.chip m.layout p (op ∷ [])))) is
-entry_named m p (line.Mirror reg map) op is = ap (option_map (λ op. plain_entry m.chip m.layout (through m.chip m.layout p (op ∷ [])))) is
-entry_named m p (line.Check reg map) op is = ap (option_map (λ op. plain_entry m.chip m.layout (through m.chip m.layout p (op ∷ [])))) is
-entry_named m p (line.Update reg map) op is = ap (option_map (λ op. plain_entry m.chip m.layout (through m.chip m.layout p (op ∷ [])))) is
-entry_named m p (line.OtherWrite reg value map) op is = ap (option_map (λ op. plain_entry m.chip m.layout (through m.chip m.layout p (op ∷ [])))) is
-entry_named m p (line.OtherRead reg map) op is = ap (option_map (λ op. plain_entry m.chip m.layout (through m.chip m.layout p (op ∷ [])))) is
-entry_named m p (line.FieldWrite field value map) op is = ap (option_map (λ op. plain_entry m.chip m.layout (through m.chip m.layout p (op ∷ [])))) is
-entry_named m p (line.FieldRead field map) op is = ap (option_map (λ op. plain_entry m.chip m.layout (through m.chip m.layout p (op ∷ [])))) is
-entry_named m p (line.Set field value) op is = ap (option_map (λ op. plain_entry m.chip m.layout (through m.chip m.layout p (op ∷ [])))) is
-entry_named m p (line.Hw field value) op is = ap (option_map (λ op. plain_entry m.chip m.layout (through m.chip m.layout p (op ∷ [])))) is
-entry_named m p (line.Show reg) op is = ap (option_map (λ op. plain_entry m.chip m.layout (through m.chip m.layout p (op ∷ [])))) is
-entry_named m p (line.BackRead reg) op is = ap (option_map (λ op. plain_entry m.chip m.layout (through m.chip m.layout p (op ∷ [])))) is
-entry_named m p (line.BackCheck reg) op is = ap (option_map (λ op. plain_entry m.chip m.layout (through m.chip m.layout p (op ∷ [])))) is
-entry_named m p (line.Peek reg) op is = ap (option_map (λ op. plain_entry m.chip m.layout (through m.chip m.layout p (op ∷ [])))) is
-entry_named m p (line.BackWrite reg value) op is = ap (option_map (λ op. plain_entry m.chip m.layout (through m.chip m.layout p (op ∷ [])))) is
-entry_named m p (line.Poke reg value) op is = ap (option_map (λ op. plain_entry m.chip m.layout (through m.chip m.layout p (op ∷ [])))) is
-entry_named m p (line.MemWrite mem index value map) op is = ap (option_map (λ op. plain_entry m.chip m.layout (through m.chip m.layout p (op ∷ [])))) is
-entry_named m p (line.MemCheck mem index value map) op is = ap (option_map (λ op. plain_entry m.chip m.layout (through m.chip m.layout p (op ∷ [])))) is
-entry_named m p (line.MemRead mem index map) op is = ap (option_map (λ op. plain_entry m.chip m.layout (through m.chip m.layout p (op ∷ [])))) is
-entry_named m p (line.MemPeek mem index) op is = ap (option_map (λ op. plain_entry m.chip m.layout (through m.chip m.layout p (op ∷ [])))) is
-entry_named m p (line.MemPoke mem index value) op is = ap (option_map (λ op. plain_entry m.chip m.layout (through m.chip m.layout p (op ∷ [])))) is
-entry_named m p (line.Reset kind) op is = ap (option_map (λ op. plain_entry m.chip m.layout (through m.chip m.layout p (op ∷ [])))) is
+entry_named m p (line.Write reg value map) op is = ap (option_map (entry_at m p)) is
+entry_named m p (line.Read reg map) op is = ap (option_map (entry_at m p)) is
+entry_named m p (line.Mirror reg map) op is = ap (option_map (entry_at m p)) is
+entry_named m p (line.Check reg map) op is = ap (option_map (entry_at m p)) is
+entry_named m p (line.Update reg map) op is = ap (option_map (entry_at m p)) is
+entry_named m p (line.OtherWrite reg value map) op is = ap (option_map (entry_at m p)) is
+entry_named m p (line.OtherRead reg map) op is = ap (option_map (entry_at m p)) is
+entry_named m p (line.FieldWrite field value map) op is = ap (option_map (entry_at m p)) is
+entry_named m p (line.FieldRead field map) op is = ap (option_map (entry_at m p)) is
+entry_named m p (line.Set field value) op is = ap (option_map (entry_at m p)) is
+entry_named m p (line.Hw field value) op is = ap (option_map (entry_at m p)) is
+entry_named m p (line.Show reg) op is = ap (option_map (entry_at m p)) is
+entry_named m p (line.BackRead reg) op is = ap (option_map (entry_at m p)) is
+entry_named m p (line.BackCheck reg) op is = ap (option_map (entry_at m p)) is
+entry_named m p (line.Peek reg) op is = ap (option_map (entry_at m p)) is
+entry_named m p (line.BackWrite reg value) op is = ap (option_map (entry_at m p)) is
+entry_named m p (line.Poke reg value) op is = ap (option_map (entry_at m p)) is
+entry_named m p (line.MemWrite mem index value map) op is = ap (option_map (entry_at m p)) is
+entry_named m p (line.MemCheck mem index value map) op is = ap (option_map (entry_at m p)) is
+entry_named m p (line.MemRead mem index map) op is = ap (option_map (entry_at m p)) is
+entry_named m p (line.MemPeek mem index) op is = ap (option_map (entry_at m p)) is
+entry_named m p (line.MemPoke mem index value) op is = ap (option_map (entry_at m p)) is
+entry_named m p (line.Reset kind) op is = ap (option_map (entry_at m p)) is
 
 -- the events of the machine have no items
 bare_by : (c : ChipData) (l : LayoutData) (p : Machine) (op : Op) (g : Grant) → (done_by c l op p g).event.trace ≡ []
@@ -102,8 +105,7 @@ pub record IsEntry (m : ModelData) (p : Machine) (op : Op) (entry : PlainEntry) 
   pub text : entry.text ≡ event_line m (machine_step m.chip m.layout p op).event
   pub machine : entry.machine ≡ (machine_step m.chip m.layout p op).machine
 
-one_entry : (m : ModelData) (p : Machine) (op : Op)
-    → IsEntry m p op (plain_entry m.chip m.layout (through m.chip m.layout p (op ∷ [])))
+one_entry : (m : ModelData) (p : Machine) (op : Op) → IsEntry m p op (entry_at m p op)
 unfolding through
 one_entry m p op =
     let done = machine_step m.chip m.layout p op in
@@ -121,7 +123,7 @@ pub record HasEntry (m : ModelData) (p : Machine) (l : Line) (op : Op) : Type 0 
 
 pub has_entry : (m : ModelData) (p : Machine) (l : Line) (op : Op) → op_named m l ≡ Some op → HasEntry m p l op
 has_entry m p l op is = record {
-  entry = plain_entry m.chip m.layout (through m.chip m.layout p (op ∷ []));
+  entry = entry_at m p op;
   is = ap (λ o. ok_or o NoSuchName) (entry_named m p l op is);
   good = one_entry m p op;
 }

@@ -1,4 +1,4 @@
-use Rattle.std.proofs.Common.{ap, ◌∙◌, arith}
+use Rattle.std.proofs.Common.{ap, ◌∙◌}
 use Rattle.std.proofs.lemmas.Nat.{pow_pos}
 use Rattle.rl_mirror.specs.Mirror.{MirrorData, mirrored_of, desired_of}
 use Rattle.rl_access.proofs.Places.{event_fits}

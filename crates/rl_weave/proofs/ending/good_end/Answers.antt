@@ -1,4 +1,4 @@
-use Rattle.std.proofs.Common.{◌≡◌, ℕ, ◌^◌, ◌<◌, Option, ap, sym, subst}
+use Rattle.std.proofs.Common.{ℕ, ◌^◌, ◌<◌, Option, sym, subst}
 use Rattle.rl_access.specs.Operation.{digits_of}
 use Rattle.rl_access.proofs.Bytes.{below_digits}
 use Rattle.rl_model.specs.Fields.{size_of}

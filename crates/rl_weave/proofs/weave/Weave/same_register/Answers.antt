@@ -1,4 +1,4 @@
-use Rattle.std.proofs.Common.{◌≡◌, ◌==◌, List, All, None, Option, ap, ◌∙◌, sym, subst}
+use Rattle.std.proofs.Common.{◌≡◌, ◌==◌, ap, ◌∙◌, sym}
 use Rattle.std.specs.Prelude.{position}
 use Rattle.rl_weave.specs.Weave.{WeaveData}
 use Rattle.rl_weave.proofs.Weaves.{none_has}

@@ -1,4 +1,4 @@
-use Rattle.std.proofs.Common.{◌≡◌, ◌<◌, ap, sym, ◌∙◌, subst, get_or}
+use Rattle.std.proofs.Common.{◌≡◌, ◌<◌, sym, subst, get_or}
 use Rattle.rl_weave.specs.Weave.{WeaveData, IsWeave, words_left}
 use Rattle.rl_weave.proofs.Granted.{granted_is, granted_value, register_place}
 use Rattle.rl_weave.proofs.Left.{step_takes}

@@ -1,14 +1,14 @@
-use Rattle.std.proofs.Common.{◌≡◌, ◌==◌, not, rules, [], ◌∷◌, All, ap, sym, ◌∙◌, subst, arith}
+use Rattle.std.proofs.Common.{◌≡◌, rules, [], All, ap, sym, ◌∙◌, subst, arith}
 use Rattle.std.specs.Prelude.{Contains}
 use Rattle.std.proofs.lemmas.Fn.{filter_same}
 use Rattle.std.proofs.lemmas.List.Elements.{All-push, All-nil}
 use Rattle.rl_access.specs.Event.{ItemFits}
 use Rattle.rl_weave.specs.declared.woven.Woven.{Woven}
 use Rattle.rl_weave.specs.Access.{IsWovenOn}
-use Rattle.rl_weave.specs.Weave.{WeaveData, IsWeave, IsWeaveOn, without, stepped}
+use Rattle.rl_weave.specs.Weave.{WeaveData, without, stepped}
 use Rattle.rl_weave.proofs.Endings.{few_words}
 use Rattle.rl_weave.proofs.Granted.{granted_is}
-use Rattle.rl_weave.proofs.Weaves.{IsFound, is_found, weave_closed, weave_kept, stepped_over, on_kept, on_with, not_over}
+use Rattle.rl_weave.proofs.Weaves.{is_found, weave_closed, weave_kept, stepped_over, on_kept, on_with, not_over}
 use Rattle.rl_weave.proofs.weave.Weave.take_in.Goals as goal
 
 pub push-requires : goal.push-requires
