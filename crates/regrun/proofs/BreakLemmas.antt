@@ -1,5 +1,38 @@
 -- What was told when a source failed.
-use Rattle.std.proofs.Common.{◌≡◌, ◌≢◌, ℕ, ◌+◌, ◌≤◌, Bool, true, false, ◌&&◌, cond, eqb, List, [], ◌∷◌, ◌++◌, length, drop, Option, Some, None, IfSome, Result, Ok, Err, refl, sym, ap, subst, ◌∙◌, append_assoc, length-append, arith}
+use Rattle.std.proofs.Common.{
+  ◌≡◌,
+  ◌≢◌,
+  ℕ,
+  ◌+◌,
+  ◌≤◌,
+  Bool,
+  true,
+  false,
+  ◌&&◌,
+  cond,
+  eqb,
+  List,
+  [],
+  ◌∷◌,
+  ◌++◌,
+  length,
+  drop,
+  Option,
+  Some,
+  None,
+  IfSome,
+  Result,
+  Ok,
+  Err,
+  refl,
+  sym,
+  ap,
+  subst,
+  ◌∙◌,
+  append_assoc,
+  length-append,
+  arith,
+}
 use Rattle.std.specs.Io.KnownBytes.{Appends, Keeps}
 use Rattle.std.proofs.lemmas.Bool.{true≢false}
 use Rattle.std.proofs.Math.Seq.{drop-append_seam}
@@ -16,12 +49,18 @@ use Rattle.rl_report.proofs.TakenLemmas.{begins_later}
 use Rattle.rl_log.specs.declared.status.Status.{Status}
 use Rattle.rl_log.specs.declared.status.Status.TheVariants.{SourceFault}
 use Rattle.rl_log.specs.Causes.{IsCaused}
-use Rattle.regrun.specs.Output.{BreaksOff}
+use Rattle.regrun.specs.Output.{run_lines, woven_lines, BreaksOff, LinesBreak}
 use Rattle.rl_session.specs.Judged.{taken_by, taken_text, first_world}
 use Rattle.rl_session.specs.Session.{behind, opening_of}
 use Rattle.rl_log.specs.Log.{lines_text}
-use Rattle.rl_play.specs.Played.{BreaksAfter, Breaks}
-use Rattle.rl_access.specs.World.{IsAt}
+use Rattle.rl_log.specs.declared.counts.Counts.{Counts}
+use Rattle.rl_log.specs.Recording.{no_counts}
+use Rattle.rl_play.specs.Moment.{moment}
+use Rattle.rl_play.specs.Played.{Breaks}
+use Rattle.rl_woven_log.specs.Judged.{woven_taken_by, woven_taken_text}
+use Rattle.rl_woven_log.specs.Turns.{BreaksWeave}
+use Rattle.rl_woven_log.specs.WeaveLog.{closed_text, counting}
+use Rattle.rl_access.specs.World.{IsAt, world}
 use Rattle.rl_play.proofs.BufferLemmas.{keeps_then_appends}
 use Rattle.rl_play.proofs.EndingLemmas.{appends_keeps, keeps_nothing}
 use Rattle.rl_session.proofs.SessionLemmas.{found_head, opening_found}
@@ -80,22 +119,48 @@ nothing_behind : (place : Option ℕ) (taken : List ℕ) →
 nothing_behind None taken none = refl
 nothing_behind (Some at) taken none = after_none (drop at taken) (none at refl)
 
-nothing_taken : (o : Result DescData (List ℕ)) (taken : List ℕ) (adapters : List Standing) → behind
-    (separator_at taken) taken ≡ [] → taken_by o taken adapters ≡ []
-nothing_taken (Ok desc) taken adapters none =
-    nothing_from 1 (first_world desc adapters) (whole_lines (behind (separator_at taken) taken)) (ap whole_lines none)
-nothing_taken (Err line) taken adapters none = refl
+-- the log of a front of a session: that of the whole lines behind its separator, where it opens
+pub record TellsTaken (log : List ℕ → List Standing → List ℕ) (lines : DescData → List Standing → List (List ℕ) → List ℕ) : Type 0 where
+  pub opened : (taken : List ℕ) (adapters : List Standing) (desc : DescData) → opening_of taken (kinds_of adapters) ≡ Ok desc
+      → log taken adapters ≡ lines desc adapters (whole_lines (behind (separator_at taken) taken))
+  pub nothing : (taken : List ℕ) (adapters : List Standing) → behind (separator_at taken) taken ≡ [] → log taken adapters ≡ []
 
-pub off_in_head : (input : Option (List ℕ)) (adapters : List Standing) (left old new : Option (List ℕ)) → IfSome input
-    (λ bytes. TakesNoHead bytes left) → Keeps old new → IfSome input (λ bytes. BreaksOff bytes adapters left old new)
-off_in_head None adapters left old new h same = tt
-off_in_head (Some bytes) adapters left old new h same = record {
+run_nothing : (o : Result DescData (List ℕ)) (taken : List ℕ) (adapters : List Standing) → behind
+    (separator_at taken) taken ≡ [] → taken_by o taken adapters ≡ []
+run_nothing (Ok desc) taken adapters none =
+    nothing_from 1 (first_world desc adapters) (whole_lines (behind (separator_at taken) taken)) (ap whole_lines none)
+run_nothing (Err line) taken adapters none = refl
+
+pub run_taken : TellsTaken taken_text run_lines
+run_taken = record {
+  opened = λ taken adapters desc is. ap (λ o. taken_by o taken adapters) is;
+  nothing = λ taken adapters none. run_nothing (opening_of taken (kinds_of adapters)) taken adapters none;
+}
+
+woven_nothing : (n : ℕ) (o : Result DescData (List ℕ)) (taken : List ℕ) (adapters : List Standing)
+    → behind (separator_at taken) taken ≡ [] → woven_taken_by n o taken adapters ≡ []
+unfolding closed_text
+woven_nothing n (Ok desc) taken adapters none =
+    ap (λ l. closed_text 1 (counting n no_counts (first_world desc adapters)) (whole_lines l)) none
+woven_nothing n (Err line) taken adapters none = refl
+
+pub woven_taken : (n : ℕ) → TellsTaken (woven_taken_text n) (woven_lines n)
+woven_taken n = record {
+  opened = λ taken adapters desc is. ap (λ o. woven_taken_by n o taken adapters) is;
+  nothing = λ taken adapters none. woven_nothing n (opening_of taken (kinds_of adapters)) taken adapters none;
+}
+
+pub off_in_head : {log : List ℕ → List Standing → List ℕ} {lines : DescData → List Standing → List (List ℕ) → List ℕ} → TellsTaken log lines
+    → (input : Option (List ℕ)) (adapters : List Standing) (left old new : Option (List ℕ)) → IfSome input
+    (λ bytes. TakesNoHead bytes left) → Keeps old new → IfSome input (λ bytes. BreaksOff log bytes adapters left old new)
+off_in_head t None adapters left old new h same = tt
+off_in_head t (Some bytes) adapters left old new h same = record {
   taken = h.taken;
   others = h.others;
   split = h.split;
   is_left = h.is_left;
-  text = subst (Appends old new) (sym (nothing_taken (opening_of h.taken (kinds_of adapters)) h.taken adapters
-      (nothing_behind (separator_at h.taken) h.taken h.none))) (keeps_nothing old new same);
+  text = subst (Appends old new) (sym (t.nothing h.taken adapters (nothing_behind (separator_at h.taken) h.taken h.none)))
+      (keeps_nothing old new same);
 }
 
 -- ---- a session that broke off in its script
@@ -115,62 +180,63 @@ same_opening bytes taken head kinds desc new left f is place front =
     opening_found taken head kinds (found_head taken head (holding (after_line (drop (length head) taken))) None g)
     ∙ sym (opening_found bytes head kinds (found_head bytes head new left f)) ∙ is
 
-taken_is : (taken more : List ℕ) (place : ℕ) (adapters : List Standing) (desc : DescData) → opening_of taken
-    (kinds_of adapters) ≡ Ok desc → separator_at taken ≡ Some place → after_line (drop place taken) ≡ more
-    → taken_text taken adapters ≡ lines_text 1 (first_world desc adapters) (whole_lines more)
-taken_is taken more place adapters desc is at rest =
-    ap (λ o. taken_by o taken adapters) is ∙ ap (λ place. lines_text 1 (first_world desc adapters)
-    (whole_lines (behind place taken))) at ∙ ap (λ l. lines_text 1 (first_world desc adapters) (whole_lines l)) rest
+module _ (log : List ℕ → List Standing → List ℕ) (lines : DescData → List Standing → List (List ℕ) → List ℕ) (t : TellsTaken log lines) where
+  taken_is : (taken more : List ℕ) (place : ℕ) (adapters : List Standing) (desc : DescData) → opening_of taken
+      (kinds_of adapters) ≡ Ok desc → separator_at taken ≡ Some place → after_line (drop place taken) ≡ more
+      → log taken adapters ≡ lines desc adapters (whole_lines more)
+  taken_is taken more place adapters desc is at rest =
+      t.opened taken adapters desc is ∙ ap (λ place. lines desc adapters (whole_lines (behind place taken))) at
+      ∙ ap (λ l. lines desc adapters (whole_lines l)) rest
 
-off_behind : (bytes head : List ℕ) (adapters : List Standing) (desc : DescData) (new : Reading)
-    (reached left old mid last : Option (List ℕ)) → FindsHead bytes head new reached → new.ended ≡ false
-    → opening_of bytes (kinds_of adapters) ≡ Ok desc
-    → Keeps old mid → BreaksAfter 1 (first_world desc adapters) (after_line (drop (length head) bytes)) left mid last
-    → BreaksOff bytes adapters left old last
-off_behind bytes head adapters desc new reached left old mid last f going is same b =
-    let d = drop (length head) bytes in
-    let line = first_line d in
-    let before = head ++ line in
-    let taken = before ++ 10 ∷ b.taken in
-    let all : before ++ 10 ∷ after_line d ≡ bytes = append_assoc head line (10 ∷ after_line d) ∙ ap (λ l. head ++ l)
-    (sym (f.whole going)) ∙ f.front in
-    let place : separator_at taken ≡ Some (length head) =
-    stays 0 (length head) true before (after_line d) b.taken (omega (arith, length-append head line))
-    (ap separator_at all ∙ f.place) in
-    let dropped : drop (length head) taken ≡ line ++ 10 ∷ b.taken = ap (drop (length head))
-    (append_assoc head line (10 ∷ b.taken)) ∙ drop-append_seam head (line ++ 10 ∷ b.taken) in
-    let front : head ++ drop (length head) taken ≡ taken = ap (λ l. head ++ l) dropped ∙ sym
-    (append_assoc head line (10 ∷ b.taken)) in
-    let opening = same_opening bytes taken head (kinds_of adapters) desc new reached f is place front in
-    let text = taken_is taken b.taken (length head) adapters desc opening place
-    (ap after_line dropped ∙ after_first d b.taken) in
-    record {
-      taken = taken;
-      others = b.others;
-      split = append_assoc before (10 ∷ b.taken) b.others ∙ ap (λ l. before ++ 10 ∷ l) b.split ∙ all;
-      is_left = b.is_left;
-      text = subst (Appends old last) (sym text) (keeps_then_appends old mid last
-          (lines_text 1 (first_world desc adapters) (whole_lines b.taken)) same b.text);
-    }
+  off_behind : (bytes head : List ℕ) (adapters : List Standing) (desc : DescData) (new : Reading)
+      (reached left old mid last : Option (List ℕ)) → FindsHead bytes head new reached → new.ended ≡ false
+      → opening_of bytes (kinds_of adapters) ≡ Ok desc
+      → Keeps old mid → LinesBreak (lines desc adapters) (after_line (drop (length head) bytes)) left mid last
+      → BreaksOff log bytes adapters left old last
+  off_behind bytes head adapters desc new reached left old mid last f going is same b =
+      let d = drop (length head) bytes in
+      let line = first_line d in
+      let before = head ++ line in
+      let taken = before ++ 10 ∷ b.taken in
+      let all : before ++ 10 ∷ after_line d ≡ bytes = append_assoc head line (10 ∷ after_line d) ∙ ap (λ l. head ++ l)
+      (sym (f.whole going)) ∙ f.front in
+      let place : separator_at taken ≡ Some (length head) =
+      stays 0 (length head) true before (after_line d) b.taken (omega (arith, length-append head line))
+      (ap separator_at all ∙ f.place) in
+      let dropped : drop (length head) taken ≡ line ++ 10 ∷ b.taken = ap (drop (length head))
+      (append_assoc head line (10 ∷ b.taken)) ∙ drop-append_seam head (line ++ 10 ∷ b.taken) in
+      let front : head ++ drop (length head) taken ≡ taken = ap (λ l. head ++ l) dropped ∙ sym
+      (append_assoc head line (10 ∷ b.taken)) in
+      let opening = same_opening bytes taken head (kinds_of adapters) desc new reached f is place front in
+      let text = taken_is taken b.taken (length head) adapters desc opening place
+      (ap after_line dropped ∙ after_first d b.taken) in
+      record {
+        taken = taken;
+        others = b.others;
+        split = append_assoc before (10 ∷ b.taken) b.others ∙ ap (λ l. before ++ 10 ∷ l) b.split ∙ all;
+        is_left = b.is_left;
+        text = subst (Appends old last) (sym text) (keeps_then_appends old mid last
+            (lines desc adapters (whole_lines b.taken)) same b.text);
+      }
 
-off_one : (bytes head : List ℕ) (adapters : List Standing) (desc : DescData) (new : Reading)
-    (reached left old mid last : Option (List ℕ)) → FindsHead bytes head new reached → new.ended ≡ false
-    → opening_of bytes (kinds_of adapters) ≡ Ok desc
-    → Keeps old mid → IfSome (input_of new reached)
-    (λ rest. BreaksAfter 1 (first_world desc adapters) rest left mid last) → BreaksOff bytes adapters left old last
-off_one bytes head adapters desc new reached left old mid last f going is same b =
-    off_behind bytes head adapters desc new reached left old mid last f going is same
-    (subst (λ o. IfSome o (λ rest. BreaksAfter 1 (first_world desc adapters) rest left mid last)) f.rest b)
+  off_one : (bytes head : List ℕ) (adapters : List Standing) (desc : DescData) (new : Reading)
+      (reached left old mid last : Option (List ℕ)) → FindsHead bytes head new reached → new.ended ≡ false
+      → opening_of bytes (kinds_of adapters) ≡ Ok desc
+      → Keeps old mid → IfSome (input_of new reached) (λ rest. LinesBreak (lines desc adapters) rest left mid last)
+      → BreaksOff log bytes adapters left old last
+  off_one bytes head adapters desc new reached left old mid last f going is same b =
+      off_behind bytes head adapters desc new reached left old mid last f going is same
+      (subst (λ o. IfSome o (λ rest. LinesBreak (lines desc adapters) rest left mid last)) f.rest b)
 
-pub off_in_script : (input : Option (List ℕ)) (adapters : List Standing) (desc : DescData) (new : Reading)
-    (reached left old mid last : Option (List ℕ)) → IfSome input
-    (λ bytes. (head : List ℕ) × FindsHead bytes head new reached) → new.ended ≡ false
-    → IfSome input (λ bytes. opening_of bytes (kinds_of adapters) ≡ Ok desc) → Keeps old mid → IfSome
-    (input_of new reached) (λ rest. BreaksAfter 1 (first_world desc adapters) rest left mid last)
-    → IfSome input (λ bytes. BreaksOff bytes adapters left old last)
-off_in_script None adapters desc new reached left old mid last f going is same b = tt
-off_in_script (Some bytes) adapters desc new reached left old mid last f going is same b =
-    off_one bytes f.0 adapters desc new reached left old mid last f.1 going is same b
+  pub off_in_script : (input : Option (List ℕ)) (adapters : List Standing) (desc : DescData) (new : Reading)
+      (reached left old mid last : Option (List ℕ)) → IfSome input
+      (λ bytes. (head : List ℕ) × FindsHead bytes head new reached) → new.ended ≡ false
+      → IfSome input (λ bytes. opening_of bytes (kinds_of adapters) ≡ Ok desc) → Keeps old mid
+      → IfSome (input_of new reached) (λ rest. LinesBreak (lines desc adapters) rest left mid last)
+      → IfSome input (λ bytes. BreaksOff log bytes adapters left old last)
+  off_in_script None adapters desc new reached left old mid last f going is same b = tt
+  off_in_script (Some bytes) adapters desc new reached left old mid last f going is same b =
+      off_one bytes f.0 adapters desc new reached left old mid last f.1 going is same b
 
 -- ---- from the first state
 
@@ -179,24 +245,45 @@ some_is e = cc
 
 pub breaks_first : (input : Option (List ℕ)) (desc : DescData) (adapters : List Standing) (m : ModelData) (st : State)
     (left old new : Option (List ℕ)) → IsAt m adapters (Some st) (first_world desc adapters)
-    → Breaks 1 m adapters (Some st) input left old new → IfSome input
-    (λ bytes. BreaksAfter 1 (first_world desc adapters) bytes left old new)
+    → Breaks 1 m adapters (Some st) input left old new
+    → IfSome input (λ bytes. LinesBreak (run_lines desc adapters) bytes left old new)
 breaks_first None desc adapters m st left old new here h = tt
 breaks_first (Some bytes) desc adapters m st left old new here h =
-    breaks_at 1 m adapters (Some st) (first_world desc adapters) (Some bytes) left old new bytes here refl h
+    let b = breaks_at 1 m adapters (Some st) (first_world desc adapters) (Some bytes) left old new bytes here refl h in
+    record { taken = b.taken; others = b.others; split = b.split; is_left = b.is_left; text = b.text }
+
+woven_first : (n : ℕ) (desc : DescData) (adapters : List Standing) (m : ModelData) (st : State) (counts : Counts)
+    → counts ≡ no_counts → IsAt m adapters (Some st) (first_world desc adapters)
+    → counting n counts (world m adapters st) ≡ counting n no_counts (first_world desc adapters)
+woven_first n desc adapters m st counts none here =
+    ap (λ c. counting n c (world m adapters st)) none
+    ∙ ap (λ m. counting n no_counts (world m adapters st)) here.model_is
+    ∙ ap (λ st. counting n no_counts (world (first_world desc adapters).model adapters st)) (some_is here.device_is)
+
+pub weave_breaks : (n : ℕ) (input : Option (List ℕ)) (desc : DescData) (adapters : List Standing) (m : ModelData) (st : State)
+    (counts : Counts) (left old new : Option (List ℕ)) → counts ≡ no_counts → IsAt m adapters (Some st) (first_world desc adapters)
+    → BreaksWeave n (moment m adapters (Some st) old counts) input left new
+    → IfSome input (λ bytes. LinesBreak (woven_lines n desc adapters) bytes left old new)
+weave_breaks n None desc adapters m st counts left old new none here h = tt
+weave_breaks n (Some bytes) desc adapters m st counts left old new none here h = record {
+  taken = h.taken;
+  others = h.others;
+  split = h.split;
+  is_left = h.is_left;
+  text = subst (λ g. Appends old new (closed_text 1 g (whole_lines h.taken))) (woven_first n desc adapters m st counts none here) h.text;
+}
 
 -- ---- what was written in the end
 
-pub off_written : (input : Option (List ℕ)) (adapters : List Standing) (left old told new : Option (List ℕ))
-    → IfSome input (λ bytes. BreaksOff bytes adapters left old told) → Keeps told new → IfSome input
-    (λ bytes. BreaksOff bytes adapters left old new)
-off_written None adapters left old told new h same = tt
-off_written (Some bytes) adapters left old told new h same =
+pub off_written : (log : List ℕ → List Standing → List ℕ) (input : Option (List ℕ)) (adapters : List Standing) (left old told new : Option (List ℕ))
+    → IfSome input (λ bytes. BreaksOff log bytes adapters left old told) → Keeps told new
+    → IfSome input (λ bytes. BreaksOff log bytes adapters left old new)
+off_written log None adapters left old told new h same = tt
+off_written log (Some bytes) adapters left old told new h same =
     record {
       taken = h.taken;
       others = h.others;
       split = h.split;
       is_left = h.is_left;
-      text = appends_keeps old told new
-          (taken_text h.taken adapters) h.text same;
+      text = appends_keeps old told new (log h.taken adapters) h.text same;
     }

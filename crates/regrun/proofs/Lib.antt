@@ -1,5 +1,6 @@
 pub mod BreakLemmas
 pub mod JudgedLemmas
+pub mod LawLemmas
 pub mod OpeningLemmas
 pub mod PlainLemmas
 pub mod StopLemmas

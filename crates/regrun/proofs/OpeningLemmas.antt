@@ -13,17 +13,27 @@ use Rattle.rl_log.specs.declared.status.Status.TheVariants.{Refused}
 use Rattle.rl_session.specs.Session.{behind, head_of, opening_after, opening_of}
 use Rattle.rl_log.specs.Statuses.{is_complete}
 use Rattle.rl_log.specs.Telling.{Tells}
+use Rattle.regrun.specs.Opening.{IsFresh, ReadsHead, OpensWith}
 use Rattle.regrun.specs.Telling.{Stops}
 use Rattle.regrun.proofs.StopLemmas.{stops_refused, stops_early, stops_later}
 use Rattle.rl_session.proofs.SessionLemmas.{found_head, missing_head, long_head, opening_refused, opening_found}
 
 -- ---- the head
 
+pub from_fresh : (lines : Reading) (left : Option (List ℕ)) (P : List ℕ → Type 0) → IsFresh lines
+    → IfSome (input_of lines left) P → IfSome left P
+from_fresh lines left P fresh h = subst (λ o. IfSome o P) (fresh.input left) h
+
 pub head_is_found : (input : Option (List ℕ)) (answer : Head) (head : List ℕ) (new : Reading) (left : Option (List ℕ))
-    → answer ≡ Found → IfSome input (λ bytes. HeadIs bytes answer head new left) → IfSome input
-    (λ bytes. head_of bytes ≡ Ok head)
+    → answer ≡ Found → IfSome input (λ bytes. HeadIs bytes answer head new left) → IfSome input (λ bytes. ReadsHead bytes head new left)
 head_is_found None answer head new left is h = tt
-head_is_found (Some bytes) answer head new left is h = found_head bytes head new left (rw is at h)
+head_is_found (Some bytes) answer head new left is h =
+    let found : FindsHead bytes head new left = rw is at h in
+    record {
+      head_is = found_head bytes head new left found;
+      rest = found.rest ∙ ap (λ place. Some (behind place bytes)) (sym found.place);
+      finds = found;
+    }
 
 pub head_is_missing : (input : Option (List ℕ)) (answer : Head) (head : List ℕ) (new : Reading)
     (left : Option (List ℕ)) → answer ≡ Missing → IfSome input (λ bytes. HeadIs bytes answer head new left)
@@ -61,35 +71,54 @@ pub stops_for : (input : Option (List ℕ)) (kinds : List AdapterKind) (status :
 stops_for None kinds status old new h = tt
 stops_for (Some bytes) kinds status old new h = h kinds
 
-stops_at_desc : (input : Option (List ℕ)) (head : List ℕ) (kinds : List AdapterKind) (status : Status)
-    (old mid new : Option (List ℕ)) → IfSome input (λ bytes. head_of bytes ≡ Ok head) → Keeps old mid
-    → Stops (opening_after (Ok head) kinds) status mid new → IfSome input
-    (λ bytes. Stops (opening_of bytes kinds) status old new)
-stops_at_desc None head kinds status old mid new found same s = tt
-stops_at_desc (Some bytes) head kinds status old mid new found same s =
-    subst (λ o. Stops o status old new) (sym (opening_found bytes head kinds found))
+stops_at_desc : (input : Option (List ℕ)) (head : List ℕ) (kinds : List AdapterKind) (new_lines : Reading) (left : Option (List ℕ))
+    (status : Status) (old mid new : Option (List ℕ)) → IfSome input (λ bytes. ReadsHead bytes head new_lines left) → Keeps old mid
+    → Stops (opening_after (Ok head) kinds) status mid new → IfSome input (λ bytes. Stops (opening_of bytes kinds) status old new)
+stops_at_desc None head kinds new_lines left status old mid new found same s = tt
+stops_at_desc (Some bytes) head kinds new_lines left status old mid new found same s =
+    subst (λ o. Stops o status old new) (sym (opening_found bytes head kinds found.head_is))
     (stops_later (opening_after (Ok head) kinds) status old mid new same s)
 
-pub desc_stops : (input : Option (List ℕ)) (head : List ℕ) (kinds : List AdapterKind) (r : Result DescData Status)
-    (old mid new : Option (List ℕ)) → IfSome input (λ bytes. head_of bytes ≡ Ok head) → Keeps old mid
-    → IfErr r (λ status. Stops (opening_after (Ok head) kinds) status mid new) → IfErr r
-    (λ status. IfSome input (λ bytes. Stops (opening_of bytes kinds) status old new))
-desc_stops input head kinds (Ok desc) old mid new found same s = tt
-desc_stops input head kinds (Err status) old mid new found same s =
-    stops_at_desc input head kinds status old mid new found same s
+pub desc_stops : (input : Option (List ℕ)) (head : List ℕ) (kinds : List AdapterKind) (new_lines : Reading) (left : Option (List ℕ))
+    (r : Result DescData Status) (old mid new : Option (List ℕ)) → IfSome input (λ bytes. ReadsHead bytes head new_lines left) → Keeps old mid
+    → IfErr r (λ status. Stops (opening_after (Ok head) kinds) status mid new)
+    → IfErr r (λ status. IfSome input (λ bytes. Stops (opening_of bytes kinds) status old new))
+desc_stops input head kinds new_lines left (Ok desc) old mid new found same s = tt
+desc_stops input head kinds new_lines left (Err status) old mid new found same s =
+    stops_at_desc input head kinds new_lines left status old mid new found same s
 
-opens_at : (input : Option (List ℕ)) (head : List ℕ) (kinds : List AdapterKind) (desc : DescData) → IfSome input
-    (λ bytes. head_of bytes ≡ Ok head) → opening_after (Ok head) kinds ≡ Ok desc
-    → IfSome input (λ bytes. opening_of bytes kinds ≡ Ok desc)
-opens_at None head kinds desc found is = tt
-opens_at (Some bytes) head kinds desc found is = opening_found bytes head kinds found ∙ is
+opens_at : (input : Option (List ℕ)) (head : List ℕ) (kinds : List AdapterKind) (new_lines : Reading) (left : Option (List ℕ)) (desc : DescData)
+    → IfSome input (λ bytes. ReadsHead bytes head new_lines left) → opening_after (Ok head) kinds ≡ Ok desc
+    → IfSome input (λ bytes. OpensWith bytes kinds desc new_lines left)
+opens_at None head kinds new_lines left desc found is = tt
+opens_at (Some bytes) head kinds new_lines left desc found is =
+    record { opening = opening_found bytes head kinds found.head_is ∙ is; head = head; reads = found }
 
-pub desc_opens : (input : Option (List ℕ)) (head : List ℕ) (kinds : List AdapterKind) (r : Result DescData Status)
-    → IfSome input (λ bytes. head_of bytes ≡ Ok head)
-    → IfOk r (λ desc. opening_after (Ok head) kinds ≡ Ok desc) → IfOk r
-    (λ desc. IfSome input (λ bytes. opening_of bytes kinds ≡ Ok desc))
-desc_opens input head kinds (Ok desc) found is = opens_at input head kinds desc found is
-desc_opens input head kinds (Err status) found is = tt
+pub desc_opens : (input : Option (List ℕ)) (head : List ℕ) (kinds : List AdapterKind) (new_lines : Reading) (left : Option (List ℕ))
+    (r : Result DescData Status) → IfSome input (λ bytes. ReadsHead bytes head new_lines left)
+    → IfOk r (λ desc. opening_after (Ok head) kinds ≡ Ok desc)
+    → IfOk r (λ desc. IfSome input (λ bytes. OpensWith bytes kinds desc new_lines left))
+desc_opens input head kinds new_lines left (Ok desc) found is = opens_at input head kinds new_lines left desc found is
+desc_opens input head kinds new_lines left (Err status) found is = tt
+
+-- ---- what a session opens with
+
+pub opens_as : (input : Option (List ℕ)) (kinds : List AdapterKind) (desc : DescData) (lines : Reading) (left : Option (List ℕ))
+    → IfSome input (λ bytes. OpensWith bytes kinds desc lines left) → IfSome input (λ bytes. opening_of bytes kinds ≡ Ok desc)
+opens_as None kinds desc lines left h = tt
+opens_as (Some bytes) kinds desc lines left h = h.opening
+
+pub rest_of : (input : Option (List ℕ)) (kinds : List AdapterKind) (desc : DescData) (lines : Reading) (left : Option (List ℕ))
+    → IfSome input (λ bytes. OpensWith bytes kinds desc lines left)
+    → IfSome input (λ bytes. input_of lines left ≡ Some (behind (separator_at bytes) bytes))
+rest_of None kinds desc lines left h = tt
+rest_of (Some bytes) kinds desc lines left h = h.reads.rest
+
+pub head_found : (input : Option (List ℕ)) (kinds : List AdapterKind) (desc : DescData) (lines : Reading) (left : Option (List ℕ))
+    → IfSome input (λ bytes. OpensWith bytes kinds desc lines left)
+    → IfSome input (λ bytes. (head : List ℕ) × FindsHead bytes head lines left)
+head_found None kinds desc lines left h = tt
+head_found (Some bytes) kinds desc lines left h = (h.head, h.reads.finds)
 
 -- ---- from a reader that was just built
 
@@ -97,7 +126,7 @@ prepended : (left : Option (List ℕ)) → prepend_known [] left ≡ left
 prepended None = refl
 prepended (Some xs) = refl
 
-pub fresh_input : (r : Reading)
+fresh_input : (r : Reading)
     → r ≡ record {
       pending = [];
       line = [];
@@ -106,31 +135,12 @@ pub fresh_input : (r : Reading)
       refused = false;
       ended = false;
       closed = false;
-    } → (left : Option (List ℕ)) → input_of r left ≡ left
-fresh_input r is = λ left. ap (λ r. input_of r left) is ∙ prepended left
-
-pub from_fresh : (lines : Reading) (left : Option (List ℕ)) (P : List ℕ → Type 0) →
-    ((left : Option (List ℕ)) → input_of lines left ≡ left) → IfSome (input_of lines left) P → IfSome left P
-from_fresh lines left P fresh h = subst (λ o. IfSome o P) (fresh left) h
-
--- ---- what is behind the separator
-
-pub rest_is : (input : Option (List ℕ)) (answer : Head) (head : List ℕ) (new : Reading) (left : Option (List ℕ))
-    → answer ≡ Found → IfSome input (λ bytes. HeadIs bytes answer head new left)
-    → IfSome input (λ bytes. input_of new left ≡ Some (behind (separator_at bytes) bytes))
-rest_is None answer head new left is h = tt
-rest_is (Some bytes) answer head new left is h =
-    let found : FindsHead bytes head new left = rw is at h in
-    found.rest ∙ ap (λ place. Some (behind place bytes)) (sym found.place)
-
--- ---- a session in memory
-
-pub of_text : (lines : Reading) (bytes text : List ℕ) (P : List ℕ → Type 0) →
-    ((left : Option (List ℕ)) → input_of lines left ≡ left) → bytes ≡ text → IfSome
-    (input_of lines (Some (drop 0 bytes))) P → P text
-of_text lines bytes text P fresh is h =
-    let h1 : IfSome (Some (drop 0 bytes)) P = subst (λ o. IfSome o P) (fresh (Some (drop 0 bytes))) h in
-    subst P is h1
+    } → IsFresh r
+fresh_input r is = record {
+  input = λ left. ap (λ r. input_of r left) is ∙ prepended left;
+  first = ap (λ (r : Reading). r.asked) is;
+  going = ap (λ (r : Reading). r.refused) is;
+}
 
 pub fresh_inputs : {E : Type 0} (r : Result Reading E) → IfOk r
     (λ r. r ≡ record {
@@ -141,7 +151,17 @@ pub fresh_inputs : {E : Type 0} (r : Result Reading E) → IfOk r
       refused = false;
       ended = false;
       closed = false;
-    })
-    → IfOk r (λ lines. (left : Option (List ℕ)) → input_of lines left ≡ left)
+    }) → IfOk r IsFresh
 fresh_inputs (Ok r) is = fresh_input r is
 fresh_inputs (Err e) is = tt
+
+-- ---- a session in memory
+
+pub opens_text : (bytes text : List ℕ) (kinds : List AdapterKind) (desc : DescData) (lines : Reading) (left : Option (List ℕ))
+    → bytes ≡ text → IfSome (Some (drop 0 bytes)) (λ bytes. OpensWith bytes kinds desc lines left) → OpensWith text kinds desc lines left
+opens_text bytes text kinds desc lines left is h = subst (λ b. OpensWith b kinds desc lines left) is h
+
+pub stops_text : (bytes text : List ℕ) (kinds : List AdapterKind) (status : Status) (old new : Option (List ℕ))
+    → bytes ≡ text → IfSome (Some (drop 0 bytes)) (λ bytes. Stops (opening_of bytes kinds) status old new)
+    → Stops (opening_of text kinds) status old new
+stops_text bytes text kinds status old new is h = subst (λ b. Stops (opening_of b kinds) status old new) is h

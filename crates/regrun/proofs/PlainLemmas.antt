@@ -1,5 +1,6 @@
 -- A session on a device that does as described writes, without the lines of items, the plain machine's log.
 use Rattle.std.proofs.Common.{◌≡◌, ◌≢◌, ℕ, true, List, Option, Some, None, IfSome, subst}
+use Rattle.std.specs.Io.KnownBytes.{Keeps}
 use Rattle.rl_bus.specs.Standing.{Standing, kinds_of}
 use Rattle.rl_log.specs.declared.status.Status.{Status}
 use Rattle.rl_log.specs.declared.status.Status.TheVariants.{SinkFault}
@@ -9,7 +10,7 @@ use Rattle.regrun.specs.Telling.{Stops}
 use Rattle.rl_session.specs.Session.{opening_of, refusal_of}
 use Rattle.rl_plain_log.specs.PlainLog.{IsSteadyOpening, IsPlainLog, WritesPlainLog}
 use Rattle.rl_log.specs.Statuses.{is_complete}
-use Rattle.rl_play.proofs.EndingLemmas.{not_sink_fault}
+use Rattle.rl_play.proofs.EndingLemmas.{appends_keeps, not_sink_fault}
 use Rattle.rl_plain_log.proofs.PlainSession.{log_of_refused}
 
 -- ---- of what was read
@@ -32,3 +33,12 @@ plain_written (Some bytes) adapters now status old new whole ran log = λ steady
   written = (ran.tells.whole whole).1;
   same = log.same steady;
 }
+
+-- what was told is written out
+pub plain_later : (left : Option (List ℕ)) (adapters : List Standing) (old told new : Option (List ℕ)) → Keeps told new
+    → IfSome left (λ bytes. IsSteadyOpening (opening_of bytes (kinds_of adapters)) → WritesPlainLog bytes (kinds_of adapters) old told)
+    → IfSome left (λ bytes. IsSteadyOpening (opening_of bytes (kinds_of adapters)) → WritesPlainLog bytes (kinds_of adapters) old new)
+plain_later None adapters old told new keeps h = tt
+plain_later (Some bytes) adapters old told new keeps h = λ steady.
+    let w = h steady in
+    record { text = w.text; written = appends_keeps old told new w.text w.written keeps; same = w.same }

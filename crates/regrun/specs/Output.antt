@@ -4,7 +4,12 @@ use Rattle.std.specs.Prelude.{◌≡◌, ℕ, List, ◌++◌, map, true, Option,
 use Rattle.std.specs.Io.KnownBytes.{Appends}
 use Rattle.rl_bus.specs.Standing.{Standing}
 use Rattle.rl_log.specs.declared.status.Status.{Status}
-use Rattle.rl_session.specs.Judged.{Judged, taken_text}
+use Rattle.rl_desc.specs.Data.{DescData}
+use Rattle.rl_report.specs.Lines.{whole_lines}
+use Rattle.rl_log.specs.Log.{lines_text}
+use Rattle.rl_log.specs.Recording.{no_counts}
+use Rattle.rl_session.specs.Judged.{Judged, first_world}
+use Rattle.rl_woven_log.specs.WeaveLog.{closed_text, counting}
 use Rattle.rl_log.specs.Statuses.{is_complete}
 use Rattle.rl_log.specs.Telling.{Tells}
 
@@ -30,10 +35,27 @@ WritesJudged judge status before after = IsJudged (judge before.adapters) status
 
 -- ---- a source that failed
 
--- Bytes were taken from the front of a session, and exactly their log was written.
-pub record BreaksOff (bytes : List ℕ) (adapters : List Standing) (left old new : Option (List ℕ)) : Type 0 where
+-- Bytes were taken from the front of a script, and exactly the log of the whole lines among them was written.
+pub record LinesBreak (log : List (List ℕ) → List ℕ) (bytes : List ℕ) (left old new : Option (List ℕ)) : Type 0 where
   pub taken : List ℕ
   pub others : List ℕ
   pub split : taken ++ others ≡ bytes
   pub is_left : left ≡ Some others
-  pub text : Appends old new (taken_text taken adapters)
+  pub text : Appends old new (log (whole_lines taken))
+
+-- the log of the lines of a script, from the first state of a description on
+abbrev pub run_lines : DescData → List Standing → List (List ℕ) → List ℕ
+run_lines desc adapters lines = lines_text 1 (first_world desc adapters) lines
+
+-- and with its accesses woven: that of the groups that a blank line among these ends
+abbrev pub woven_lines : (n : ℕ) → DescData → List Standing → List (List ℕ) → List ℕ
+woven_lines n desc adapters lines = closed_text 1 (counting n no_counts (first_world desc adapters)) lines
+
+-- Bytes were taken from the front of a session, and exactly their log was written.
+pub record BreaksOff (log : (taken : List ℕ) → List Standing → List ℕ) (bytes : List ℕ) (adapters : List Standing)
+    (left old new : Option (List ℕ)) : Type 0 where
+  pub taken : List ℕ
+  pub others : List ℕ
+  pub split : taken ++ others ≡ bytes
+  pub is_left : left ≡ Some others
+  pub text : Appends old new (log taken adapters)

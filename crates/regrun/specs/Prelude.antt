@@ -1,6 +1,6 @@
 -- The words that the contracts of this crate use, passed on from one place. Declares nothing.
-pub use Rattle.regrun.specs.Output.{output_of, BreaksOff, WritesJudged}
-pub use Rattle.regrun.specs.Telling.{Stops}
+pub use Rattle.regrun.specs.Output.{output_of, run_lines, woven_lines, BreaksOff, LinesBreak, WritesJudged}
+pub use Rattle.regrun.specs.Telling.{Stays, Stops}
 pub use Rattle.regrun.specs.Task.{Does}
 pub use Rattle.regrun.specs.Words.{asked_by}
 pub use Rattle.rl_access.specs.Model.{IsModel, IsReady, IsSameChip}
@@ -16,13 +16,13 @@ pub use Rattle.rl_map.specs.LayoutText.{layout_text}
 pub use Rattle.rl_map.specs.Maps.{IsBuiltWith}
 pub use Rattle.rl_plain_log.specs.PlainLog.{IsPlainLog, IsSteadyOpening, WritesPlainLog}
 pub use Rattle.rl_play.specs.Earlier.{KeepsEarlier}
-pub use Rattle.rl_play.specs.Played.{BreaksAfter, coming, IsPlayed}
+pub use Rattle.rl_play.specs.Played.{coming, IsPlayed}
 pub use Rattle.rl_play.specs.Told.{told}
 pub use Rattle.rl_report.specs.Opening.{separator_at, FindsHead, TakesNoHead}
 pub use Rattle.rl_report.specs.Reading.{input_of}
-pub use Rattle.rl_session.specs.Judged.{judged, map_judged, script_judged, soak_judged, first_world, soak_script_judged}
+pub use Rattle.rl_session.specs.Judged.{judged, map_judged, script_judged, soak_judged, first_world, soak_script_judged, taken_text}
 pub use Rattle.rl_session.specs.Refusals.{description_refused_text}
 pub use Rattle.rl_session.specs.Session.{behind, head_of, opening_after, opening_of}
 pub use Rattle.rl_session.specs.Soak.{soak_line_text}
 pub use Rattle.rl_play.specs.Moment.{moment_of}
-pub use Rattle.rl_woven_log.specs.Judged.{woven_judged, woven_script_judged}
+pub use Rattle.rl_woven_log.specs.Judged.{woven_judged, woven_script_judged, woven_taken_text}

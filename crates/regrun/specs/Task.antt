@@ -1,28 +1,49 @@
 -- What a call does by what it is asked: one task, from the source and the output before it to those after it.
-use Rattle.std.specs.Prelude.{◌≡◌, ◌≢◌, ℕ, List, true, Option, IfSome}
+use Rattle.std.specs.Prelude.{◌≡◌, ◌≢◌, ℕ, List, true, All, Option, IfSome}
 use Rattle.rl_bus.specs.Standing.{kinds_of}
 use Rattle.rl_log.specs.declared.status.Status.{Status}
 use Rattle.rl_log.specs.declared.status.Status.TheVariants.{Found, SourceFault}
+use Rattle.rl_log.specs.Events.{ErrorKeepsBeliefs, CheckNamesDiffering}
 use Rattle.rl_log.specs.Statuses.{is_complete}
-use Rattle.rl_session.specs.Judged.{judged, map_judged, soak_judged}
-use Rattle.rl_plain_log.specs.PlainLog.{IsPlainLog}
-use Rattle.regrun.specs.declared.words.Built.{Built}
-use Rattle.regrun.specs.declared.words.Built.TheVariants.{Run, Map, Soak, Weave}
-use Rattle.rl_woven_log.specs.Judged.{woven_judged}
+use Rattle.rl_plain_log.specs.PlainLog.{IsSteadyOpening, WritesPlainLog}
+use Rattle.rl_session.specs.Judged.{judged, judged_events, map_judged, soak_judged, taken_text}
+use Rattle.rl_session.specs.Session.{opening_of}
+use Rattle.rl_woven_log.specs.Judged.{woven_judged, woven_taken_text}
+use Rattle.regrun.specs.declared.words.Task.{Task}
+use Rattle.regrun.specs.declared.words.Task.TheVariants.{Run, Map, Soak, Weave}
 use Rattle.regrun.specs.Output.{Output, WritesJudged, BreaksOff}
 
-pub record Does (task : Built) (status : Status) (input left : Option (List ℕ)) (before after : Output) : Type 0 where
-  -- `run` writes the judged log, and where the source fails the log of what was taken
+-- `input` and `left` are the bytes that the source has before and after the call, where it tells them.
+pub record Does (task : Task) (status : Status) (input left : Option (List ℕ)) (before after : Output) : Type 0 where
+  -- The headline: `run` writes the judged log of the session, and answers its status; the adapters then stand as its items
+  -- leave them. After any fault, and where memory ran out, it wrote a front of that.
   pub run : task ≡ Run → IfSome input (λ bytes. WritesJudged (judged bytes) status before after)
-  pub plain : task ≡ Run → is_complete status ≡ true → IfSome input (λ bytes. IsPlainLog bytes before.adapters)
-  pub at_fault : task ≡ Run → status ≡ SourceFault
-      → IfSome input (λ bytes. BreaksOff bytes before.adapters left before.text after.text)
-  -- `map` writes the layout, and compares nothing
+  -- Each event of that log that ended by a bus error left the mirrored values, the desired values and the marks of first
+  -- writes as they were.
+  pub bus_errors : task ≡ Run → IfSome input (λ bytes. All ErrorKeepsBeliefs (judged_events bytes before.adapters))
+  -- Each check in it names exactly the compared fields whose bits in the value read aren't those that were mirrored before
+  -- the read.
+  pub checks : task ≡ Run → IfSome input (λ bytes. All CheckNamesDiffering (judged_events bytes before.adapters))
+  -- The other half. Where the description declares no flaw and no volatile field, and wherever the session is refused
+  -- before its script, what `run` wrote as a whole is, without its item lines, the log of a plain machine that steps whole
+  -- registers.
+  pub plain : task ≡ Run → is_complete status ≡ true → IfSome input (λ bytes.
+      IsSteadyOpening (opening_of bytes (kinds_of before.adapters))
+      → WritesPlainLog bytes (kinds_of before.adapters) before.text after.text)
+  -- After a source that failed, the sink has exactly the log of the lines that were taken whole.
+  pub at_fault : task ≡ Run → status ≡ SourceFault → IfSome input (λ bytes.
+      BreaksOff taken_text bytes before.adapters left before.text after.text)
+  -- `map` writes where the items stand, and compares nothing.
   pub map : task ≡ Map → IfSome input (λ bytes. WritesJudged (map_judged bytes) status before after)
   pub map_status : task ≡ Map → status ≢ Found
-  -- `soak` writes its line, and reads no source
+  -- `soak` and a number writes the line of the session that the number makes, and never fails by the source.
   pub soak : (n : ℕ) → task ≡ Soak n → WritesJudged (soak_judged n) status before after
   pub soak_status : (n : ℕ) → task ≡ Soak n → status ≢ SourceFault
-  -- `weave` writes the log with its words drawn from the number on
+  -- `weave` and a number writes the log of the session with its words drawn from the number on, and answers its status.
+  -- After any fault, and where memory ran out, it wrote a front of that.
   pub weave : (n : ℕ) → task ≡ Weave n → IfSome input (λ bytes. WritesJudged (woven_judged n bytes) status before after)
+  -- After a source that failed, the sink has exactly the log of the groups whose blank line was taken whole.
+  pub weave_at_fault : (n : ℕ) → task ≡ Weave n → status ≡ SourceFault → IfSome input (λ bytes.
+      BreaksOff (woven_taken_text n) bytes before.adapters left before.text after.text)
+  -- Whatever it does, the adapters keep their kinds.
   pub kinds : kinds_of after.adapters ≡ kinds_of before.adapters

@@ -6,8 +6,6 @@ use Rattle.rl_policy.specs.declared.number.NumberText.TheVariants.{Value, Bad, T
 use Rattle.rl_policy.specs.Numbers.{number_of}
 use Rattle.regrun.specs.declared.words.Task.{Task}
 use Rattle.regrun.specs.declared.words.Task.TheVariants.{Run, Map, Soak, Weave}
-use Rattle.regrun.specs.declared.words.Built.{Built}
-use Rattle.regrun.specs.declared.words.Built.TheVariants as is
 
 abbrev pub task_named : List ℕ → Option Task
 task_named word = if bytes_eq word (codes "run") then Some Run else (if bytes_eq word (codes "map") then Some Map else None)
@@ -26,17 +24,6 @@ task_of (word ∷ []) = task_named word
 task_of (word ∷ number ∷ []) = numbered_task word (number_of number)
 task_of (word ∷ number ∷ other ∷ others) = None
 
--- what is built of it
-abbrev pub built : Option Task → Option Built
-built None = None
-built (Some Run) = Some is.Run
-built (Some Map) = Some is.Map
-built (Some (Soak n)) = Some (is.Soak n)
-built (Some (Weave n)) = Some (is.Weave n)
-
-abbrev pub task_built : List (List ℕ) → Option Built
-task_built words = built (task_of words)
-
 -- what a call with these words is asked to do
-abbrev pub asked_by : {Z : Type 0} → (words : List (String Z)) → Option Built
-asked_by words = task_built (map string_bytes words)
+abbrev pub asked_by : {Z : Type 0} → (words : List (String Z)) → Option Task
+asked_by words = task_of (map string_bytes words)

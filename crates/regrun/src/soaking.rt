@@ -1,8 +1,12 @@
 // A session that is made from a number, run with nothing written but one line.
-ghost use Rattle.std.specs.Prelude.{◌≡◌, ◌≤◌, ◌<◌, ◌^◌, ◌-◌, ◌++◌, false, true, Some, IfSome, map, length, min, take, drop, vec_len};
-ghost use Rattle.regrun.specs.Prelude.{IsReady, IsSameChip, IsBuiltWith, AreFlawsOf, bench_state, kinds_of, input_of, IsCaused, output_of, WritesJudged, soak_judged, soak_script_judged, coming, IsPlayed, soak_line_text, is_complete, Tells};
+ghost use Rattle.std.specs.Prelude.{◌≡◌, ◌≤◌, ◌<◌, ◌^◌, ◌-◌, ◌++◌, false, true, Some, IfSome, map, length, min, take};
+ghost use Rattle.std.specs.Prelude.{drop, vec_len};
+ghost use Rattle.regrun.specs.Prelude.{IsCaused, IsPlayed, IsReady, IsSameChip, Stays, Tells, WritesJudged};
+ghost use Rattle.regrun.specs.Prelude.{bench_state, coming, input_of, is_complete, kinds_of, output_of};
+ghost use Rattle.regrun.specs.Prelude.{soak_judged, soak_line_text, soak_script_judged};
+ghost use Rattle.regrun.specs.Opening.{IsBehindHead, IsRunnable};
 
-use crate::top::{fresh_lines, open_session};
+use crate::opening::{fresh_lines, open_session};
 use rl_access::{Event, Model};
 use rl_bench::Bench;
 use rl_bus::{Adapter, Adapters};
@@ -112,10 +116,8 @@ fn put_line<L: Log>(status: Status, out: &mut L, n: u64, counts: &Counts, sum: u
     requires { is_complete status ≡ true }
     ensures tells { Tells result status
         (L.written out.old) (L.written out.new) (soak_line_text n counts.now sum) }
-    ensures sink_later { L.faults out.old ≤ L.faults out.new }
     ensures cause { IsCaused result 0 0 (L.faults out.old) (L.faults out.new) }
-    ensures ends_kept { L.ends out.new ≡ L.ends out.old }
-    ensures same_target { L.target out.new ≡ L.target out.old }
+    ensures stays { Stays L.faults L.ends L.target out.old out.new }
 {
     match put_soak_line(out, n, counts, sum) {
         Ok(()) => status,
@@ -133,20 +135,15 @@ fn soak_desc<L: Log>(
     out: &mut L,
     adapters: &mut Adapters,
 ) -> Status
-    requires kinds { desc.layout.kinds ≡ kinds_of (map standing adapters.old.items) }
-    requires built_with { IsBuiltWith desc.layout desc.chip }
-    requires flaws { AreFlawsOf desc.chip desc.layout desc.flaws }
-    requires found { lines.old.found ≡ true }
-    requires going { lines.old.refused ≡ false }
+    requires runnable { IsRunnable desc (kinds_of (map standing adapters.old.items)) }
+    requires behind { IsBehindHead lines.old }
     ensures kinds { kinds_of (map standing adapters.new.items) ≡ kinds_of (map standing adapters.old.items) }
     ensures tells { IfSome (input_of lines.old (Some (drop source.old.at source.old.bytes.items))) (λ bytes.
         WritesJudged (soak_script_judged n desc bytes) result
         (output_of L.written standing out.old adapters.old.items)
         (output_of L.written standing out.new adapters.new.items)) }
-    ensures sink_later { L.faults out.old ≤ L.faults out.new }
     ensures cause { IsCaused result 0 0 (L.faults out.old) (L.faults out.new) }
-    ensures ends_kept { L.ends out.new ≡ L.ends out.old }
-    ensures same_target { L.target out.new ≡ L.target out.old }
+    ensures stays { Stays L.faults L.ends L.target out.old out.new }
 {
     let Ok((mut model, mut bench)) = open(alloc, desc) else {
         return Status::Memory;
@@ -180,10 +177,8 @@ pub(crate) fn put_soak<L: Log>(
     ensures tells { WritesJudged (soak_judged n) result
         (output_of L.written standing out.old adapters.old.items)
         (output_of L.written standing out.new adapters.new.items) }
-    ensures sink_later { L.faults out.old ≤ L.faults out.new }
     ensures cause { IsCaused result 0 0 (L.faults out.old) (L.faults out.new) }
-    ensures ends_kept { L.ends out.new ≡ L.ends out.old }
-    ensures same_target { L.target out.new ≡ L.target out.old }
+    ensures stays { Stays L.faults L.ends L.target out.old out.new }
 {
     let Ok(bytes) = soak_session(alloc, n) else {
         return Status::Memory;

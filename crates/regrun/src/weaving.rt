@@ -1,8 +1,10 @@
 // A session whose accesses are woven.
-ghost use Rattle.std.specs.Prelude.{◌≡◌, ◌≤◌, ◌<◌, ◌^◌, length, map, true, false, IfSome};
-ghost use Rattle.regrun.specs.Prelude.{AreFlawsOf, IsBuiltWith, IsCaused, WritesJudged, input_of, kinds_of, output_of, woven_judged, woven_script_judged};
+ghost use Rattle.std.specs.Prelude.{◌≡◌, ◌≤◌, ◌<◌, ◌^◌, length, map, false, IfSome};
+ghost use Rattle.regrun.specs.Prelude.{BreaksOff, IsCaused, LinesBreak, Stays, WritesJudged, input_of, kinds_of};
+ghost use Rattle.regrun.specs.Prelude.{output_of, woven_judged, woven_lines, woven_script_judged, woven_taken_text};
+ghost use Rattle.regrun.specs.Opening.{IsBehindHead, IsRunnable};
 
-use crate::top::{fresh_lines, open_session};
+use crate::opening::{fresh_lines, open_session};
 use rl_bus::{Adapter, Adapters};
 use rl_desc::Desc;
 use rl_log::{Counts, Status};
@@ -22,21 +24,20 @@ fn weave_session<S: Source, L: Log>(
     out: &mut L,
     adapters: &mut Adapters,
 ) -> Status
-    requires kinds { desc.layout.kinds ≡ kinds_of (map standing adapters.old.items) }
-    requires built_with { IsBuiltWith desc.layout desc.chip }
-    requires flaws { AreFlawsOf desc.chip desc.layout desc.flaws }
-    requires found { lines.old.found ≡ true }
-    requires going { lines.old.refused ≡ false }
+    requires runnable { IsRunnable desc (kinds_of (map standing adapters.old.items)) }
+    requires behind { IsBehindHead lines.old }
     ensures kinds { kinds_of (map standing adapters.new.items) ≡ kinds_of (map standing adapters.old.items) }
     ensures tells { IfSome (input_of lines.old (S.left source.old)) (λ bytes.
         WritesJudged (woven_script_judged n desc bytes) result
         (output_of L.written standing out.old adapters.old.items)
         (output_of L.written standing out.new adapters.new.items)) }
+    ensures at_fault { result ≡ Status.SourceFault → IfSome (input_of lines.old (S.left source.old)) (λ bytes.
+        LinesBreak (woven_lines n desc (map standing adapters.old.items)) bytes
+        (S.left source.new) (L.written out.old) (L.written out.new)) }
+    ensures unended { result ≡ Status.SourceFault → (lines.old.ended ≡ false) × L.is_out out.new }
     ensures source_later { S.faults source.old ≤ S.faults source.new }
-    ensures sink_later { L.faults out.old ≤ L.faults out.new }
     ensures cause { IsCaused result (S.faults source.old) (S.faults source.new) (L.faults out.old) (L.faults out.new) }
-    ensures ends_kept { L.ends out.new ≡ L.ends out.old }
-    ensures same_target { L.target out.new ≡ L.target out.old }
+    ensures stays { Stays L.faults L.ends L.target out.old out.new }
 {
     let Ok((mut model, mut bench)) = open(alloc, desc) else {
         return Status::Memory;
@@ -68,11 +69,13 @@ pub(crate) fn weave<S: Source, L: Log>(
     ensures tells { IfSome (S.left source.old) (λ bytes. WritesJudged (woven_judged n bytes) result
         (output_of L.written standing out.old adapters.old.items)
         (output_of L.written standing out.new adapters.new.items)) }
+    ensures at_fault { result ≡ Status.SourceFault → IfSome (S.left source.old) (λ bytes.
+        BreaksOff (woven_taken_text n) bytes (map standing adapters.old.items)
+        (S.left source.new) (L.written out.old) (L.written out.new)) }
+    ensures flushed { result ≡ Status.SourceFault → L.is_out out.old → L.is_out out.new }
     ensures source_later { S.faults source.old ≤ S.faults source.new }
-    ensures sink_later { L.faults out.old ≤ L.faults out.new }
     ensures cause { IsCaused result (S.faults source.old) (S.faults source.new) (L.faults out.old) (L.faults out.new) }
-    ensures ends_kept { L.ends out.new ≡ L.ends out.old }
-    ensures same_target { L.target out.new ≡ L.target out.old }
+    ensures stays { Stays L.faults L.ends L.target out.old out.new }
 {
     let Ok(mut lines) = fresh_lines(alloc) else {
         return Status::Memory;

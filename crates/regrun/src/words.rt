@@ -1,6 +1,6 @@
 // What the words of a call ask for.
-ghost use Rattle.std.specs.Prelude.{◌≡◌, map, string_bytes};
-ghost use Rattle.regrun.specs.Words.{task_named, numbered_task, task_of, asked_by};
+ghost use Rattle.std.specs.Prelude.{◌≡◌};
+ghost use Rattle.regrun.specs.Words.{task_named, numbered_task, asked_by};
 
 use rl_policy::{NumberText, read_number};
 
@@ -45,33 +45,11 @@ fn numbered_task(word: &str, number: NumberText) -> Option<Task>
 
 // What the words ask for, where they ask for something.
 pub(crate) fn task_of(words: &[String]) -> Option<Task>
-    ensures { result ≡ task_of (map string_bytes words.now) }
+    ensures { result ≡ asked_by words.now }
 {
     match words {
         [word] => task_named(word.as_str()),
         [word, number] => numbered_task(word.as_str(), read_number(number.as_str().as_bytes())),
         _ => None,
-    }
-}
-
-// What is asked for and built.
-#[derive(Clone, Copy, Debug, PartialEq, Eq)]
-pub(crate) enum Built {
-    Run,
-    Map,
-    Soak(u64),
-    Weave(u64),
-}
-
-// What is built of what the words ask for.
-pub(crate) fn task_built(words: &[String]) -> Option<Built>
-    ensures { result ≡ asked_by words.now }
-{
-    match task_of(words) {
-        Some(Task::Run) => Some(Built::Run),
-        Some(Task::Map) => Some(Built::Map),
-        Some(Task::Soak(n)) => Some(Built::Soak(n)),
-        Some(Task::Weave(n)) => Some(Built::Weave(n)),
-        None => None,
     }
 }

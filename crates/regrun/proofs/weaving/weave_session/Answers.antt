@@ -1,6 +1,8 @@
-use Rattle.std.proofs.Common.{map, refl}
+use Rattle.std.proofs.Common.{map, refl, ap}
+use Rattle.rl_play.specs.declared.playing.Turn.TheVariants.{Stop}
 use Rattle.rl_log.specs.declared.status.Status.TheVariants.{Memory}
 use Rattle.rl_play.proofs.BufferLemmas.{keeps_refl}
+use Rattle.regrun.proofs.BreakLemmas.{weave_breaks}
 use Rattle.regrun.proofs.JudgedLemmas.{weave_early, weave_told}
 use Rattle.regrun.proofs.weaving.weave_session.Goals as goal
 
@@ -13,3 +15,11 @@ returns-in_default-clause-tells g c =
 pub returns-clause-tells : goal.returns-clause-tells
 returns-clause-tells g c =
     weave_told c.args.n _ c.args.desc _ _ _ _ _ _ _ _ _ _ _ c.new-counts.ensures (c.in-Ok.ensures.first _) c.weave_lines.ensures.log
+
+pub returns-clause-at_fault : goal.returns-clause-at_fault
+returns-clause-at_fault g c = λ is.
+    weave_breaks c.args.n _ c.args.desc _ _ _ _ _ _ _ c.new-counts.ensures (c.in-Ok.ensures.first _) (c.weave_lines.ensures.at_fault is)
+
+pub returns-clause-unended : goal.returns-clause-unended
+returns-clause-unended g c = λ is.
+    let e = c.weave_lines.ensures in (e.reads.unended (ap Stop is), e.flushed is)

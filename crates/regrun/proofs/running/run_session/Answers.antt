@@ -3,7 +3,7 @@ use Rattle.rl_log.specs.declared.status.Status.TheVariants.{Memory}
 use Rattle.rl_play.proofs.BufferLemmas.{keeps_refl}
 use Rattle.regrun.proofs.BreakLemmas.{breaks_first}
 use Rattle.regrun.proofs.JudgedLemmas.{session_early, session_told}
-use Rattle.regrun.proofs.top.run_session.Goals as goal
+use Rattle.regrun.proofs.running.run_session.Goals as goal
 
 pub returns-in_default-clause-tells : goal.returns-in_default-clause-tells
 returns-in_default-clause-tells g c =

@@ -1,6 +1,6 @@
 use Rattle.std.proofs.Common.{refl}
 use Rattle.rl_play.proofs.EndingLemmas.{tells_all, tells_front}
-use Rattle.regrun.proofs.top.refuse_description.Goals as goal
+use Rattle.regrun.proofs.opening.refuse.Goals as goal
 
 pub returns-in-Ok-clause-tells : goal.returns-in-Ok-clause-tells
 returns-in-Ok-clause-tells g c = tells_all _ _ _ _ c.in-Ok.ensures.bytes.whole

@@ -1,7 +1,8 @@
 use Rattle.std.proofs.Common.{refl}
 use Rattle.rl_play.proofs.FaultLemmas.{no_source}
+use Rattle.regrun.proofs.StopLemmas.{still_out}
 use Rattle.regrun.proofs.TaskLemmas.{run_does, map_does, soak_does, weave_does}
-use Rattle.regrun.proofs.top.perform_task.Goals as goal
+use Rattle.regrun.proofs.tasks.perform_task.Goals as goal
 
 pub returns-in-Run-clause-does : goal.returns-in-Run-clause-does
 returns-in-Run-clause-does g c =
@@ -17,4 +18,10 @@ returns-in-Soak-clause-does g c =
 
 pub returns-in-Weave-clause-does : goal.returns-in-Weave-clause-does
 returns-in-Weave-clause-does g c =
-    let e = c.weave.ensures in weave_does _ _ _ _ _ _ _ c.in-Weave.is e.tells e.kinds
+    let e = c.weave.ensures in weave_does _ _ _ _ _ _ _ c.in-Weave.is e.tells e.at_fault e.kinds
+
+pub returns-in-Map-clause-flushed : goal.returns-in-Map-clause-flushed
+returns-in-Map-clause-flushed g c = λ is out. still_out g.L.Log.is_out _ _ (c.show_layout.ensures.unwritten is) out
+
+pub returns-in-Soak-clause-flushed : goal.returns-in-Soak-clause-flushed
+returns-in-Soak-clause-flushed g c = λ is out. absurd (no_source _ _ _ c.put_soak.ensures.cause is)

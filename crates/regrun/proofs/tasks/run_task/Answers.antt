@@ -1,7 +1,7 @@
 use Rattle.std.proofs.Common.{ap, ◌∙◌, rules}
 use Rattle.rl_play.proofs.FaultLemmas.{same_status}
 use Rattle.regrun.proofs.TaskLemmas.{does_written}
-use Rattle.regrun.proofs.top.run_task.Goals as goal
+use Rattle.regrun.proofs.tasks.run_task.Goals as goal
 
 pub returns-clause-keeps_earlier : goal.returns-clause-keeps_earlier
 returns-clause-keeps_earlier g c =
@@ -14,7 +14,7 @@ returns-clause-does g c =
     let p = c.perform_task-status.ensures in
     let keeps = rw (← c.requires.earlier) at c.finish.new.out.keeps_earlier in
     let w = does_written _ _ _ _ _ _ _ _ _ _ _ f.kept keeps f.told f.whole
-    (λ run fault. f.at_fault fault (p.flushed run fault c.new-out.ensures.empty))
+    (λ fault. f.at_fault fault (p.flushed fault c.new-out.ensures.empty))
     (rw c.new-out.ensures.told at p.does) in
     search (rules, w)
 

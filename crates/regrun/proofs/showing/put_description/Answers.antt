@@ -4,7 +4,7 @@ use Rattle.rl_desc.specs.Data.{DescData}
 use Rattle.rl_log.specs.declared.status.Status.TheVariants.{Passed, SinkFault}
 use Rattle.rl_log.specs.Telling.{Tells}
 use Rattle.rl_play.proofs.EndingLemmas.{tells_all, tells_front}
-use Rattle.regrun.proofs.top.put_description.Goals as goal
+use Rattle.regrun.proofs.showing.put_description.Goals as goal
 
 pub returns-in-Ok-clause-tells : goal.returns-in-Ok-clause-tells
 returns-in-Ok-clause-tells g c =

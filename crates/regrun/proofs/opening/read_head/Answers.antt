@@ -1,0 +1,19 @@
+use Rattle.regrun.proofs.OpeningLemmas.{from_fresh, head_is_found, head_is_missing, head_is_long, stops_at_head}
+use Rattle.regrun.proofs.opening.read_head.Goals as goal
+
+pub returns-in-Ok-Found-clause-reads : goal.returns-in-Ok-Found-clause-reads
+returns-in-Ok-Found-clause-reads g c =
+    let e = c.in-Ok-Found.ensures in
+    from_fresh _ _ _ c.requires.fresh (head_is_found _ _ _ _ _ c.in-Ok-Found.field-0-is e.head)
+
+pub returns-in-Ok-Missing-clause-stops : goal.returns-in-Ok-Missing-clause-stops
+returns-in-Ok-Missing-clause-stops g c =
+    let e = c.in-Ok-Missing.ensures in
+    from_fresh _ _ _ c.requires.fresh
+    (stops_at_head _ _ _ _ _ (head_is_missing _ _ _ _ _ c.in-Ok-Missing.field-0-is e.head) c.refuse.ensures.tells)
+
+pub returns-in-Ok-TooLong-clause-stops : goal.returns-in-Ok-TooLong-clause-stops
+returns-in-Ok-TooLong-clause-stops g c =
+    let e = c.in-Ok-TooLong.ensures in
+    from_fresh _ _ _ c.requires.fresh
+    (stops_at_head _ _ _ _ _ (head_is_long _ _ _ _ _ c.in-Ok-TooLong.field-0-is e.head) c.refuse-in-Ok-TooLong.ensures.tells)

@@ -1,0 +1,55 @@
+// Where the items of a description stand, written.
+ghost use Rattle.std.specs.Prelude.{◌≡◌, ◌≢◌, ◌≤◌, ◌<◌, ◌^◌, map, length, IfSome};
+ghost use Rattle.regrun.specs.Prelude.{IsBuiltWith, IsCaused, Stays, Tells, WritesJudged};
+ghost use Rattle.regrun.specs.Prelude.{layout_text, map_judged, output_of};
+
+use crate::opening::{fresh_lines, open_session};
+use rl_bus::{Adapter, Adapters};
+use rl_desc::Desc;
+use rl_log::Status;
+use rl_play::Log;
+use rl_report::{Failed, Source};
+use rl_session::put_layout;
+use std::alloc::Global;
+
+// Writes where the items of a description stand.
+fn put_description<L: Log>(desc: &Desc, out: &mut L) -> Status
+    requires { IsBuiltWith desc.now.layout desc.now.chip }
+    ensures tells { Tells result Status.Passed
+        (L.written out.old) (L.written out.new) (layout_text desc.now.chip desc.now.layout) }
+    ensures none_found { result ≢ Status.Found }
+    ensures cause { IsCaused result 0 0 (L.faults out.old) (L.faults out.new) }
+    ensures stays { Stays L.faults L.ends L.target out.old out.new }
+{
+    match put_layout(out, &desc.chip, &desc.layout) {
+        Ok(()) => Status::Passed,
+        Err(Failed) => Status::SinkFault,
+    }
+}
+
+// Reads a description, and writes where its items stand.
+pub(crate) fn show_layout<S: Source, L: Log>(
+    alloc: Global,
+    source: &mut S,
+    out: &mut L,
+    adapters: &Adapters,
+) -> Status
+    requires few { length (map standing adapters.now.items) < 2 ^ 32 }
+    ensures tells { IfSome (S.left source.old) (λ bytes. WritesJudged (map_judged bytes) result
+        (output_of L.written standing out.old adapters.now.items)
+        (output_of L.written standing out.new adapters.now.items)) }
+    ensures unwritten { result ≡ Status.SourceFault → out.new ≡ out.old }
+    ensures none_found { result ≢ Status.Found }
+    ensures source_later { S.faults source.old ≤ S.faults source.new }
+    ensures cause { IsCaused result (S.faults source.old) (S.faults source.new) (L.faults out.old) (L.faults out.new) }
+    ensures stays { Stays L.faults L.ends L.target out.old out.new }
+{
+    let Ok(mut lines) = fresh_lines(alloc) else {
+        return Status::Memory;
+    };
+    let desc = match open_session(alloc, &mut lines, source, out, adapters) {
+        Ok(desc) => desc,
+        Err(status) => return status,
+    };
+    put_description(&desc, out)
+}
