@@ -1,0 +1,6 @@
+pub mod Chips
+pub mod Maps
+pub mod Places
+pub mod Shares
+pub mod Layouts
+pub mod Openings
