@@ -1,6 +1,7 @@
 // A session that is run.
 ghost use Rattle.std.specs.Prelude.{◌≡◌, ◌≤◌, ◌<◌, ◌^◌, List, map, length, true, false, IfSome};
-ghost use Rattle.regrun.specs.Prelude.{BreaksOff, IsCaused, IsModel, IsPlainLog, LinesBreak, Standing, Stays, WritesJudged};
+ghost use Rattle.regrun.specs.Prelude.{BreaksOff, IsCaused, IsModel, IsPlainLog, LinesBreak, Standing, Stays};
+ghost use Rattle.regrun.specs.Prelude.{WritesJudged};
 ghost use Rattle.regrun.specs.Prelude.{first_world, input_of, is_complete, judged, kinds_of, output_of, run_lines};
 ghost use Rattle.regrun.specs.Prelude.{script_judged, taken_text};
 ghost use Rattle.regrun.specs.Opening.{IsBehindHead, IsRunnable};

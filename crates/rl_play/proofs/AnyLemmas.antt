@@ -23,7 +23,8 @@ use Rattle.rl_log.specs.Recording.{no_counts, with_event, with_events}
 use Rattle.rl_log.specs.Statuses.{is_complete}
 use Rattle.rl_log.specs.Telling.{Tells}
 use Rattle.rl_log.specs.Texts.{end_text}
-use Rattle.rl_play.specs.AnyDevice.{Point, RanWhole, StopsAt, ClosesAt, Close, at_end, refused, broken, unwritten, cut, HasStatus, Happens, told_by, text_by, DoneLine, Plays, PlaysInput, PlaysAll, PlaysOnAnyDevice, counting}
+use Rattle.rl_play.specs.AnyDevice.{Point, RanWhole, StopsAt, ClosesAt, Close, at_end, refused, broken, unwritten, cut, HasStatus}
+use Rattle.rl_play.specs.AnyDevice.{Happens, told_by, text_by, DoneLine, Plays, PlaysInput, PlaysAll, PlaysOnAnyDevice, counting}
 use Rattle.rl_play.specs.Work.{asked, text_of}
 use Rattle.rl_play.specs.Earlier.{KeepsEarlier}
 use Rattle.rl_play.specs.Heard.{heard}

@@ -1,5 +1,6 @@
 -- What was told when a source failed.
-use Rattle.std.proofs.Common.{◌≡◌, ◌≢◌, ℕ, ◌+◌, ◌≤◌, Bool, true, false, if◌then◌else◌, List, [], ◌∷◌, ◌++◌, slice_range, Option, Some, None, IfSome, Result, refl, sym, ap, subst, ◌∙◌, append_assoc, arith}
+use Rattle.std.proofs.Common.{◌≡◌, ◌≢◌, ℕ, ◌+◌, ◌≤◌, Bool, true, false, if◌then◌else◌, List, [], ◌∷◌, ◌++◌, slice_range}
+use Rattle.std.proofs.Common.{Option, Some, None, IfSome, Result, refl, sym, ap, subst, ◌∙◌, append_assoc, arith}
 use Rattle.std.specs.Io.KnownBytes.{Appends, Keeps, append_known, prepend_known}
 use Rattle.std.proofs.KnownBytes.{Appends-trans}
 use Rattle.std.proofs.lemmas.Bool.{true≢false}

@@ -1,5 +1,6 @@
 // A sink that keeps bytes back, until it is told to write them or has no more room.
-ghost use Rattle.std.specs.Prelude.{◌≡◌, ◌<◌, ◌≤◌, ◌-◌, ◌+◌, ◌++◌, IfOk, OnOk, OnErr, slice_range, length, take, drop, min};
+ghost use Rattle.std.specs.Prelude.{◌≡◌, ◌<◌, ◌≤◌, ◌-◌, ◌+◌, ◌++◌, IfOk, OnOk, OnErr, slice_range, length, take};
+ghost use Rattle.std.specs.Prelude.{drop, min};
 ghost use Rattle.std.specs.Io.KnownBytes.{WriteAppends, Keeps, append_known};
 ghost use Rattle.std.proofs.Props.{props};
 ghost use Rattle.rl_bus.specs.Causes.{HasCause, Rose};

@@ -1,6 +1,7 @@
 // What a line does, and its log.
 ghost use Rattle.std.specs.Prelude.{◌≡◌, ◌<◌, ◌∷◌, [], length, map as each, IfSome, Ok};
-ghost use Rattle.rl_play.specs.Prelude.{HasCause, IsReady, IsSameChip, line_said, plan_of, JobHasNumbers, asked, job_work, one_op, planned, spot, LogsTallied, RunsOn};
+ghost use Rattle.rl_play.specs.Prelude.{HasCause, IsReady, IsSameChip, line_said, plan_of, JobHasNumbers, asked};
+ghost use Rattle.rl_play.specs.Prelude.{job_work, one_op, planned, spot, LogsTallied, RunsOn};
 ghost use Rattle.rl_script.specs.declared.line.Line.TheVariants as say;
 
 use crate::log::Log;
@@ -192,7 +193,8 @@ fn read_burst<D: Device, K: Log>(
     requires ready { IsReady model.old (each standing adapters.old.items) (D.state device.old) }
     ensures ready { IsReady model.new (each standing adapters.new.items) (D.state device.new) }
     ensures parts { IsSameChip model.old model.new }
-    ensures run { RunsOn (asked model.old (Ok (say.BurstRead line.now.path line.now.first line.now.second line.now.map)))
+    ensures run { RunsOn
+        (asked model.old (Ok (say.BurstRead line.now.path line.now.first line.now.second line.now.map)))
         (spot standing D.errors D.state K.written model.old adapters.old.items device.old out.old counts.old)
         (spot standing D.errors D.state K.written model.new adapters.new.items device.new out.new counts.new) result }
     ensures cause { HasCause (K.faults out.old) (K.faults out.new) result }

@@ -1,7 +1,11 @@
 // The lines of a script, one after another.
 ghost use Rattle.std.specs.Prelude.{◌≡◌, ◌≢◌, ◌≤◌, map, true, false, Ok, Err, MatchResult, IfOk, IfErr, IfSome, OnOk};
 ghost use Rattle.std.specs.Io.KnownBytes.{Keeps};
-ghost use Rattle.rl_play.specs.Prelude.{Rose, IsReady, IsSameChip, IsCaused, NoneFailed, DoesFrom, DoesFirstEvents, KeepsEarlier, end_status, IsCounted, PlayEnds, said_by, moment_of, BreaksFrom, Ends, PlaysLine, PlaysScript, PlaysThrough, asked, spot, Turns, PlaysInput, PlaysOnAnyDevice, heard, is_complete, Tells, refused_text, end_text, told, Hands, read_of, line_said, first_line, input_of, HoldsLine};
+ghost use Rattle.rl_play.specs.Prelude.{Rose, IsReady, IsSameChip, IsCaused, NoneFailed, DoesFrom, DoesFirstEvents};
+ghost use Rattle.rl_play.specs.Prelude.{KeepsEarlier, end_status, IsCounted, PlayEnds, said_by, moment_of};
+ghost use Rattle.rl_play.specs.Prelude.{BreaksFrom, Ends, PlaysLine, PlaysScript, PlaysThrough, asked, spot, Turns};
+ghost use Rattle.rl_play.specs.Prelude.{PlaysInput, PlaysOnAnyDevice, heard, is_complete, Tells, refused_text};
+ghost use Rattle.rl_play.specs.Prelude.{end_text, told, Hands, read_of, line_said, first_line, input_of, HoldsLine};
 
 use crate::buffered::{Buffered, Earlier};
 use crate::line::run_line;

@@ -2,7 +2,8 @@
 ghost use Rattle.std.specs.Prelude.{◌≡◌, ◌<◌, true, false, length, IfSome};
 ghost use Rattle.rl_access.specs.Operation.{IsMapIn, HasNumbers, is_single};
 ghost use Rattle.rl_script.specs.Said.{item_said, line_said};
-ghost use Rattle.rl_log.specs.Named.{map_asked, reg_named, field_named, mem_named, block_named, block_asked, kind_named, op_named};
+ghost use Rattle.rl_log.specs.Named.{map_asked, reg_named, field_named, mem_named, block_named, block_asked};
+ghost use Rattle.rl_log.specs.Named.{kind_named, op_named};
 ghost use Rattle.rl_play.specs.Commands.{is_on_bus, is_on_field, is_on_memory, is_memory_by_backdoor, is_off_bus};
 
 use rl_access::{Model, Op};

@@ -1,11 +1,13 @@
 //! A weave: which accesses are open, and the next word of one of them.
-ghost use Rattle.std.specs.Prelude.{◌≡◌, ◌<◌, ◌≤◌, ◌==◌, true, map as each, length, slice_get, position, Some, Contains, All, IfOk, IfSome, IfNone, OnOk, OnErr};
+ghost use Rattle.std.specs.Prelude.{◌≡◌, ◌<◌, ◌≤◌, ◌==◌, true, map as each, length, slice_get, position, Some};
+ghost use Rattle.std.specs.Prelude.{Contains, All, IfOk, IfSome, IfNone, OnOk, OnErr};
 ghost use Rattle.rl_access.specs.Call.{scene_of};
 ghost use Rattle.rl_access.specs.Event.{EventFits, ItemFits};
 ghost use Rattle.rl_access.specs.Model.{IsReady, IsSameChip};
 ghost use Rattle.rl_weave.specs.Access.{IsNumbered, IsWovenOn, woven_at};
 ghost use Rattle.rl_weave.specs.Step.{IsStepOf, end_of};
-ghost use Rattle.rl_weave.specs.Weave.{WeaveData, IsWeave, IsWeaveOn, IsLeft, empty, adding, appended, woven_of, place_used, number_of, same_register, stepped, words_left};
+ghost use Rattle.rl_weave.specs.Weave.{WeaveData, IsWeave, IsWeaveOn, IsLeft, empty, adding, appended, woven_of};
+ghost use Rattle.rl_weave.specs.Weave.{place_used, number_of, same_register, stepped, words_left};
 
 use crate::access::{Access, WeaveFault};
 use crate::granting::granted;
@@ -34,7 +36,11 @@ impl std::marker::Model for Weave {
 
     ghost view = { λ w. record { accesses = w.accesses.items; still_open = w.still_open.items; fresh = w.fresh } };
 
-    ghost invariant = { λ w. IsWeave (record { accesses = w.accesses.items; still_open = w.still_open.items; fresh = w.fresh }) × (64 ≤ vec_capacity w.accesses) × (64 ≤ vec_capacity w.still_open) };
+    ghost invariant = { λ w. IsWeave (record {
+      accesses = w.accesses.items;
+      still_open = w.still_open.items;
+      fresh = w.fresh;
+    }) × (64 ≤ vec_capacity w.accesses) × (64 ≤ vec_capacity w.still_open) };
 }
 
 /// What one step did: the item of the word, and the event of the access where the word was its last one.

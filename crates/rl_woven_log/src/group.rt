@@ -1,7 +1,8 @@
 //! The words of a group.
 ghost use Rattle.std.specs.Prelude.{◌≡◌, ◌<◌, true, map as each, length, IfSome, OnOk};
 ghost use Rattle.rl_woven_log.specs.Prelude.{EventFits, HasCause, IsGathering, IsReady, IsSameChip, IsWeave};
-ghost use Rattle.rl_woven_log.specs.Prelude.{IsWeaveOn, ItemFits, Puts, Writes, counted_at_end, group, setting_of, step_text};
+ghost use Rattle.rl_woven_log.specs.Prelude.{IsWeaveOn, ItemFits, Puts, Writes, counted_at_end, group, setting_of};
+ghost use Rattle.rl_woven_log.specs.Prelude.{step_text};
 ghost use Rattle.rl_woven_log.specs.Prelude.{word_drawn, words, words_left};
 
 use crate::script::WovenScript;
