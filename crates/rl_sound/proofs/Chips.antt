@@ -1,5 +1,5 @@
 -- A chip of parts that no condition refuses is sound.
-use Rattle.std.proofs.Common.{◌≡◌, ℕ, suc, ◌+◌, ◌≤◌, ◌<◌, false, nat_lt, nat_le, List, [], ◌∷◌, ◌++◌, length, map, Option, None, refl, sym, ap, ◌∙◌, subst, arith, length-append}
+use Rattle.std.proofs.Common.{◌≡◌, ℕ, suc, ◌+◌, ◌≤◌, ◌<◌, false, not, nat_lt, nat_le, List, [], ◌∷◌, ◌++◌, length, map, take, Option, None, refl, sym, ap, ◌∙◌, subst, arith, length-append}
 use Rattle.std.proofs.lemmas.Bool.Decides.{nat_tests}
 use Rattle.std.proofs.lemmas.List.{length-map}
 use Rattle.rl_model.specs.declared.fault.Array.{Array}
@@ -46,11 +46,18 @@ use Rattle.rl_model.proofs.SoundMore.{parents, deep, few_fields, firsts, counts,
 
 -- ---- rows are few
 
+-- the conditions of a row's path
+abbrev path_checks : Spot → ℕ → ℕ → List (List ℕ) → Option (List ℕ) → List ℕ → List Check
+path_checks spot limit parents paths of name =
+    (nat_le limit spot.row, TooMany) ∷ (not (is_name name), BadName) ∷ (not (has_parent parents paths of), NoSuchParent)
+    ∷ (nat_lt 8 (names_in (path_of of name)), TooDeep) ∷ (is_among (path_of of name) paths, DuplicateName) ∷ []
+
 -- a row that isn't refused is below the limit
 low_row : (spot : Spot) (limit parents : ℕ) (paths : List (List ℕ)) (of : Option (List ℕ)) (name : List ℕ)
     → path_fault spot limit parents paths of name ≡ None → spot.row < limit
 low_row spot limit parents paths of name h =
-    let low : nat_le limit spot.row ≡ false = passed spot _ h 0 _ refl in grind (arith, nat_tests)
+    let low : nat_le limit spot.row ≡ false =
+    passed spot (path_checks spot limit parents paths of name) h 0 (nat_le limit spot.row, TooMany) refl in grind (arith, nat_tests)
 
 few_scopes : (a : Array) (i : ℕ) (paths : List (List ℕ)) (ps : List ScopePart) → scopes_fault a i paths ps ≡ None → i ≤ 256 → i + length ps ≤ 256
 few_scopes a i paths [] h few = omega (arith, few)
@@ -82,8 +89,10 @@ few_kinds_in : (spot : Spot) (r : RegData) (i : ℕ) (kinds : List (List ℕ)) (
 few_kinds_in spot r i kinds [] h few = few
 few_kinds_in spot r i kinds (f ∷ fs) h few =
     let step = both_None _ _ h in
-    let own = both_None _ _ step.0 in
-    let low : nat_lt 16 (length (kinds_with kinds f.resets)) ≡ false = passed (field_of spot i) _ own.1 0 _ refl in
+    let own = both_None (first_of (field_of spot i) (field_checks r.bytes (take i r.fields) f))
+    (kinds_fault (field_of spot i) (kinds_with kinds f.resets)) step.0 in
+    let low : nat_lt 16 (length (kinds_with kinds f.resets)) ≡ false = passed (field_of spot i) ((nat_lt 16 (length (kinds_with kinds f.resets)), TooMany) ∷ []) own.1 0
+    (nat_lt 16 (length (kinds_with kinds f.resets)), TooMany) refl in
     few_kinds_in spot r (i + 1) (kinds_with kinds f.resets) fs step.1 (grind (arith, nat_tests))
 
 few_kinds : (i scopes : ℕ) (paths kinds : List (List ℕ)) (rs : List RegData) → regs_fault i scopes paths kinds rs ≡ None → length kinds ≤ 16

@@ -49,6 +49,7 @@ use Rattle.std.specs.Prelude.{bytes_eq, position}
 use Rattle.std.proofs.lemmas.Bool.Decides.{nat_tests}
 use Rattle.std.proofs.lemmas.List.Elements.{All-nil}
 use Rattle.std.proofs.lemmas.List.Quantifiers.{position-Some}
+use Rattle.std.proofs.lemmas.List.Sums.{sum_by-cons}
 use Rattle.rl_model.specs.declared.fault.Array.TheVariants as array
 use Rattle.rl_model.specs.declared.rows.Item.{Item}
 use Rattle.rl_model.specs.declared.rows.Item.TheVariants as item
@@ -87,8 +88,9 @@ record IsItem (chip : ChipData) (i : Item) : Type 0 where
 
 size_low : (mems : List MemRow) (n : ℕ) (m : MemRow) → slice_get mems n ≡ Some m → m.size ≤ sum_by (λ m. m.size) mems
 size_low [] n m at = absurd (cc)
-size_low (x ∷ xs) zero m at = let is : x ≡ m = cc in omega (arith, ap (λ (m : MemRow). m.size) is)
-size_low (x ∷ xs) (suc n) m at = omega (arith, size_low xs n m at)
+size_low (x ∷ xs) zero m at =
+    let is : x ≡ m = cc in omega (arith, ap (λ (m : MemRow). m.size) is, sum_by-cons (λ (m : MemRow). m.size) x xs)
+size_low (x ∷ xs) (suc n) m at = omega (arith, size_low xs n m at, sum_by-cons (λ (m : MemRow). m.size) x xs)
 
 item_fits : (chip : ChipData) (i : Item) → IsSound chip → HasItem chip i → IsItem chip i
 item_fits chip (item.Reg n) ok low =

@@ -72,11 +72,12 @@ all_fail p (x ∷ xs) zero d far low = by (p x) refl far
     by : (t : Bool) → p x ≡ t → suc (length xs) ≤ cond (not t) (1 + position_or_len p xs) 0 → p x ≡ false
     by true is far = absurd (omega (arith, far))
     by false is far = is
-all_fail p (x ∷ xs) (suc i) d far low = by (p x) far
+all_fail p (x ∷ xs) (suc i) d far low = by (p x) far (λ h. all_fail p xs i d h (omega (arith, low)))
   where
-    by : (t : Bool) → suc (length xs) ≤ cond (not t) (1 + position_or_len p xs) 0 → p (get_or xs i d) ≡ false
-    by true far = absurd (omega (arith, far))
-    by false far = all_fail p xs i d (omega (arith, far)) (omega (arith, low))
+    by : (t : Bool) → suc (length xs) ≤ cond (not t) (1 + position_or_len p xs) 0 → (length xs ≤ position_or_len p xs → p (get_or xs i d) ≡ false)
+        → p (get_or xs i d) ≡ false
+    by true far more = absurd (omega (arith, far))
+    by false far more = more (omega (arith, far))
 
 not_at : {X : Type 0} (p : X → Bool) (xs : List X) (i : ℕ) (d : X) → is_some (position p xs) ≡ false → i < length xs → p (get_or xs i d) ≡ false
 not_at p xs i d none low = all_fail p xs i d (by (nat_lt (position_or_len p xs) (length xs)) refl none) low
