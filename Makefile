@@ -13,7 +13,7 @@ install: $(PROGRAM)
 	install -D -m 644 docs/regrun.1 $(TO)/share/man/man1/regrun.1
 	install -D -m 644 docs/regrun.schema.json $(TO)/share/regrun/regrun.schema.json
 	install -D -m 644 LICENSE $(TO)/share/doc/regrun/LICENSE
-	for it in docs/GUIDE.md docs/PROVED.md docs/REGRESSIONS.md docs/lanes.svg; do install -D -m 644 $$it $(TO)/share/doc/regrun/$$(basename $$it); done
+	for it in docs/GUIDE.md docs/DETECTION.md docs/PROVED.md docs/REGRESSIONS.md docs/lanes.svg; do install -D -m 644 $$it $(TO)/share/doc/regrun/$$(basename $$it); done
 	mkdir -p $(TO)/share/regrun/examples $(TO)/share/regrun/editors
 	cp -R examples/. $(TO)/share/regrun/examples/
 	cp -R editors/vim editors/regrun.tmLanguage.json $(TO)/share/regrun/editors/

@@ -1,0 +1,185 @@
+#!/usr/bin/env python3
+"""detection.py PROGRAM: which flaws each sequence finds for each access policy, as the tables of docs/DETECTION.md.
+
+Each register of a chip has a field of one policy, one width and one reset value; a sequence over the chip is graded by
+grade.py, and what was found is told by policy and kind of flaw: always, never, or by the first condition below that holds
+in exactly the tries that found it. JOBS is as in grade.py.
+"""
+import collections, itertools, sys
+
+import grade
+
+SEQUENCES = ("hw-reset", "bit-bash", "access", "shared", "mem-walk")
+
+# The shapes of a register: its other fields, the lowest bit of the field under test, and the reset values by its width.
+ALONE = ("", 0, {1: range(2), 2: range(4), 3: range(8), 8: (0x00, 0x5a, 0xc3, 0xff)})
+BESIDE = (', {name = "low", lsb = 0, width = 1, policy = "RW"}, {name = "high", lsb = 7, width = 1, policy = "RW"}', 1,
+          {1: range(2), 2: range(4), 3: range(8)})
+ONE = ("", 0, {3: (5,)})
+
+# One try: width and reset value of the field; the bit, or the other policy; whether the flaw was found.
+Try = collections.namedtuple("Try", "width reset what found")
+
+OF_BITS = [
+    ("resets to 1", lambda it: it.reset >> it.what & 1),
+    ("resets to 0", lambda it: not it.reset >> it.what & 1),
+    ("2 bits", lambda it: it.width > 1),
+    ("lowest", lambda it: it.what == 0),
+    ("not lowest", lambda it: it.what > 0),
+    ("written 1", lambda it: (it.reset ^ 1) >> it.what & 1),
+    ("written 0", lambda it: not (it.reset ^ 1) >> it.what & 1),
+]
+OF_FIELDS = [
+    ("not 0", lambda it: it.reset > 0),
+    ("not ones", lambda it: it.reset + 1 < 1 << it.width),
+    ("2 bits", lambda it: it.width > 1),
+]
+MEMORIES = ((1, 1), (1, 2), (1, 5), (2, 1), (2, 2), (2, 5))
+VERDICTS = ("always", "sometimes", "never")
+COLUMNS = ("stuck at 0", "stuck at 1", "wrong reset", "other policy", "deaf", "address", "item")
+
+
+def description(shape, sequence, policies=grade.POLICIES):
+    """A chip with a register for each policy, width and reset value, with two places for shared access, else with one."""
+    beside, lsb, resets = shape
+    names, text, maps = [], "", ("one", "two") if sequence == "shared" else ("one",)
+    for policy, (width, values) in itertools.product(policies, resets.items()):
+        for value in values:
+            names.append("{}_{}_{}".format(policy, width, value))
+            text += '[[reg]]\nname = "{}"\nbytes = 1\n'.format(names[-1])
+            text += 'field = [{{name = "v", lsb = {}, width = {}, policy = "{}", reset = {}}}{}]\n'.format(lsb, width, policy, value, beside)
+    for name in maps:
+        text += '[[map]]\nname = "{}"\nbytes = 1\n'.format(name)
+        text += "".join('[[place]]\nmap = "{}"\nitem = "{}"\noffset = {}\n'.format(name, it, at) for at, it in enumerate(names))
+    return text
+
+
+def session(program, text, sequence):
+    return grade.Session(program, "{}---\nseq {} *\n".format(text, sequence).encode())
+
+
+def tries(program, sequence, shape):
+    """By policy and column, each flaw of a field or register that was tried."""
+    found = collections.defaultdict(list)
+    for flaw, it in grade.grade(session(program, description(shape, sequence), sequence)):
+        if flaw.kind == "item" or flaw.where.endswith((".low", ".high")):
+            continue
+        policy, width, reset = flaw.item.split("_")
+        column = {"reset": "wrong reset", "policy": "other policy", "stuck": "stuck at {}".format(flaw.row.get("value"))}.get(flaw.kind, flaw.kind)
+        found[policy, column].append(Try(int(width), int(reset), flaw.told[1], it))
+    return found
+
+
+def of_items(program, sequence, policy):
+    """What of the first and the last item is found, over a register of one field; nothing where it has none."""
+    grading = grade.Grading(session(program, description(ONE, sequence, (policy,)), sequence))
+    return [Try(3, 5, None, *grading.finds([at])) for at, flaw in enumerate(grading.flaws) if flaw.kind == "item"]
+
+
+def condition(tried, atoms):
+    """The first condition, or pair of them, that holds in exactly the tries that found the flaw."""
+    wanted = [it.found for it in tried]
+    held = [(text, [bool(test(it)) for it in tried]) for text, test in atoms]
+    for text, holds in held:
+        if holds == wanted:
+            return text
+    for (one, a), (two, b) in itertools.combinations(held, 2):
+        if [x and y for x, y in zip(a, b)] == wanted:
+            return "{} and {}".format(one, two)
+        if [x or y for x, y in zip(a, b)] == wanted:
+            return "{} or {}".format(one, two)
+    return "{} of {} tries".format(sum(wanted), len(wanted))
+
+
+def verdict(tried):
+    return "always" if all(it.found for it in tried) else "sometimes" if any(it.found for it in tried) else "never"
+
+
+def by_other(tried):
+    """By verdict, the other policies that it is of, in the order of the table."""
+    sorts = collections.defaultdict(list)
+    for other in grade.POLICIES:
+        own = [it for it in tried if it.what == other]
+        if own:
+            sorts[verdict(own)].append(other)
+    return sorts
+
+
+def cell(column, tried):
+    if not tried:
+        return "no item"
+    if column == "other policy":
+        sorts = by_other(tried)
+        return "{}/{}/{}".format(*(len(sorts[it]) for it in VERDICTS))
+    if verdict(tried) != "sometimes":
+        return verdict(tried)
+    return condition(tried, OF_FIELDS if column in ("deaf", "address") else OF_BITS)
+
+
+def rows_of(found, columns):
+    """The cells of each policy."""
+    return {policy: tuple(cell(it, found[policy, it]) for it in columns) for policy in grade.POLICIES}
+
+
+def table(head, rows):
+    """A table of rows by policy; policies whose rows are alike stand together."""
+    alike = collections.OrderedDict()
+    for policy, cells in rows.items():
+        alike.setdefault(cells, []).append(policy)
+    print("| policy | " + " | ".join(head) + " |")
+    print("|---" * (len(head) + 1) + "|")
+    for cells, policies in alike.items():
+        print("| {} | {} |".format(" ".join(policies), " | ".join(cells)))
+
+
+def others_of(sorts):
+    """The other policies of each verdict."""
+    return tuple("each other" if len(sorts[it]) == 24 else " ".join(sorts[it]) for it in VERDICTS)
+
+
+def tell(program, sequence):
+    """The part of one sequence."""
+    found = tries(program, sequence, ALONE)
+    for policy in grade.POLICIES:
+        found[policy, "item"] = of_items(program, sequence, policy)
+    rows = rows_of(found, COLUMNS)
+    print("\n### {}\n".format(sequence))
+    table(COLUMNS, rows)
+    print("\n{} flaws tried, {} found.".format(sum(map(len, found.values())), sum(it.found for all in found.values() for it in all)))
+    beside = rows_of(tries(program, sequence, BESIDE), COLUMNS[:-1])
+    other = {policy: cells for policy, cells in beside.items() if cells != rows[policy][:-1]}
+    if other:
+        print("\nWith an RW field on each side, where that is otherwise:\n")
+        table(COLUMNS[:-1], other)
+    sorts = {policy: by_other(found[policy, "other policy"]) for policy in grade.POLICIES}
+    pairs = [sum(len(it[sort]) for it in sorts.values()) for sort in VERDICTS]
+    print("\nOf 600 pairs of a policy and another one, which the device has, {} are found always, {} sometimes, {} never.".format(*pairs))
+    if pairs[2] < 600:
+        print()
+        table(("found always", "sometimes", "never"), {policy: others_of(it) for policy, it in sorts.items()})
+
+
+def tell_memories(program):
+    """What the sequences find of memories of one and two bytes with one, two and five locations."""
+    text = "".join('[[mem]]\nname = "m{0}_{1}"\nbytes = {0}\nsize = {1}\n'.format(*it) for it in MEMORIES)
+    text += '[[map]]\nname = "one"\nbytes = 1\n'
+    text += "".join('[[place]]\nmap = "one"\nitem = "m{}_{}"\noffset = {}\n'.format(*it, 16 * at) for at, it in enumerate(MEMORIES))
+    print("\n### Memories\n\n| sequence | deaf | address | item |\n|---|---|---|---|")
+    for sequence in SEQUENCES:
+        graded = grade.grade(session(program, text, sequence))
+        cells = [[Try(0, 0, None, found) for flaw, found in graded if flaw.kind == kind] for kind in COLUMNS[-3:]]
+        print("| {} | {} |".format(sequence, " | ".join(verdict(it) if it else "no item" for it in cells)))
+
+
+def main():
+    if len(sys.argv) != 2:
+        print("detection.py PROGRAM", file=sys.stderr)
+        return 6
+    for sequence in SEQUENCES:
+        tell(sys.argv[1], sequence)
+    tell_memories(sys.argv[1])
+    return 0
+
+
+if __name__ == "__main__":
+    sys.exit(main())

@@ -1,0 +1,288 @@
+#!/usr/bin/env python3
+"""grade.py PROGRAM run|missed < SESSION: which single flaws of the device the session finds.
+
+Runs the session (a description without flaws, `---`, a script) on the program with each of these flaws by itself:
+
+    stuck    each bit of each field, at 0 and at 1
+    reset    each value of a reset of a field that is wrong in one bit, for each kind that the field has a value for
+    policy   each field with each other access policy (no two of the 25 behave alike)
+    deaf     each register and memory
+    address  each address of a word, as an error range; of a memory those of its first and its last location
+    item     the first and the last bus item of the session
+
+A flaw is found where some event of the session with it has a difference or a bus error that the same event without it
+hasn't. Flaws of different registers don't meet: neither changes what the device or the model has of the other's register,
+or how many events there are. So a session is run with up to 256 flaws at once, one a register, and each is found by the
+events of its own register; those of memories, of items and of an address that two items share are run alone, and with
+ALONE=1 in the environment all are. `run` prints a line for each register, field and memory, and one for the items, with the counts found and missed
+and with each missed flaw, and a last line with the totals; `missed` prints each missed flaw as a row of a description.
+
+The status is 0 where the session was graded. One that the program refuses is refused here, with its line and status, and
+one that has flaws of its own with status 2. JOBS in the environment is the number of processes; absent, one a processor.
+Standard library of Python 3.8 alone. It measures: it proves nothing.
+"""
+import collections, multiprocessing, os, re, subprocess, sys
+
+import read_toml
+
+POLICIES = ("RO RW RC RS WRC WRS WC WS WSRC WCRS W1C W1S W1T W0C W0S W0T "
+            "W1SRC W1CRS W0SRC W0CRS WO WOC WOS W1 WO1").split()
+KINDS = ("stuck", "reset", "policy", "deaf", "address", "item")
+SEPARATOR = re.compile(rb"(?:\A|\n)---\r?(?:\n|\Z)")
+FOUND = re.compile(r"\S+ (\S+).*?: (?:ok \S+(?: mirror \S+)? differ(.*)|bus error at word .*)")
+ITEM = re.compile(r"  (\w+) [rw] (0x[0-9a-f]+) ")
+
+MOST_FLAWS, MOST_BYTES = 256, 1048576
+
+# A flaw: its kind above, the register or memory that it is of (or none), where its line tells it (a path, or `session`), its
+# words beside the kind, and the keys and values of its row.
+Flaw = collections.namedtuple("Flaw", "kind item where told row")
+
+
+class Refused(Exception):
+    """A session that isn't graded: the line that says why, and the status."""
+
+    def __init__(self, line, status):
+        super().__init__(line, status)
+        self.line, self.status = line, status
+
+
+class Session:
+    """A description and the bytes from the separator on, with the program that runs them."""
+
+    def __init__(self, program, given):
+        found = SEPARATOR.search(given)
+        cut = found.end() - len(found[0].lstrip(b"\n")) if found else len(given)
+        self.program, self.description, self.script = os.path.abspath(program), given[:cut], given[cut:]
+
+    def run(self, rows="", script=None):
+        """The status and the log with further rows, and with another script where one is given."""
+        given = self.description + rows.encode() + (self.script if script is None else b"---\n" + script.encode())
+        ran = subprocess.run([self.program, "run"], input=given, stdout=subprocess.PIPE, close_fds=False)
+        return ran.returncode, ran.stdout.decode("ascii", "replace")
+
+
+def number(value):
+    return value if isinstance(value, int) else int(value, 16 if value[:2] in ("0x", "0X") else 10)
+
+
+def path(row):
+    return "{}.{}".format(row["of"], row["name"]) if "of" in row else row["name"]
+
+
+def as_row(flaw):
+    """The flaw as a row of a description."""
+    value = lambda it: it if isinstance(it, int) else '"{}"'.format(it)
+    return "[[flaw]]\n" + "".join("{} = {}\n".format(key, value(it)) for key, it in flaw.row.items())
+
+
+def field_flaws(register, field):
+    """The flaws of one field."""
+    where, width = "{}.{}".format(register, field["name"]), number(field["width"])
+    for value in (0, 1):
+        for bit in range(width):
+            yield Flaw("stuck", register, where, ("at {} bit".format(value), bit), {"kind": "stuck", "field": where, "bit": bit, "value": value})
+    resets = field.get("reset", {})
+    resets = resets if isinstance(resets, dict) else {"HARD": resets}
+    for kind in sorted(resets):
+        for bit in range(width):
+            wrong = {"kind": "reset", "field": where, "on": kind, "value": hex(number(resets[kind]) ^ 1 << bit)}
+            yield Flaw("reset", register, where, ("{} bit".format(kind), bit), wrong)
+    for policy in POLICIES:
+        if policy != field["policy"]:
+            yield Flaw("policy", register, where, ("", policy), {"kind": "policy", "field": where, "policy": policy})
+
+
+def item_flaws(item, addresses):
+    """The flaws of a register or memory as a whole."""
+    yield Flaw("deaf", item, item, ("", ""), {"kind": "deaf", "item": item})
+    for root, address in addresses:
+        wrong = {"kind": "error-range", "map": root, "from": address, "to": address}
+        yield Flaw("address", item, item, (root, address), wrong)
+
+
+def addresses(session, chip):
+    """For each item the root map and the address of each of its words, as the items of a log tell them."""
+    sizes = {path(it): number(it["size"]) for it in chip.get("mem", [])}
+    script, asked, found = [], [], collections.defaultdict(dict)
+    for place in chip.get("place", []):
+        item, writes = place["item"], place.get("rights", "rw") == "wo"
+        for at in sorted({0, sizes.get(item, 1) - 1}):
+            command = ("write {}" if writes else "read {}").format(item)
+            if item in sizes:
+                command = "mem-{} {}".format(command, at)
+            script.append("{}{} @{}".format(command, " 0" * writes, place["map"]))
+            asked.append(item)
+    event = -1
+    for line in session.run(script="\n".join(script))[1].split("\n"):
+        word = ITEM.match(line)
+        if word:
+            found[asked[event]][word.groups()] = None
+        else:
+            event += 1
+    return found
+
+
+def all_flaws(chip, words, items):
+    """Each single flaw of a description with these words, and of a session with so many bus items; an address that two
+    items share is the first one's."""
+    told = set()
+    for row in chip.get("reg", []) + chip.get("mem", []):
+        own = [it for it in words[path(row)] if it not in told]
+        told.update(own)
+        yield from item_flaws(path(row), own)
+        for field in row.get("field", []):
+            yield from field_flaws(path(row), field)
+    for nth in sorted({1, items} if items else ()):
+        yield Flaw("item", None, "session", ("", nth), {"kind": "error-nth", "nth": nth})
+
+
+def findings(log):
+    """By the number of the line, items not counted: the path that it is on, and what it finds: fields that differ, `differ`
+    of a memory, or a bus error."""
+    found, lines = {}, (it for it in log.split("\n") if not it.startswith("  "))
+    for at, line in enumerate(lines):
+        told = FOUND.match(line) if " differ" in line or " error at " in line else None
+        if told:
+            found[at] = (told[1], {"bus error"} if told[2] is None else set(told[2].split() or ["differ"]))
+    return found
+
+
+class Grading:
+    """A session without flaws, and what it finds without one. It has no bus error then, so that a line of the session with
+    a flaw is the one of the same number without it, up to the first bus error of a burst at least."""
+
+    def __init__(self, session):
+        self.session = session
+        status, log = session.run()
+        if status not in (0, 1):
+            raise Refused((log.rstrip("\n").split("\n") or [""])[-1], status)
+        self.chip = read_toml.read(session.description.decode())
+        if "flaw" in self.chip:
+            raise Refused("refused session: the description has flaws of its own", 2)
+        self.words = addresses(session, self.chip)
+        self.flaws = list(all_flaws(self.chip, self.words, sum(it.startswith("  ") for it in log.split("\n"))))
+        self.before = findings(log)
+        self.registers = {path(it): path(it) for it in self.chip.get("reg", [])}
+        for it in self.chip.get("reg", []):
+            self.registers.update(("{}.{}".format(path(it), field["name"]), path(it)) for field in it.get("field", []))
+
+    def batches(self):
+        """The numbers of the flaws, cut into those that are run at once."""
+        items = collections.Counter(word for words in self.words.values() for word in words)
+        turns, turn, room = collections.defaultdict(list), collections.Counter(), MOST_BYTES - len(self.session.description)
+        for at, flaw in enumerate(self.flaws):
+            shared = flaw.kind == "address" and items[flaw.told] > 1
+            if os.environ.get("ALONE") or flaw.item not in self.registers or shared:
+                yield [at]
+            else:
+                turns[turn[flaw.item]].append(at)
+                turn[flaw.item] += 1
+        for all in turns.values():
+            most = max(1, min(MOST_FLAWS, room // max(len(as_row(self.flaws[at])) for at in all)))
+            for first in range(0, len(all), most):
+                yield all[first:first + most]
+
+    def finds(self, batch):
+        """Whether the session finds each of these flaws."""
+        flaws = [self.flaws[at] for at in batch]
+        status, log = self.session.run("".join(map(as_row, flaws)))
+        if status not in (0, 1):
+            raise Refused("with this flaw the program ends with status {}:\n{}".format(status, as_row(flaws[0])), status)
+        new = [on for at, (on, what) in findings(log).items() if what - self.before.get(at, ("", set()))[1]]
+        if len(flaws) == 1:
+            return [bool(new)]
+        registers = {self.registers[on] for on in new}
+        return [it.item in registers for it in flaws]
+
+
+grading = None
+
+
+def begin(session):
+    """What each process does first: all number the flaws alike."""
+    global grading
+    grading = Grading(session)
+
+
+def finds(batch):
+    return batch, grading.finds(batch)
+
+
+def grade(session):
+    """The flaws of the session, each with whether it is found."""
+    begin(session)
+    found, jobs = {}, int(os.environ.get("JOBS") or multiprocessing.cpu_count())
+    with multiprocessing.Pool(jobs, begin, (session,)) as pool:
+        for batch, each in pool.imap_unordered(finds, grading.batches()):
+            found.update(zip(batch, each))
+            if sys.stderr.isatty():
+                sys.stderr.write("\r{} of {} flaws".format(len(found), len(grading.flaws)))
+    if sys.stderr.isatty():
+        sys.stderr.write("\r" + " " * 40 + "\r")
+    return [(flaw, found[at]) for at, flaw in enumerate(grading.flaws)]
+
+
+def ranges(numbers):
+    """Ascending numbers, with `3-6` for those that follow one another."""
+    runs = []
+    for it in numbers:
+        if runs and it == runs[-1][1] + 1:
+            runs[-1][1] = it
+        else:
+            runs.append([it, it])
+    return " ".join(str(a) if a == b else "{}-{}".format(a, b) for a, b in runs)
+
+
+def missed_text(flaws):
+    """The flaws that were missed in words, those of one sort together."""
+    sorts = collections.OrderedDict()
+    for it in flaws:
+        sorts.setdefault((it.kind, it.told[0]), []).append(it.told[1])
+    text = lambda all: "each other" if len(all) == 24 and all[0] in POLICIES else ranges(all) if isinstance(all[0], int) else " ".join(all)
+    return ", ".join(" ".join(" ".join([*sort, text(all)]).split()) for sort, all in sorts.items())
+
+
+def line_of(where, graded):
+    """The line of a register, field, memory, or of the items: counts by kind, and what was missed."""
+    counts = []
+    for kind in KINDS:
+        found = [it for flaw, it in graded if flaw.kind == kind]
+        if found:
+            counts.append("{} {} found {} missed".format(kind, sum(found), len(found) - sum(found)))
+    missed = missed_text([flaw for flaw, it in graded if not it])
+    return "{}: {}{}".format(where, ", ".join(counts), "; missed: " + missed if missed else "")
+
+
+def print_run(graded):
+    by_place = collections.OrderedDict()
+    for flaw, found in graded:
+        by_place.setdefault(flaw.where, []).append((flaw, found))
+    for where, each in by_place.items():
+        print(line_of(where, each))
+    found = sum(it for _, it in graded)
+    share = ", {:.1f} % found".format(100 * found / len(graded)) if graded else ""
+    print("end: {} flaws, {} found, {} missed{}".format(len(graded), found, len(graded) - found, share))
+
+
+def print_missed(graded):
+    for flaw, found in graded:
+        if not found:
+            print(as_row(flaw), end="")
+
+
+def main():
+    if len(sys.argv) != 3 or sys.argv[2] not in ("run", "missed"):
+        print("grade.py PROGRAM run|missed < SESSION", file=sys.stderr)
+        return 6
+    try:
+        graded = grade(Session(sys.argv[1], sys.stdin.buffer.read()))
+    except Refused as told:
+        print(told.line)
+        return told.status
+    (print_run if sys.argv[2] == "run" else print_missed)(graded)
+    return 0
+
+
+if __name__ == "__main__":
+    sys.exit(main())
