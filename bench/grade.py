@@ -19,11 +19,9 @@ and with each missed flaw, and a last line with the totals; `missed` prints each
 
 The status is 0 where the session was graded. One that the program refuses is refused here, with its line and status, and
 one that has flaws of its own with status 2. JOBS in the environment is the number of processes; absent, one a processor.
-Standard library of Python 3.8 alone. It measures: it proves nothing.
+Python 3.11 or later and its standard library. It measures: it proves nothing.
 """
-import collections, multiprocessing, os, re, subprocess, sys
-
-import read_toml
+import collections, multiprocessing, os, re, subprocess, sys, tomllib
 
 POLICIES = ("RO RW RC RS WRC WRS WC WS WSRC WCRS W1C W1S W1T W0C W0S W0T "
             "W1SRC W1CRS W0SRC W0CRS WO WOC WOS W1 WO1").split()
@@ -157,7 +155,7 @@ class Grading:
         status, log = session.run()
         if status not in (0, 1):
             raise Refused((log.rstrip("\n").split("\n") or [""])[-1], status)
-        self.chip = read_toml.read(session.description.decode())
+        self.chip = tomllib.loads(session.description.decode())
         if "flaw" in self.chip:
             raise Refused("refused session: the description has flaws of its own", 2)
         self.words = addresses(session, self.chip)
