@@ -156,7 +156,10 @@ class Grading:
         status, log = session.run()
         if status not in (0, 1):
             raise Refused((log.rstrip("\n").split("\n") or [""])[-1], status)
-        self.chip = tomllib.loads(session.description.decode())
+        try:
+            self.chip = tomllib.loads(session.description.decode())
+        except tomllib.TOMLDecodeError as told:
+            raise Refused("refused session: Python doesn't read the description: {}".format(told), 2)
         if "flaw" in self.chip:
             raise Refused("refused session: the description has flaws of its own", 2)
         self.words = addresses(session, self.chip)
