@@ -27,12 +27,12 @@ judge() {
     fi
 }
 
-# answer NAME STATUS WANT ANSWERS: one read, and what the peer says to it.
+# answer NAME STATUS WANT ANSWERS FILE: one read, what the peer says to it, and what the file of messages or the log has.
 answer() {
     describe false '---\nread ctrl\n' > session
     printf '%b' "$4" | "$program" session log > requests 2> messages
     status=$?
-    judge "$1" "$2" "$3" messages
+    judge "$1" "$2" "$3" "${5:-messages}"
 }
 
 # refused NAME WANT REST BACKDOOR: a session that is refused before anything is sent.
@@ -52,9 +52,9 @@ answer 'too wide a word' 7 'a word that is wider than the bus: `ok 0x100000000`'
 answer 'an answer of a write' 7 'a line that doesn'\''t answer' 'ok\n'
 answer 'an answer twice' 7 'an answer that nothing was asked for: `ok 2`' 'ok 1\nok 2\n'
 answer 'no line end' 7 'a line of more than 4096 bytes' "$(head -c 10000 /dev/zero | tr '\0' o)"
-answer 'a bus error' 1 '' 'error\n'
-answer 'nothing there' 1 '' 'none\n'
-answer 'chatter' 0 '' '\n# a\n \t\r\n  ok  0x12 \r\n# b\n'
+answer 'a bus error' 1 'read ctrl @bus: bus error at word 0' 'error\n' log
+answer 'nothing there' 1 'read ctrl @bus: bus error at word 0' 'none\n' log
+answer 'chatter' 0 'read ctrl @bus: ok 0x00000012' '\n# a\n \t\r\n  ok  0x12 \r\n# b\n' log
 
 describe false '---\nreset SOFT\nread ctrl\n' > session
 printf 'none\n' | "$program" session log > requests 2> messages
