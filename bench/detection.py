@@ -34,23 +34,24 @@ OF_FIELDS = [
     ("not ones", lambda it: it.reset + 1 < 1 << it.width),
     ("2 bits", lambda it: it.width > 1),
 ]
+PLACE = '[[place]]\nmap = "{}"\nitem = "{}"\noffset = {}\n'
 MEMORIES = ((1, 1), (1, 2), (1, 5), (2, 1), (2, 2), (2, 5))
 VERDICTS = ("always", "sometimes", "never")
 COLUMNS = ("stuck at 0", "stuck at 1", "wrong reset", "other policy", "deaf", "address", "item")
 
 
-def description(shape, sequence, policies=grade.POLICIES):
-    """A chip with a register for each policy, width and reset value, with two places for shared access, else with one."""
+def description(shape, sequence, width, policies=grade.POLICIES):
+    """A chip with a register for each policy and reset value, with two places for shared access, else with one."""
     beside, lsb, resets = shape
-    names, text, maps = [], "", ("one", "two") if sequence == "shared" else ("one",)
-    for policy, (width, values) in itertools.product(policies, resets.items()):
-        for value in values:
-            names.append("{}_{}_{}".format(policy, width, value))
-            text += '[[reg]]\nname = "{}"\nbytes = 1\n'.format(names[-1])
-            text += 'field = [{{name = "v", lsb = {}, width = {}, policy = "{}", reset = {}}}{}]\n'.format(lsb, width, policy, value, beside)
-    for name in maps:
+    names, text = [], ""
+    for policy, value in itertools.product(policies, resets[width]):
+        names.append("{}_{}_{}".format(policy, width, value))
+        text += '[[reg]]\nname = "{}"\nbytes = 1\n'.format(names[-1])
+        text += 'field = [{{name = "v", lsb = {}, width = {}, policy = "{}", reset = {}}}{}]\n'.format(
+            lsb, width, policy, value, beside)
+    for name in ("one", "two") if sequence == "shared" else ("one",):
         text += '[[map]]\nname = "{}"\nbytes = 1\n'.format(name)
-        text += "".join('[[place]]\nmap = "{}"\nitem = "{}"\noffset = {}\n'.format(name, it, at) for at, it in enumerate(names))
+        text += "".join(PLACE.format(name, it, at) for at, it in enumerate(names))
     return text
 
 
@@ -58,21 +59,27 @@ def session(program, text, sequence):
     return grade.Session(program, "{}---\nseq {} *\n".format(text, sequence).encode())
 
 
+def column_of(flaw):
+    if flaw.kind == "stuck":
+        return "stuck at {}".format(flaw.row["value"])
+    return {"reset": "wrong reset", "policy": "other policy"}.get(flaw.kind, flaw.kind)
+
+
 def tries(program, sequence, shape):
     """By policy and column, each flaw of a field or register that was tried."""
     found = collections.defaultdict(list)
-    for flaw, it in grade.grade(session(program, description(shape, sequence), sequence)):
+    sessions = [session(program, description(shape, sequence, width), sequence) for width in shape[2]]
+    for flaw, it in itertools.chain.from_iterable(map(grade.grade, sessions)):
         if flaw.kind == "item" or flaw.where.endswith((".low", ".high")):
             continue
         policy, width, reset = flaw.item.split("_")
-        column = {"reset": "wrong reset", "policy": "other policy", "stuck": "stuck at {}".format(flaw.row.get("value"))}.get(flaw.kind, flaw.kind)
-        found[policy, column].append(Try(int(width), int(reset), flaw.told[1], it))
+        found[policy, column_of(flaw)].append(Try(int(width), int(reset), flaw.told[1], it))
     return found
 
 
 def of_items(program, sequence, policy):
     """What of the first and the last item is found, over a register of one field; nothing where it has none."""
-    grading = grade.Grading(session(program, description(ONE, sequence, (policy,)), sequence))
+    grading = grade.Grading(session(program, description(ONE, sequence, 3, (policy,)), sequence))
     return [Try(3, 5, None, *grading.finds([at])) for at, flaw in enumerate(grading.flaws) if flaw.kind == "item"]
 
 
@@ -133,8 +140,9 @@ def table(head, rows):
 
 
 def others_of(sorts):
-    """The other policies of each verdict."""
-    return tuple("each other" if len(sorts[it]) == 24 else " ".join(sorts[it]) for it in VERDICTS)
+    """The other policies of each verdict, by name where they are fewer than 20."""
+    texts = {24: "all 24", **dict.fromkeys((20, 21, 22, 23), "the rest")}
+    return tuple(texts.get(len(sorts[it]), " ".join(sorts[it])) for it in VERDICTS)
 
 
 def tell(program, sequence):
@@ -145,7 +153,8 @@ def tell(program, sequence):
     rows = rows_of(found, COLUMNS)
     print("\n### {}\n".format(sequence))
     table(COLUMNS, rows)
-    print("\n{} flaws tried, {} found.".format(sum(map(len, found.values())), sum(it.found for all in found.values() for it in all)))
+    every = list(itertools.chain.from_iterable(found.values()))
+    print("\n{} flaws tried, {} found.".format(len(every), sum(it.found for it in every)))
     beside = rows_of(tries(program, sequence, BESIDE), COLUMNS[:-1])
     other = {policy: cells for policy, cells in beside.items() if cells != rows[policy][:-1]}
     if other:
@@ -153,7 +162,8 @@ def tell(program, sequence):
         table(COLUMNS[:-1], other)
     sorts = {policy: by_other(found[policy, "other policy"]) for policy in grade.POLICIES}
     pairs = [sum(len(it[sort]) for it in sorts.values()) for sort in VERDICTS]
-    print("\nOf 600 pairs of a policy and another one, which the device has, {} are found always, {} sometimes, {} never.".format(*pairs))
+    print("\nOf 600 pairs of a policy and another one, which the device has, "
+          "{} are found always, {} sometimes, {} never.".format(*pairs))
     if pairs[2] < 600:
         print()
         table(("found always", "sometimes", "never"), {policy: others_of(it) for policy, it in sorts.items()})
@@ -163,7 +173,7 @@ def tell_memories(program):
     """What the sequences find of memories of one and two bytes with one, two and five locations."""
     text = "".join('[[mem]]\nname = "m{0}_{1}"\nbytes = {0}\nsize = {1}\n'.format(*it) for it in MEMORIES)
     text += '[[map]]\nname = "one"\nbytes = 1\n'
-    text += "".join('[[place]]\nmap = "one"\nitem = "m{}_{}"\noffset = {}\n'.format(*it, 16 * at) for at, it in enumerate(MEMORIES))
+    text += "".join(PLACE.format("one", "m{}_{}".format(*it), 16 * at) for at, it in enumerate(MEMORIES))
     print("\n### Memories\n\n| sequence | deaf | address | item |\n|---|---|---|---|")
     for sequence in SEQUENCES:
         graded = grade.grade(session(program, text, sequence))

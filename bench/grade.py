@@ -1,7 +1,7 @@
 #!/usr/bin/env python3
 """grade.py PROGRAM run|missed < SESSION: which single flaws of the device the session finds.
 
-Runs the session (a description without flaws, `---`, a script) on the program with each of these flaws by itself:
+Runs the session (a description without flaws, `---`, a script) on the program with each single flaw of these:
 
     stuck    each bit of each field, at 0 and at 1
     reset    each value of a reset of a field that is wrong in one bit, for each kind that the field has a value for
@@ -11,11 +11,12 @@ Runs the session (a description without flaws, `---`, a script) on the program w
     item     the first and the last bus item of the session
 
 A flaw is found where some event of the session with it has a difference or a bus error that the same event without it
-hasn't. Flaws of different registers don't meet: neither changes what the device or the model has of the other's register,
-or how many events there are. So a session is run with up to 256 flaws at once, one a register, and each is found by the
-events of its own register; those of memories, of items and of an address that two items share are run alone, and with
-ALONE=1 in the environment all are. `run` prints a line for each register, field and memory, and one for the items, with the counts found and missed
+hasn't. `run` prints a line for each register, field and memory, and one for the items, with the counts found and missed
 and with each missed flaw, and a last line with the totals; `missed` prints each missed flaw as a row of a description.
+
+Flaws of different registers don't meet: neither changes what the device or the model has of the other's register, or how
+many events there are. So one run has up to 256 flaws, one a register, and each is found by the events of its own register;
+those of memories, of items and of an address that two items share are run alone, and with ALONE=1 in the environment all.
 
 The status is 0 where the session was graded. One that the program refuses is refused here, with its line and status, and
 one that has flaws of its own with status 2. JOBS in the environment is the number of processes; absent, one a processor.
@@ -155,7 +156,10 @@ class Grading:
         status, log = session.run()
         if status not in (0, 1):
             raise Refused((log.rstrip("\n").split("\n") or [""])[-1], status)
-        self.chip = tomllib.loads(session.description.decode())
+        try:
+            self.chip = tomllib.loads(session.description.decode())
+        except tomllib.TOMLDecodeError as told:
+            raise Refused("refused session: Python doesn't read the description: {}".format(told), 2)
         if "flaw" in self.chip:
             raise Refused("refused session: the description has flaws of its own", 2)
         self.words = addresses(session, self.chip)
@@ -176,10 +180,10 @@ class Grading:
             else:
                 turns[turn[flaw.item]].append(at)
                 turn[flaw.item] += 1
-        for all in turns.values():
-            most = max(1, min(MOST_FLAWS, room // max(len(as_row(self.flaws[at])) for at in all)))
-            for first in range(0, len(all), most):
-                yield all[first:first + most]
+        for them in turns.values():
+            most = max(1, min(MOST_FLAWS, room // max(len(as_row(self.flaws[at])) for at in them)))
+            for first in range(0, len(them), most):
+                yield them[first:first + most]
 
     def finds(self, batch):
         """Whether the session finds each of these flaws."""
@@ -232,13 +236,19 @@ def ranges(numbers):
     return " ".join(str(a) if a == b else "{}-{}".format(a, b) for a, b in runs)
 
 
+def words_of(them):
+    """Bits or items by number, or policies by name."""
+    if isinstance(them[0], int):
+        return ranges(them)
+    return "all 24" if len(them) == len(POLICIES) - 1 else " ".join(them)
+
+
 def missed_text(flaws):
     """The flaws that were missed in words, those of one sort together."""
     sorts = collections.OrderedDict()
     for it in flaws:
         sorts.setdefault((it.kind, it.told[0]), []).append(it.told[1])
-    text = lambda all: "each other" if len(all) == 24 and all[0] in POLICIES else ranges(all) if isinstance(all[0], int) else " ".join(all)
-    return ", ".join(" ".join(" ".join([*sort, text(all)]).split()) for sort, all in sorts.items())
+    return ", ".join(" ".join(" ".join([*sort, words_of(them)]).split()) for sort, them in sorts.items())
 
 
 def line_of(where, graded):
@@ -272,6 +282,9 @@ def print_missed(graded):
 def main():
     if len(sys.argv) != 3 or sys.argv[2] not in ("run", "missed"):
         print("grade.py PROGRAM run|missed < SESSION", file=sys.stderr)
+        return 6
+    if not os.access(sys.argv[1], os.X_OK):
+        print("grade.py: there is no program {}".format(sys.argv[1]), file=sys.stderr)
         return 6
     try:
         graded = grade(Session(sys.argv[1], sys.stdin.buffer.read()))

@@ -1,13 +1,11 @@
 // Runs a session from standard input, and writes its log to standard output.
 #![tactic(auto)]
 
-ghost use Rattle.std.specs.Prelude.{◌≡◌, length, IfOk};
-
 use regrun::{Status, regrun};
 use rl_apb::ApbAdapter;
 use rl_bus::{Adapters, PlainAdapter};
 use rl_report::{StdSink, StdSource};
-use std::alloc::{AllocError, Global};
+use std::alloc::AllocError;
 use std::process::ExitCode;
 use std::rt::Env;
 use std::{env, io};
@@ -21,10 +19,12 @@ fn words(rt: &(impl Env + AllocGlobal)) -> io::Result<Vec<String>> {
     Ok(words)
 }
 
-// The adapters for root maps: one for a plain bus, one for APB.
-fn adapters(alloc: Global) -> Result<Adapters, AllocError>
-    ensures { IfOk result (λ made. length made.items ≡ 2) }
-{
+// Runs what the words ask for, with a plain and an APB adapter for the root maps.
+fn run(
+    rt: &(impl Env + AllocGlobal + Input + Print),
+    words: &[String],
+) -> Result<Status, AllocError> {
+    let alloc = rt.alloc();
     let plain = PlainAdapter {
         next_tag: 0,
         trail: 0,
@@ -36,18 +36,9 @@ fn adapters(alloc: Global) -> Result<Adapters, AllocError>
     let mut adapters: Adapters = Vec::new(alloc);
     adapters.push(Box::new(alloc, plain)?)?;
     adapters.push(Box::new(alloc, apb)?)?;
-    Ok(adapters)
-}
-
-// Runs what the words ask for, from standard input to standard output.
-fn run(
-    rt: &(impl Env + AllocGlobal + Input + Print),
-    words: &[String],
-) -> Result<Status, AllocError> {
-    let mut adapters = adapters(rt.alloc())?;
     let mut source = StdSource::new(rt.reader());
     let mut sink = StdSink::new(io::writer(rt));
-    Ok(regrun(rt.alloc(), words, &mut source, &mut sink, &mut adapters))
+    Ok(regrun(alloc, words, &mut source, &mut sink, &mut adapters))
 }
 
 fn status(rt: &(impl Env + AllocGlobal + Input + Print)) -> Status {

@@ -1,0 +1,5 @@
+mod ComingLemmas
+mod NameLemmas
+mod SaidLemmas
+mod SentLemmas
+mod TextLemmas

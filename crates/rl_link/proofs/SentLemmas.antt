@@ -1,0 +1,19 @@
+-- What was sent of a request.
+use Rattle.std.proofs.Common.{◌≡◌, ℕ, List, [], ◌++◌, refl, append-nil, Result, Ok, Err, OnOk}
+use Rattle.std.specs.declared.option.Option.{Option}
+use Rattle.std.specs.Io.KnownBytes.{Appends}
+use Rattle.std.proofs.KnownBytes.{Appends-nil}
+use Rattle.rl_report.specs.Pieces.{AppendsFront, Puts}
+
+-- all of it is a front of it
+pub front_whole : (a b : Option (List ℕ)) (xs : List ℕ) → Appends a b xs → AppendsFront a b xs
+front_whole a b xs h = record { front = xs; rest = []; split = append-nil xs; appended = h }
+
+-- and so is nothing
+pub front_none : (a : Option (List ℕ)) (xs : List ℕ) → AppendsFront a a xs
+front_none a xs = record { front = []; rest = xs; split = refl; appended = Appends-nil a }
+
+-- the whole was sent, whatever came then
+pub puts_sent : {T E : Type 0} (a b : Option (List ℕ)) (xs : List ℕ) (r : Result T E) → Appends a b xs → Puts a b xs r
+puts_sent a b xs (Ok x) h = record { whole = h; part = tt }
+puts_sent a b xs (Err e) h = record { whole = tt; part = front_whole a b xs h }

@@ -1,0 +1,5 @@
+use Rattle.rl_link.proofs.TextLemmas.{pieces_of_three}
+use Rattle.rl_link.proofs.request.put_reset.Goals as goal
+
+pub returns : goal.returns
+returns c = pieces_of_three _ _ _ _ _ _ _ c.clear.ensures.items c.in_ok-push.ensures c.in_ok-push-2.ensures c.in_ok-push-3.ensures

@@ -1,0 +1,12 @@
+-- Only lines that say nothing were passed over.
+use Rattle.std.proofs.Common.{◌≤◌}
+use Rattle.rl_link.specs.Coming.{coming, Skips}
+use Rattle.rl_link.proofs.talk.hear.Given as goal
+
+abbrev pub invariant-loop : goal.invariant-loop
+invariant-loop g l =
+    let left = g.S.Source.left in
+    record {
+      skips : Skips (coming l.initial.held (left l.initial.source)) (coming l.held (left l.source));
+      later : g.S.Source.faults l.initial.source ≤ g.S.Source.faults l.source;
+    }

@@ -1,0 +1,6 @@
+pub mod Answers
+pub mod Causes
+pub mod Coming
+pub mod Message
+pub mod Prelude
+pub mod Requests

@@ -1,0 +1,193 @@
+// Requests, and the lines that answer them.
+ghost use Rattle.std.specs.Prelude.{◌≡◌, [], ◌+◌, ◌-◌, ◌^◌, ◌<◌, ◌≤◌, min, Ok, Err, length};
+ghost use Rattle.std.specs.Prelude.{IfOk, OnOk, OnErr, IfErr, IfSome, MatchOption};
+ghost use Rattle.std.specs.Io.KnownBytes.{Keeps};
+ghost use Rattle.rl_bus.specs.Causes.{Rose};
+ghost use Rattle.rl_report.specs.Lines.{first_line, after_line};
+ghost use Rattle.rl_report.specs.Pieces.{Puts};
+ghost use Rattle.rl_link.specs.Answers.{said_in};
+ghost use Rattle.rl_link.specs.Causes.{IsCauseOfReading, IsCauseOfAsking};
+ghost use Rattle.rl_link.specs.Coming.{coming, Skips, Hears, HasLine, IsLine};
+
+use crate::answer::{Cause, Said, is_nothing, says};
+use crate::held::Held;
+use rl_report::{Failed, Sink, Source, put_all};
+use std::alloc::{AllocError, Global};
+
+const MOST: usize = 4096;
+
+/// Two streams to a peer: requests go to the sink, and answers come from the source.
+#[derive(Drop)]
+pub struct Talk<S: Source, K: Sink> {
+    pub source: S,
+    pub sink: K,
+    /// What was read and isn't used yet.
+    pub held: Held,
+    /// How many lines were taken, whatever they say. It stays at the end of `u64`.
+    pub lines: u64,
+}
+
+// How long the line in front is, where its end is held too.
+fn front_len(held: &Held) -> Result<Option<usize>, Cause>
+    ensures found { IfOk result (λ found. MatchOption found
+        ((first_line held.now ≡ held.now) × (length held.now ≤ 4096)) (IsLine held.now)) }
+    ensures too_long { OnErr result (4096 < length (first_line held.now)) }
+    ensures cause { IfErr result (λ cause. cause ≡ Cause.TooLong) }
+{
+    let found = held.line_len();
+    if found.unwrap_or(held.bytes().len()) > MOST {
+        return Err(Cause::TooLong);
+    }
+    Ok(found)
+}
+
+// Reads until a whole line stands in front. Answers how long it is.
+#[tactic(auto, using(crate::proofs::ComingLemmas::ends_still, crate::proofs::ComingLemmas::long_here))]
+fn next_line<S: Source>(held: &mut Held, source: &mut S) -> Result<usize, Cause>
+    ensures coming { Keeps (coming held.old (S.left source.old)) (coming held.new (S.left source.new)) }
+    ensures line { IfOk result (IsLine held.new) }
+    ensures closed { result ≡ Err Cause.Closed → IfSome (coming held.new (S.left source.new))
+        (λ bytes. first_line bytes ≡ bytes) }
+    ensures too_long { result ≡ Err Cause.TooLong → IfSome (coming held.new (S.left source.new))
+        (λ bytes. 4096 < length (first_line bytes)) }
+    ensures unread { result ≡ Err Cause.Unread → Rose (S.faults source.old) (S.faults source.new) }
+    ensures later { S.faults source.old ≤ S.faults source.new }
+    ensures cause { IfErr result IsCauseOfReading }
+{
+    loop {
+        if let Some(len) = front_len(held)? {
+            return Ok(len);
+        }
+        match held.take_more(source) {
+            Ok(0) => return Err(Cause::Closed),
+            Ok(_) => {}
+            Err(Failed) => return Err(Cause::Unread),
+        }
+    }
+}
+
+// What the line in front says, of so many bytes.
+fn front_says(held: &Held, len: usize) -> Said
+    requires { IsLine held.now len }
+    ensures { result ≡ said_in (first_line held.now) }
+{
+    says(&held.bytes()[..len])
+}
+
+// Drops the line in front, of so many bytes, and its end.
+fn pass_line(held: &mut Held, lines: &mut u64, len: usize)
+    requires { IsLine held.old len }
+    ensures held { held.new ≡ after_line held.old }
+    ensures lines { lines.new ≡ min (lines.old + 1) (2 ^ 64 - 1) }
+{
+    held.pass(len + 1);
+    *lines = lines.saturating_add(1);
+}
+
+// Passes over what is held already. What says something there was asked for by nobody.
+fn skim(held: &mut Held, lines: &mut u64) -> Result<(), Cause>
+    ensures skips { (left : _) → Skips (coming held.old left) (coming held.new left) }
+    ensures fault { IfErr result (λ cause. cause ≡ Cause.Unasked) }
+{
+    while let Some(len) = held.line_len() {
+        if !is_nothing(front_says(held, len)) {
+            return Err(Cause::Unasked);
+        }
+        pass_line(held, lines, len);
+    }
+    Ok(())
+}
+
+// Reads until a line that says something stands in front.
+#[tactic(auto, using(crate::proofs::ComingLemmas::skips_more, crate::proofs::ComingLemmas::skips_kept, crate::proofs::ComingLemmas::has_line))]
+fn hear<S: Source>(held: &mut Held, lines: &mut u64, source: &mut S) -> Result<Said, Cause>
+    ensures skips { Skips (coming held.old (S.left source.old)) (coming held.new (S.left source.new)) }
+    ensures heard { IfOk result (λ said. IfSome (coming held.old (S.left source.old))
+        (λ bytes. Hears bytes said (coming held.new (S.left source.new)))) }
+    ensures front { OnOk result (HasLine held.new) }
+    ensures closed { result ≡ Err Cause.Closed → IfSome (coming held.new (S.left source.new))
+        (λ bytes. first_line bytes ≡ bytes) }
+    ensures too_long { result ≡ Err Cause.TooLong → IfSome (coming held.new (S.left source.new))
+        (λ bytes. 4096 < length (first_line bytes)) }
+    ensures cause { IfErr result IsCauseOfReading }
+    ensures unread { result ≡ Err Cause.Unread → Rose (S.faults source.old) (S.faults source.new) }
+    ensures later { S.faults source.old ≤ S.faults source.new }
+{
+    for _ in 0..u64::MAX {
+        let len = next_line(held, source)?;
+        let said = front_says(held, len);
+        if !is_nothing(said) {
+            return Ok(said);
+        }
+        pass_line(held, lines, len);
+    }
+    Err(Cause::TooMany)
+}
+
+impl<S: Source + Drop, K: Sink + Drop> Talk<S, K> {
+    /// Over these streams.
+    pub fn build(alloc: Global, source: S, sink: K) -> Result<Talk<S, K>, AllocError>
+        ensures streams { IfOk result (λ talk. (talk.source ≡ source) × (talk.sink ≡ sink)) }
+        ensures empty { IfOk result (λ talk. talk.held ≡ []) }
+    {
+        Ok(Talk {
+            source,
+            sink,
+            held: Held::build(alloc)?,
+            lines: 0,
+        })
+    }
+}
+
+impl<S: Source, K: Sink> Talk<S, K> {
+    /// Sends a request, and then reads the line that answers it, which stays in front.
+    #[tactic(auto, using(crate::proofs::SentLemmas::puts_sent, crate::proofs::SentLemmas::front_none, rl_report::proofs::PieceLemmas::puts_stopped, crate::proofs::ComingLemmas::skips_more, crate::proofs::ComingLemmas::skips_none, crate::proofs::ComingLemmas::heard_after))]
+    pub fn ask(&mut self, request: &[u8]) -> Result<Said, Cause>
+        ensures sent { Puts (K.written self.old.sink) (K.written self.new.sink) request.now result }
+        ensures skips { Skips (coming self.old.held (S.left self.old.source))
+            (coming self.new.held (S.left self.new.source)) }
+        ensures heard { IfOk result (λ said. IfSome (coming self.old.held (S.left self.old.source))
+            (λ bytes. Hears bytes said (coming self.new.held (S.left self.new.source)))) }
+        ensures front { OnOk result (HasLine self.new.held) }
+
+        // Nothing is read before the request is out, and nothing is sent where an answer came that wasn't asked for.
+        ensures out_first { result ≡ Err Cause.Unsent → self.new.source ≡ self.old.source }
+        ensures unasked { result ≡ Err Cause.Unasked
+            → (self.new.source ≡ self.old.source) × (self.new.sink ≡ self.old.sink) }
+
+        // No fault is made up.
+        ensures unsent { result ≡ Err Cause.Unsent → Rose (K.faults self.old.sink) (K.faults self.new.sink) }
+        ensures unread { result ≡ Err Cause.Unread → Rose (S.faults self.old.source) (S.faults self.new.source) }
+        ensures closed { result ≡ Err Cause.Closed → IfSome (coming self.new.held (S.left self.new.source))
+            (λ bytes. first_line bytes ≡ bytes) }
+        ensures too_long { result ≡ Err Cause.TooLong → IfSome (coming self.new.held (S.left self.new.source))
+            (λ bytes. 4096 < length (first_line bytes)) }
+        ensures cause { IfErr result IsCauseOfAsking }
+    {
+        skim(&mut self.held, &mut self.lines)?;
+        if put_all(&mut self.sink, request).is_err() {
+            return Err(Cause::Unsent);
+        }
+        hear(&mut self.held, &mut self.lines, &mut self.source)
+    }
+
+    /// Passes over the lines that are held already, none of which may say something.
+    pub fn skim(&mut self) -> Result<(), Cause>
+        ensures { IfErr result (λ cause. cause ≡ Cause.Unasked) }
+    {
+        skim(&mut self.held, &mut self.lines)
+    }
+
+    /// Takes the line in front.
+    pub fn take_line(&mut self)
+        requires { HasLine self.old.held }
+        ensures { self.new ≡ record self.old {
+          held = after_line self.old.held;
+          lines = min (self.old.lines + 1) (2 ^ 64 - 1);
+        } }
+    {
+        if let Some(len) = self.held.line_len() {
+            pass_line(&mut self.held, &mut self.lines, len);
+        }
+    }
+}
