@@ -73,8 +73,8 @@ pub fn write_cell(board: &Board, cells: &mut Cells, lanes: &Lanes, word: u64, ce
         Cell::Loc { mem, index } => {
             if board.tables.mems[mem as usize].writable {
                 let at = location(board, cells, mem, index);
-                let placed = lanes.place(word);
-                cells.locations[at] = replaced(cells.locations[at], placed.bits, placed.mask);
+                let carried = lanes.spread(word);
+                cells.locations[at] = replaced(cells.locations[at], carried, lanes.covered());
             }
         }
     }

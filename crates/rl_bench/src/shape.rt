@@ -35,8 +35,8 @@ impl Shape {
         ensures bits { ForRegOf self.now (λ r. result.0 ≡ reg_written r lanes.now bits marks word) }
         ensures marks { ForRegOf self.now (λ r. result.1 ≡ reg_marked r lanes.now marks) }
     {
-        let placed = lanes.place(word);
-        let (written, marked) = self.effects.write(bits, marks, placed.bits, placed.mask);
+        let carried = lanes.spread(word);
+        let (written, marked) = self.effects.write(bits, marks, carried, lanes.covered());
         (self.hold(written), marked)
     }
 

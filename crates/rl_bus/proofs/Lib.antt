@@ -1,6 +1,5 @@
 mod Moves
 pub mod Reached
 pub mod LaneLemmas
-mod Turned
 mod Rows
 pub mod Words

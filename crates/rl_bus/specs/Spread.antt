@@ -1,15 +1,11 @@
 -- The bytes of a cell in the lanes of a bus word.
-use Rattle.std.specs.Prelude.{◌≡◌, ℕ, zero, suc, ◌+◌, ◌*◌, ◌/◌, ◌%◌, ◌<◌, ◌==◌, Bool, true, false, ◌&&◌, if◌then◌else◌, Option, Some, None, is_some, slice_index, bit_and}
+use Rattle.std.specs.Prelude.{ℕ, zero, suc, ◌+◌, ◌*◌, ◌/◌, ◌%◌, ◌<◌, ◌==◌, Bool, false, ◌&&◌, if◌then◌else◌, Option, Some, None, is_some, slice_index, bit_and}
 use Rattle.rl_policy.specs.Bits.{bit}
 use Rattle.rl_bus.specs.declared.table.Lanes.{Lanes}
 
 -- each lane carries one of the eight bytes
 abbrev pub AreInCell : Lanes → Type 0
 AreInCell s = (l : ℕ) → l < 8 → slice_index s.bytes l < 8
-
--- each enabled lane carries the byte so many places further, counted round
-abbrev pub AreTurned : Lanes → ℕ → Type 0
-AreTurned s turn = (l : ℕ) → l < 8 → bit s.enabled l ≡ true → slice_index s.bytes l ≡ (l + turn) % 8
 
 -- the lane below n that carries this byte
 unfoldable pub lane_below : ℕ → Lanes → ℕ → Option ℕ

@@ -26,8 +26,7 @@ pub use op::{AdapterKind, Answer, BusOp};
 pub use plain::PlainAdapter;
 pub use send::{Exchanged, exchange, kind_of};
 pub use table::{
-    Cell, FieldRow, ItemRow, Lanes, MemRow, Placed, PolicyRow, RangeRow, ResetRow, StuckRow,
-    WordRow,
+    Cell, FieldRow, ItemRow, Lanes, MemRow, PolicyRow, RangeRow, ResetRow, StuckRow, WordRow,
 };
 pub use trail::{trail_of_answer, trail_of_operation};
 pub use transfer::{

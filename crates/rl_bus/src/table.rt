@@ -1,6 +1,4 @@
 // The rows of the tables that say what a device has.
-ghost use Rattle.std.specs.Prelude.{◌≡◌, ℕ, ◌<◌, ◌/◌};
-ghost use Rattle.rl_policy.specs.Bits.{bit};
 
 use rl_policy::Policy;
 use rl_policy::word::{put, take, window};
@@ -49,30 +47,10 @@ pub struct Lanes {
     pub bytes: [u8; 8],
 }
 
-/// The bits of a bus word at their places in a cell, and the mask of these places.
-#[derive(Clone, Copy, Debug)]
-pub struct Placed {
-    pub bits: u64,
-    pub mask: u64,
-}
-
-// Byte `l` is `l`.
-const NUMBERED: u64 = 0x0706_0504_0302_0100;
-
-// The mask of the bytes of these lanes. Lane `l` leaves bit `l` of byte `l`, which the sum carries to
-// the top of the byte.
-fn byte_mask(lanes: u8) -> u64
-    ensures { (b : ℕ) → b < 64 → bit result b ≡ bit lanes (b / 8) }
-{
-    let alone = (u64::from(lanes) * 0x0101_0101_0101_0101) & 0x8040_2010_0804_0201;
-    let tops = (alone + 0x7f7f_7f7f_7f7f_7f7f) & 0x8080_8080_8080_8080;
-    (tops >> 7) * 0xff
-}
-
 impl Lanes {
-    ghost use Rattle.std.specs.Prelude.{◌≡◌, ◌<◌, IfSome};
+    ghost use Rattle.std.specs.Prelude.{◌≡◌, ◌<◌};
     ghost use Rattle.rl_policy.specs.Bits.{bit, from_bits};
-    ghost use Rattle.rl_bus.specs.Spread.{AreInCell, AreTurned, spread_bit, lane_bit, gathered_bit};
+    ghost use Rattle.rl_bus.specs.Spread.{AreInCell, spread_bit, lane_bit, gathered_bit};
 
     fn is_enabled(&self, lane: u32) -> bool
         requires { lane < 8 }
@@ -81,74 +59,8 @@ impl Lanes {
         (self.enabled >> lane) & 1 == 1
     }
 
-    // By how many bytes the cell is turned against the lanes, where it only is that, as it mostly is.
-    fn turn(&self) -> Option<u32>
-        requires { AreInCell self.now }
-        ensures few { IfSome result (λ turn. turn < 8) }
-        ensures turned { IfSome result (λ turn. AreTurned self.now turn) }
-    {
-        let first = self.enabled.trailing_zeros() % 8;
-        let turn = (u32::from(self.bytes[first as usize]) + 8 - first) % 8;
-        let turned = NUMBERED.rotate_right(8 * turn);
-        let others = u64::from_le_bytes(self.bytes) ^ turned;
-        if others & byte_mask(self.enabled) == 0 {
-            Some(turn)
-        } else {
-            None
-        }
-    }
-
-    /// The bits that a bus word carries, at their places in the cell, and 0 elsewhere; and the mask of
-    /// these places.
-    pub fn place(&self, word: u64) -> Placed
-        requires { AreInCell self.now }
-        ensures bits { result.bits ≡ from_bits 64 (spread_bit self.now (bit word)) }
-        ensures mask { result.mask ≡ from_bits 64 (lane_bit self.now) }
-    {
-        match self.turn() {
-            Some(turn) => {
-                let mask = byte_mask(self.enabled);
-                Placed {
-                    bits: (word & mask).rotate_left(8 * turn),
-                    mask: mask.rotate_left(8 * turn),
-                }
-            }
-            None => Placed {
-                bits: self.spread_each(word),
-                mask: self.cover_each(),
-            },
-        }
-    }
-
     /// The bits that a bus word carries, at their places in the cell, and 0 elsewhere.
     pub fn spread(&self, word: u64) -> u64
-        requires { AreInCell self.now }
-        ensures { result ≡ from_bits 64 (spread_bit self.now (bit word)) }
-    {
-        self.place(word).bits
-    }
-
-    /// The mask of the cell's bits that an enabled lane carries.
-    pub fn covered(&self) -> u64
-        requires { AreInCell self.now }
-        ensures { result ≡ from_bits 64 (lane_bit self.now) }
-    {
-        self.place(0).mask
-    }
-
-    /// The bus word that carries these bits of the cell in its enabled lanes, and 0 in the others.
-    pub fn gather(&self, bits: u64) -> u64
-        requires { AreInCell self.now }
-        ensures { result ≡ from_bits 64 (gathered_bit self.now (bit bits)) }
-    {
-        match self.turn() {
-            Some(turn) => bits.rotate_right(8 * turn) & byte_mask(self.enabled),
-            None => self.gather_each(bits),
-        }
-    }
-
-    // `spread` lane by lane.
-    fn spread_each(&self, word: u64) -> u64
         requires { AreInCell self.now }
         ensures { result ≡ from_bits 64 (spread_bit self.now (bit word)) }
     {
@@ -162,8 +74,8 @@ impl Lanes {
         bits
     }
 
-    // `covered` lane by lane.
-    fn cover_each(&self) -> u64
+    /// The mask of the cell's bits that an enabled lane carries.
+    pub fn covered(&self) -> u64
         requires { AreInCell self.now }
         ensures { result ≡ from_bits 64 (lane_bit self.now) }
     {
@@ -176,8 +88,8 @@ impl Lanes {
         mask
     }
 
-    // `gather` lane by lane.
-    fn gather_each(&self, bits: u64) -> u64
+    /// The bus word that carries these bits of the cell in its enabled lanes, and 0 in the others.
+    pub fn gather(&self, bits: u64) -> u64
         requires { AreInCell self.now }
         ensures { result ≡ from_bits 64 (gathered_bit self.now (bit bits)) }
     {

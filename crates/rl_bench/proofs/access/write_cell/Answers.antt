@@ -56,8 +56,7 @@ returns-then-index-clause-state c beats items =
     let writable : (mem_of t mem).writable ≡ true = ap (λ row. row.writable) (sym (get_or_read t.mems mem _ l c.index-in-Loc.ensures no_mem)) ∙ c.if-index.true in
     let x : c.index-then-index.result.now ≡ slice_index old.locations.items here =
     get_or_read old.locations.items c.location-at.result _ c.location-at.ensures.within c.index-then-index.ensures 0 ∙ ap (slice_index old.locations.items) c.location-at.ensures.at in
-    let lane : (b : ℕ) → b < 64 → bit c.place-placed.result.mask b ≡ lane_bit c.args.lanes.now b = λ b k. ap (λ n. bit n b) c.place-placed.ensures.mask ∙ bit-from_bits 64 _ b k in
-    let carried : (b : ℕ) → b < 64 → bit c.place-placed.result.bits b ≡ spread_bit c.args.lanes.now (bit c.args.word) b = λ b k. ap (λ n. bit n b) c.place-placed.ensures.bits
-    ∙ bit-from_bits 64 _ b k in
+    let lane : (b : ℕ) → b < 64 → bit c.covered.result b ≡ lane_bit c.args.lanes.now b = λ b k. ap (λ n. bit n b) c.covered.ensures ∙ bit-from_bits 64 _ b k in
+    let carried : (b : ℕ) → b < 64 → bit c.spread-carried.result b ≡ spread_bit c.args.lanes.now (bit c.args.word) b = λ b k. ap (λ n. bit n b) c.spread-carried.ensures ∙ bit-from_bits 64 _ b k in
     rw (c.in-Loc.is, writable, c.location-at.ensures.at) (ap (λ v. record (state_of t old beats items) { locations = slice_set old.locations.items here v })
     (is_from_bits 64 _ _ c.replaced.type_inv (λ b k. rw (c.replaced.ensures b k, lane b k, carried b k, x) refl)))

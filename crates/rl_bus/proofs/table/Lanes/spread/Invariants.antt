@@ -1,7 +1,7 @@
 use Rattle.std.proofs.Common.{◌≡◌, ℕ, ◌/◌, ◌%◌, ◌<◌, ◌^◌}
 use Rattle.rl_policy.specs.Bits.{bit}
 use Rattle.rl_bus.specs.Spread.{lane_below, bit_in}
-use Rattle.rl_bus.proofs.table.Lanes.spread_each.Given as goal
+use Rattle.rl_bus.proofs.table.Lanes.spread.Given as goal
 
 abbrev pub invariant-loop-lane : goal.invariant-loop-lane
 invariant-loop-lane l = record {

@@ -2,7 +2,7 @@ use Rattle.std.proofs.Common.{◌≡◌, ℕ, ◌/◌, ◌<◌, ◌^◌, ◌&&�
 use Rattle.std.specs.Prelude.{nat_lt}
 use Rattle.rl_policy.specs.Bits.{bit}
 use Rattle.rl_bus.specs.Spread.{gathered_bit}
-use Rattle.rl_bus.proofs.table.Lanes.gather_each.Given as goal
+use Rattle.rl_bus.proofs.table.Lanes.gather.Given as goal
 
 abbrev pub invariant-loop-lane : goal.invariant-loop-lane
 invariant-loop-lane l = record {

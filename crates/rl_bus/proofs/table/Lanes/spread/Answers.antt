@@ -4,8 +4,8 @@ use Rattle.rl_policy.specs.Bits.{bit}
 use Rattle.rl_policy.proofs.BitLemmas.{bit-zero, is_from_bits, from_bits-lt, bit-from_bits}
 use Rattle.rl_bus.specs.Spread.{lane_below}
 use Rattle.rl_bus.proofs.LaneLemmas.{lane_below-none, lane_below-more, moved_bit, spread_more, spread_less}
-use Rattle.rl_bus.proofs.table.Lanes.spread_each.Goals as goal
-use Rattle.rl_bus.proofs.table.Lanes.spread_each.Goals.{then-is_enabled, else-is_enabled}
+use Rattle.rl_bus.proofs.table.Lanes.spread.Goals as goal
+use Rattle.rl_bus.proofs.table.Lanes.spread.Goals.{then-is_enabled, else-is_enabled}
 
 pub loop-lane-init : goal.loop-lane-init
 loop-lane-init c = record { fits = omega arith; bits = λ b l. rw lane_below-none (bit-zero b) }

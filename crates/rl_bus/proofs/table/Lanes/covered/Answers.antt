@@ -4,8 +4,8 @@ use Rattle.rl_policy.specs.Bits.{bit}
 use Rattle.rl_policy.proofs.BitLemmas.{bit-zero, is_from_bits, bit-or}
 use Rattle.rl_bus.specs.Spread.{lane_below}
 use Rattle.rl_bus.proofs.LaneLemmas.{lane_below-none, lane_below-more, byte_within, lane_more, lane_less}
-use Rattle.rl_bus.proofs.table.Lanes.cover_each.Goals as goal
-use Rattle.rl_bus.proofs.table.Lanes.cover_each.Goals.{then-is_enabled, else-is_enabled}
+use Rattle.rl_bus.proofs.table.Lanes.covered.Goals as goal
+use Rattle.rl_bus.proofs.table.Lanes.covered.Goals.{then-is_enabled, else-is_enabled}
 
 pub loop-lane-init : goal.loop-lane-init
 loop-lane-init c = λ b l. rw lane_below-none (bit-zero b)
