@@ -1,0 +1,108 @@
+//! Runs a session from a file, writes its log to standard output, and the pins of its APB transfers to another file.
+#![tactic(auto)]
+
+mod session;
+
+use crate::session::{Ran, run_waves};
+use rl_apb::ApbAdapter;
+use rl_bus::{Adapters, PlainAdapter};
+use rl_dump::Fault;
+use rl_log::Status;
+use rl_report::{StdSink, StdSource};
+use std::alloc::AllocError;
+use std::process::ExitCode;
+use std::{env, fs, io};
+
+fn fault_text(fault: Fault) -> &'static str {
+    match fault {
+        Fault::Sink => "the dump couldn't be written",
+        Fault::Full => "the dump has too many clock cycles",
+        Fault::Memory => "no memory for the dump",
+    }
+}
+
+// Says how the dump ended early, where it did. Answers the exit status.
+fn code_of(rt: &impl Eprint, path: &str, ran: &Ran) -> u8 {
+    let Some(fault) = ran.fault else {
+        return ran.status.code();
+    };
+    let text = fault_text(fault);
+    let _ = eprintln!(rt; "regrun-waves: {path}: {text}");
+    if !ran.status.is_complete() {
+        return ran.status.code();
+    }
+    match fault {
+        Fault::Sink | Fault::Full => Status::SinkFault.code(),
+        Fault::Memory => Status::Memory.code(),
+    }
+}
+
+// Says that a file can't be opened.
+fn tell(rt: &impl Eprint, path: &str, error: &io::Error) {
+    let _ = eprintln!(rt; "regrun-waves: {path}: {error}");
+}
+
+// Runs the session in a file, and writes its pins to another one.
+fn run_files(rt: &HostRuntime, path: &str, waves: &str) -> Result<u8, AllocError> {
+    let alloc = rt.alloc();
+    let session = match fs::open(rt, path) {
+        Ok(file) => file,
+        Err(error) => {
+            tell(rt, path, &error);
+            return Ok(Status::SourceFault.code());
+        }
+    };
+    let vcd = match fs::create(rt, waves) {
+        Ok(file) => file,
+        Err(error) => {
+            tell(rt, waves, &error);
+            return Ok(Status::SinkFault.code());
+        }
+    };
+    let plain = PlainAdapter {
+        next_tag: 0,
+        trail: 0,
+    };
+    let apb = ApbAdapter {
+        next_serial: 0,
+        trail: 0,
+    };
+    let mut adapters: Adapters = Vec::new(alloc);
+    adapters.push(Box::new(alloc, plain)?)?;
+    adapters.push(Box::new(alloc, apb)?)?;
+    let mut session = StdSource::new(session);
+    let mut log = StdSink::new(io::writer(rt));
+    let ran = run_waves(
+        alloc,
+        &mut session,
+        &mut log,
+        StdSink::new(vcd),
+        &mut adapters,
+    );
+    Ok(code_of(rt, waves, &ran))
+}
+
+// Does what the arguments ask for.
+fn run(rt: &HostRuntime) -> io::Result<u8> {
+    let mut words = Vec::new(rt.alloc());
+    for word in env::args(rt)?.skip(1) {
+        words.push(word)?;
+    }
+    let [session, waves] = words.as_slice() else {
+        let _ = eprintln!(rt;
+            "regrun-waves: SESSION and VCD are asked for: a file to read and one to write"
+        );
+        return Ok(Status::Words.code());
+    };
+    Ok(run_files(rt, session.as_str(), waves.as_str())?)
+}
+
+fn main(rt: HostRuntime) -> ExitCode {
+    match run(&rt) {
+        Ok(code) => ExitCode::from(code),
+        Err(error) if error.kind() == io::ErrorKind::OutOfMemory => {
+            ExitCode::from(Status::Memory.code())
+        }
+        Err(_) => ExitCode::from(Status::Words.code()),
+    }
+}

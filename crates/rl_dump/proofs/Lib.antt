@@ -1,0 +1,2 @@
+mod DumpLemmas
+mod LabelLemmas
