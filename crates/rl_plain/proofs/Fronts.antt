@@ -1,5 +1,5 @@
 -- What is handed over of a burst or a sequence is a front of the plain machine's events.
-use Rattle.std.proofs.Common.{◌≡◌, ℕ, zero, suc, List, [], ◌∷◌, length, map, take, All, Option, Result, Ok, Err, OnOk, OnErr, refl, sym, ap, ◌∙◌, subst}
+use Rattle.std.proofs.Common.{◌≡◌, ℕ, zero, suc, List, [], ◌∷◌, length, map, take, Option, Result, Ok, Err, OnOk, OnErr, refl, sym, ap, ◌∙◌}
 use Rattle.std.proofs.Math.Seq.{take-length}
 use Rattle.std.proofs.lemmas.List.{length-map}
 use Rattle.rl_bus.specs.declared.device.Failed.{Failed}
@@ -11,9 +11,6 @@ use Rattle.rl_access.specs.declared.event.Tally.{Tally}
 use Rattle.rl_access.specs.Call.{Scene}
 use Rattle.rl_access.specs.HandsOver.{Told}
 use Rattle.rl_access.specs.Model.{ModelData, IsModel}
-use Rattle.rl_access.specs.Operation.{HasNumbers}
-use Rattle.rl_access.specs.Rules.{Grant}
-use Rattle.rl_access.specs.Runs.{IsBurst}
 use Rattle.rl_seq.specs.declared.sequence.Sequence.{Sequence}
 use Rattle.rl_seq.specs.declared.sequence.Sequence.TheVariants.{HwReset, BitBash, Access, Shared, MemWalk}
 use Rattle.rl_seq.specs.Plan.{Plan, stop, step, look, IsSequence}
