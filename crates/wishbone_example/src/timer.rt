@@ -1,5 +1,5 @@
 // The device: a timer that counts accesses.
-ghost use Rattle.std.specs.Prelude.{None};
+ghost use Rattle.std.specs.Prelude.{◌≡◌, None, IfSome};
 
 use rl_bus::{Answer, BusOp, Cell, Device, Response, Transfer, carried, response_to};
 
@@ -40,6 +40,7 @@ impl Register {
     }
 }
 
+// The bits of the fields.
 const ENABLE: u32 = 0x1;
 
 const CTRL_BITS: u32 = 0xff01;
@@ -51,16 +52,21 @@ const COUNT_FIELD: u32 = 2;
 
 const REACHED_FIELD: u32 = 4;
 
-/// A timer that doesn't tell its state: to its callers it may answer anything, and the log tells what it did.
+// What the registers hold.
 #[derive(Clone, Copy, Debug, PartialEq, Eq, Drop)]
-pub(crate) struct Timer {
+struct Registers {
     ctrl: u32,
     count: u32,
     limit: u32,
     status: u32,
-    /// How many transfers failed. It stays at the end of `u64`.
-    errors: u64,
 }
+
+const AFTER_RESET: Registers = Registers {
+    ctrl: 0x0100,
+    count: 0,
+    limit: 0xffff_ffff,
+    status: 0,
+};
 
 // The bits of the bytes that are selected.
 fn bits_of(lanes: u8) -> u32 {
@@ -78,18 +84,7 @@ fn low(value: u64) -> u32 {
     (value & 0xffff_ffff) as u32
 }
 
-impl Timer {
-    /// The timer after a reset.
-    pub(crate) fn new() -> Timer {
-        Timer {
-            ctrl: 0x0100,
-            count: 0,
-            limit: 0xffff_ffff,
-            status: 0,
-            errors: 0,
-        }
-    }
-
+impl Registers {
     fn stored(&self, register: Register) -> u32 {
         match register {
             Register::Ctrl => self.ctrl,
@@ -132,7 +127,9 @@ impl Timer {
     }
 
     // One access: the word read, or of a write 0. None where the port has another width, or no register is there.
-    fn access(&mut self, op: &BusOp) -> Option<u32> {
+    fn access(&mut self, op: &BusOp) -> Option<u32>
+        ensures port { IfSome result (λ _. op.now.bytes ≡ 4) }
+    {
         if op.bytes != 4 {
             return None;
         }
@@ -149,13 +146,31 @@ impl Timer {
     }
 }
 
+/// A timer that doesn't tell its state: to its callers it may answer anything, and the log tells what it did.
+#[derive(Clone, Copy, Debug, PartialEq, Eq, Drop)]
+pub(crate) struct Timer {
+    registers: Registers,
+    /// How many transfers failed. It stays at the end of `u64`.
+    errors: u64,
+}
+
+impl Timer {
+    /// The timer after a reset.
+    pub(crate) fn new() -> Timer {
+        Timer {
+            registers: AFTER_RESET,
+            errors: 0,
+        }
+    }
+}
+
 impl Device for Timer {
     ghost state = { λ _. None };
 
     ghost errors = { λ timer. timer.errors };
 
     fn transfer(&mut self, _port: u32, transfer: &Transfer) -> Response {
-        let answer = match self.access(&carried(transfer)) {
+        let answer = match self.registers.access(&carried(transfer)) {
             Some(word) => Answer {
                 word: u64::from(word),
                 failed: false,
@@ -173,28 +188,25 @@ impl Device for Timer {
 
     fn peek(&self, cell: Cell) -> u64 {
         match register_in(cell) {
-            Some(register) => u64::from(self.stored(register)),
+            Some(register) => u64::from(self.registers.stored(register)),
             None => 0,
         }
     }
 
     fn poke(&mut self, cell: Cell, value: u64) {
         if let Some(register) = register_in(cell) {
-            self.store(register, low(value));
+            self.registers.store(register, low(value));
         }
     }
 
     fn reset(&mut self, _kind: u32) {
-        *self = Timer {
-            errors: self.errors,
-            ..Timer::new()
-        };
+        self.registers = AFTER_RESET;
     }
 
     fn hw(&mut self, field: u32, value: u64) {
         match field {
-            COUNT_FIELD => self.store(Register::Count, low(value)),
-            REACHED_FIELD => self.store(Register::Status, low(value)),
+            COUNT_FIELD => self.registers.store(Register::Count, low(value)),
+            REACHED_FIELD => self.registers.store(Register::Status, low(value)),
             _ => {}
         }
     }
