@@ -11,8 +11,8 @@ use rl_bus::{
 
 /// The adapter of a Wishbone bus: each operation is one classic single cycle of Wishbone B4.
 ///
-/// Of the standard are SEL_O in both directions, WE_O, addresses that are multiples of the port's bytes, and ERR_I as the
-/// failure of a cycle. This example's own are the 32 lines of ADR_O, the tags and the trail.
+/// Of the standard are SEL_O in both directions, WE_O, addresses that are multiples of the port's bytes, and ERR_I as
+/// the failure of a cycle. This example's own are the 32 lines of ADR_O, the tags and the trail.
 #[derive(Clone, Copy, Debug, PartialEq, Eq, Drop)]
 pub(crate) struct WishboneAdapter {
     pub(crate) next_tag: u64,
