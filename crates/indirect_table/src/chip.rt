@@ -102,7 +102,9 @@ pub(crate) fn table_window(chip: &Chip) -> Result<Window, Fault>
     ensures index_reg { IfOk result (λ window. window.index_reg < length chip.now.regs) }
     ensures data_reg { IfOk result (λ window. window.data_reg < length chip.now.regs) }
 {
-    match (chip.reg_by_path(b"index"), chip.reg_by_path(b"data")) {
+    let index_reg = chip.reg_by_path(b"index");
+    let data_reg = chip.reg_by_path(b"data");
+    match (index_reg, data_reg) {
         (Some(index_reg), Some(data_reg)) => Ok(Window {
             index_reg,
             data_reg,

@@ -54,6 +54,24 @@ fn make_all<D: Device>(
     summary
 }
 
+// Makes so many accesses to a table of so many entries.
+fn measure_over<D: Device>(
+    alloc: Global,
+    model: &mut Model,
+    device: &mut D,
+    adapters: &mut Adapters,
+    accesses: u32,
+    entries: u32,
+) -> Result<Summary, Fault>
+    requires ready { IsReady model.old (map standing adapters.old.items) (D.state device.old) }
+{
+    let window = table_window(model.chip())?;
+    let mut bank = Bank::build(alloc, model, device, window, entries)?;
+    Ok(make_all(
+        &mut bank, model, device, adapters, accesses, entries,
+    ))
+}
+
 /// Makes so many accesses to a table of so many entries, over a plain bus and a device model without flaws.
 pub(crate) fn measure(alloc: Global, accesses: u32, entries: u32) -> Result<Summary, Fault> {
     let plain = PlainAdapter {
@@ -63,14 +81,12 @@ pub(crate) fn measure(alloc: Global, accesses: u32, entries: u32) -> Result<Summ
     let mut adapters: Adapters = Vec::new(alloc);
     adapters.push(Box::new(alloc, plain)?)?;
     let (mut model, mut device) = opened(alloc, &adapters)?;
-    let window = table_window(model.chip())?;
-    let mut bank = Bank::build(alloc, &model, &device, window, entries)?;
-    Ok(make_all(
-        &mut bank,
+    measure_over(
+        alloc,
         &mut model,
         &mut device,
         &mut adapters,
         accesses,
         entries,
-    ))
+    )
 }
