@@ -1,8 +1,8 @@
 #!/usr/bin/env bash
 # table.sh BIN: instructions of the built program indirect_table (crates/indirect_table/out/indirect_table) for 100,000 and
 # 200,000 accesses by index, at several numbers of entries. The difference of the two, over 100,000, is what an access takes:
-# opening the chip and making the entries is in both. Its two halves are also told, to show that the time grows with the
-# accesses alone. Needs valgrind.
+# opening the chip and making the entries is in both. What the first 100,000 take, less a run without any, stands beside it: the
+# time grows with the accesses alone where the two are alike. Needs valgrind. ENTRIES=.. takes other numbers of entries.
 set -eu
 bin=$(realpath "${1:?usage: table.sh BIN}")
 read -r -a sizes <<< "${ENTRIES:-16 1024 16384 65536}"

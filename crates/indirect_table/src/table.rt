@@ -67,9 +67,7 @@ fn measure_over<D: Device>(
 {
     let window = table_window(model.chip())?;
     let mut bank = Bank::build(alloc, model, device, window, entries)?;
-    Ok(make_all(
-        &mut bank, model, device, adapters, accesses, entries,
-    ))
+    Ok(make_all(&mut bank, model, device, adapters, accesses, entries))
 }
 
 /// Makes so many accesses to a table of so many entries, over a plain bus and a device model without flaws.
