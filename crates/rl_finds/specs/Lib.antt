@@ -1,0 +1,4 @@
+pub mod Visited
+pub mod Named
+pub mod Errors
+pub mod Resets

@@ -1,0 +1,20 @@
+//! What the sequences find. Each function does nothing; its contract is the law.
+ghost use Rattle.rl_finds.specs.Errors.{SharedErrorIsFound, VisitedErrorIsFound};
+ghost use Rattle.rl_finds.specs.Named.{NothingIsNamed};
+
+/// Where a device without flaws and a model without a volatile field agree, as new ones do, no event of a sequence names a
+/// field.
+pub fn nothing_is_named()
+    ensures { NothingIsNamed }
+{}
+
+/// Each sequence finds an address that answers errors, by a flaw of a range: where a word of a register or a location
+/// stands there, in a place that the sequence visits, some event ends by a bus error.
+pub fn visited_error_is_found()
+    ensures { VisitedErrorIsFound }
+{}
+
+/// `shared_access` finds it at each place of a register that it visits, also at one that may only be read.
+pub fn shared_error_is_found()
+    ensures { SharedErrorIsFound }
+{}
