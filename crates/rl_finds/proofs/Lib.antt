@@ -5,3 +5,8 @@ pub mod Failing
 pub mod Reaching
 pub mod Errors
 pub mod Forgetting
+pub mod Comes
+pub mod Wrong
+pub mod Checks
+pub mod HwReset
+pub mod Walked

@@ -61,18 +61,19 @@ first_names c l p count (look f) = first_names c l p count (f (seen c l p))
 
 -- ---- what was told
 
-abbrev plain_events : List Told → List Event
+abbrev pub plain_events : List Told → List Event
 plain_events told = map (λ t. without_items t.event) told
 
-told_names : (told : List Told) → All NamesNoField (plain_events told) → All (λ (t : Told). NamesNoField t.event) told
-told_names [] h = All-nil (λ (t : Told). NamesNoField t.event)
-told_names (t ∷ told) h =
-    All-cons (λ (t : Told). NamesNoField t.event) t told (All-head NamesNoField (without_items t.event) (plain_events told) h)
-    (told_names told (All-tail NamesNoField (without_items t.event) (plain_events told) h))
+pub each_told : (IsSo : Event → Type 0) → ((e : Event) → IsSo (without_items e) → IsSo e) → (told : List Told) → All IsSo (plain_events told)
+    → All (λ (t : Told). IsSo t.event) told
+each_told IsSo with_items [] h = All-nil (λ (t : Told). IsSo t.event)
+each_told IsSo with_items (t ∷ told) h =
+    All-cons (λ (t : Told). IsSo t.event) t told (with_items t.event (All-head IsSo (without_items t.event) (plain_events told) h))
+    (each_told IsSo with_items told (All-tail IsSo (without_items t.event) (plain_events told) h))
 
 -- ---- the machine of a device and a model that agree
 
-abbrev machine_of : ModelData → State → Machine
+abbrev pub machine_of : ModelData → State → Machine
 machine_of m d = record {
   bits = m.mirror.mirrored;
   desired = m.mirror.desired;
@@ -80,7 +81,7 @@ machine_of m d = record {
   locations = λ mem index. slice_index d.locations (location d.setup mem index);
 }
 
-is_machine : (s : Scene) → IsModel s.model → (w : AgreeWithMemories s) → IsMachineOf s (machine_of s.model w.agree.device)
+pub is_machine : (s : Scene) → IsModel s.model → (w : AgreeWithMemories s) → IsMachineOf s (machine_of s.model w.agree.device)
 is_machine s ok w =
     let m = s.model in
     record {
@@ -106,11 +107,11 @@ nothing_is_named s new which block told ok w (inl all) =
     let p = machine_of s.model w.agree.device in
     let plan = plan_of which c l block in
     let course = plan_is_plain s new plan told p (numbers_of which c l block (plans_have_numbers c l block ok.chip ok.layout)) ok (is_machine s ok w) all in
-    told_names told (subst (All NamesNoField) (sym course.events) (along_names c l p plan))
+    each_told NamesNoField (λ e h. h) told (subst (All NamesNoField) (sym course.events) (along_names c l p plan))
 nothing_is_named s new which block told ok w (inr some) =
     let c = s.model.chip in
     let l = s.model.layout in
     let p = machine_of s.model w.agree.device in
     let plan = plan_of which c l block in
     let course = broken_plan_is_plain s new plan told p (numbers_of which c l block (plans_have_numbers c l block ok.chip ok.layout)) ok (is_machine s ok w) some in
-    told_names told (subst (All NamesNoField) (sym course.events) (first_names c l p (length told) plan))
+    each_told NamesNoField (λ e h. h) told (subst (All NamesNoField) (sym course.events) (first_names c l p (length told) plan))

@@ -3,7 +3,7 @@ use Rattle.std.proofs.Common.{◌≡◌, ℕ, ◌*◌, ◌^◌, ◌<◌, nat_lt,
 use Rattle.std.specs.Option.{option_map_or}
 use Rattle.std.proofs.lemmas.Bool.{and_parts, eqb-true, false_from_ne_true}
 use Rattle.std.proofs.lemmas.List.Sums.{position_or_len_is}
-use Rattle.std.proofs.lemmas.Nat.{pow_pos}
+use Rattle.std.proofs.lemmas.Nat.{mod_below, pow_pos}
 use borrow.Author.Tests.{lt-ltb}
 use Rattle.rl_model.specs.Rows.{ChipData}
 use Rattle.rl_model.specs.Fields.{size_of}
@@ -21,10 +21,10 @@ use Rattle.rl_access.specs.declared.event.Refused.TheVariants.{NoRight, NotWrita
 use Rattle.rl_access.specs.Items.{failed_at}
 use Rattle.rl_access.specs.Model.{ModelData}
 use Rattle.rl_access.specs.Operation.{location_size}
-use Rattle.rl_access.specs.Rules.{Grant, only_where, placed, with_right, way, item_size, memory_size, is_writable}
+use Rattle.rl_access.specs.Rules.{Grant, grant, only_where, placed, with_right, way, item_size, memory_size, is_writable}
 use Rattle.rl_access.proofs.Bytes.{bytes_bits}
 use Rattle.rl_access.proofs.Places.{size_is}
-use Rattle.rl_seq.specs.Choice.{is_of, may_read, may_write, turned_round}
+use Rattle.rl_seq.specs.Choice.{is_of, may_read, may_write, low_bits, turned_round}
 use Rattle.rl_seq.specs.Sequences.{map_at}
 use Rattle.rl_finds.proofs.Failing.{IsAccessAt, error_end}
 
@@ -131,6 +131,29 @@ mem_write_is c l mem place index v p right writable low =
           ∙ ap (λ n. ops_of l place index (all_bytes n) value true) (ap (λ x. location_size x mem) chip ∙ p.size);
       ends = λ m sampled items some. error_end (failed_at items) _ _ some;
     }
+
+-- a check of a location is granted too, and so is a write of its number
+pub mem_check_granted : (c : ChipData) (l : LayoutData) (mem place index v : ℕ) → IsPlaceOf c l place (Mem mem) → may_read l place ≡ true
+    → index < memory_size c mem → (m : ModelData) → m.chip ≡ c → m.layout ≡ l
+    → grant m (op.MemCheck mem (Some (map_at l place)) index (turned_round c (Mem mem) v)) ≡ Ok place
+mem_check_granted c l mem place index v p right low m chip layout =
+    met _ place _ TooWide (met _ place _ OutOfRange (way_to c l place (Mem mem) false p right m layout)
+    (lt-ltb index (memory_size m.chip mem) (subst (λ x. index < memory_size x mem) (sym chip) low))) (fits_for c (Mem mem) v m chip)
+
+low_fits : (c : ChipData) (item : Item) (v : ℕ) → nat_lt (low_bits c item v) (256 ^ item_size c item) ≡ true
+low_fits c item v =
+    let bits = bytes_bits (item_size c item) in
+    let low = mod_below v (2 ^ (8 * item_size c item)) (pow_pos (8 * item_size c item)) in
+    lt-ltb (low_bits c item v) (256 ^ item_size c item) (omega (arith, bits, low))
+
+pub mem_number_granted : (c : ChipData) (l : LayoutData) (mem place index : ℕ) → IsPlaceOf c l place (Mem mem) → may_write l place ≡ true
+    → is_writable c mem ≡ true → index < memory_size c mem → (m : ModelData) → m.chip ≡ c → m.layout ≡ l
+    → grant m (op.MemWrite mem (Some (map_at l place)) index (low_bits c (Mem mem) index)) ≡ Ok place
+mem_number_granted c l mem place index p right writable low m chip layout =
+    met _ place _ TooWide (met _ place _ OutOfRange
+    (met _ place _ NotWritable (way_to c l place (Mem mem) true p right m layout) (subst (λ x. is_writable x mem ≡ true) (sym chip) writable))
+    (lt-ltb index (memory_size m.chip mem) (subst (λ x. index < memory_size x mem) (sym chip) low)))
+    (subst (λ x. nat_lt (low_bits c (Mem mem) index) (256 ^ item_size x (Mem mem)) ≡ true) (sym chip) (low_fits c (Mem mem) index))
 
 -- ---- locations
 

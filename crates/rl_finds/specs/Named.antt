@@ -6,6 +6,7 @@ use Rattle.rl_access.specs.HandsOver.{Told}
 use Rattle.rl_access.specs.Model.{IsModel}
 use Rattle.rl_access.specs.Operation.{is_on_memory}
 use Rattle.rl_seq.specs.declared.sequence.Sequence.{Sequence}
+use Rattle.rl_seq.specs.declared.sequence.Sequence.TheVariants.{MemWalk}
 use Rattle.rl_plain.specs.EachCall.{AgreeWithMemories}
 use Rattle.rl_finds.specs.Visited.{RunsAll, RunsSome}
 
@@ -20,3 +21,9 @@ NothingIsNamed =
     (s new : Scene) (which : Sequence) (block : Option ℕ) (told : List Told)
     → IsModel s.model → AgreeWithMemories s → RunsAll which block s told new ⊎ RunsSome which block s told new
     → All (λ t. NamesNoField t.event) told
+
+-- There `mem_walk` finds in each location that it checks what was written.
+abbrev pub NoLocationDiffers : Type 0
+NoLocationDiffers =
+    (s new : Scene) (block : Option ℕ) (told : List Told)
+    → IsModel s.model → AgreeWithMemories s → RunsAll MemWalk block s told new → All (λ t. t.event.differ ≡ 0) told
