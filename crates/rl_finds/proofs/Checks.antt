@@ -1,38 +1,34 @@
 -- Checks of registers over a device with wrong reset values: one of another register changes neither side of this one.
-use Rattle.std.proofs.Common.{◌≡◌, ◌≢◌, ◌⊎◌, ℕ, ◌<◌, Bool, true, false, List, [], length, get_or, Option, None, Some, option_map, Ok, Err, MatchResult, if◌then◌else◌, refl, sym, ap, ◌∙◌, subst, inl, inr, arith}
+use Rattle.std.proofs.Common.{◌≡◌, ℕ, ◌<◌, Bool, true, false, List, length, Option, None, Some, option_map, Ok, Err, MatchResult, if◌then◌else◌}
+use Rattle.std.proofs.Common.{refl, sym, ap, ◌∙◌, subst, inl, inr, arith}
 use Rattle.std.specs.Prelude.{slice_index, slice_set}
 use Rattle.std.proofs.lemmas.Bool.{cases_eq}
 use Rattle.std.proofs.lemmas.List.{get_or-set_same, get_or-set_other, length-set}
 use Rattle.rl_policy.proofs.BitLemmas.{bit-zero}
 use Rattle.rl_policy.specs.Bits.{bit}
-use Rattle.rl_bus.specs.Standing.{Standing, standing_at}
+use Rattle.rl_bus.specs.Standing.{standing_at}
 use Rattle.rl_bus.specs.State.{State}
 use Rattle.rl_model.specs.Rows.{ChipData}
-use Rattle.rl_model.specs.Fields.{fields_of, size_of}
-use Rattle.rl_model.specs.declared.rows.Item.TheVariants.{Reg}
+use Rattle.rl_model.specs.Fields.{fields_of}
 use Rattle.rl_map.specs.Layout.{LayoutData, place_at, port_at, words_of}
 use Rattle.rl_split.specs.Law.{IsReady}
-use Rattle.rl_split.specs.Step.{Register, every, ranswer, rstep}
+use Rattle.rl_split.specs.Step.{Register, every, ranswer}
 use Rattle.rl_mirror.specs.Mirror.{MirrorData, mirrored_of}
-use Rattle.rl_mirror.specs.Prediction.{predict_read, learned_by_read}
-use Rattle.rl_access.specs.declared.event.End.{End}
+use Rattle.rl_mirror.specs.Prediction.{predict_read}
 use Rattle.rl_access.specs.declared.event.End.TheVariants as end
 use Rattle.rl_access.specs.declared.event.Event.{Event}
-use Rattle.rl_access.specs.declared.event.Op.{Op}
 use Rattle.rl_access.specs.declared.event.Op.TheVariants as op
 use Rattle.rl_access.specs.declared.predictor.Gathered.{Gathered}
-use Rattle.rl_access.specs.declared.trace.TraceItem.{TraceItem}
 use Rattle.rl_access.specs.Call.{Scene, IsDone, IsRefused, Performs}
 use Rattle.rl_access.specs.Gathering.{IsPredictorOf, no_words, gathered_at}
 use Rattle.rl_access.specs.Items.{failed_at, items_of, state_after_all, port_for, adapter_for}
-use Rattle.rl_access.specs.Model.{ModelData, IsModel, IsSameChip}
+use Rattle.rl_access.specs.Model.{ModelData, IsModel}
 use Rattle.rl_access.specs.Operation.{HasNumbers}
-use Rattle.rl_access.specs.Rules.{Grant, grant, sends, forgotten, forgetting, whole, value_of, every_field, Outcome, or_error, outcome}
-use Rattle.rl_plain.specs.OneStep.{Meets, IsOneStep, device_after, step_of, read_step}
+use Rattle.rl_access.specs.Rules.{Grant, grant, sends, forgetting, every_field, Outcome, or_error}
+use Rattle.rl_plain.specs.OneStep.{Meets, device_after, read_step}
 use Rattle.rl_plain.proofs.Agreement.{other_bits}
 use Rattle.rl_plain.proofs.Answered.{done_of}
 use Rattle.rl_plain.proofs.EachAccess.{access_is_step}
-use Rattle.rl_plain.proofs.Granted.{way_found}
 use Rattle.rl_plain.proofs.Kept.{read_kept}
 use Rattle.rl_finds.proofs.Forgetting.{without, items_without, all_without}
 

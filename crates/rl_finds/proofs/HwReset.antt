@@ -1,19 +1,18 @@
 -- The first check of a register after a HARD reset names a field that took another value than the one that is believed.
-use Rattle.std.proofs.Common.{◌≡◌, ◌≢◌, ◌⊎◌, ℕ, ◌+◌, ◌-◌, ◌*◌, ◌^◌, ◌<◌, Bool, true, false, if◌then◌else◌, List, [], ◌∷◌, length, map, get_or, replicate, Option, None, Some, option_map, Ok, refl, sym, ap, ◌∙◌, subst, inl, inr, arith}
+use Rattle.std.proofs.Common.{◌≡◌, ◌≢◌, ◌⊎◌, ℕ, ◌-◌, ◌*◌, ◌^◌, ◌<◌, Bool, true, false, if◌then◌else◌, List, [], ◌∷◌, length, map, get_or, Option, None}
+use Rattle.std.proofs.Common.{Some, option_map, Ok, refl, sym, ap, ◌∙◌, subst, inl, inr, arith}
 use Rattle.std.specs.Prelude.{slice_index}
 use Rattle.std.proofs.lemmas.Bool.{and_parts, cases_eq}
 use Rattle.std.proofs.lemmas.List.{get_or-replicate, length-replicate}
 use Rattle.std.proofs.lemmas.List.FromFn.{get_or-map-range_with_len, length-map-range_with_len}
 use Rattle.rl_policy.specs.Table.{is_write_only}
 use Rattle.rl_bus.specs.declared.table.ResetRow.{ResetRow}
-use Rattle.rl_bus.specs.Setup.{Setup}
 use Rattle.rl_bus.specs.State.{State, reg_reset, reset_by}
 use Rattle.rl_model.specs.Rows.{FieldSeen, ChipData}
 use Rattle.rl_model.specs.Chip.{IsSound, value_for}
 use Rattle.rl_model.specs.Fields.{field_of, first_of, fields_of, field_in, size_of}
-use Rattle.rl_model.specs.declared.rows.Field.{Field}
 use Rattle.rl_model.specs.declared.rows.Item.TheVariants.{Reg}
-use Rattle.rl_map.specs.Layout.{LayoutData, IsSound as IsLayout}
+use Rattle.rl_map.specs.Layout.{LayoutData}
 use Rattle.rl_map.specs.Tables.{setup_of}
 use Rattle.rl_split.specs.Law.{no_flaws, IsReady}
 use Rattle.rl_split.specs.Step.{Register, every, ranswer}
@@ -24,15 +23,12 @@ use Rattle.rl_mirror.proofs.FieldLemmas.{field_list, seated}
 use Rattle.rl_mirror.proofs.MirrorLemmas.{place_of, reset_built}
 use Rattle.rl_mirror.proofs.ReachLemmas.{reset_reach}
 use Rattle.rl_mirror.proofs.ResetLemmas.{reset_fits}
-use Rattle.rl_access.specs.declared.event.End.{End}
-use Rattle.rl_access.specs.declared.event.End.TheVariants as end
 use Rattle.rl_access.specs.declared.event.Event.{Event}
 use Rattle.rl_access.specs.declared.event.Op.{Op}
 use Rattle.rl_access.specs.declared.event.Op.TheVariants as op
 use Rattle.rl_access.specs.declared.trace.TraceItem.{TraceItem}
 use Rattle.rl_access.specs.Call.{Scene, IsDone, Performs}
-use Rattle.rl_access.specs.HandsOver.{Told}
-use Rattle.rl_access.specs.Laws.{IsComparedField, IsFoundOther, ChecksRegister, NamesField}
+use Rattle.rl_access.specs.Laws.{IsComparedField, IsFoundOther, ChecksRegister}
 use Rattle.rl_access.specs.Model.{ModelData, IsModel}
 use Rattle.rl_access.specs.Operation.{reg_of, register_of, HasNumbers}
 use Rattle.rl_access.specs.Rules.{grant, named, Outcome, outcome, event_at}
@@ -40,13 +36,12 @@ use Rattle.rl_access.proofs.Beliefs.{check_names}
 use Rattle.rl_seq.specs.declared.sequence.Sequence.TheVariants.{HwReset}
 use Rattle.rl_seq.specs.Choice.{is_of, may_read}
 use Rattle.rl_seq.specs.Plan.{Plan, stop, each_below}
-use Rattle.rl_seq.specs.Sequences.{map_at, items_of, item_of, is_chosen, has_rights, is_visited, at_place, visit, visit_all, walk}
+use Rattle.rl_seq.specs.Sequences.{map_at, items_of, is_chosen, is_visited, at_place, visit, visit_all, walk}
 use Rattle.rl_plain.proofs.Answered.{done_of}
 use Rattle.rl_finds.specs.Resets.{wrong_resets, HasWrongResets, IsResetOtherwise, IsNamedBy, WrongResetIsNamed}
-use Rattle.rl_finds.specs.Visited.{RunsAll, HasEvent, IsVisited}
+use Rattle.rl_finds.specs.Visited.{IsVisited}
 use Rattle.rl_finds.proofs.Checks.{Holding, other_check, own_check}
-use Rattle.rl_finds.proofs.Comes.{AreOthers, ComesTo, Either, either_if, comes_if, either_each, comes_each, come_found}
-use Rattle.rl_finds.proofs.Failing.{IsAccessAt}
+use Rattle.rl_finds.proofs.Comes.{ComesTo, Either, either_if, comes_if, either_each, comes_each, come_found}
 use Rattle.rl_finds.proofs.Forgetting.{setup_without, without}
 use Rattle.rl_finds.proofs.Reaching.{is_place, check_is}
 use Rattle.rl_finds.proofs.Wrong.{read_part, described_part, taken_part}
@@ -216,6 +211,7 @@ names_it c l field bits mirrored sound inside compared apart s new o e own h per
         let k = field - first_of c reg in
         let r : Register = record { bits = bits; spent = λ k. false } in
         let at = place_of c field sound inside in
+        let called = named s.model (op.Check reg own.map) in
         let granted = own.granted s.model h.chip h.layout in
         let done = done_of s new (op.Check reg own.map) own.place e granted performs in
         let ends = own_check c l s new reg own.place own.map e bits mirrored own.numbers h granted performs in
@@ -232,7 +228,7 @@ names_it c l field bits mirrored sound inside compared apart s new o e own h per
         subst (λ (x : ChipData). (k < length (fields_of x reg)) × IsFoundOther (field_in (fields_of x reg) k).shape (ranswer fs every r) (mirrored_of s.model.mirror reg)) (sym h.chip) here in
         record {
           check = subst (λ o. ChecksRegister o reg)
-              (sym (ap (λ (x : Event). x.op) done.event_is ∙ op_is (register_of s.model.chip (named s.model (op.Check reg own.map))) (named s.model (op.Check reg own.map)) e.trace (outcome s.model (op.Check reg own.map) own.place done.sampled e.trace)))
+              (sym (ap (λ (x : Event). x.op) done.event_is ∙ op_is (register_of s.model.chip called) called e.trace (outcome s.model (op.Check reg own.map) own.place done.sampled e.trace)))
               (checks_it s.model reg own.map);
           names = (check_names s new (op.Check reg own.map) e reg (ranswer fs every r) k performs refl ends).1 there;
         }

@@ -10,3 +10,6 @@ pub mod Wrong
 pub mod Checks
 pub mod HwReset
 pub mod Walked
+pub mod Twins
+pub mod Untouched
+pub mod DeafWalk

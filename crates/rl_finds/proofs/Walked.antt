@@ -1,5 +1,6 @@
 -- Each check of a location that `mem_walk` makes finds what was written there, in the plain machine.
-use Rattle.std.proofs.Common.{◌≡◌, ◌⊎◌, ℕ, zero, suc, ◌+◌, ◌<◌, ◌==◌, eqb, eq-eqb, ne_eqb, nat_lt, Bool, true, false, ◌&&◌, if◌then◌else◌, List, [], ◌∷◌, ◌++◌, length, All, Option, None, Some, Ok, Err, refl, sym, ap, ◌∙◌, subst, inl, inr, arith}
+use Rattle.std.proofs.Common.{◌≡◌, ℕ, zero, suc, ◌+◌, ◌<◌, ◌==◌, eq-eqb, ne_eqb, Bool, true, false, ◌&&◌, if◌then◌else◌, length}
+use Rattle.std.proofs.Common.{All, Option, Some, Ok, refl, sym, ap, ◌∙◌, subst, arith}
 use Rattle.std.proofs.lemmas.Bool.{and_parts}
 use Rattle.std.proofs.lemmas.List.Elements.{All-nil, All-cons, All-head, All-tail}
 use Rattle.rl_model.specs.Rows.{ChipData}
@@ -9,12 +10,12 @@ use Rattle.rl_access.specs.declared.event.Event.{Event}
 use Rattle.rl_access.specs.declared.event.Op.{Op}
 use Rattle.rl_access.specs.declared.event.Op.TheVariants as op
 use Rattle.rl_access.specs.Model.{ModelData, IsModel}
-use Rattle.rl_access.specs.Rules.{Grant, grant, memory_size, is_writable}
+use Rattle.rl_access.specs.Rules.{grant, memory_size, is_writable}
 use Rattle.rl_seq.specs.declared.sequence.Sequence.TheVariants.{MemWalk}
 use Rattle.rl_seq.specs.Choice.{is_of, is_tested, may_read, may_write, no_mem_walk_test, low_bits, turned_round}
 use Rattle.rl_seq.specs.Plan.{Plan, stop, step, look, followed_by, only_if, each_below}
-use Rattle.rl_seq.specs.Sequences.{map_at, fill, check_filled, write_number, settle_before, check_last, walk_location, is_chosen, is_visited, at_place, visit, visit_all, walk}
-use Rattle.rl_plain.specs.Courses.{Course, along}
+use Rattle.rl_seq.specs.Sequences.{map_at, check_filled, write_number, settle_before, check_last, walk_location, is_chosen, is_visited, at_place, visit, visit_all, walk}
+use Rattle.rl_plain.specs.Courses.{along}
 use Rattle.rl_plain.specs.Machine.{Machine, seen, with_location, Done, done_at, done_by, machine_step}
 use Rattle.rl_plain.proofs.PlainCourses.{plan_is_plain}
 use Rattle.rl_plain.proofs.PlanNumbers.{plans_have_numbers}

@@ -1,5 +1,5 @@
 -- A field after a HARD reset: in the device, and as it is then believed.
-use Rattle.std.proofs.Common.{◌≡◌, ◌⊎◌, ℕ, ◌+◌, ◌-◌, ◌*◌, ◌^◌, ◌<◌, ◌≤◌, Bool, true, false, ◌&&◌, eqb, eqb-true, List, [], length, map, get_or, Option, None, Some, is_some}
+use Rattle.std.proofs.Common.{◌≡◌, ℕ, ◌+◌, ◌-◌, ◌*◌, ◌^◌, ◌<◌, Bool, true, false, eqb, eqb-true, List, length, map, Option, None, Some, is_some}
 use Rattle.std.proofs.Common.{refl, sym, ap, ◌∙◌, subst, arith}
 use Rattle.std.specs.Prelude.{slice_index}
 use Rattle.std.specs.Option.{option_map_or}
@@ -7,7 +7,7 @@ use Rattle.std.proofs.lemmas.Bool.{and_parts}
 use Rattle.std.proofs.lemmas.Bool.Decides.{nat_tests}
 use Rattle.std.proofs.lemmas.List.{get_or-map, length-map}
 use Rattle.std.proofs.lemmas.List.Quantifiers.{position-Some}
-use Rattle.rl_policy.specs.Bits.{bit, is_within, from_bits}
+use Rattle.rl_policy.specs.Bits.{bit, is_within}
 use Rattle.rl_policy.specs.Table.{value_read, is_write_only}
 use Rattle.rl_policy.specs.declared.policy.Policy.{Policy}
 use Rattle.rl_policy.specs.declared.policy.Policy.TheVariants.{Wo, Woc, Wos, Wo1}
@@ -23,17 +23,16 @@ use Rattle.rl_map.specs.Layout.{LayoutData}
 use Rattle.rl_map.specs.Tables.{field_row, setup_of}
 use Rattle.rl_split.specs.Law.{no_flaws}
 use Rattle.rl_split.specs.Step.{Register, every, ranswer, shown_bit}
-use Rattle.rl_mirror.specs.Fields.{part_of, word_by_field}
+use Rattle.rl_mirror.specs.Fields.{part_of}
 use Rattle.rl_mirror.specs.Prediction.{reset_bit, after_reset}
 use Rattle.rl_mirror.proofs.FieldLemmas.{length-fields_of, field_in-fields_of, number_within, owner_is, apart_fields, field_list, seated}
-use Rattle.rl_mirror.proofs.MirrorLemmas.{IsAt, place_of}
+use Rattle.rl_mirror.proofs.MirrorLemmas.{place_of}
 use Rattle.rl_mirror.proofs.PlaceLemmas.{IsFieldList, is_place, covers_is, place_is}
-use Rattle.rl_mirror.proofs.ResetLemmas.{reset_fits}
 use Rattle.rl_mirror.proofs.WordLemmas.{bit-word_by_field}
 use Rattle.rl_access.specs.Operation.{reg_of}
 use Rattle.rl_plain.proofs.Backdoor.{is_field}
 use Rattle.rl_plain.proofs.Registers.{bit-ranswer}
-use Rattle.rl_finds.specs.Resets.{wrong_resets, HasWrongResets, IsResetOtherwise}
+use Rattle.rl_finds.specs.Resets.{wrong_resets}
 
 -- ---- the bits of a field
 

@@ -2,3 +2,4 @@ pub mod Visited
 pub mod Named
 pub mod Errors
 pub mod Resets
+pub mod Deaf

@@ -1,10 +1,11 @@
 //! What the sequences find. Each function does nothing; its contract is the law.
+ghost use Rattle.rl_finds.specs.Deaf.{DeafMemoryIsFound};
 ghost use Rattle.rl_finds.specs.Errors.{SharedErrorIsFound, VisitedErrorIsFound};
 ghost use Rattle.rl_finds.specs.Named.{NoLocationDiffers, NothingIsNamed};
 ghost use Rattle.rl_finds.specs.Resets.{WrongResetIsNamed};
 
-/// Where a device without flaws and a model without a volatile field agree, as new ones do, no event of a sequence names a
-/// field.
+/// Where a device without flaws and a model without a volatile field agree, as new ones do, no event of a sequence
+/// names a field.
 pub fn nothing_is_named()
     ensures { NothingIsNamed }
 {}
@@ -25,8 +26,14 @@ pub fn shared_error_is_found()
     ensures { SharedErrorIsFound }
 {}
 
-/// `hw_reset` finds a wrong reset value: where a compared field of a register that it visits takes another value at a HARD
-/// reset than the description says, some check names the field.
+/// `hw_reset` finds a wrong reset value: where a compared field of a register that it visits takes another value at a
+/// HARD reset than the description says, some check names the field.
 pub fn wrong_reset_is_named()
     ensures { WrongResetIsNamed }
+{}
+
+/// `mem_walk` finds a deaf memory: where a memory that it visits takes no write, and its first location doesn't hold 1
+/// in each bit, some check of a location is marked.
+pub fn deaf_memory_is_found()
+    ensures { DeafMemoryIsFound }
 {}
