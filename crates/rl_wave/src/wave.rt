@@ -1,0 +1,220 @@
+// The text of a dump.
+ghost use Rattle.std.specs.Prelude.{◌≡◌, ◌≤◌, ◌<◌, ◌+◌, ◌-◌, ◌^◌, ◌++◌, ◌∷◌, [], Err};
+ghost use Rattle.std.specs.Prelude.{IfOk, OnOk, OnErr, All, flat_map};
+ghost use Rattle.rl_wave.specs.Signals.{binary, joined};
+ghost use Rattle.rl_wave.specs.Pins.{idle, pins_at, changes};
+ghost use Rattle.rl_wave.specs.Dump.{opening_text, closing_text, cycle_text, label_text, access_text, transfer_text};
+
+use crate::header::{NamedBus, push_header};
+use crate::pins::{Bus, IDLE, pins_at, push_changes};
+use crate::text::{push, push_binary, push_decimal};
+use rl_apb::Pins;
+use rl_bus::{ApbResponse, ApbTransfer};
+use std::alloc::{AllocError, Global};
+
+// No transfer begins in this cycle or a later one, so that its cycles can be counted.
+const LAST: u64 = u64::MAX - 1023;
+
+/// Why a transfer wasn't drawn.
+#[derive(Clone, Copy, Debug, PartialEq, Eq)]
+pub enum Fault {
+    /// There have been 2^64 - 1024 clock cycles.
+    Full,
+    /// Memory was wanting.
+    Memory,
+}
+
+impl From<AllocError> for Fault {
+    ghost use Rattle.std.specs.Prelude.{◌≡◌};
+    ghost use Rattle.rl_wave.specs.declared.wave.Fault.{Fault};
+
+    ghost from_gives = { λ _ fault. fault ≡ Fault.Memory };
+
+    fn from(_: AllocError) -> Fault {
+        Fault::Memory
+    }
+}
+
+// Appends a clock cycle before its changes.
+fn open_cycle(text: &mut Vec<u8>, n: u64) -> Result<(), AllocError>
+    ensures { OnOk result (text.new.items ≡ text.old.items ++ opening_text n) }
+{
+    push(text, b"#")?;
+    push_decimal(text, n)?;
+    push(text, b"0\n1c\n#")?;
+    push_decimal(text, n)?;
+    push(text, b"1\n")?;
+    Ok(())
+}
+
+// Appends the end of a clock cycle.
+fn close_cycle(text: &mut Vec<u8>, n: u64) -> Result<(), AllocError>
+    ensures { OnOk result (text.new.items ≡ text.old.items ++ closing_text n) }
+{
+    push(text, b"#")?;
+    push_decimal(text, n)?;
+    push(text, b"5\n0c\n")?;
+    Ok(())
+}
+
+// Appends a clock cycle in which the pins change so.
+fn push_cycle(
+    text: &mut Vec<u8>,
+    n: u64,
+    bus: Bus,
+    before: &Pins,
+    after: &Pins,
+) -> Result<(), AllocError>
+    requires { bus.bytes ≤ 4 }
+    ensures { OnOk result (text.new.items ≡ text.old.items ++ cycle_text n (changes bus before.now after.now)) }
+{
+    open_cycle(text, n)?;
+    push_changes(text, bus, before, after)?;
+    close_cycle(text, n)?;
+    Ok(())
+}
+
+// Appends the characters of an operation.
+fn push_characters(text: &mut Vec<u8>, label: &[u8]) -> Result<(), AllocError>
+    ensures { OnOk result (text.new.items ≡ text.old.items ++ flat_map (binary 8) label.now) }
+{
+    for k in 0..label.len() {
+        push_binary(text, 8, u32::from(label[k]))?;
+    }
+    Ok(())
+}
+
+// Appends the operation beside the pins.
+fn push_label(text: &mut Vec<u8>, label: &[u8]) -> Result<(), AllocError>
+    ensures { OnOk result (text.new.items ≡ text.old.items ++ label_text label.now) }
+{
+    push(text, b"b0")?;
+    push_characters(text, label)?;
+    push(text, b" o\n")?;
+    Ok(())
+}
+
+// Appends the setup phase, in which the operation appears.
+fn push_setup(
+    text: &mut Vec<u8>,
+    n: u64,
+    bus: Bus,
+    label: &[u8],
+    setup: &Pins,
+) -> Result<(), AllocError>
+    requires { bus.bytes ≤ 4 }
+    ensures { OnOk result (text.new.items ≡ text.old.items
+        ++ cycle_text n (joined (label_text label.now ∷ changes bus idle setup.now ∷ []))) }
+{
+    open_cycle(text, n)?;
+    push_label(text, label)?;
+    push_changes(text, bus, &IDLE, setup)?;
+    close_cycle(text, n)?;
+    Ok(())
+}
+
+// Appends the access phase.
+fn push_access(
+    text: &mut Vec<u8>,
+    n: u64,
+    bus: Bus,
+    transfer: &ApbTransfer,
+    response: &ApbResponse,
+) -> Result<(), AllocError>
+    requires narrow { bus.bytes ≤ 4 }
+    requires early { n ≤ 2 ^ 64 - 1024 }
+    ensures { OnOk result (text.new.items ≡ text.old.items
+        ++ access_text bus transfer.now response.now n (response.now.waits + 1)) }
+{
+    for k in 0..response.waits as u32 + 1 {
+        let before = pins_at(transfer, response, k);
+        let after = pins_at(transfer, response, k + 1);
+        push_cycle(text, n + k as u64 + 1, bus, &before, &after)?;
+    }
+    Ok(())
+}
+
+// Appends the idle cycle behind a transfer, in which its operation disappears.
+fn push_end(text: &mut Vec<u8>, n: u64, bus: Bus, last: &Pins) -> Result<(), AllocError>
+    requires { bus.bytes ≤ 4 }
+    ensures { OnOk result (text.new.items ≡ text.old.items
+        ++ cycle_text n (joined (changes bus last.now idle ∷ label_text [] ∷ []))) }
+{
+    open_cycle(text, n)?;
+    push_changes(text, bus, last, &IDLE)?;
+    push_label(text, &[])?;
+    close_cycle(text, n)?;
+    Ok(())
+}
+
+// Appends a transfer that begins in cycle `n`.
+fn push_transfer(
+    text: &mut Vec<u8>,
+    n: u64,
+    bus: Bus,
+    label: &[u8],
+    transfer: &ApbTransfer,
+    response: &ApbResponse,
+) -> Result<(), AllocError>
+    requires narrow { bus.bytes ≤ 4 }
+    requires early { n ≤ 2 ^ 64 - 1024 }
+    ensures { OnOk result (text.new.items ≡ text.old.items
+        ++ transfer_text bus label.now transfer.now response.now n) }
+{
+    let waits = response.waits as u32;
+    push_setup(text, n, bus, label, &pins_at(transfer, response, 0))?;
+    push_access(text, n, bus, transfer, response)?;
+    push_end(
+        text,
+        n + waits as u64 + 2,
+        bus,
+        &pins_at(transfer, response, waits + 1),
+    )?;
+    Ok(())
+}
+
+/// The text of a dump as far as it isn't written elsewhere, and the number of the next clock cycle.
+///
+/// A clock cycle `n` is 10 ns long: PCLK rises at 10 n ns, the pins change 1 ns later, and PCLK falls at 10 n + 5 ns.
+/// Cycles are counted from 1. What a rising edge samples stands since the edge before.
+#[derive(Drop)]
+pub struct Wave {
+    pub text: Vec<u8>,
+    pub cycle: u64,
+}
+
+impl Wave {
+    /// A dump of these buses, with no transfer yet.
+    pub fn build(alloc: Global, buses: &[NamedBus<'_>]) -> Result<Wave, AllocError>
+        requires narrow { All (λ b. b.bus.bytes ≤ 4) buses.now }
+        ensures first { IfOk result (λ wave. wave.cycle ≡ 1) }
+    {
+        let mut text = Vec::new(alloc);
+        push_header(&mut text, buses)?;
+        Ok(Wave { text, cycle: 1 })
+    }
+
+    /// Draws a transfer and an idle cycle behind it. The label stands in the signal `op` from the setup phase to the
+    /// end of the transfer.
+    pub fn draw(
+        &mut self,
+        bus: Bus,
+        label: &[u8],
+        transfer: &ApbTransfer,
+        response: &ApbResponse,
+    ) -> Result<(), Fault>
+        requires narrow { bus.bytes ≤ 4 }
+        ensures drawn { OnOk result (self.new.text.items
+            ≡ self.old.text.items ++ transfer_text bus label.now transfer.now response.now self.old.cycle) }
+        ensures cycle { OnOk result (self.new.cycle ≡ self.old.cycle + response.now.waits + 3) }
+        ensures full { result ≡ Err Fault.Full → 2 ^ 64 - 1024 < self.old.cycle }
+        ensures kept { OnErr result (self.new.cycle ≡ self.old.cycle) }
+    {
+        if self.cycle > LAST {
+            return Err(Fault::Full);
+        }
+        push_transfer(&mut self.text, self.cycle, bus, label, transfer, response)?;
+        self.cycle += response.waits as u64 + 3;
+        Ok(())
+    }
+}
