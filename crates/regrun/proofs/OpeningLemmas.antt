@@ -1,5 +1,5 @@
 -- What the opening of a session gives, where its source tells its bytes.
-use Rattle.std.proofs.Common.{◌≡◌, ℕ, false, List, [], drop, codes, Result, Ok, Err, IfOk, IfErr, Some, None, IfSome, refl, sym, ap, subst, ◌∙◌}
+use Rattle.std.proofs.Common.{◌≡◌, ℕ, ◌≤◌, Bool, true, false, List, [], ◌∷◌, ◌++◌, length, append-nil, drop, codes, Result, Ok, Err, IfOk, IfErr, Some, None, IfSome, if◌then◌else◌, refl, sym, ap, subst, ◌∙◌}
 use Rattle.std.specs.declared.option.Option.{Option}
 use Rattle.std.specs.Io.KnownBytes.{Keeps, prepend_known}
 use Rattle.rl_bus.specs.declared.op.AdapterKind.{AdapterKind}
@@ -13,7 +13,7 @@ use Rattle.rl_log.specs.declared.status.Status.TheVariants.{Refused}
 use Rattle.rl_session.specs.Session.{behind, head_of, opening_after, opening_of}
 use Rattle.rl_log.specs.Statuses.{is_complete}
 use Rattle.rl_log.specs.Telling.{Tells}
-use Rattle.regrun.specs.Opening.{IsFresh, ReadsHead, OpensWith}
+use Rattle.regrun.specs.Opening.{IsFresh, IsUnread, LeavesScript, ReadsHead, OpensWith}
 use Rattle.regrun.specs.Telling.{Stops}
 use Rattle.regrun.proofs.StopLemmas.{stops_refused, stops_early, stops_later}
 use Rattle.rl_session.proofs.SessionLemmas.{found_head, missing_head, long_head, opening_refused, opening_found}
@@ -46,6 +46,37 @@ pub head_is_long : (input : Option (List ℕ)) (answer : Head) (head : List ℕ)
     → IfSome input (λ bytes. head_of bytes ≡ Err (codes "refused session: description too long\n"))
 head_is_long None answer head new left is h = tt
 head_is_long (Some bytes) answer head new left is h = let m = rw is at h in long_head bytes m.0 m.1
+
+-- ---- the script behind the head
+
+-- what the source has left behind what was taken of the script
+unread_left : (taken script : List ℕ) (left : Option (List ℕ)) → length taken ≤ 8192 → prepend_known taken left ≡ Some script
+    → IsUnread script left
+unread_left taken script None few is = absurd (cc)
+unread_left taken script (Some others) few is =
+    record { taken = taken; others = others; split = cc; few = few; is_left = λ some. refl }
+
+unread_behind : (ended : Bool) (taken script : List ℕ) (left : Option (List ℕ)) → length taken ≤ 8192
+    → (if ended then Some taken else prepend_known taken left) ≡ Some script → IsUnread script left
+unread_behind true taken script left few is = record {
+  taken = taken;
+  others = [];
+  split = append-nil taken ∙ cc;
+  few = few;
+  is_left = λ some. absurd (some refl);
+}
+unread_behind false taken script left few is = unread_left taken script left few is
+
+pub head_unread : (input : Option (List ℕ)) (head : List ℕ) (lines : Reading) (left : Option (List ℕ)) → length lines.pending ≤ 8192
+    → IfSome input (λ bytes. ReadsHead bytes head lines left) → IfSome input (λ bytes. LeavesScript bytes left)
+head_unread None head lines left few reads = tt
+head_unread (Some bytes) head lines left few reads = λ _ found. unread_behind lines.ended lines.pending _ left few reads.rest
+
+-- a session with no head has no script
+pub none_unread : (input : Option (List ℕ)) (line : List ℕ) (left : Option (List ℕ))
+    → IfSome input (λ bytes. head_of bytes ≡ Err line) → IfSome input (λ bytes. LeavesScript bytes left)
+none_unread None line left none = tt
+none_unread (Some bytes) line left none = λ head found. absurd (cc)
 
 -- ---- a session that ended at its head
 

@@ -1,5 +1,5 @@
 -- How a session is opened: its bytes up to the separator, and what they describe.
-use Rattle.std.specs.Prelude.{◌≡◌, ℕ, List, true, false, Option, Some, Ok}
+use Rattle.std.specs.Prelude.{◌≡◌, ◌≢◌, ℕ, ◌≤◌, List, [], ◌++◌, length, true, false, Option, Some, Ok}
 use Rattle.rl_bus.specs.declared.op.AdapterKind.{AdapterKind}
 use Rattle.rl_map.specs.Maps.{IsBuiltWith}
 use Rattle.rl_bench.specs.Flaws.{AreFlawsOf}
@@ -13,6 +13,18 @@ pub record ReadsHead (bytes head : List ℕ) (lines : Reading) (left : Option (L
   pub head_is : head_of bytes ≡ Ok head
   pub rest : input_of lines left ≡ Some (behind (separator_at bytes) bytes)
   pub finds : FindsHead bytes head lines left
+
+-- At most 8192 bytes were taken from the front of the script. The others, where there are any, are still to be read.
+pub record IsUnread (script : List ℕ) (left : Option (List ℕ)) : Type 0 where
+  pub taken : List ℕ
+  pub others : List ℕ
+  pub split : taken ++ others ≡ script
+  pub few : length taken ≤ 8192
+  pub is_left : others ≢ [] → left ≡ Some others
+
+-- where a session has a head, the script behind it is unread
+abbrev pub LeavesScript : List ℕ → Option (List ℕ) → Type 0
+LeavesScript bytes left = (head : List ℕ) → head_of bytes ≡ Ok head → IsUnread (behind (separator_at bytes) bytes) left
 
 -- They describe this, for adapters of these kinds.
 pub record OpensWith (bytes : List ℕ) (kinds : List AdapterKind) (desc : DescData) (lines : Reading) (left : Option (List ℕ)) : Type 0 where

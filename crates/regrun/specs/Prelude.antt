@@ -1,4 +1,5 @@
 -- The words that the contracts of this crate use, passed on from one place. Declares nothing.
+pub use Rattle.regrun.specs.Opening.{LeavesScript}
 pub use Rattle.regrun.specs.Output.{output_of, run_lines, woven_lines, BreaksOff, LinesBreak, WritesJudged}
 pub use Rattle.regrun.specs.Telling.{Stays, Stops}
 pub use Rattle.regrun.specs.Task.{Does}

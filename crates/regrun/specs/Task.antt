@@ -2,15 +2,17 @@
 use Rattle.std.specs.Prelude.{◌≡◌, ◌≢◌, ℕ, List, true, All, Option, IfSome}
 use Rattle.rl_bus.specs.Standing.{kinds_of}
 use Rattle.rl_log.specs.declared.status.Status.{Status}
-use Rattle.rl_log.specs.declared.status.Status.TheVariants.{Found, SourceFault}
+use Rattle.rl_log.specs.declared.status.Status.TheVariants.{Found, Memory, SourceFault}
 use Rattle.rl_log.specs.Events.{ErrorKeepsBeliefs, CheckNamesDiffering}
 use Rattle.rl_log.specs.Statuses.{is_complete}
 use Rattle.rl_plain_log.specs.PlainLog.{IsSteadyOpening, WritesPlainLog}
+use Rattle.rl_report.specs.Opening.{TakesNoHead}
 use Rattle.rl_session.specs.Judged.{judged, judged_events, map_judged, soak_judged, taken_text}
 use Rattle.rl_session.specs.Session.{opening_of}
 use Rattle.rl_woven_log.specs.Judged.{woven_judged, woven_taken_text}
 use Rattle.regrun.specs.declared.words.Task.{Task}
 use Rattle.regrun.specs.declared.words.Task.TheVariants.{Run, Map, Soak, Weave}
+use Rattle.regrun.specs.Opening.{LeavesScript}
 use Rattle.regrun.specs.Output.{Output, WritesJudged, BreaksOff}
 
 -- `input` and `left` are the bytes that the source has before and after the call, where it tells them.
@@ -36,6 +38,10 @@ pub record Does (task : Task) (status : Status) (input left : Option (List ℕ))
   -- `map` writes where the items stand, and compares nothing.
   pub map : task ≡ Map → IfSome input (λ bytes. WritesJudged (map_judged bytes) status before after)
   pub map_status : task ≡ Map → status ≢ Found
+  -- It leaves the script: where the source fails, no whole separator was taken. Else, but for want of memory, the script is
+  -- unread but for what was taken with the separator.
+  pub map_at_fault : task ≡ Map → status ≡ SourceFault → IfSome input (λ bytes. TakesNoHead bytes left)
+  pub map_unread : task ≡ Map → status ≢ SourceFault → status ≢ Memory → IfSome input (λ bytes. LeavesScript bytes left)
   -- `soak` and a number writes the line of the session that the number makes, and never fails by the source.
   pub soak : (n : ℕ) → task ≡ Soak n → WritesJudged (soak_judged n) status before after
   pub soak_status : (n : ℕ) → task ≡ Soak n → status ≢ SourceFault

@@ -4,7 +4,7 @@ ghost use Rattle.std.specs.Prelude.{IfErr, IfSome};
 ghost use Rattle.std.specs.Io.KnownBytes.{Keeps};
 ghost use Rattle.regrun.specs.Prelude.{AdapterKind, IsCaused, Stays, Stops, Tells, TakesNoHead, kinds_of};
 ghost use Rattle.regrun.specs.Prelude.{description_refused_text, opening_after, opening_of};
-ghost use Rattle.regrun.specs.Opening.{IsBehindHead, IsFresh, IsRunnable, OpensWith, ReadsHead};
+ghost use Rattle.regrun.specs.Opening.{IsBehindHead, IsFresh, IsRunnable, LeavesScript, OpensWith, ReadsHead};
 
 use rl_bus::{Adapter, Adapters};
 use rl_desc::{Desc, DescFault};
@@ -52,6 +52,8 @@ fn read_head<S: Source, L: Log>(
         → IfSome (S.left source.old) (λ bytes. TakesNoHead bytes (S.left source.new)) }
     ensures unwritten { result ≡ Err Status.SourceFault → out.new ≡ out.old }
 
+    ensures unread { result ≢ Err Status.SourceFault → result ≢ Err Status.Memory
+        → IfSome (S.left source.old) (λ bytes. LeavesScript bytes (S.left source.new)) }
     ensures told { OnOk result (Keeps (L.written out.old) (L.written out.new)) }
     ensures stops { IfErr result (λ status. IfSome (S.left source.old) (λ bytes.
         (kinds : List AdapterKind)
@@ -135,6 +137,8 @@ pub(crate) fn open_session<S: Source, L: Log>(
         → IfSome (S.left source.old) (λ bytes. TakesNoHead bytes (S.left source.new)) }
     ensures unwritten { result ≡ Err Status.SourceFault → out.new ≡ out.old }
 
+    ensures unread { result ≢ Err Status.SourceFault → result ≢ Err Status.Memory
+        → IfSome (S.left source.old) (λ bytes. LeavesScript bytes (S.left source.new)) }
     ensures told { OnOk result (Keeps (L.written out.old) (L.written out.new)) }
     ensures stops { IfErr result (λ status. IfSome (S.left source.old) (λ bytes. Stops
         (opening_of bytes (kinds_of (map standing adapters.now.items)))

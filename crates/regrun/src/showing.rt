@@ -1,6 +1,6 @@
 // Where the items of a description stand, written.
 ghost use Rattle.std.specs.Prelude.{◌≡◌, ◌≢◌, ◌≤◌, ◌<◌, ◌^◌, map, length, IfSome};
-ghost use Rattle.regrun.specs.Prelude.{IsBuiltWith, IsCaused, Stays, Tells, WritesJudged};
+ghost use Rattle.regrun.specs.Prelude.{IsBuiltWith, IsCaused, LeavesScript, Stays, TakesNoHead, Tells, WritesJudged};
 ghost use Rattle.regrun.specs.Prelude.{layout_text, map_judged, output_of};
 
 use crate::opening::{fresh_lines, open_session};
@@ -38,6 +38,10 @@ pub(crate) fn show_layout<S: Source, L: Log>(
     ensures tells { IfSome (S.left source.old) (λ bytes. WritesJudged (map_judged bytes) result
         (output_of L.written standing out.old adapters.now.items)
         (output_of L.written standing out.new adapters.now.items)) }
+    ensures at_fault { result ≡ Status.SourceFault
+        → IfSome (S.left source.old) (λ bytes. TakesNoHead bytes (S.left source.new)) }
+    ensures unread { result ≢ Status.SourceFault → result ≢ Status.Memory
+        → IfSome (S.left source.old) (λ bytes. LeavesScript bytes (S.left source.new)) }
     ensures unwritten { result ≡ Status.SourceFault → out.new ≡ out.old }
     ensures none_found { result ≢ Status.Found }
     ensures source_later { S.faults source.old ≤ S.faults source.new }

@@ -20,6 +20,7 @@ fn finish<K: Sink, E: Earlier>(status: Status, out: &mut Buffered<'_, K, E>) -> 
     requires { status ≢ Status.Words }
     ensures sink_later { K.faults out.old.sink.now ≤ K.faults out.new.sink.now }
     ensures kept { result ≢ Status.SinkFault → result ≡ status }
+    ensures given_up { is_complete status ≡ false → result ≡ status }
     ensures cause { result ≡ Status.SinkFault → status ≢ Status.SinkFault
         → Rose (K.faults out.old.sink.now) (K.faults out.new.sink.now) }
     ensures ended { is_complete result ≡ true → Rose (K.ends out.old.sink.now) (K.ends out.new.sink.now) }

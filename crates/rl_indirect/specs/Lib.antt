@@ -2,3 +2,4 @@ pub mod Agree
 pub mod Bank
 pub mod Indexed
 pub mod Window
+pub mod Prelude

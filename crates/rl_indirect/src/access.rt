@@ -1,15 +1,10 @@
 //! Accesses by index.
 ghost use Rattle.std.specs.Prelude.{◌≡◌, ◌<◌, map as each, length, if◌then◌else◌, IsTrue};
-ghost use Rattle.rl_access.specs.Call.{scene_of};
-ghost use Rattle.rl_access.specs.Event.{EventFits};
-ghost use Rattle.rl_access.specs.Model.{IsModel, IsReady, IsSameChip};
-ghost use Rattle.rl_access.specs.Operation.{IsMapIn};
 ghost use Rattle.rl_access.specs.declared.event.Op.TheVariants as op;
-ghost use Rattle.rl_split.specs.Step.{every};
-ghost use Rattle.rl_plain.specs.OneStep.{write_step, read_step};
-ghost use Rattle.rl_indirect.specs.Agree.{BankAgree, IsEntryStep, KeepsEntries};
-ghost use Rattle.rl_indirect.specs.Bank.{IsBankOf, IsOverData, IsSameBank};
-ghost use Rattle.rl_indirect.specs.Indexed.{IsIndexed, IndexedFits, NamesDiffering, Selects};
+ghost use Rattle.rl_indirect.specs.Prelude.{BankAgree, EventFits, IndexedFits, IsBankOf, IsEntryStep, IsIndexed};
+ghost use Rattle.rl_indirect.specs.Prelude.{IsMapIn, IsModel, IsOverData, IsReady, IsSameBank, IsSameChip};
+ghost use Rattle.rl_indirect.specs.Prelude.{KeepsEntries, NamesDiffering, Selects, every, read_step, scene_of};
+ghost use Rattle.rl_indirect.specs.Prelude.{write_step};
 
 use crate::bank::Bank;
 use crate::indexed::{Indexed, is_done};

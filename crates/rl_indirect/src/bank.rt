@@ -2,18 +2,11 @@
 ghost use Rattle.std.specs.Prelude.{◌≡◌, ◌≢◌, ◌<◌, ◌≤◌, ℕ, List, length, slice_index, option_map, IfOk, IfNone, Some};
 ghost use Rattle.std.specs.Prelude.{if◌then◌else◌};
 ghost use Rattle.std.specs.Option.{option_map_or};
-ghost use Rattle.rl_bus.specs.Standing.{Standing};
-ghost use Rattle.rl_bus.specs.State.{State, poked};
 ghost use Rattle.rl_bus.specs.declared.table.Cell.TheVariants as cell;
-ghost use Rattle.rl_access.specs.Call.{scene};
-ghost use Rattle.rl_access.specs.Model.{IsDeviceOf, IsSameChip};
-ghost use Rattle.rl_access.specs.Rules.{taking_raw};
-ghost use Rattle.rl_plain.specs.Agree.{Agree};
-ghost use Rattle.rl_indirect.specs.Agree.{BankAgree};
-ghost use Rattle.rl_indirect.specs.Bank.{IsBank, IsBankOf, IsBuilt, IsFound, IsOverData, SettlesDevice};
-ghost use Rattle.rl_indirect.specs.Bank.{bank_believed, model_believed, entries_there, entries_believed};
-ghost use Rattle.rl_indirect.specs.Indexed.{is_done};
-ghost use Rattle.rl_indirect.specs.Window.{outside_fault};
+ghost use Rattle.rl_indirect.specs.Prelude.{Agree, BankAgree, IsBank, IsBankOf, IsBuilt, IsDeviceOf, IsFound};
+ghost use Rattle.rl_indirect.specs.Prelude.{IsOverData, IsSameChip, SettlesDevice, Standing, State, bank_believed};
+ghost use Rattle.rl_indirect.specs.Prelude.{entries_believed, entries_there, is_done, model_believed, outside_fault};
+ghost use Rattle.rl_indirect.specs.Prelude.{poked, scene, taking_raw};
 
 use crate::entries::Entries;
 use crate::indexed::is_done;

@@ -1,3 +1,4 @@
 pub mod Mam
 pub mod Outside
 pub mod Regions
+pub mod Prelude

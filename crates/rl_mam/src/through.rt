@@ -1,15 +1,8 @@
 //! Accesses through a region of a memory: reads and writes of `uvm_mem_region`.
 ghost use Rattle.std.specs.Prelude.{◌≡◌, ◌+◌, ◌<◌, map as each, length, Err, IfOk, IfErr, IfSome, IsOkAnd, OnOk, OnErr};
-ghost use Rattle.rl_bus.specs.Causes.{HasCause};
-ghost use Rattle.rl_access.specs.Call.{scene_of, Performs};
-ghost use Rattle.rl_access.specs.Event.{EventFits};
 ghost use Rattle.rl_access.specs.declared.event.Op.TheVariants as op;
-ghost use Rattle.rl_access.specs.Model.{IsReady};
-ghost use Rattle.rl_access.specs.Operation.{IsMapIn};
-ghost use Rattle.rl_access.specs.Runs.{IsBurst, write_grant, writes_of};
-ghost use Rattle.rl_mam.specs.Mam.{IsManagerOf};
-ghost use Rattle.rl_mam.specs.Outside.{LeavesOutside};
-ghost use Rattle.rl_mam.specs.Regions.{region_at, location_in};
+ghost use Rattle.rl_mam.specs.Prelude.{EventFits, HasCause, IsBurst, IsManagerOf, IsMapIn, IsReady, LeavesOutside};
+ghost use Rattle.rl_mam.specs.Prelude.{Performs, location_in, region_at, scene_of, write_grant, writes_of};
 
 use crate::mam::Mam;
 use crate::region::RegionFault;
@@ -104,8 +97,7 @@ impl Mam {
         ensures ready { IsReady model.new (each standing adapters.new.items) (D.state device.new) }
         ensures cause { IfErr (location_in self.now.regions first k (length values.now)) (λ why. result ≡ Err why) }
         ensures hands_over { OnOk (location_in self.now.regions first k (length values.now)) (IsBurst R.takes R.breaks
-            rec.old rec.new
-            (scene_of standing D.errors D.state model.old adapters.old.items device.old)
+            rec.old rec.new (scene_of standing D.errors D.state model.old adapters.old.items device.old)
             (scene_of standing D.errors D.state model.new adapters.new.items device.new)
             (write_grant model.old self.now.mem map (first + k) values.now)
             (op.BurstWrite self.now.mem map (first + k) (length values.now))

@@ -32,3 +32,4 @@ pub mod Masters
 pub mod BrokenCourses
 pub mod Alike
 pub mod EachCall
+pub mod Fronts

@@ -7,3 +7,5 @@ pub mod Alike
 pub mod Courses
 pub mod Calls
 pub mod EachCall
+pub mod Fronts
+pub mod Prelude

@@ -1,15 +1,15 @@
 //! What holds of the calls on a device without flaws. Each function does nothing; its contract is the law.
-ghost use Rattle.rl_plain.specs.Agree.{AccessKeepsAgreement, BackdoorKeepsAgreement, HardwareKeepsAgreement};
-ghost use Rattle.rl_plain.specs.Agree.{MemoryAccessKeepsAgreement, MemoryBackdoorKeepsAgreement, NewOnesAgree};
-ghost use Rattle.rl_plain.specs.Agree.{ResetKeepsAgreement, WishKeepsAgreement};
-ghost use Rattle.rl_plain.specs.Alike.{AlikeLayoutsStepAlike};
-ghost use Rattle.rl_plain.specs.Believed.{AccessIsBelieved, DepositIsBelieved, WriteIsStored};
-ghost use Rattle.rl_plain.specs.Calls.{BrokenPlanIsPlain, BrokenRunIsPlain};
-ghost use Rattle.rl_plain.specs.Calls.{BurstIsPlain, BurstsHaveNumbers, CallIsPlain, CallKeepsModel, FirstOnesArePlain};
-ghost use Rattle.rl_plain.specs.Calls.{PlanIsPlain, PlansHaveNumbers, RefusedIsPlain, RegisterCallIsPlain, RunIsPlain};
-ghost use Rattle.rl_plain.specs.EachCall.{EachCallKeepsAgreement, NewOnesAgreeWithMemories, ResetIsPlain};
-ghost use Rattle.rl_plain.specs.Masters.{OtherStepsCommute};
-ghost use Rattle.rl_plain.specs.OneStep.{AccessIsStep};
+ghost use Rattle.rl_plain.specs.Prelude.{AccessIsBelieved, AccessIsStep, AccessKeepsAgreement, AlikeLayoutsStepAlike};
+ghost use Rattle.rl_plain.specs.Prelude.{BackdoorKeepsAgreement, BrokenPlanIsPlain, BrokenRunIsPlain};
+ghost use Rattle.rl_plain.specs.Prelude.{BurstHandsOverFront, BurstIsPlain, BurstsHaveNumbers, CallIsPlain};
+ghost use Rattle.rl_plain.specs.Prelude.{CallKeepsModel, DepositIsBelieved, EachCallKeepsAgreement};
+ghost use Rattle.rl_plain.specs.Prelude.{FirstOnesArePlain, HardwareKeepsAgreement, MemoryAccessKeepsAgreement};
+ghost use Rattle.rl_plain.specs.Prelude.{MemoryBackdoorKeepsAgreement, NewOnesAgree, NewOnesAgreeWithMemories};
+ghost use Rattle.rl_plain.specs.Prelude.{OtherStepsCommute, PlanIsPlain, PlansHaveNumbers, RefusedIsPlain};
+ghost use Rattle.rl_plain.specs.Prelude.{RegisterCallIsPlain, ResetIsPlain, ResetKeepsAgreement, RunIsPlain};
+ghost use Rattle.rl_plain.specs.Prelude.{SequenceHandsOverFront, WishKeepsAgreement, WriteIsStored};
+
+use rl_access::Recorder;
 
 /// An access over the bus is one step of its register: of all its fields, or in a narrow access of its one
 /// field.
@@ -139,6 +139,18 @@ pub fn broken_run_is_plain()
 /// So are those of a plan.
 pub fn broken_plan_is_plain()
     ensures { BrokenPlanIsPlain }
+{}
+
+/// What a burst hands over to a recorder, also where it is refused or the recorder fails, is a front of the machine's
+/// events, and device and model are the machine's after the last of them. It is said of the clause `hands_over` of
+/// `rl_access::burst_write` and `rl_access::burst_read`.
+pub fn burst_hands_over_front<R: Recorder>()
+    ensures { BurstHandsOverFront R.takes R.breaks }
+{}
+
+/// So is what each of the five sequences hands over, by the clause `hands_over` of its call in `rl_seq`.
+pub fn sequence_hands_over_front<R: Recorder>()
+    ensures { SequenceHandsOverFront R.takes R.breaks }
 {}
 
 /// The machine looks at a layout only through the places of an item, their maps and rights, which roots are explicit,

@@ -1,3 +1,4 @@
 pub mod Lines
+pub mod NoFault
 pub mod Opening
 pub mod Table

@@ -10,8 +10,6 @@ mod bus;
 #[cfg(test)]
 mod desc;
 #[cfg(test)]
-mod mam;
-#[cfg(test)]
 mod map;
 #[cfg(test)]
 mod mirror;

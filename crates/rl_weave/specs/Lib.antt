@@ -1,3 +1,4 @@
 pub mod Access
 pub mod Weave
 pub mod Step
+pub mod Prelude

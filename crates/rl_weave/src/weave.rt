@@ -1,13 +1,9 @@
 //! A weave: which accesses are open, and the next word of one of them.
 ghost use Rattle.std.specs.Prelude.{◌≡◌, ◌<◌, ◌≤◌, ◌==◌, true, map as each, length, slice_get, position, Some};
 ghost use Rattle.std.specs.Prelude.{Contains, All, IfOk, IfSome, IfNone, OnOk, OnErr};
-ghost use Rattle.rl_access.specs.Call.{scene_of};
-ghost use Rattle.rl_access.specs.Event.{EventFits, ItemFits};
-ghost use Rattle.rl_access.specs.Model.{IsReady, IsSameChip};
-ghost use Rattle.rl_weave.specs.Access.{IsNumbered, IsWovenOn, woven_at};
-ghost use Rattle.rl_weave.specs.Step.{IsStepOf, end_of};
-ghost use Rattle.rl_weave.specs.Weave.{WeaveData, IsWeave, IsWeaveOn, IsLeft, empty, adding, appended, woven_of};
-ghost use Rattle.rl_weave.specs.Weave.{place_used, number_of, same_register, stepped, words_left};
+ghost use Rattle.rl_weave.specs.Prelude.{EventFits, IsNumbered, IsReady, IsSameChip, IsStepOf, IsWeave, IsWeaveOn};
+ghost use Rattle.rl_weave.specs.Prelude.{IsWovenOn, ItemFits, adding, appended, empty, end_of, number_of, place_used};
+ghost use Rattle.rl_weave.specs.Prelude.{same_register, scene_of, stepped, words_left, woven_at, woven_of};
 
 use crate::access::{Access, WeaveFault};
 use crate::granting::granted;

@@ -17,3 +17,6 @@ returns-clause-stops g c =
 
 pub returns-clause-stays : goal.returns-clause-stays
 returns-clause-stays g c = stays_then _ _ _ _ _ _ c.read_head.ensures.stays c.read_desc.ensures.stays
+
+pub returns-clause-unread : goal.returns-clause-unread
+returns-clause-unread g c = λ fault memory. c.in_ok-read_head.ensures.unread (λ e. absurd (cc)) (λ e. absurd (cc))

@@ -1,4 +1,5 @@
-use Rattle.regrun.proofs.OpeningLemmas.{from_fresh, head_is_found, head_is_missing, head_is_long, stops_at_head}
+use Rattle.std.proofs.Common.{Ok, ap}
+use Rattle.regrun.proofs.OpeningLemmas.{from_fresh, head_is_found, head_is_missing, head_is_long, head_unread, none_unread, stops_at_head}
 use Rattle.regrun.proofs.opening.read_head.Goals as goal
 
 pub returns-in-Ok-Found-clause-reads : goal.returns-in-Ok-Found-clause-reads
@@ -17,3 +18,19 @@ returns-in-Ok-TooLong-clause-stops g c =
     let e = c.in-Ok-TooLong.ensures in
     from_fresh _ _ _ c.requires.fresh
     (stops_at_head _ _ _ _ _ (head_is_long _ _ _ _ _ c.in-Ok-TooLong.field-0-is e.head) c.refuse-in-Ok-TooLong.ensures.tells)
+
+pub returns-in-Ok-Found-clause-unread : goal.returns-in-Ok-Found-clause-unread
+returns-in-Ok-Found-clause-unread g c =
+    let e = c.in-Ok-Found.ensures in
+    λ fault memory. from_fresh _ _ _ c.requires.fresh
+    (head_unread _ _ _ _ (e.held (ap Ok c.in-Ok-Found.field-0-is)) (head_is_found _ _ _ _ _ c.in-Ok-Found.field-0-is e.head))
+
+pub returns-in-Ok-Missing-clause-unread : goal.returns-in-Ok-Missing-clause-unread
+returns-in-Ok-Missing-clause-unread g c =
+    let e = c.in-Ok-Missing.ensures in
+    λ fault memory. from_fresh _ _ _ c.requires.fresh (none_unread _ _ _ (head_is_missing _ _ _ _ _ c.in-Ok-Missing.field-0-is e.head))
+
+pub returns-in-Ok-TooLong-clause-unread : goal.returns-in-Ok-TooLong-clause-unread
+returns-in-Ok-TooLong-clause-unread g c =
+    let e = c.in-Ok-TooLong.ensures in
+    λ fault memory. from_fresh _ _ _ c.requires.fresh (none_unread _ _ _ (head_is_long _ _ _ _ _ c.in-Ok-TooLong.field-0-is e.head))

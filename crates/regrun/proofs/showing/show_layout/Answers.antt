@@ -1,5 +1,6 @@
 use Rattle.std.proofs.Common.{refl}
 use Rattle.rl_play.proofs.BufferLemmas.{keeps_refl}
+use Rattle.rl_play.proofs.FaultLemmas.{no_source}
 use Rattle.regrun.proofs.JudgedLemmas.{maps_early, maps_stopped, maps_opened}
 use Rattle.regrun.proofs.OpeningLemmas.{opens_as}
 use Rattle.regrun.proofs.StopLemmas.{stays_then}
@@ -18,3 +19,12 @@ returns-clause-tells g c =
 
 pub returns-clause-stays : goal.returns-clause-stays
 returns-clause-stays g c = stays_then _ _ _ _ _ _ c.open_session.ensures.stays c.put_description.ensures.stays
+
+pub returns-clause-at_fault : goal.returns-clause-at_fault
+returns-clause-at_fault g c = λ is. absurd (no_source _ _ _ c.put_description.ensures.cause is)
+
+pub returns-in-Err-clause-unread : goal.returns-in-Err-clause-unread
+returns-in-Err-clause-unread g c = λ fault memory. c.in-Err.ensures.unread (λ e. fault (cc)) (λ e. memory (cc))
+
+pub returns-clause-unread : goal.returns-clause-unread
+returns-clause-unread g c = λ fault memory. c.in-Ok-open_session.ensures.unread (λ e. absurd (cc)) (λ e. absurd (cc))

@@ -10,7 +10,7 @@ returns-in-Run-clause-does g c =
 
 pub returns-in-Map-clause-does : goal.returns-in-Map-clause-does
 returns-in-Map-clause-does g c =
-    let e = c.show_layout.ensures in map_does _ _ _ _ _ _ c.in-Map.is e.tells e.none_found refl
+    let e = c.show_layout.ensures in map_does _ _ _ _ _ _ c.in-Map.is e.tells e.none_found e.at_fault e.unread refl
 
 pub returns-in-Soak-clause-does : goal.returns-in-Soak-clause-does
 returns-in-Soak-clause-does g c =

@@ -1,0 +1,15 @@
+pub mod Quiet
+pub mod Holding
+pub mod Standing
+pub mod Failing
+pub mod Reaching
+pub mod Errors
+pub mod Forgetting
+pub mod Comes
+pub mod Wrong
+pub mod Checks
+pub mod HwReset
+pub mod Walked
+pub mod Twins
+pub mod Untouched
+pub mod DeafWalk

@@ -1,0 +1,170 @@
+-- A device with deaf items beside one that hears: whatever the two hold, their beats go the same way, and the same items fail.
+use Rattle.std.proofs.Common.{◌≡◌, ℕ, Bool, true, false, not, List, [], ◌∷◌, Option, None, Some, All, if◌then◌else◌, refl, sym, ap, ◌∙◌, subst}
+use Rattle.std.proofs.lemmas.List.Elements.{All-nil, All-cons, All-head, All-tail}
+use Rattle.rl_policy.specs.Bits.{bit, from_bits}
+use Rattle.rl_bus.specs.declared.op.Answer.{Answer}
+use Rattle.rl_bus.specs.declared.op.BusOp.{BusOp}
+use Rattle.rl_bus.specs.declared.table.Cell.{Cell}
+use Rattle.rl_bus.specs.declared.table.Cell.TheVariants.{Reg, Loc}
+use Rattle.rl_bus.specs.declared.table.WordRow.{WordRow}
+use Rattle.rl_bus.specs.Setup.{Setup, Flaws, mem_of, is_deaf, held}
+use Rattle.rl_bus.specs.Spread.{lane_bit, spread_bit, gathered_bit, lanes_in}
+use Rattle.rl_bus.specs.State.{State, counted, word_at, is_faulty, beats_on, shown_bit, after_reading, after_writing, after_word, after_touch, answer_at, state_after, answer_of}
+use Rattle.rl_split.specs.Runs.{answers_of, state_after_all}
+
+abbrev all_hear : Flaws → Flaws
+all_hear f = record f { deaf = [] }
+
+-- what it has, with nothing deaf
+abbrev pub hearing : Setup → Setup
+hearing t = record t { flaws = all_hear t.flaws }
+
+-- a device that hears, at the same beats, and holds this
+abbrev pub twin : State → (bits marks locations : List ℕ) → State
+twin d bits marks locations = record d { setup = hearing d.setup; bits = bits; marks = marks; locations = locations }
+
+-- it hears, and is at the same beats
+pub record AreAlike (d e : State) : Type 0 where
+  pub setup : e.setup ≡ hearing d.setup
+  pub beats : e.beats ≡ d.beats
+  pub items : e.items ≡ d.items
+
+is_twin : (d e : State) → AreAlike d e → e ≡ twin d e.bits e.marks e.locations
+is_twin d e a =
+    ap (λ t. let x : State = record e { setup = t } in x) a.setup
+    ∙ ap (λ b. let x : State = record e { setup = hearing d.setup; beats = b } in x) a.beats
+    ∙ ap (λ n. let x : State = record e { setup = hearing d.setup; beats = d.beats; items = n } in x) a.items
+
+-- ---- one item
+
+-- a word changes what a device holds, and nothing else
+record IsSameBut (x y : State) : Type 0 where
+  setup : y.setup ≡ x.setup
+  items : y.items ≡ x.items
+
+by_test : (b : Bool) (s x y : State) → IsSameBut s x → IsSameBut s y → IsSameBut s (if b then x else y)
+by_test true s x y h k = h
+by_test false s x y h k = k
+
+reading : (s : State) (lanes : ℕ → Bool) (c : Cell) → IsSameBut s (after_reading s lanes c)
+reading s lanes (Reg r) = record { setup = refl; items = refl }
+reading s lanes (Loc m i) = record { setup = refl; items = refl }
+
+writing : (s : State) (word lanes : ℕ → Bool) (c : Cell) → IsSameBut s (after_writing s word lanes c)
+writing s word lanes (Reg r) = record { setup = refl; items = refl }
+writing s word lanes (Loc m i) = by_test (mem_of s.setup m).writable s _ s (record { setup = refl; items = refl }) (record { setup = refl; items = refl })
+
+word : (s : State) (op : BusOp) (w : WordRow) → IsSameBut s (after_word s op w)
+word s op w =
+    by_test (not op.write) s _ _ (reading s (lane_bit (lanes_in w.lanes op.lanes)) w.cell)
+    (by_test (is_deaf s.setup w.cell) s s _ (record { setup = refl; items = refl })
+    (writing s (spread_bit (lanes_in w.lanes op.lanes) (bit op.word)) (lane_bit (lanes_in w.lanes op.lanes)) w.cell))
+
+either_alike : (t : Bool) (x y v w : State) → AreAlike x v → AreAlike y w → AreAlike (if t then x else y) (if t then v else w)
+either_alike true x y v w h k = h
+either_alike false x y v w h k = k
+
+touched : (d : State) (b m xs : List ℕ) (port : ℕ) (op : BusOp) (o : Option WordRow) → AreAlike (after_touch d port op o) (after_touch (twin d b m xs) port op o)
+touched d b m xs port op None = record { setup = refl; beats = refl; items = refl }
+touched d b m xs port op (Some w) =
+    either_alike (is_faulty d port op) _ _ _ _ (record { setup = refl; beats = refl; items = refl }) (record {
+      setup = (word (twin d b m xs) op w).setup ∙ ap hearing (sym (word d op w).setup);
+      beats = refl;
+      items = (word (twin d b m xs) op w).items ∙ sym (word d op w).items;
+    })
+
+state_twin : (d : State) (b m xs : List ℕ) (port : ℕ) (op : BusOp) → AreAlike (state_after d port op) (state_after (twin d b m xs) port op)
+unfolding state_after
+state_twin d b m xs port op = touched (counted d) b m xs port op (word_at d port op)
+
+goes_alike : (d e : State) (port : ℕ) (op : BusOp) → AreAlike d e → AreAlike (state_after d port op) (state_after e port op)
+goes_alike d e port op a =
+    subst (λ (x : State). AreAlike (state_after d port op) (state_after x port op)) (sym (is_twin d e a)) (state_twin d e.bits e.marks e.locations port op)
+
+either_fails : (t : Bool) (x y v w : Answer) → x.failed ≡ v.failed → y.failed ≡ w.failed → (if t then x else y).failed ≡ (if t then v else w).failed
+either_fails true x y v w h k = h
+either_fails false x y v w h k = k
+
+answer_twin : (d : State) (b m xs : List ℕ) (port : ℕ) (op : BusOp) (o : Option WordRow) → (answer_at d port op o).failed ≡ (answer_at (twin d b m xs) port op o).failed
+answer_twin d b m xs port op None = refl
+answer_twin d b m xs port op (Some w) = either_fails (is_faulty d port op) _ _ _ _ refl refl
+
+answered_twin : (d : State) (b m xs : List ℕ) (port : ℕ) (op : BusOp) → (answer_of d port op).failed ≡ (answer_of (twin d b m xs) port op).failed
+unfolding answer_of
+answered_twin d b m xs port op = answer_twin (counted d) b m xs port op (word_at d port op)
+
+fails_alike : (d e : State) (port : ℕ) (op : BusOp) → AreAlike d e → (answer_of d port op).failed ≡ (answer_of e port op).failed
+fails_alike d e port op a =
+    subst (λ (x : State). (answer_of d port op).failed ≡ (answer_of x port op).failed) (sym (is_twin d e a)) (answered_twin d e.bits e.marks e.locations port op)
+
+-- ---- items one after another
+
+abbrev fine : Answer → Type 0
+fine a = a.failed ≡ false
+
+pub none_fails : (d e : State) (port : ℕ) (ops : List BusOp) → AreAlike d e → All (λ a. a.failed ≡ false) (answers_of e port ops)
+    → All (λ a. a.failed ≡ false) (answers_of d port ops)
+none_fails d e port [] a h = All-nil fine
+none_fails d e port (op ∷ ops) a h =
+    let more : List Answer = answers_of (state_after e port op) port ops in
+    All-cons fine (answer_of d port op) (answers_of (state_after d port op) port ops) (fails_alike d e port op a ∙ All-head fine (answer_of e port op) more h)
+    (none_fails (state_after d port op) (state_after e port op) port ops (goes_alike d e port op a) (All-tail fine (answer_of e port op) more h))
+
+pub all_alike : (d e : State) (port : ℕ) (ops : List BusOp) → AreAlike d e → AreAlike (state_after_all d port ops) (state_after_all e port ops)
+all_alike d e port [] a = a
+all_alike d e port (op ∷ ops) a = all_alike (state_after d port op) (state_after e port op) port ops (goes_alike d e port op a)
+
+-- ---- reads: the one that holds the same answers the same
+
+abbrev pub heard : State → State
+heard d = twin d d.bits d.marks d.locations
+
+test_heard : (b : Bool) (x y v w : State) → b ≡ true → v ≡ heard x → (if b then v else w) ≡ heard (if b then x else y)
+test_heard true x y v w so h = h
+test_heard false x y v w so h = absurd (cc)
+
+read_heard : (s : State) (lanes : ℕ → Bool) (c : Cell) → after_reading (heard s) lanes c ≡ heard (after_reading s lanes c)
+unfolding held
+read_heard s lanes (Reg r) = refl
+read_heard s lanes (Loc m i) = refl
+
+word_heard : (s : State) (op : BusOp) (w : WordRow) → op.write ≡ false → after_word (heard s) op w ≡ heard (after_word s op w)
+word_heard s op w reads =
+    test_heard (not op.write) _ _ _ _ (ap not reads) (read_heard s (lane_bit (lanes_in w.lanes op.lanes)) w.cell)
+
+either_heard : (t : Bool) (x y v w : State) → v ≡ heard x → w ≡ heard y → (if t then v else w) ≡ heard (if t then x else y)
+either_heard true x y v w h k = h
+either_heard false x y v w h k = k
+
+touch_heard : (s : State) (port : ℕ) (op : BusOp) (o : Option WordRow) → op.write ≡ false → after_touch (heard s) port op o ≡ heard (after_touch s port op o)
+touch_heard s port op None reads = refl
+touch_heard s port op (Some w) reads =
+    either_heard (is_faulty s port op) _ _ _ _ refl
+    (ap (λ (x : State). let y : State = record x { beats = beats_on s port op } in y) (word_heard s op w reads))
+
+state_heard : (s : State) (port : ℕ) (op : BusOp) → op.write ≡ false → state_after (heard s) port op ≡ heard (state_after s port op)
+unfolding state_after
+state_heard s port op reads = touch_heard (counted s) port op (word_at s port op) reads
+
+shown : (s : State) (c : Cell) → shown_bit (heard s) c ≡ shown_bit s c
+shown s (Reg r) = refl
+shown s (Loc m i) = refl
+
+answer : (s : State) (port : ℕ) (op : BusOp) (o : Option WordRow) → answer_at (heard s) port op o ≡ answer_at s port op o
+answer s port op None = refl
+answer s port op (Some w) =
+    ap (λ (f : ℕ → Bool). let fine : Answer = record { word = (if op.write then 0 else from_bits 64 (gathered_bit (lanes_in w.lanes op.lanes) f)); failed = false } in
+    let bad : Answer = record { word = 0; failed = true } in
+    if is_faulty s port op then bad else fine) (shown s w.cell)
+
+answer_heard : (s : State) (port : ℕ) (op : BusOp) → answer_of (heard s) port op ≡ answer_of s port op
+unfolding answer_of
+answer_heard s port op = answer (counted s) port op (word_at s port op)
+
+pub reads_heard : (d : State) (port : ℕ) (ops : List BusOp) → All (λ (op : BusOp). op.write ≡ false) ops → answers_of (heard d) port ops ≡ answers_of d port ops
+reads_heard d port [] h = refl
+reads_heard d port (op ∷ ops) h =
+    let first : op.write ≡ false = All-head (λ (o : BusOp). o.write ≡ false) op ops h in
+    ap (λ (a : Answer). a ∷ answers_of (state_after (heard d) port op) port ops) (answer_heard d port op)
+    ∙ ap (λ (x : State). answer_of d port op ∷ answers_of x port ops) (state_heard d port op first)
+    ∙ ap (λ (more : List Answer). answer_of d port op ∷ more) (reads_heard (state_after d port op) port ops (All-tail (λ (o : BusOp). o.write ≡ false) op ops h))

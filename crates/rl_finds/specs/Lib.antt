@@ -1,0 +1,5 @@
+pub mod Visited
+pub mod Named
+pub mod Errors
+pub mod Resets
+pub mod Deaf

@@ -1,0 +1,7 @@
+//! What the five sequences find.
+//!
+//! The functions of this crate do nothing; their contracts are laws of the events that a sequence tells: over a
+//! device and a model that agree none names a field, and over a device with a flaw one of them shows it.
+#![tactic(auto)]
+
+pub mod law;

@@ -1,0 +1,118 @@
+-- What is handed over of a burst or a sequence is a front of the plain machine's events.
+use Rattle.std.proofs.Common.{◌≡◌, ℕ, zero, suc, List, [], ◌∷◌, length, map, take, Option, Result, Ok, Err, OnOk, OnErr, refl, sym, ap, ◌∙◌}
+use Rattle.std.proofs.Math.Seq.{take-length}
+use Rattle.std.proofs.lemmas.List.{length-map}
+use Rattle.rl_bus.specs.declared.device.Failed.{Failed}
+use Rattle.rl_model.specs.Rows.{ChipData}
+use Rattle.rl_map.specs.Layout.{LayoutData}
+use Rattle.rl_access.specs.declared.event.Event.{Event}
+use Rattle.rl_access.specs.declared.event.Op.{Op}
+use Rattle.rl_access.specs.declared.event.Tally.{Tally}
+use Rattle.rl_access.specs.Call.{Scene}
+use Rattle.rl_access.specs.HandsOver.{Told}
+use Rattle.rl_access.specs.Model.{ModelData, IsModel}
+use Rattle.rl_seq.specs.declared.sequence.Sequence.{Sequence}
+use Rattle.rl_seq.specs.declared.sequence.Sequence.TheVariants.{HwReset, BitBash, Access, Shared, MemWalk}
+use Rattle.rl_seq.specs.Plan.{Plan, stop, step, look, IsSequence}
+use Rattle.rl_plain.specs.Machine.{Machine, seen, machine_step}
+use Rattle.rl_plain.specs.Courses.{Course, through, along, first_along, burst}
+use Rattle.rl_plain.specs.Calls.{without_items, IsMachineOf, IsPlainCourse, PlanHasNumbers}
+use Rattle.rl_plain.specs.Fronts.{HandsOverFront, BurstHandsOverFront, SequenceHandsOverFront, plan_of}
+use Rattle.rl_plain.proofs.PlainCourses.{burst_is_plain, plan_is_plain}
+use Rattle.rl_plain.proofs.BrokenCourses.{broken_run_is_plain, broken_plan_is_plain}
+use Rattle.rl_plain.proofs.PlanNumbers.{plans_have_numbers}
+
+-- ---- the first operations have the first events
+
+first_through : (c : ChipData) (l : LayoutData) (p : Machine) (count : ℕ) (ops : List Op) → (through c l p (take count ops)).events ≡ take count (through c l p ops).events
+unfolding through
+first_through c l p zero [] = refl
+first_through c l p zero (op ∷ ops) = refl
+first_through c l p (suc count) [] = refl
+first_through c l p (suc count) (op ∷ ops) =
+    let done = machine_step c l p op in
+    ap (λ events. done.event ∷ events) (first_through c l done.machine count ops)
+
+first_steps : (c : ChipData) (l : LayoutData) (p : Machine) (count : ℕ) (plan : Plan) → (first_along c l p count plan).events ≡ take count (along c l p plan).events
+unfolding along first_along
+first_steps c l p zero stop = refl
+first_steps c l p (suc count) stop = refl
+first_steps c l p zero (step op plan) = refl
+first_steps c l p (suc count) (step op plan) =
+    let done = machine_step c l p op in
+    ap (λ events. done.event ∷ events) (first_steps c l done.machine count plan)
+first_steps c l p count (look f) = first_steps c l p count (f (seen c l p))
+
+-- ---- all of them are a front too
+
+all_first : (s new : Scene) (told : List Told) (whole : Course) → IsPlainCourse s new told whole
+    → map (λ (t : Told). without_items t.event) told ≡ take (length told) whole.events
+all_first s new told whole course =
+    let events = map (λ (t : Told). without_items t.event) told in
+    let all : events ≡ take (length told) events = sym (ap (λ n. take n events) (sym (length-map told (λ (t : Told). without_items t.event))) ∙ take-length events) in
+    all ∙ ap (take (length told)) course.events
+
+on_ok : {T E : Type 0} (r : Result T E) {P : Type 0} → P → OnOk r P
+on_ok (Ok x) h = h
+on_ok (Err e) h = tt
+
+on_err : {T E : Type 0} (r : Result T E) {P : Type 0} → P → OnErr r P
+on_err (Ok x) h = tt
+on_err (Err e) h = h
+
+-- ---- each sequence has its numbers
+
+numbers_of : (m : ModelData) (which : Sequence) (block : Option ℕ) → IsModel m → PlanHasNumbers m.chip m.layout (plan_of which m.chip m.layout block)
+numbers_of m HwReset block ok = (plans_have_numbers m.chip m.layout block ok.chip ok.layout).hw_reset
+numbers_of m BitBash block ok = (plans_have_numbers m.chip m.layout block ok.chip ok.layout).bit_bash
+numbers_of m Access block ok = (plans_have_numbers m.chip m.layout block ok.chip ok.layout).access
+numbers_of m Shared block ok = (plans_have_numbers m.chip m.layout block ok.chip ok.layout).shared_access
+numbers_of m MemWalk block ok = (plans_have_numbers m.chip m.layout block ok.chip ok.layout).mem_walk
+
+-- ---- a burst
+
+module _ {R : Type 0} (takes breaks : R → ModelData → Event → R → Type 0) where
+  pub burst_hands_over_front : BurstHandsOverFront takes breaks
+  burst_hands_over_front old rec s new (Ok place) op ops (Ok tally) p numbers ok is run =
+      let whole = burst s.model.chip s.model.layout p (Ok place) op ops in
+      let course : IsPlainCourse s new run.told whole = burst_is_plain s new (Ok place) op ops run.told p numbers ok is run.run.0 in
+      record { told = run.told; handed = run.handed; events = all_first s new run.told whole course; all = course; part = tt }
+  burst_hands_over_front old rec s new (Ok place) op ops (Err failed) p numbers ok is run =
+      let course = broken_run_is_plain s new ops run.told p numbers ok is run.run in
+      record {
+        told = run.told;
+        handed = run.handed;
+        events = course.events ∙ first_through s.model.chip s.model.layout p (length run.told) ops;
+        all = tt;
+        part = course;
+      }
+  burst_hands_over_front old rec s new (Err why) op ops r p numbers ok is run =
+      let told : List Told = record { model = s.model; event = run.event } ∷ [] in
+      let whole = burst s.model.chip s.model.layout p (Err why) op ops in
+      let course : IsPlainCourse s new told whole = burst_is_plain s new (Err why) op ops told p numbers ok is (run.event, run.refused, refl) in
+      record { told = told; handed = run.handed; events = all_first s new told whole course; all = on_ok r course; part = on_err r course }
+
+  -- ---- a plan
+
+  plan_hands_over_front : (old rec : R) (s new : Scene) (plan : Plan) (r : Result Tally Failed) (p : Machine) → PlanHasNumbers s.model.chip s.model.layout plan → IsModel s.model → IsMachineOf s p
+      → IsSequence takes breaks old rec s new plan r
+      → HandsOverFront takes breaks old rec s new (along s.model.chip s.model.layout p plan) (λ count. first_along s.model.chip s.model.layout p count plan) r
+  plan_hands_over_front old rec s new plan (Ok tally) p numbers ok is run =
+      let whole = along s.model.chip s.model.layout p plan in
+      let course : IsPlainCourse s new run.told whole = plan_is_plain s new plan run.told p numbers ok is run.run in
+      record { told = run.told; handed = run.handed; events = all_first s new run.told whole course; all = course; part = tt }
+  plan_hands_over_front old rec s new plan (Err failed) p numbers ok is run =
+      let course = broken_plan_is_plain s new plan run.told p numbers ok is run.run in
+      record {
+        told = run.told;
+        handed = run.handed;
+        events = course.events ∙ first_steps s.model.chip s.model.layout p (length run.told) plan;
+        all = tt;
+        part = course;
+      }
+
+  -- ---- a sequence
+
+  pub sequence_hands_over_front : SequenceHandsOverFront takes breaks
+  sequence_hands_over_front old rec s new which block r p ok is run =
+      plan_hands_over_front old rec s new (plan_of which s.model.chip s.model.layout block) r p (numbers_of s.model which block ok) ok is run
