@@ -42,8 +42,9 @@ def draw_word(name, parts, y, x):
     for since, until, value in parts:
         a, b, end = x(since), x(until), y + HIGH
         drawn.append(f'<path d="M{a} {y + HIGH // 2}L{a + 3} {y}H{b - 3}L{b} {y + HIGH // 2}L{b - 3} {end}H{a + 3}Z"/>')
-        if value:
-            drawn.append(f'<text x="{a + 6}" y="{y + 11}">{text_of(name, value)}</text>')
+        text = text_of(name, value) if value else ''
+        if text and 9 + 7 * len(text) <= b - a:
+            drawn.append(f'<text x="{a + 6}" y="{y + 11}">{text}</text>')
     return '\n'.join(drawn)
 
 

@@ -1,12 +1,31 @@
--- Items and buses that are gone over one by one.
-use Rattle.std.proofs.Common.{◌≡◌, ℕ, ◌+◌, ◌<◌, ◌≤◌, List, [], ◌∷◌, ◌++◌, Bool, true, false, cond, length, drop, Some, sym, ap, ◌∙◌, append_assoc, append-nil}
-use Rattle.std.specs.Prelude.{slice_get, min, bytes_eq, codes}
-use Rattle.std.proofs.lemmas.List.{drop_more, drop_all, at_drop_more}
+-- Items that are gone over one by one, and what a dump has told.
+use Rattle.std.proofs.Common.{◌≡◌, ℕ, ◌+◌, ◌≤◌, List, [], ◌∷◌, ◌++◌, Bool, true, cond, length, drop, Some, Result, Ok, Err, OnOk, refl, sym, ap, ◌∙◌, append_assoc, append-nil, arith}
+use Rattle.std.specs.Prelude.{slice_get}
+use Rattle.std.specs.declared.option.Option.{Option}
+use Rattle.std.specs.Io.KnownBytes.{Appends, Keeps, append_known}
+use Rattle.std.proofs.KnownBytes.{Appends-nil, Appends-kept, Keeps-refl, append_known-grown}
+use Rattle.std.proofs.lemmas.List.{drop_more, drop_all}
 use Rattle.std.proofs.lemmas.Option.{get_or_from_slice_get, slice_get_within}
-use Rattle.rl_map.specs.Layout.{LayoutData, port_at, map_at, no_port}
+use Rattle.rl_map.specs.Layout.{LayoutData}
 use Rattle.rl_access.specs.declared.trace.TraceItem.{TraceItem}
-use Rattle.rl_wave.specs.Dump.{BusData}
-use Rattle.rl_dump.specs.Items.{is_apb, item_text, cycle_behind, items_text, cycle_after, buses_from}
+use Rattle.rl_bus.specs.declared.transfer.ApbTransfer.{ApbTransfer}
+use Rattle.rl_bus.specs.declared.transfer.ApbResponse.{ApbResponse}
+use Rattle.rl_wave.specs.declared.pins.Bus.{Bus}
+use Rattle.rl_wave.specs.Dump.{transfer_text}
+use Rattle.rl_dump.specs.Items.{is_apb, bus_of, transfer_of, response_of, item_text, cycle_behind, items_text, cycle_after}
+
+item_is : (l : LayoutData) (label : List ℕ) (item : TraceItem) (n : ℕ) → is_apb l item.port ≡ true
+    → item_text l label item n ≡ transfer_text (bus_of l item.port) label (transfer_of item) (response_of item) n
+item_is l label item n e = ap (λ (b : Bool). cond b (transfer_text (bus_of l item.port) label (transfer_of item) (response_of item) n) []) e
+
+-- an item that goes through the APB adapter was drawn
+pub item_drawn : {T E : Type 0} (result : Result T E) (l : LayoutData) (label old new : List ℕ) (item : TraceItem) (n : ℕ) (b : Bus) (t : ApbTransfer) (r : ApbResponse)
+    → is_apb l item.port ≡ true → b ≡ bus_of l item.port → t ≡ transfer_of item → r ≡ response_of item
+    → OnOk result (new ≡ old ++ transfer_text b label t r n) → OnOk result (new ≡ old ++ item_text l label item n)
+item_drawn (Ok x) l label old new item n b t r e eb et er h =
+    h ∙ ap (λ y. old ++ transfer_text y label t r n) eb ∙ ap (λ y. old ++ transfer_text (bus_of l item.port) label y r n) et
+    ∙ ap (λ y. old ++ transfer_text (bus_of l item.port) label (transfer_of item) y n) er ∙ ap (λ y. old ++ y) (sym (item_is l label item n e))
+item_drawn (Err x) l label old new item n b t r e eb et er h = tt
 
 from_next : {X : Type 0} (xs : List X) (k : ℕ) (x : X) → slice_get xs k ≡ Some x → drop k xs ≡ x ∷ drop (k + 1) xs
 from_next xs k x h = drop_more xs k x (slice_get_within xs k x h) ∙ ap (λ y. y ∷ drop (k + 1) xs) (get_or_from_slice_get xs k x x h)
@@ -32,25 +51,16 @@ all_drawn l label whole w xs k c le h = sym (h ∙ ap (λ ys. w ++ items_text l 
 pub all_cycles : (l : LayoutData) (end : ℕ) (xs : List TraceItem) (k c : ℕ) → length xs ≤ k → end ≡ cycle_after l (drop k xs) c → c ≡ end
 all_cycles l end xs k c le h = sym (h ∙ ap (λ ys. cycle_after l ys c) (drop_all k xs le))
 
-pub bus_at : LayoutData → ℕ → BusData
-bus_at l k = record { name = (map_at l (port_at l k).map).name; bus = record { number = k; bytes = min (port_at l k).bytes 4 } }
+-- what is told once more was drawn, and some of it was written or nothing
+pub told_more : (a b : Option (List ℕ)) (old new bs : List ℕ) → new ≡ old ++ bs → Keeps (append_known a new) b → Appends (append_known a old) b bs
+told_more a b old new bs grown kept =
+    Appends-kept (append_known a old) (append_known a new) b bs (append_known-grown (append_known a old) a old new bs (Keeps-refl (append_known a old)) grown) kept
 
-from_port : (l : LayoutData) (k : ℕ) (b : Bool) → k < length l.ports → is_apb l k ≡ b
-    → buses_from l (drop k l.ports) k ≡ cond b (bus_at l k ∷ buses_from l (drop (k + 1) l.ports) (k + 1)) (buses_from l (drop (k + 1) l.ports) (k + 1))
-from_port l k b lt e =
-    let rest = buses_from l (drop (k + 1) l.ports) (k + 1) in
-    at_drop_more (λ ps. buses_from l ps k) l.ports k no_port lt ∙ ap (λ (a : Bool). cond a (bus_at l k ∷ rest) rest) e
+-- an event without items
+pub none_drawn : (a : Option (List ℕ)) (l : LayoutData) (label : List ℕ) (xs : List TraceItem) (n : ℕ) → length xs ≡ 0 → Appends a a (items_text l label xs n)
+none_drawn a l label [] n e = Appends-nil a
+none_drawn a l label (x ∷ xs) n e = absurd (omega arith)
 
--- a port that goes through the APB adapter, and another one
-pub bus_taken : (l : LayoutData) (whole b1 b2 : List BusData) (k : ℕ) → k < length l.ports → is_apb l k ≡ true → whole ≡ b1 ++ buses_from l (drop k l.ports) k
-    → b2 ≡ b1 ++ bus_at l k ∷ [] → whole ≡ b2 ++ buses_from l (drop (k + 1) l.ports) (k + 1)
-bus_taken l whole b1 b2 k lt e h f =
-    let rest = buses_from l (drop (k + 1) l.ports) (k + 1) in
-    h ∙ ap (λ t. b1 ++ t) (from_port l k true lt e) ∙ sym (append_assoc b1 (bus_at l k ∷ []) rest) ∙ ap (λ b. b ++ rest) (sym f)
-
-pub bus_passed : (l : LayoutData) (whole b1 : List BusData) (k : ℕ) → k < length l.ports → is_apb l k ≡ false → whole ≡ b1 ++ buses_from l (drop k l.ports) k
-    → whole ≡ b1 ++ buses_from l (drop (k + 1) l.ports) (k + 1)
-bus_passed l whole b1 k lt e h = h ∙ ap (λ t. b1 ++ t) (from_port l k false lt e)
-
-pub all_buses : (l : LayoutData) (whole b : List BusData) (k : ℕ) → length l.ports ≤ k → whole ≡ b ++ buses_from l (drop k l.ports) k → b ≡ whole
-all_buses l whole b k le h = sym (h ∙ ap (λ ps. b ++ buses_from l ps k) (drop_all k l.ports le) ∙ append-nil b)
+pub no_cycle : (l : LayoutData) (xs : List TraceItem) (n : ℕ) → length xs ≡ 0 → n ≡ cycle_after l xs n
+no_cycle l [] n e = refl
+no_cycle l (x ∷ xs) n e = absurd (omega arith)

@@ -1,10 +1,14 @@
 -- A text that is cut to its room.
-use Rattle.std.proofs.Common.{◌≡◌, ℕ, ◌+◌, ◌-◌, ◌^◌, ◌<◌, ◌≤◌, min, List, [], ◌++◌, Bool, true, false, cond, nat_lt, length, take, Some, Result, Ok, Err, refl, sym, ap, ◌∙◌, arith}
+use Rattle.std.proofs.Common.{◌≡◌, ℕ, ◌+◌, ◌-◌, ◌^◌, ◌<◌, ◌≤◌, min, List, [], ◌++◌, Bool, true, false, cond, nat_lt, length, take, unwrap_or, Some, None, Result, Ok, Err, refl, sym, ap, ◌∙◌, arith}
+use Rattle.std.specs.declared.option.Option.{Option}
 use Rattle.std.proofs.lemmas.List.{take_all}
-use Rattle.std.proofs.lemmas.Bool.{ltb-true, ltb-false, lt-ltb, le-ltb}
+use Rattle.std.proofs.lemmas.Bool.{ltb-false}
 use Rattle.std.proofs.Math.Seq.{take-append_seam}
 use Rattle.rl_bus.specs.Causes.{Rose, HasCause}
+use Rattle.rl_report.specs.Lines.{first_line}
 use Rattle.rl_report.specs.Pieces.{Puts}
+use Rattle.rl_report.proofs.LineLemmas.{searched, line_front}
+use Rattle.memchr.specs.Find.{IsFirstByte, is_byte}
 use Rattle.rl_dump.specs.Label.{faults_of}
 
 -- it has failed, so it is full
@@ -26,19 +30,9 @@ cut text line (Err e) len p c =
     let long = full text c.failed in
     p.part.appended ∙ front_cut p.part.front p.part.rest line p.part.split (omega (arith, len, long, ap length p.part.appended))
 
-larger_if : (a b : Bool) → (b ≡ true → a ≡ true) → cond a 0 (2 ^ 64 - 1) ≤ cond b 0 (2 ^ 64 - 1)
-larger_if true b h = omega arith
-larger_if false true h = absurd (cc (h refl))
-larger_if false false h = omega arith
+-- a search for the line's end
+pub line_found : (p : List ℕ) (at : Option ℕ) (len : ℕ) → at ≡ Some len → IsFirstByte (is_byte 10) p at → take len p ≡ first_line p
+line_found p at len is h = line_front p len (sym (ap (λ a. unwrap_or a (length p)) is) ∙ searched p at h)
 
--- a longer text has failed no less often
-pub fuller : (a b : List ℕ) → length a ≤ length b → faults_of a ≤ faults_of b
-fuller a b h = larger_if (nat_lt (length a) 127) (nat_lt (length b) 127) (λ e. let l : length b < 127 = ltb-true (length b) 127 e in lt-ltb (length a) 127 (omega (arith, h, l)))
-
-rose_if : (b : Bool) → b ≡ false → Rose (cond b 0 (2 ^ 64 - 1)) (cond b 0 (2 ^ 64 - 1))
-rose_if true e = absurd (cc e)
-rose_if false e = omega arith
-
--- and a full one has failed
-pub full_fails : (a : List ℕ) → 127 ≤ length a → Rose (faults_of a) (faults_of a)
-full_fails a h = rose_if (nat_lt (length a) 127) (le-ltb (length a) 127 h)
+pub line_all : (p : List ℕ) (at : Option ℕ) → at ≡ None → IsFirstByte (is_byte 10) p at → p ≡ first_line p
+line_all p at is h = sym (take_all (length p) p (omega arith)) ∙ line_front p (length p) (sym (ap (λ a. unwrap_or a (length p)) is) ∙ searched p at h)

@@ -1,5 +1,5 @@
 // The dump of a session's events, and what is kept back of its text.
-ghost use Rattle.std.specs.Prelude.{◌≡◌, ◌≤◌, ◌<◌, ◌-◌, ◌^◌, Ok, Err, None, Some, IsNone, IsSome, IfOk, OnOk, All};
+ghost use Rattle.std.specs.Prelude.{◌≡◌, ◌++◌, ◌≤◌, ◌<◌, ◌-◌, ◌^◌, Ok, Err, None, Some, IsNone, IsSome, IfOk, OnOk, All};
 ghost use Rattle.std.specs.Io.KnownBytes.{Appends, Keeps, append_known};
 ghost use Rattle.rl_bus.specs.Causes.{Rose};
 ghost use Rattle.rl_access.specs.Event.{EventFits, ItemFits};
@@ -134,6 +134,7 @@ impl<K: Sink> Dump<K> {
         ensures whole { OnOk result (Keeps (told K.written self.old) (K.written self.new.sink)) }
         ensures cycle { self.new.wave.cycle ≡ self.old.wave.cycle }
         ensures fault { self.new.fault ≡ self.old.fault }
+        ensures ends_kept { K.ends self.new.sink ≡ K.ends self.old.sink }
         ensures cause { result ≡ Err Fault.Sink → Rose (K.faults self.old.sink) (K.faults self.new.sink) }
         ensures later { K.faults self.old.sink ≤ K.faults self.new.sink }
     {
@@ -158,6 +159,7 @@ impl<K: Sink> Dump<K> {
         self.write_out()
     }
 
+    #[tactic(auto, using(crate::proofs::DumpLemmas::told_more))]
     fn try_note(&mut self, model: &Model, event: &Event) -> Result<(), Fault>
         requires { EventFits model.now event.now }
         ensures drawn { OnOk result (Appends (told K.written self.old) (told K.written self.new)
@@ -175,6 +177,7 @@ impl<K: Sink> Dump<K> {
     }
 
     /// Draws the items of an event: each transfer with the event's line beside it.
+    #[tactic(auto, using(crate::proofs::DumpLemmas::none_drawn, crate::proofs::DumpLemmas::no_cycle))]
     pub fn note(&mut self, model: &Model, event: &Event)
         requires { EventFits model.now event.now }
 
