@@ -1,10 +1,12 @@
-// Accesses of several masters that are added to a weave.
-ghost use Rattle.std.specs.Prelude.{◌≡◌, true};
+// Accesses of several masters that are open at once.
+ghost use Rattle.std.specs.Prelude.{◌≡◌, ◌<◌, IfOk, true, map};
+ghost use Rattle.rl_access.specs.Model.{IsReady};
 ghost use Rattle.rl_weave.specs.Weave.{IsWeaveOn};
 
 use crate::fixture::{READ_ONLY, UNPLACED, UNWATCHED, opened, plain_adapter};
-use rl_access::Model;
-use rl_weave::{Access, Weave, WeaveFault};
+use rl_access::{End, Model};
+use rl_bus::{Adapter, Adapters, Device};
+use rl_weave::{Access, Step, Weave, WeaveFault};
 use std::alloc::AllocGlobal;
 use std::process::Abort;
 use std::test::Fail;
@@ -14,6 +16,73 @@ type Asked = (u32, Option<u64>);
 
 // An access that is added, and its number or the cause against it.
 type Added = (Asked, Result<u32, WeaveFault>);
+
+// The address of an item and its word; and how the access ended where this was its last item, with what is mirrored.
+type Seen = (u64, u64, Option<(End, u64)>);
+
+// The accesses, which of the open ones goes on at each step, and what it does.
+struct Group {
+    accesses: &'static [Added],
+    steps: &'static [(u32, Seen)],
+}
+
+const WRITES: &[Added] = &[((0, Some(0x1122)), Ok(0)), ((1, Some(0x3344)), Ok(1))];
+
+const READ_AND_WRITE: &[Added] = &[((0, None), Ok(0)), ((1, Some(0x5566)), Ok(1))];
+
+// By turns.
+const BY_TURNS: [Group; 2] = [
+    Group {
+        accesses: WRITES,
+        steps: &[
+            (0, (0, 0x22, None)),
+            (1, (2, 0x44, None)),
+            (0, (1, 0x11, Some((End::Done, 0x1122)))),
+            (0, (3, 0x33, Some((End::Done, 0x3344)))),
+        ],
+    },
+    Group {
+        accesses: READ_AND_WRITE,
+        steps: &[
+            (0, (0, 0x22, None)),
+            (1, (2, 0x66, None)),
+            (0, (1, 0x11, Some((End::Value { value: 0x1122 }, 0x1122)))),
+            (0, (3, 0x55, Some((End::Done, 0x5566)))),
+        ],
+    },
+];
+
+// One access after the other, and one within the other.
+const NESTED: [Group; 2] = [
+    Group {
+        accesses: WRITES,
+        steps: &[
+            (1, (2, 0x44, None)),
+            (1, (3, 0x33, Some((End::Done, 0x3344)))),
+            (0, (0, 0x22, None)),
+            (0, (1, 0x11, Some((End::Done, 0x1122)))),
+        ],
+    },
+    Group {
+        accesses: READ_AND_WRITE,
+        steps: &[
+            (0, (0, 0x22, None)),
+            (1, (2, 0x66, None)),
+            (1, (3, 0x55, Some((End::Done, 0x5566)))),
+            (0, (1, 0x11, Some((End::Value { value: 0x1122 }, 0x1122)))),
+        ],
+    },
+];
+
+// The second item fails, and its access ends there.
+const FAILED: [Group; 1] = [Group {
+    accesses: WRITES,
+    steps: &[
+        (0, (0, 0x22, None)),
+        (1, (2, 0x44, Some((End::BusError { word: 0 }, 0x0000)))),
+        (0, (1, 0x11, Some((End::Done, 0x1122)))),
+    ],
+}];
 
 // The first cause that holds counts.
 const ADDED: [Added; 9] = [
@@ -52,6 +121,40 @@ fn added(weave: &mut Weave, model: &Model, asked: Asked) -> Result<Result<u32, W
     }
 }
 
+fn seen(step: &Step) -> Seen {
+    let item = &step.item;
+    let word = if item.op.write {
+        item.op.word
+    } else {
+        item.answer.word
+    };
+    let end = match &step.end {
+        Some(event) => Some((event.end, event.mirrored)),
+        None => None,
+    };
+    (item.op.address, word, end)
+}
+
+// The next word of one of the open accesses.
+fn stepped<D: Device>(
+    weave: &mut Weave,
+    model: &mut Model,
+    device: &mut D,
+    adapters: &mut Adapters,
+    i: u32,
+) -> Result<Seen, Fail>
+    requires ready { IsReady model.old (map standing adapters.old.items) (D.state device.old) }
+    requires on { IsWeaveOn model.old weave.old }
+    ensures ready { IsReady model.new (map standing adapters.new.items) (D.state device.new) }
+    ensures on { IsWeaveOn model.new weave.new }
+{
+    if i >= weave.open_count() {
+        return Err("not open".into());
+    }
+    let which = weave.nth_open(i);
+    Ok(seen(&weave.step(model, device, adapters, which)))
+}
+
 fn all_added(rt: &impl Abort, weave: &mut Weave, model: &Model, rows: &[Added]) -> Result<(), Fail>
     requires fresh { weave.old.fresh ≡ true }
     requires on { IsWeaveOn model.now weave.old }
@@ -61,6 +164,70 @@ fn all_added(rt: &impl Abort, weave: &mut Weave, model: &Model, rows: &[Added]) 
         assert_eq!(rt; added(weave, model, *asked)?, *want, "{asked:?}");
     }
     Ok(())
+}
+
+fn all_stepped<D: Device>(
+    rt: &impl Abort,
+    weave: &mut Weave,
+    model: &mut Model,
+    device: &mut D,
+    adapters: &mut Adapters,
+    steps: &[(u32, Seen)],
+) -> Result<(), Fail>
+    requires ready { IsReady model.old (map standing adapters.old.items) (D.state device.old) }
+    requires on { IsWeaveOn model.old weave.old }
+    ensures ready { IsReady model.new (map standing adapters.new.items) (D.state device.new) }
+{
+    for (i, want) in steps {
+        let seen = stepped(weave, model, device, adapters, *i)?;
+        assert_eq!(rt; seen, *want);
+    }
+    Ok(())
+}
+
+// Each group to its end, with one weave.
+#[tactic(auto, using(crate::proofs::Weaves::empty_on))]
+fn all_woven<D: Device>(
+    rt: &(impl Abort + AllocGlobal),
+    model: &mut Model,
+    device: &mut D,
+    adapters: &mut Adapters,
+    groups: &[Group],
+) -> Result<(), Fail>
+    requires ready { IsReady model.old (map standing adapters.old.items) (D.state device.old) }
+{
+    let mut weave = Weave::build(rt.alloc())?;
+    for group in groups {
+        weave.clear();
+        all_added(rt, &mut weave, model, group.accesses)?;
+        all_stepped(rt, &mut weave, model, device, adapters, group.steps)?;
+        assert_eq!(rt; weave.open_count(), 0);
+    }
+    Ok(())
+}
+
+#[test]
+fn accesses_go_by_turns(rt: HostRuntime) -> Result<(), Fail> {
+    let alloc = rt.alloc();
+    let mut adapters = plain_adapter(alloc)?;
+    let (mut model, mut device) = opened(alloc, &adapters, 0)?;
+    all_woven(&rt, &mut model, &mut device, &mut adapters, &BY_TURNS)
+}
+
+#[test]
+fn accesses_go_one_within_the_other(rt: HostRuntime) -> Result<(), Fail> {
+    let alloc = rt.alloc();
+    let mut adapters = plain_adapter(alloc)?;
+    let (mut model, mut device) = opened(alloc, &adapters, 0)?;
+    all_woven(&rt, &mut model, &mut device, &mut adapters, &NESTED)
+}
+
+#[test]
+fn an_access_ends_where_a_word_fails(rt: HostRuntime) -> Result<(), Fail> {
+    let alloc = rt.alloc();
+    let mut adapters = plain_adapter(alloc)?;
+    let (mut model, mut device) = opened(alloc, &adapters, 2)?;
+    all_woven(&rt, &mut model, &mut device, &mut adapters, &FAILED)
 }
 
 // One more than a weave holds.
