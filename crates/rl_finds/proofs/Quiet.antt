@@ -26,7 +26,7 @@ use Rattle.rl_plain.proofs.Machines.{none_of, seen_is}
 use Rattle.rl_plain.proofs.PlainCourses.{plan_is_plain}
 use Rattle.rl_plain.proofs.PlanNumbers.{plans_have_numbers}
 use Rattle.rl_finds.specs.Named.{NamesNoField, NothingIsNamed}
-use Rattle.rl_finds.specs.Visited.{plan_of}
+use Rattle.rl_plain.specs.Fronts.{plan_of}
 
 -- ---- the machine
 

@@ -6,18 +6,9 @@ use Rattle.rl_access.specs.declared.event.Event.{Event}
 use Rattle.rl_access.specs.Call.{Scene}
 use Rattle.rl_access.specs.HandsOver.{Told}
 use Rattle.rl_seq.specs.declared.sequence.Sequence.{Sequence}
-use Rattle.rl_seq.specs.declared.sequence.Sequence.TheVariants.{HwReset, BitBash, Access, Shared, MemWalk}
-use Rattle.rl_seq.specs.Plan.{Plan, Runs, Breaks}
+use Rattle.rl_seq.specs.Plan.{Runs, Breaks}
 use Rattle.rl_seq.specs.Sequences.{items_of, is_chosen, is_visited}
-use Rattle.rl_seq.specs.Sequences.{hw_reset_plan, bit_bash_plan, access_test_plan, shared_access_plan, mem_walk_plan}
-
--- the operations of a sequence
-abbrev pub plan_of : Sequence → ChipData → LayoutData → Option ℕ → Plan
-plan_of HwReset c l block = hw_reset_plan c l block
-plan_of BitBash c l block = bit_bash_plan c l block
-plan_of Access c l block = access_test_plan c l block
-plan_of Shared c l block = shared_access_plan c l block
-plan_of MemWalk c l block = mem_walk_plan c l block
+use Rattle.rl_plain.specs.Fronts.{plan_of}
 
 -- the sequence ran from the first scene to the new one, and told these events: all of them
 abbrev pub RunsAll : Sequence → Option ℕ → Scene → List Told → Scene → Type 0
