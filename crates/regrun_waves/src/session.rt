@@ -1,9 +1,13 @@
 // A session on the device model, whose events are drawn.
-ghost use Rattle.std.specs.Prelude.{◌≡◌, ◌<◌, ◌^◌, [], map, length, true, false, OnOk, IfOk};
+ghost use Rattle.std.specs.Prelude.{◌≡◌, ◌<◌, ◌^◌, [], map, length, true, false, OnOk, IfOk, Some};
 ghost use Rattle.rl_bus.specs.Standing.{kinds_of};
+ghost use Rattle.rl_access.specs.Model.{IsReady};
 ghost use Rattle.rl_bench.specs.Prelude.{IsBuiltWith};
+ghost use Rattle.rl_bench.specs.State.{bench_state};
 ghost use Rattle.rl_session.specs.Prelude.{AreFlawsOf};
 
+use rl_access::Model;
+use rl_bench::Bench;
 use rl_bus::{Adapter, Adapters};
 use rl_desc::{Desc, DescFault};
 use rl_dump::{Dump, Fault, Waves};
@@ -11,7 +15,7 @@ use rl_log::{Counts, Status};
 use rl_play::{Buffered, Earlier, Log, play_lines};
 use rl_report::{Failed, Head, HeadFault, LineReader, Sink, Source, put_all};
 use rl_session::{described, open, put_description_refused};
-use std::alloc::Global;
+use std::alloc::{AllocError, Global};
 use std::marker::Brand;
 
 /// How a session ended, and why its dump did where it did early.
@@ -101,6 +105,43 @@ const NO_MEMORY: Ran = Ran {
     fault: None,
 };
 
+// The dump of a session over the registers of a model, with no event yet.
+fn dump_of<K: Sink + Drop>(alloc: Global, model: &Model, vcd: K) -> Result<Dump<K>, AllocError> {
+    Dump::build(alloc, model.layout(), vcd)
+}
+
+// Runs the lines that are left, and ends the dump.
+fn play_waves<P: Source, L: Log, K: Sink + Drop>(
+    alloc: Global,
+    model: &mut Model,
+    bench: &mut Bench,
+    adapters: &mut Adapters,
+    lines: &mut LineReader,
+    session: &mut P,
+    mut waves: Waves<'_, L, K>,
+) -> Ran
+    requires ready { IsReady model.old (map standing adapters.old.items) (Some (bench_state bench.old)) }
+    requires found { lines.old.found ≡ true }
+    requires going { lines.old.refused ≡ false }
+{
+    let mut counts = Counts::new();
+    let status = play_lines(
+        alloc,
+        model,
+        bench,
+        adapters,
+        lines,
+        session,
+        &mut waves,
+        &mut counts,
+    );
+    waves.dump.close();
+    Ran {
+        status,
+        fault: waves.dump.fault,
+    }
+}
+
 // Runs the lines that are left, and draws their events.
 fn play_drawn<P: Source, L: Log, K: Sink + Drop>(
     alloc: Global,
@@ -120,26 +161,18 @@ fn play_drawn<P: Source, L: Log, K: Sink + Drop>(
     let Ok((mut model, mut bench)) = open(alloc, desc) else {
         return NO_MEMORY;
     };
-    let Ok(dump) = Dump::build(alloc, model.layout(), vcd) else {
+    let Ok(dump) = dump_of(alloc, &model, vcd) else {
         return NO_MEMORY;
     };
-    let mut waves = Waves { log, dump };
-    let mut counts = Counts::new();
-    let status = play_lines(
+    play_waves(
         alloc,
         &mut model,
         &mut bench,
         adapters,
         lines,
         session,
-        &mut waves,
-        &mut counts,
-    );
-    waves.dump.close();
-    Ran {
-        status,
-        fault: waves.dump.fault,
-    }
+        Waves { log, dump },
+    )
 }
 
 // Runs a session, and draws its events. The log isn't written out at the end.
