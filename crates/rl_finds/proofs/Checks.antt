@@ -50,7 +50,7 @@ none_there l gathered place built = record {
   ];
 }
 
-forgotten_built : (b : Bool) (l : LayoutData) (gathered : List Gathered) (place : ℕ) → IsPredictorOf l gathered
+pub forgotten_built : (b : Bool) (l : LayoutData) (gathered : List Gathered) (place : ℕ) → IsPredictorOf l gathered
     → IsPredictorOf l (if b then slice_set gathered place no_words else gathered)
 forgotten_built true l gathered place built = none_there l gathered place built
 forgotten_built false l gathered place built = built
