@@ -13,3 +13,6 @@ pub mod Walked
 pub mod Twins
 pub mod Untouched
 pub mod DeafWalk
+pub mod StuckBit
+pub mod Bashing
+pub mod BitBash
