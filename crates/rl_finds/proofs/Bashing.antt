@@ -1,6 +1,6 @@
 -- Writes and checks of registers over a device with one stuck bit.
-use Rattle.std.proofs.Common.{◌≡◌, ◌≢◌, ℕ, ◌+◌, ◌-◌, ◌*◌, ◌^◌, ◌<◌, ◌==◌, bit_xor, Bool, true, false, not, List, [], ◌∷◌, length, All, if◌then◌else◌}
-use Rattle.std.proofs.Common.{Option, None, Some, option_map, Ok, Err, MatchResult, refl, sym, ap, ◌∙◌, subst, eqb, arith}
+use Rattle.std.proofs.Common.{◌≡◌, ℕ, ◌^◌, ◌<◌, bit_xor, Bool, true, false, not, List, [], ◌∷◌, length, All, if◌then◌else◌}
+use Rattle.std.proofs.Common.{Option, None, Some, option_map, Ok, Err, MatchResult, refl, sym, ap, ◌∙◌, subst, eqb}
 use Rattle.std.specs.Prelude.{slice_index}
 use Rattle.std.specs.Option.{option_map_or}
 use Rattle.std.proofs.lemmas.List.{get_or-replicate, get_or-set_same, length-replicate}
@@ -8,7 +8,7 @@ use Rattle.std.proofs.lemmas.List.Elements.{All-map}
 use Rattle.std.proofs.lemmas.Nat.Bits.{bit_at-pow_same}
 use Rattle.rl_policy.proofs.BitLemmas.{bit-from_bits, bit-xor, bit-zero}
 use Rattle.rl_policy.specs.Bits.{bit}
-use Rattle.rl_policy.specs.Table.{after_write, after_read, value_read, is_write_only, either_alone}
+use Rattle.rl_policy.specs.Table.{after_write, after_read, is_write_only, either_alone}
 use Rattle.rl_policy.specs.declared.policy.Policy.{Policy}
 use Rattle.rl_bus.specs.declared.op.Answer.{Answer}
 use Rattle.rl_bus.specs.declared.op.BusOp.{BusOp}
@@ -22,7 +22,7 @@ use Rattle.rl_map.specs.Layout.{LayoutData, IsSound as IsLayout, port_at, place_
 use Rattle.rl_map.specs.Maps.{IsBuiltWith}
 use Rattle.rl_map.specs.Tables.{setup_of}
 use Rattle.rl_split.specs.Access.{op_of, sent_of, ops_of}
-use Rattle.rl_split.specs.Law.{no_flaws, IsReady}
+use Rattle.rl_split.specs.Law.{no_flaws}
 use Rattle.rl_split.specs.Runs.{answers_of}
 use Rattle.rl_split.specs.Step.{Register, every, wstep, ranswer, written_bit, shown_bit}
 use Rattle.rl_mirror.specs.Mirror.{MirrorData, IsMirrorOf, mirrored_of}
@@ -41,10 +41,10 @@ use Rattle.rl_access.specs.Items.{item_of, took_item, items_of, failed_at, state
 use Rattle.rl_access.specs.Laws.{ChecksRegister}
 use Rattle.rl_access.specs.Model.{ModelData, IsModel}
 use Rattle.rl_access.specs.Operation.{register_of, HasNumbers}
-use Rattle.rl_access.specs.Rules.{Grant, grant, sends, forgotten, forgetting, found_by, device_after, Outcome, or_error, outcome}
+use Rattle.rl_access.specs.Rules.{Grant, grant, sends, forgotten, forgetting, found_by, device_after, Outcome, or_error}
 use Rattle.rl_access.proofs.Setups.{setup-state_after_all}
 use Rattle.rl_plain.specs.Agree.{believed}
-use Rattle.rl_plain.specs.OneStep.{IsAccess, Meets, write_step, read_step, step_of}
+use Rattle.rl_plain.specs.OneStep.{IsAccess, Meets, write_step, step_of}
 use Rattle.rl_plain.proofs.Accesses.{IsStepped}
 use Rattle.rl_plain.proofs.Agreement.{here_same}
 use Rattle.rl_plain.proofs.Answered.{done_of}

@@ -1,32 +1,27 @@
 -- A bit that is turned round twice: after the first check it is believed as it is stuck, and the second finds it other than written.
-use Rattle.std.proofs.Common.{◌≡◌, ◌≢◌, ◌⊎◌, ℕ, zero, suc, ◌+◌, ◌-◌, ◌*◌, ◌^◌, ◌<◌, ◌≤◌, nat_lt, ◌==◌, bit_xor, Bool, true, false, not, ◌&&◌, List, [], ◌∷◌, ◌++◌, length}
-use Rattle.std.proofs.Common.{Option, None, Some, option_map, Ok, if◌then◌else◌, refl, sym, ap, ◌∙◌, subst, inl, inr, eqb, eqb-true, eq-eqb, arith}
-use Rattle.std.specs.Prelude.{slice_index}
-use Rattle.std.proofs.lemmas.Bool.{and_parts, cases_eq, cases_lt, false_from_ne_true}
+use Rattle.std.proofs.Common.{◌≡◌, ◌≢◌, ◌⊎◌, ℕ, zero, suc, ◌+◌, ◌-◌, ◌*◌, ◌^◌, ◌<◌, ◌≤◌, ◌==◌, bit_xor, Bool, true, false, not, ◌&&◌, List, [], ◌∷◌, ◌++◌, length}
+use Rattle.std.proofs.Common.{Option, None, Some, option_map, Ok, if◌then◌else◌, refl, sym, ap, ◌∙◌, subst, inl, inr, eqb-true, eq-eqb, arith}
+use Rattle.std.proofs.lemmas.Bool.{and_parts, cases_lt, false_from_ne_true}
 use Rattle.rl_policy.proofs.BitLemmas.{bit-from_bits}
 use Rattle.rl_policy.specs.Bits.{bit, is_within}
 use Rattle.rl_policy.specs.Table.{after_write, after_read, is_write_only}
-use Rattle.rl_policy.specs.declared.policy.Policy.{Policy}
-use Rattle.rl_policy.specs.declared.policy.Policy.TheVariants.{Rw}
 use Rattle.rl_bus.specs.declared.table.FieldRow.{FieldRow}
 use Rattle.rl_bus.specs.declared.table.StuckRow.{StuckRow}
-use Rattle.rl_bus.specs.Setup.{Setup, field_of as row_of_field, field_at, policy_of, policy_at, stuck_at, or_else}
-use Rattle.rl_bus.specs.State.{State}
+use Rattle.rl_bus.specs.Setup.{Setup, field_of as row_of_field, field_at, policy_of, stuck_at}
 use Rattle.rl_model.specs.Rows.{FieldSeen, ChipData}
 use Rattle.rl_model.specs.Fields.{field_of, first_of, count_of, fields_of, field_in, policy_in, size_of, place_at}
 use Rattle.rl_model.specs.Chip.{IsSound as IsChip}
 use Rattle.rl_model.specs.declared.rows.Field.{Field}
 use Rattle.rl_model.specs.declared.rows.Item.TheVariants.{Reg}
 use Rattle.rl_map.specs.Layout.{LayoutData}
-use Rattle.rl_map.specs.Tables.{field_row, setup_of}
+use Rattle.rl_map.specs.Tables.{setup_of}
 use Rattle.rl_split.specs.Law.{no_flaws}
 use Rattle.rl_split.specs.Step.{every, ranswer}
 use Rattle.rl_mirror.specs.Compared.{is_compared}
 use Rattle.rl_mirror.specs.Fields.{part_of}
 use Rattle.rl_mirror.specs.Mirror.{IsMirrorOf, mirrored_of}
-use Rattle.rl_mirror.proofs.FieldLemmas.{field_list, seated, length-fields_of, field_in-fields_of}
+use Rattle.rl_mirror.proofs.FieldLemmas.{field_list, seated, length-fields_of}
 use Rattle.rl_mirror.proofs.MirrorLemmas.{place_of}
-use Rattle.rl_mirror.proofs.PlaceLemmas.{place_is}
 use Rattle.rl_access.specs.declared.event.Event.{Event}
 use Rattle.rl_access.specs.declared.event.Op.{Op}
 use Rattle.rl_access.specs.declared.event.Op.TheVariants as op
@@ -44,7 +39,7 @@ use Rattle.rl_seq.specs.Plan.{Plan, stop, step, look, followed_by, only_if, each
 use Rattle.rl_seq.specs.Sequences.{map_at, bash_once, bash_bit, items_of, is_chosen, is_visited, at_place, visit, visit_all, walk}
 use Rattle.rl_seq.proofs.Choosing.{any_found}
 use Rattle.rl_finds.specs.Resets.{IsNamedBy}
-use Rattle.rl_finds.specs.Stuck.{stuck_bit, bit_of, HasStuckBit, IsTurned, IsBitOfTurned, StuckBitIsNamed, RwIsTurned}
+use Rattle.rl_finds.specs.Stuck.{stuck_bit, bit_of, IsTurned, IsBitOfTurned, StuckBitIsNamed}
 use Rattle.rl_finds.specs.Visited.{HasEvent, IsVisited}
 use Rattle.rl_finds.proofs.Bashing.{IsStuckSetup, Holding, unmarked_bits, write_done, check_done, write_stays, check_stays, written_there, read_there, answered_there, turned_bit}
 use Rattle.rl_finds.proofs.Reaching.{IsPlaceOf, is_place, check_is, bash_granted}
@@ -315,7 +310,7 @@ walk_finds m block t field reg k b i v place ok w at compared =
 
 -- ---- the law
 
-both_true : (a b : Bool) → a ≡ true → b ≡ true → (a && b) ≡ true
+pub both_true : (a b : Bool) → a ≡ true → b ≡ true → (a && b) ≡ true
 both_true true b so h = h
 both_true false b so h = absurd (cc)
 
@@ -359,7 +354,7 @@ is_compared_bit c s sound is =
     (subst (λ n. (is_within (field_of c n).shape.lsb (field_of c n).shape.width (bit_of c s) && is_compared (field_of c n).shape) ≡ true) (sym at.number) here)
 
 -- what the setup has stuck
-one_stuck : (c : ChipData) (l : LayoutData) (s : StuckRow) (r k : ℕ) → s.field < length c.fields
+pub one_stuck : (c : ChipData) (l : LayoutData) (s : StuckRow) (r k : ℕ) → s.field < length c.fields
     → stuck_at (setup_of c l (stuck_bit s)) r k ≡ (if (reg_of c s.field == r) && (bit_of c s == k) then Some s.value else None)
 unfolding setup_of
 one_stuck c l s r k inside =
@@ -437,7 +432,3 @@ stuck_bit_is_named s new d block told stuck place ok is has turned v run =
       marks = has.marks;
       here = has.holds;
     }) run
-
-pub rw_is_turned : RwIsTurned
-rw_is_turned true = record { kept = refl; lost = λ spent same. absurd (cc) }
-rw_is_turned false = record { kept = refl; lost = λ spent same. absurd (cc) }

@@ -16,3 +16,4 @@ pub mod DeafWalk
 pub mod StuckBit
 pub mod Bashing
 pub mod BitBash
+pub mod Turned

@@ -1,12 +1,13 @@
 -- Which sequence finds a stuck bit: `bit_bash`.
-use Rattle.std.specs.Prelude.{◌≡◌, ◌≢◌, ℕ, ◌+◌, ◌<◌, Bool, not, List, [], ◌∷◌, length, slice_index, Option, Some}
+use Rattle.std.specs.Prelude.{◌≡◌, ◌≢◌, ℕ, ◌+◌, ◌<◌, Bool, true, false, not, All, List, [], ◌∷◌, length, slice_index, Option, Some}
 use Rattle.rl_policy.specs.Bits.{bit}
 use Rattle.rl_policy.specs.Table.{after_write, after_read}
 use Rattle.rl_policy.specs.declared.policy.Policy.{Policy}
-use Rattle.rl_policy.specs.declared.policy.Policy.TheVariants.{Rw}
+use Rattle.rl_policy.specs.declared.policy.Policy.TheVariants.{Rw, Wrc, Wrs, Wc, Ws, Wsrc, Wcrs, W1s, W1t, W0c, W0t, W1src, W0crs}
 use Rattle.rl_bus.specs.declared.table.StuckRow.{StuckRow}
 use Rattle.rl_bus.specs.Setup.{Flaws}
-use Rattle.rl_bus.specs.State.{State}
+use Rattle.rl_bus.specs.State.{State, first_state}
+use Rattle.rl_model.specs.Chip.{IsSound}
 use Rattle.rl_model.specs.Rows.{ChipData}
 use Rattle.rl_model.specs.Fields.{field_of}
 use Rattle.rl_map.specs.Layout.{LayoutData}
@@ -57,6 +58,20 @@ StuckBitIsNamed =
     → IsVisited BitBash s.model.chip s.model.layout block (reg_of s.model.chip stuck.field) place → RunsAll BitBash block s told new
     → HasEvent (IsNamedBy s.model.chip stuck.field) told
 
--- RW turns a bit whichever way it is stuck.
-abbrev pub RwIsTurned : Type 0
-RwIsTurned = (value : Bool) → IsTurned Rw value
+-- the policies that turn a bit which is stuck at 0
+abbrev pub turned_from_0 : List Policy
+turned_from_0 = Rw ∷ Wrc ∷ Ws ∷ Wsrc ∷ W1s ∷ W1t ∷ W1src ∷ []
+
+-- and those that turn one which is stuck at 1
+abbrev pub turned_from_1 : List Policy
+turned_from_1 = Rw ∷ Wrs ∷ Wc ∷ Wcrs ∷ W0c ∷ W0t ∷ W0crs ∷ []
+
+abbrev pub PoliciesTurn : Type 0
+PoliciesTurn = All (λ p. IsTurned p false) turned_from_0 × All (λ p. IsTurned p true) turned_from_1
+
+-- A new device with one stuck bit is such a one.
+abbrev pub NewOneHasStuckBit : Type 0
+NewOneHasStuckBit =
+    (c : ChipData) (l : LayoutData) (s : StuckRow) (count : ℕ)
+    → IsSound c → s.field < length c.fields → s.bit < (field_of c s.field).shape.width
+    → HasStuckBit c l (first_state (setup_of c l (stuck_bit s)) count) s

@@ -3,7 +3,7 @@ ghost use Rattle.rl_finds.specs.Deaf.{DeafMemoryIsFound};
 ghost use Rattle.rl_finds.specs.Errors.{SharedErrorIsFound, VisitedErrorIsFound};
 ghost use Rattle.rl_finds.specs.Named.{NoLocationDiffers, NothingIsNamed};
 ghost use Rattle.rl_finds.specs.Resets.{WrongResetIsNamed};
-ghost use Rattle.rl_finds.specs.Stuck.{RwIsTurned, StuckBitIsNamed};
+ghost use Rattle.rl_finds.specs.Stuck.{NewOneHasStuckBit, PoliciesTurn, StuckBitIsNamed};
 
 /// Where a device without flaws and a model without a volatile field agree, as new ones do, no event of a sequence
 /// names a field.
@@ -40,9 +40,10 @@ pub fn deaf_memory_is_found()
 {}
 
 /// `bit_bash` finds a stuck bit: where one bit of a compared field of a register that it visits is stuck, and nothing else
-/// is wrong with the device, some check names the field. The field is RW, or has a policy by which a read leaves the bit
-/// at that value and a write of the other one changes it.
+/// is wrong with the device, some check names the field. The field is RW, or has another policy by which a read leaves
+/// the bit at that value and a write of the other one changes it.
 pub fn stuck_bit_is_named()
     ensures named { StuckBitIsNamed }
-    ensures rw_is_turned { RwIsTurned }
+    ensures policies { PoliciesTurn }
+    ensures first { NewOneHasStuckBit }
 {}
