@@ -54,7 +54,7 @@ use Rattle.rl_plain.proofs.Kept.{step_kept}
 use Rattle.rl_plain.proofs.Registers.{bit-ranswer}
 use Rattle.rl_finds.proofs.Checks.{forgotten_built}
 use Rattle.rl_finds.proofs.DeafWalk.{all_reads}
-use Rattle.rl_finds.proofs.StuckBit.{unstuck, plain, IsStuckAlone, all_still, reads_plain}
+use Rattle.rl_finds.proofs.StuckBit.{unstuck, plain, IsFirm, all_still, reads_plain}
 use Rattle.rl_finds.proofs.Twins.{AreAlike, items_alike, writes_alike}
 use Rattle.rl_finds.proofs.Wrong.{shows}
 
@@ -63,7 +63,7 @@ use Rattle.rl_finds.proofs.Wrong.{shows}
 -- without its stuck bit the setup is one without flaws
 pub record IsStuckSetup (c : ChipData) (l : LayoutData) (t : Setup) (reg b : ℕ) (v : Bool) : Type 0 where
   pub plain : unstuck t ≡ setup_of c l no_flaws
-  pub alone : IsStuckAlone t reg b v
+  pub alone : IsFirm t reg b v
   pub reg_in : reg < length c.regs
 
 -- a model of this chip and layout, and a device with this setup that holds the bit, with all beats 0
@@ -161,7 +161,7 @@ bashed s new t reg b v o place n e is h access numbers register inside granted d
     let st = one_step (over s x) (over new (state_after_all x e.trace)) o e place n x (unmarked d n) access numbers register meets granted
     (over_done s new o place e d h.told same found (after x (found_by d o)) done) in
     let still = all_still t d reg b v e.trace is.alone h.setup in
-    let alike : AreAlike d x = record { deaf = d.setup.flaws.deaf; stuck = []; setup = refl; beats = refl; items = refl } in
+    let alike : AreAlike d x = record { deaf = []; stuck = []; setup = refl; beats = refl; items = refl } in
     let beats : (state_after_all x e.trace).beats ≡ next.beats = (items_alike d x e.trace alike).beats in
     let came : state_after_all x e.trace ≡ st.stepped.after = some_is st.stepped.told in
     let kept = step_kept c n m.mirror new.model.mirror (unmarked d n) (step_of m o place) h.model.chip inside (record { built = h.model.mirror; reach = h.model.reach }) st.follows.mirror in
@@ -203,7 +203,7 @@ wrote : (s new : Scene) (t : Setup) (reg b : ℕ) (v : Bool) (n : ℕ) (map : Op
     → IsBashed s new t reg b v (op.Write n map value) place n e h.device
 wrote s new t reg b v n map value place e is h numbers granted done =
     let d = h.device in
-    let alike : AreAlike d (plain d) = record { deaf = d.setup.flaws.deaf; stuck = []; setup = refl; beats = refl; items = refl } in
+    let alike : AreAlike d (plain d) = record { deaf = []; stuck = []; setup = refl; beats = refl; items = refl } in
     bashed s new t reg b v (op.Write n map value) place n e is h tt numbers refl numbers.0 granted done
     (writes_alike d (plain d) (port_for s.model.layout place) (sends s.model (op.Write n map value) place) alike (all_writes s.model.layout place 0 _ value))
     refl (λ x k. refl)
@@ -224,7 +224,7 @@ checked s new t reg b v n map place e is h numbers granted done =
 -- ---- of any chip and layout
 
 -- what a chip and a layout have, those of the model have
-from_own : (c : ChipData) (l : LayoutData) (m : ModelData) (P : ChipData → LayoutData → Type 0) → m.chip ≡ c → m.layout ≡ l → P m.chip m.layout → P c l
+pub from_own : (c : ChipData) (l : LayoutData) (m : ModelData) (P : ChipData → LayoutData → Type 0) → m.chip ≡ c → m.layout ≡ l → P m.chip m.layout → P c l
 from_own c l m P chip layout h = subst (λ x. P x l) chip (subst (λ y. P m.chip y) layout h)
 
 -- after a write that was granted the value is believed to be written

@@ -43,36 +43,36 @@ use Rattle.rl_finds.specs.Stuck.{stuck_bit, bit_of, IsTurned, IsBitOfTurned, Stu
 use Rattle.rl_finds.specs.Visited.{HasEvent, IsVisited}
 use Rattle.rl_finds.proofs.Bashing.{IsStuckSetup, Holding, unmarked_bits, write_done, check_done, write_stays, check_stays, written_there, read_there, answered_there, turned_bit}
 use Rattle.rl_finds.proofs.Reaching.{IsPlaceOf, is_place, check_is, bash_granted}
-use Rattle.rl_finds.proofs.StuckBit.{unstuck, IsStuckAlone}
+use Rattle.rl_finds.proofs.StuckBit.{unstuck, IsFirm}
 use Rattle.rl_finds.proofs.Wrong.{IsBitOf, bit_of as own_bit, covered, row_is, field_found}
 
 -- ---- the stuck bit, in its register
 
 -- it is bit b of the register, and belongs to its k-th field, which is compared and turned by its policy
-record IsBit (c : ChipData) (field reg k b i : ℕ) (v : Bool) : Type 0 where
-  low : b < 64
-  at : place_at (fields_of c reg) b ≡ Some k
-  inside : k < length (fields_of c reg)
-  field_is : field_in (fields_of c reg) k ≡ field_of c field
-  offset : (field_of c field).shape.lsb + i ≡ b
-  within : i < (field_of c field).shape.width
-  compared : IsComparedField (field_of c field).shape
-  turned : IsTurned (field_of c field).shape.policy v
-  reg_in : reg < length c.regs
+pub record IsBit (c : ChipData) (field reg k b i : ℕ) (v : Bool) : Type 0 where
+  pub low : b < 64
+  pub at : place_at (fields_of c reg) b ≡ Some k
+  pub inside : k < length (fields_of c reg)
+  pub field_is : field_in (fields_of c reg) k ≡ field_of c field
+  pub offset : (field_of c field).shape.lsb + i ≡ b
+  pub within : i < (field_of c field).shape.width
+  pub compared : IsComparedField (field_of c field).shape
+  pub turned : IsTurned (field_of c field).shape.policy v
+  pub reg_in : reg < length c.regs
 
-readable_there : (c : ChipData) (field reg k b i : ℕ) (v : Bool) → IsBit c field reg k b i v → is_write_only (policy_in (fields_of c reg) k) ≡ false
+pub readable_there : (c : ChipData) (field reg k b i : ℕ) (v : Bool) → IsBit c field reg k b i v → is_write_only (policy_in (fields_of c reg) k) ≡ false
 readable_there c field reg k b i v is = subst (λ (f : FieldSeen). is_write_only f.shape.policy ≡ false) (sym is.field_is) is.compared.readable
 
 kept_there : (c : ChipData) (field reg k b i : ℕ) (v : Bool) → IsBit c field reg k b i v → after_read (policy_in (fields_of c reg) k) v ≡ v
 kept_there c field reg k b i v is = subst (λ (f : FieldSeen). after_read f.shape.policy v ≡ v) (sym is.field_is) is.turned.kept
 
-lost_there : (c : ChipData) (field reg k b i : ℕ) (v spent : Bool) → IsBit c field reg k b i v → after_write (policy_in (fields_of c reg) k) v (not v) spent ≢ v
+pub lost_there : (c : ChipData) (field reg k b i : ℕ) (v spent : Bool) → IsBit c field reg k b i v → after_write (policy_in (fields_of c reg) k) v (not v) spent ≢ v
 lost_there c field reg k b i v spent is = subst (λ (f : FieldSeen). after_write f.shape.policy v (not v) spent ≢ v) (sym is.field_is) (is.turned.lost spent)
 
 part_bit : (f : Field) (x i : ℕ) → i < f.width → bit (part_of f x) i ≡ bit x (f.lsb + i)
 part_bit f x i low = bit-from_bits f.width (λ i. bit x (f.lsb + i)) i low
 
-parts_apart : (c : ChipData) (field reg k b i : ℕ) (v : Bool) (x y : ℕ) → IsBit c field reg k b i v → bit x b ≢ bit y b
+pub parts_apart : (c : ChipData) (field reg k b i : ℕ) (v : Bool) (x y : ℕ) → IsBit c field reg k b i v → bit x b ≢ bit y b
     → part_of (field_of c field).shape x ≢ part_of (field_of c field).shape y
 parts_apart c field reg k b i v x y is apart same =
     let f = (field_of c field).shape in
@@ -190,23 +190,23 @@ in_back IsSo [] back h = h
 in_back IsSo (x ∷ front) back h = inr (in_back IsSo front back h)
 
 -- the plan leaves what stands
-abbrev Keeps : (Scene → Type 0) → Plan → Type 0
+abbrev pub Keeps : (Scene → Type 0) → Plan → Type 0
 Keeps Stands p = (s new : Scene) (told : List Told) → Stands s → Runs p s told new → Stands new
 
 -- one of its events is so
-abbrev Finds : (Scene → Type 0) → (Event → Type 0) → Plan → Type 0
+abbrev pub Finds : (Scene → Type 0) → (Event → Type 0) → Plan → Type 0
 Finds Stands IsSo p = (s new : Scene) (told : List Told) → Stands s → Runs p s told new → HasEvent IsSo told
 
-keeps_stop : (Stands : Scene → Type 0) → Keeps Stands stop
+pub keeps_stop : (Stands : Scene → Type 0) → Keeps Stands stop
 keeps_stop Stands s new [] h run = subst Stands (sym run) h
 keeps_stop Stands s new (x ∷ told) h run = absurd run
 
-keeps_step : (Stands : Scene → Type 0) (o : Op) (p : Plan) → ((s new : Scene) (e : Event) → Stands s → Performs s new o e → Stands new) → Keeps Stands p
+pub keeps_step : (Stands : Scene → Type 0) (o : Op) (p : Plan) → ((s new : Scene) (e : Event) → Stands s → Performs s new o e → Stands new) → Keeps Stands p
     → Keeps Stands (step o p)
 keeps_step Stands o p stays k s new [] h run = absurd run
 keeps_step Stands o p stays k s new (x ∷ told) h (mid, one, rest) = k mid new told (stays s mid x.event h one.performs) rest
 
-keeps_both : (Stands : Scene → Type 0) (p q : Plan) → Keeps Stands p → Keeps Stands q → Keeps Stands (followed_by p q)
+pub keeps_both : (Stands : Scene → Type 0) (p q : Plan) → Keeps Stands p → Keeps Stands q → Keeps Stands (followed_by p q)
 keeps_both Stands p q k j s new told h run =
     let both = split p q s told new run in
     j both.mid new both.back (k s both.mid both.front h both.first) both.second
@@ -219,17 +219,17 @@ keeps_each : (Stands : Scene → Type 0) (n : ℕ) (f : ℕ → Plan) → ((k : 
 keeps_each Stands zero f k = keeps_stop Stands
 keeps_each Stands (suc n) f k = keeps_both Stands (each_below n f) (f n) (keeps_each Stands n f (λ j low. k j (omega (arith, low)))) (k n (omega arith))
 
-finds_first : (Stands : Scene → Type 0) (IsSo : Event → Type 0) (p q : Plan) → Finds Stands IsSo p → Finds Stands IsSo (followed_by p q)
+pub finds_first : (Stands : Scene → Type 0) (IsSo : Event → Type 0) (p q : Plan) → Finds Stands IsSo p → Finds Stands IsSo (followed_by p q)
 finds_first Stands IsSo p q finds s new told h run =
     let both = split p q s told new run in
     subst (HasEvent IsSo) (sym both.is) (in_front IsSo both.front both.back (finds s both.mid both.front h both.first))
 
-finds_second : (Stands : Scene → Type 0) (IsSo : Event → Type 0) (p q : Plan) → Keeps Stands p → Finds Stands IsSo q → Finds Stands IsSo (followed_by p q)
+pub finds_second : (Stands : Scene → Type 0) (IsSo : Event → Type 0) (p q : Plan) → Keeps Stands p → Finds Stands IsSo q → Finds Stands IsSo (followed_by p q)
 finds_second Stands IsSo p q keeps finds s new told h run =
     let both = split p q s told new run in
     subst (HasEvent IsSo) (sym both.is) (in_back IsSo both.front both.back (finds both.mid new both.back (keeps s both.mid both.front h both.first) both.second))
 
-finds_if : (Stands : Scene → Type 0) (IsSo : Event → Type 0) (b : Bool) (p : Plan) → b ≡ true → Finds Stands IsSo p → Finds Stands IsSo (only_if b p)
+pub finds_if : (Stands : Scene → Type 0) (IsSo : Event → Type 0) (b : Bool) (p : Plan) → b ≡ true → Finds Stands IsSo p → Finds Stands IsSo (only_if b p)
 finds_if Stands IsSo true p so finds = finds
 finds_if Stands IsSo false p so finds = absurd (cc)
 
@@ -315,7 +315,7 @@ both_true true b so h = h
 both_true false b so h = absurd (cc)
 
 -- the stuck bit as one of its register
-the_bit : (c : ChipData) (s : StuckRow) → IsChip c → IsBitOfTurned c s
+pub the_bit : (c : ChipData) (s : StuckRow) → IsChip c → IsBitOfTurned c s
     → IsBit c s.field (reg_of c s.field) (s.field - first_of c (reg_of c s.field)) (bit_of c s) s.bit s.value
 the_bit c s sound is =
     let reg = reg_of c s.field in
@@ -379,7 +379,7 @@ unfolding setup_of
 without_it c l s = refl
 
 alone_in : (c : ChipData) (l : LayoutData) (s : StuckRow) → IsChip c → IsBitOfTurned c s
-    → IsStuckAlone (setup_of c l (stuck_bit s)) (reg_of c s.field) (bit_of c s) s.value
+    → IsFirm (setup_of c l (stuck_bit s)) (reg_of c s.field) (bit_of c s) s.value
 alone_in c l s sound is =
     let t = setup_of c l (stuck_bit s) in
     let reg = reg_of c s.field in
@@ -390,8 +390,8 @@ alone_in c l s sound is =
     let owner : field_at t reg b ≡ Some s.field = field_found c l (stuck_bit s) reg b k sound own.reg_in own.at ∙ ap Some at.number in
     record {
       low = own.low;
-      stuck = one_stuck c l s reg b is.field_in ∙ ap (λ x. if x then Some s.value else None) (both_true (reg == reg) (b == b) (eq-eqb reg reg refl) (eq-eqb b b refl));
-      alone = λ r k other. one_stuck c l s r k is.field_in ∙ ap (λ x. if x then Some s.value else None) (not_both r reg k b other);
+      here = inl (one_stuck c l s reg b is.field_in ∙ ap (λ x. if x then Some s.value else None) (both_true (reg == reg) (b == b) (eq-eqb reg reg refl) (eq-eqb b b refl)));
+      others = λ r k other. one_stuck c l s r k is.field_in ∙ ap (λ x. if x then Some s.value else None) (not_both r reg k b other);
       policy = (field_of c s.field).shape.policy;
       has = ap (option_map (policy_of t)) owner ∙ ap Some (policy_is c l s s.field ∙ ap (λ (f : FieldRow). f.policy) (row_is c l (stuck_bit s) s.field is.field_in));
       kept = is.turned.kept;

@@ -62,7 +62,7 @@ record IsChecked (m new : ModelData) (reg : ℕ) : Type 0 where
   layout : new.layout ≡ m.layout
   others : (q : ℕ) → (q ≡ reg → ⊥) → mirrored_of new.mirror q ≡ mirrored_of m.mirror q
 
-read_other : (c : ChipData) (reg value q : ℕ) (m : MirrorData) → (q ≡ reg → ⊥) → mirrored_of (predict_read c reg value every_field m) q ≡ mirrored_of m q
+pub read_other : (c : ChipData) (reg value q : ℕ) (m : MirrorData) → (q ≡ reg → ⊥) → mirrored_of (predict_read c reg value every_field m) q ≡ mirrored_of m q
 unfolding predict_read
 read_other c reg value q m other = get_or-set_other m.mirrored reg q _ 0 other
 

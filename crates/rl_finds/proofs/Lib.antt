@@ -17,3 +17,5 @@ pub mod StuckBit
 pub mod Bashing
 pub mod BitBash
 pub mod Turned
+pub mod AccessTest
+pub mod DeafRegister

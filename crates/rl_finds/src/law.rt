@@ -1,5 +1,5 @@
 //! What the sequences find. Each function does nothing; its contract is the law.
-ghost use Rattle.rl_finds.specs.Deaf.{DeafMemoryIsFound};
+ghost use Rattle.rl_finds.specs.Deaf.{DeafMemoryIsFound, DeafRegisterIsNamed};
 ghost use Rattle.rl_finds.specs.Errors.{SharedErrorIsFound, VisitedErrorIsFound};
 ghost use Rattle.rl_finds.specs.Named.{NoLocationDiffers, NothingIsNamed};
 ghost use Rattle.rl_finds.specs.Resets.{WrongResetIsNamed};
@@ -46,4 +46,11 @@ pub fn stuck_bit_is_named()
     ensures named { StuckBitIsNamed }
     ensures policies { PoliciesTurn }
     ensures first { NewOneHasStuckBit }
+{}
+
+/// `access_test` finds a deaf register: where a register that it visits takes no write over the bus, and a bit of a
+/// compared field of it is believed as it is held, some check names the field, if it is RW or has another policy that
+/// turns the bit.
+pub fn deaf_register_is_named()
+    ensures { DeafRegisterIsNamed }
 {}
