@@ -1,25 +1,21 @@
 -- A deaf register in the access test: what is written there is believed, and the check by the backdoor finds what it kept.
-use Rattle.std.proofs.Common.{◌≡◌, ◌≢◌, ◌⊎◌, ℕ, zero, suc, ◌+◌, ◌-◌, ◌*◌, ◌%◌, ◌^◌, ◌<◌, ◌≤◌, nat_lt, bit_and, Bool, true, false, not, ◌&&◌, List, [], ◌∷◌, length}
-use Rattle.std.proofs.Common.{Option, None, Some, Ok, Err, MatchResult, if◌then◌else◌, refl, sym, ap, ◌∙◌, subst, inl, inr, lt-ltb, arith}
-use Rattle.std.specs.Prelude.{slice_index, slice_set, unwrap_or}
+use Rattle.std.proofs.Common.{◌≡◌, ℕ, ◌+◌, ◌-◌, ◌*◌, ◌%◌, ◌^◌, ◌<◌, ◌≤◌, bit_and, Bool, true, false, not, ◌&&◌, List, length}
+use Rattle.std.proofs.Common.{Option, Some, Ok, Err, MatchResult, refl, sym, ap, ◌∙◌, subst, arith}
+use Rattle.std.specs.Prelude.{slice_index}
 use Rattle.std.specs.Option.{option_map_or}
 use Rattle.std.proofs.Math.Pow.{pow_mono}
-use Rattle.std.proofs.lemmas.Bool.{and_parts, cases_eq, cases_lt}
 use Rattle.std.proofs.lemmas.List.{get_or-set_other, length-set}
 use Rattle.std.proofs.lemmas.Nat.{and-not, and_mask, pow_pos}
 use Rattle.rl_policy.proofs.BitLemmas.{bit-and, bit-not, bit-ones}
 use Rattle.rl_policy.specs.Bits.{bit}
-use Rattle.rl_policy.specs.Table.{after_write, value_read, is_write_only}
+use Rattle.rl_policy.specs.Table.{value_read}
 use Rattle.rl_bus.specs.declared.table.Cell.TheVariants as cell
-use Rattle.rl_bus.specs.declared.table.ItemRow.{ItemRow}
-use Rattle.rl_bus.specs.Setup.{Setup, is_deaf, stuck_at, held}
-use Rattle.rl_bus.specs.State.{State, poked}
+use Rattle.rl_bus.specs.Setup.{Setup}
+use Rattle.rl_bus.specs.State.{poked}
 use Rattle.rl_model.specs.Rows.{FieldSeen, ChipData}
-use Rattle.rl_model.specs.Chip.{IsSound as IsChip, backdoor_of}
-use Rattle.rl_model.specs.Fields.{fields_of, field_in, policy_in, size_of, place_at}
+use Rattle.rl_model.specs.Fields.{fields_of, policy_in, size_of, place_at}
 use Rattle.rl_model.specs.declared.rows.Item.TheVariants.{Reg}
 use Rattle.rl_map.specs.Layout.{LayoutData}
-use Rattle.rl_map.specs.Tables.{setup_of}
 use Rattle.rl_mirror.specs.Fields.{owned}
 use Rattle.rl_mirror.specs.Mirror.{MirrorData, mirrored_of}
 use Rattle.rl_mirror.specs.Prediction.{predict_write, predict_read, predict_raw, shown}
@@ -29,19 +25,17 @@ use Rattle.rl_access.specs.declared.event.End.TheVariants as end
 use Rattle.rl_access.specs.declared.event.Event.{Event}
 use Rattle.rl_access.specs.declared.event.Op.{Op}
 use Rattle.rl_access.specs.declared.event.Op.TheVariants as op
-use Rattle.rl_access.specs.declared.event.Refused.TheVariants.{NoBackdoor}
 use Rattle.rl_access.specs.Call.{Scene, IsDone, IsRefused, Performs}
 use Rattle.rl_access.specs.Model.{ModelData, IsModel}
 use Rattle.rl_access.specs.Operation.{HasNumbers}
 use Rattle.rl_access.specs.Rules.{Grant, grant, every_field, back_value}
 use Rattle.rl_access.proofs.Bytes.{bytes_bits}
 use Rattle.rl_plain.proofs.Answered.{done_of}
-use Rattle.rl_plain.proofs.Backdoor.{IsAlone, alone_by, peeked_is, raw_other}
-use Rattle.rl_plain.proofs.Followed.{IsPredictedWrite, IsPredictedRead}
+use Rattle.rl_plain.proofs.Backdoor.{alone_by, peeked_is, raw_other}
 use Rattle.rl_plain.proofs.Kept.{IsKept, raw_built, read_kept}
 use Rattle.rl_seq.proofs.Choosing.{size_most}
 use Rattle.rl_seq.specs.Choice.{turned_round}
-use Rattle.rl_finds.proofs.Bashing.{IsStuckSetup, Holding, from_own, write_done, check_done, write_stays, check_stays}
+use Rattle.rl_finds.proofs.Bashing.{IsStuckSetup, Holding, from_own, write_done, check_done}
 use Rattle.rl_finds.proofs.Checks.{read_other}
 
 -- ---- what stands

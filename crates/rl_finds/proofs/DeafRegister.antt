@@ -1,10 +1,10 @@
 -- The access test over a deaf register: its first visit finds it, and those of other registers leave it as it is.
 use Rattle.std.proofs.Common.{◌≡◌, ◌≢◌, ◌⊎◌, ℕ, zero, suc, ◌+◌, ◌-◌, ◌*◌, ◌<◌, ◌≤◌, Bool, true, false, not, ◌&&◌, List, [], ◌∷◌, length, Option, None, Some, option_map, Ok, Err}
 use Rattle.std.proofs.Common.{if◌then◌else◌, refl, sym, ap, ◌∙◌, subst, inl, inr, arith}
-use Rattle.std.specs.Prelude.{slice_index, unwrap_or}
+use Rattle.std.specs.Prelude.{unwrap_or}
 use Rattle.std.proofs.lemmas.Bool.{and_parts, cases_eq, cases_lt}
 use Rattle.rl_policy.specs.Bits.{bit}
-use Rattle.rl_policy.specs.Table.{after_write, value_read}
+use Rattle.rl_policy.specs.Table.{after_write}
 use Rattle.rl_bus.specs.declared.table.Cell.TheVariants as cell
 use Rattle.rl_bus.specs.declared.table.FieldRow.{FieldRow}
 use Rattle.rl_bus.specs.declared.table.ItemRow.{ItemRow}
@@ -24,7 +24,6 @@ use Rattle.rl_access.specs.declared.event.Event.{Event}
 use Rattle.rl_access.specs.declared.event.Op.TheVariants as op
 use Rattle.rl_access.specs.declared.event.Refused.TheVariants.{NoBackdoor}
 use Rattle.rl_access.specs.Call.{Scene, Performs}
-use Rattle.rl_access.specs.HandsOver.{Told}
 use Rattle.rl_access.specs.Laws.{IsFoundOther, ChecksRegister}
 use Rattle.rl_access.specs.Model.{ModelData, IsModel}
 use Rattle.rl_access.specs.Operation.{reg_of}
@@ -33,9 +32,9 @@ use Rattle.rl_access.proofs.Beliefs.{check_names}
 use Rattle.rl_plain.specs.Agree.{believed}
 use Rattle.rl_seq.specs.declared.sequence.Sequence.TheVariants.{Access}
 use Rattle.rl_seq.specs.Choice.{is_of, may_read, may_write, is_reg_tested, has_writable_field, no_reg_access_test, turned_round}
-use Rattle.rl_seq.specs.Plan.{Plan, stop, step, followed_by, only_if, each_below, Runs}
+use Rattle.rl_seq.specs.Plan.{Plan, stop, step, followed_by, only_if, each_below}
 use Rattle.rl_seq.specs.Sequences.{map_at, access_at, items_of, is_chosen, is_visited, at_place, visit, visit_all, walk}
-use Rattle.rl_finds.specs.Deaf.{deaf_items, IsDeafBit, DeafRegisterIsNamed}
+use Rattle.rl_finds.specs.Deaf.{deaf_items, DeafRegisterIsNamed}
 use Rattle.rl_finds.specs.Resets.{IsNamedBy}
 use Rattle.rl_finds.specs.Stuck.{IsBitOfTurned}
 use Rattle.rl_finds.specs.Visited.{IsVisited}

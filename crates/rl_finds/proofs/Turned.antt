@@ -1,5 +1,5 @@
 -- Which policies turn a stuck bit, and that a new device with one holds it.
-use Rattle.std.proofs.Common.{◌≡◌, ℕ, ◌+◌, ◌-◌, ◌*◌, ◌<◌, ◌==◌, ◌&&◌, Bool, true, false, not, List, [], ◌∷◌, length, map, replicate, All, Option, None, Some, if◌then◌else◌}
+use Rattle.std.proofs.Common.{◌≡◌, ℕ, ◌<◌, ◌==◌, Bool, true, false, [], ◌∷◌, length, replicate, All, None, Some, if◌then◌else◌}
 use Rattle.std.proofs.Common.{refl, sym, ap, ◌∙◌, subst, eq-eqb, arith}
 use Rattle.std.specs.Prelude.{slice_index}
 use Rattle.std.proofs.lemmas.List.{length-map, length-replicate}
@@ -18,7 +18,7 @@ use Rattle.rl_map.specs.Layout.{LayoutData}
 use Rattle.rl_map.specs.Tables.{setup_of}
 use Rattle.rl_mirror.proofs.FieldLemmas.{seated}
 use Rattle.rl_access.specs.Operation.{reg_of}
-use Rattle.rl_finds.specs.Stuck.{stuck_bit, bit_of, HasStuckBit, IsTurned, turned_from_0, turned_from_1, PoliciesTurn, NewOneHasStuckBit}
+use Rattle.rl_finds.specs.Stuck.{stuck_bit, bit_of, IsTurned, turned_from_0, turned_from_1, PoliciesTurn, NewOneHasStuckBit}
 use Rattle.rl_finds.proofs.BitBash.{both_true, one_stuck}
 
 -- ---- the policies
