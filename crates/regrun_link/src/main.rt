@@ -1,31 +1,15 @@
 //! Runs a session on a device that stands behind standard output and input, as the bench of an RTL simulator.
 #![tactic(auto)]
 
-mod refusal;
-mod session;
-
-use crate::session::{Ran, run_linked};
 use rl_apb::ApbAdapter;
 use rl_bus::{Adapters, PlainAdapter};
-use rl_link::{ByLine, put_break};
+use rl_link::ByLine;
+use rl_linked::run_linked;
 use rl_log::Status;
-use rl_report::{Sink, Source, StdSink, StdSource};
+use rl_report::{StdSink, StdSource};
 use std::alloc::AllocError;
 use std::process::ExitCode;
 use std::{env, fs, io};
-
-const BROKEN: u8 = 7;
-
-// Says how the link broke, where it did. Answers the exit status.
-fn code_of<S: Source, K: Sink, M: Sink>(ran: &Ran<S, K>, messages: &mut M) -> u8 {
-    match &ran.link {
-        Some(link) if link.broken.is_some() => {
-            let _ = put_break(messages, link);
-            BROKEN
-        }
-        _ => ran.status.code(),
-    }
-}
 
 // Says that a file can't be opened.
 fn tell(rt: &impl Eprint, path: &str, error: &io::Error) {
@@ -72,7 +56,8 @@ fn run_files(rt: &HostRuntime, session: &str, log: &str) -> Result<u8, AllocErro
         requests,
         &mut adapters,
     );
-    Ok(code_of(&ran, &mut StdSink::new(rt.stderr())))
+    ran.tell(&mut StdSink::new(rt.stderr()));
+    Ok(ran.code())
 }
 
 // Does what the arguments ask for.

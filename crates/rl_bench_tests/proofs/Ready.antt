@@ -1,5 +1,5 @@
 -- One adapter, and a device that was just built, go with the model of the same chip and layout.
-use Rattle.std.proofs.Common.{◌≡◌, List, [], ◌∷◌, Some, length, refl, sym, ap, ◌∙◌, arith}
+use Rattle.std.proofs.Common.{◌≡◌, ℕ, List, [], ◌∷◌, Some, length, refl, sym, ap, ◌∙◌, arith}
 use Rattle.rl_bus.specs.declared.op.AdapterKind.{AdapterKind}
 use Rattle.rl_bus.specs.Setup.{Setup}
 use Rattle.rl_bus.specs.Standing.{Standing, kinds_of, kind_at}

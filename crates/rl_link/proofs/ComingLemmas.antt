@@ -34,6 +34,9 @@ use Rattle.std.proofs.Common.{
   subst,
   length-append,
   append-nil,
+  append_assoc,
+  ◌-◌,
+  ◌^◌,
   arith,
 }
 use Rattle.std.specs.declared.option.Option.{Option}
@@ -46,7 +49,7 @@ use Rattle.std.proofs.lemmas.List.{take_all, drop_all}
 use Rattle.memchr.specs.Find.{IsFirstByte, is_byte}
 use Rattle.rl_link.specs.declared.answer.Said.{Said}
 use Rattle.rl_link.specs.Answers.{bare, is_passed, said_in, answer_to, done_by}
-use Rattle.rl_link.specs.Coming.{coming, HasLine, IsLine, behind_passed, answer_from, Skips, Hears, Answers, IsDone}
+use Rattle.rl_link.specs.Coming.{coming, HasLine, IsLine, behind_passed, answer_from, Skips, Takes, TakesLines, Hears, Answers, IsDone}
 
 lines_whole : (p : List ℕ) → HasLine p → whole_lines p ≡ first_line p ∷ whole_lines (after_line p)
 lines_whole p h = ap whole_lines (ends_whole p h) ∙ whole_first p (after_line p)
@@ -93,6 +96,57 @@ skips_line held None h e = tt
 skips_line held (Some more) h e =
     let first = first_of_more held more h in
     (after_line held ++ more, refl, ap answer_from (sym (after_of_more held more h)) ∙ passes (held ++ more) (whole_more held more h) (ap (λ l. is_passed (bare l)) first ∙ e))
+
+-- ---- how many lines were taken
+
+pub takes_kept : (n : ℕ) (a b : Option (List ℕ)) → Keeps a b → Takes n n a b
+takes_kept n None b h = tt
+takes_kept n (Some bytes) None h = absurd h
+takes_kept n (Some bytes) (Some rest) h =
+    record { taken = []; rest = rest; is_left = refl; split = ap whole_lines (sym h); counted = λ room. omega arith }
+
+pub takes_none : (n : ℕ) (a : Option (List ℕ)) → Takes n n a a
+takes_none n None = tt
+takes_none n (Some bytes) = takes_kept n (Some bytes) (Some bytes) refl
+
+pub takes_line : (n : ℕ) (held : List ℕ) (left : Option (List ℕ)) → HasLine held
+    → Takes n (min (n + 1) (2 ^ 64 - 1)) (coming held left) (coming (after_line held) left)
+takes_line n held None h = tt
+takes_line n held (Some more) h = record {
+  taken = first_line (held ++ more) ∷ [];
+  rest = after_line held ++ more;
+  is_left = refl;
+  split = lines_whole (held ++ more) (whole_more held more h)
+      ∙ ap (λ l. first_line (held ++ more) ∷ whole_lines l) (after_of_more held more h);
+  counted = λ room. omega (arith, room);
+}
+
+takes_both : (l m n : ℕ) (bytes mid : List ℕ) (new : Option (List ℕ)) → TakesLines l m bytes (Some mid) → TakesLines m n mid new
+    → TakesLines l n bytes new
+takes_both l m n bytes mid new p q =
+    let same : p.rest ≡ mid = cc in
+    let size = length-append p.taken q.taken in
+    record {
+      taken = p.taken ++ q.taken;
+      rest = q.rest;
+      is_left = q.is_left;
+      split = p.split ∙ ap (λ r. p.taken ++ whole_lines r) same ∙ ap (λ r. p.taken ++ r) q.split
+          ∙ sym (append_assoc p.taken q.taken (whole_lines q.rest));
+      counted = λ room.
+          let first : m ≡ l + length p.taken = p.counted (omega (arith, room, size)) in
+          let second : n ≡ m + length q.taken = q.counted (omega (arith, room, size, first)) in
+          omega (arith, size, first, second);
+    }
+
+pub takes_more : (l m n : ℕ) (a b c : Option (List ℕ)) → Takes l m a b → Takes m n b c → Takes l n a c
+takes_more l m n None b c p q = tt
+takes_more l m n (Some bytes) None c p q = absurd (cc)
+takes_more l m n (Some bytes) (Some mid) c p q = takes_both l m n bytes mid c p q
+
+-- one line more
+pub takes_then_line : (l m : ℕ) (a : Option (List ℕ)) (held : List ℕ) (left : Option (List ℕ)) → Takes l m a (coming held left) → HasLine held
+    → Takes l (min (m + 1) (2 ^ 64 - 1)) a (coming (after_line held) left)
+takes_then_line l m a held left p h = takes_more l m (min (m + 1) (2 ^ 64 - 1)) a (coming held left) (coming (after_line held) left) p (takes_line m held left h)
 
 -- ---- what was heard
 

@@ -1,5 +1,5 @@
 -- What comes from the peer, and which line of it answers.
-use Rattle.std.specs.Prelude.{◌≡◌, ℕ, ◌<◌, Bool, List, [], ◌∷◌, if◌then◌else◌, length, Option, Some, IfSome, Ok}
+use Rattle.std.specs.Prelude.{◌≡◌, ℕ, ◌+◌, ◌^◌, ◌<◌, Bool, List, [], ◌∷◌, ◌++◌, if◌then◌else◌, length, Option, Some, IfSome, Ok}
 use Rattle.std.specs.Io.KnownBytes.{prepend_known}
 use Rattle.rl_report.specs.Lines.{first_line, after_line, whole_lines}
 use Rattle.rl_bus.specs.declared.op.Answer.{Answer}
@@ -32,6 +32,18 @@ answer_from bytes = behind_passed (whole_lines bytes) bytes
 -- Lines that say nothing were passed over, or none.
 abbrev pub Skips : (old new : Option (List ℕ)) → Type 0
 Skips old new = IfSome old (λ bytes. (rest : List ℕ) × (new ≡ Some rest) × (answer_from rest ≡ answer_from bytes))
+
+-- Whole lines were taken from the front, and each counts one, as long as 64 bits have room for the count.
+pub record TakesLines (lines now : ℕ) (bytes : List ℕ) (new : Option (List ℕ)) : Type 0 where
+  pub taken : List (List ℕ)
+  pub rest : List ℕ
+  pub is_left : new ≡ Some rest
+  pub split : whole_lines bytes ≡ taken ++ whole_lines rest
+  pub counted : lines + length taken < 2 ^ 64 → now ≡ lines + length taken
+
+-- of what comes, where the source tells it
+abbrev pub Takes : (lines now : ℕ) (old new : Option (List ℕ)) → Type 0
+Takes lines now old new = IfSome old (λ bytes. TakesLines lines now bytes new)
 
 -- The first line that says something stands in front, and was read.
 pub record Hears (bytes : List ℕ) (said : Said) (new : Option (List ℕ)) : Type 0 where

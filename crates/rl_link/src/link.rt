@@ -2,7 +2,7 @@
 ghost use Rattle.std.specs.Prelude.{◌≡◌, ◌+◌, ◌-◌, ◌^◌, ◌<◌, ◌≤◌, ◌↔◌, min, [], None, Some, Err, IsSome};
 ghost use Rattle.std.specs.Prelude.{IsNone, is_some, IsOk, IfOk, OnOk, IfSome, if◌then◌else◌, option_map};
 ghost use Rattle.rl_link.specs.Answers.{failure};
-ghost use Rattle.rl_link.specs.Coming.{coming, Answers, IsDone};
+ghost use Rattle.rl_link.specs.Coming.{coming, Answers, IsDone, Takes};
 ghost use Rattle.rl_link.specs.Prelude.{Appends, AnswerHasCause, IsStep, IsPortOf, IsCellOf, IsFieldOf, IsWidth, poked};
 ghost use Rattle.rl_link.specs.Prelude.{reset_by, hw_set, carried_by, tag_of, IsWellFormed, IsReplyTo, answered_by};
 ghost use Rattle.rl_link.specs.Prelude.{AppendsFront, Puts};
@@ -55,6 +55,8 @@ fn transfer_over<S: Source, K: Sink>(
         (λ bytes. Answers op.now.write op.now.bytes bytes answer (coming talk.new.held (S.left talk.new.source)))) }
     ensures small { IfOk result (λ answer. answer.word < 256 ^ op.now.bytes) }
     ensures out_first { result ≡ Err Cause.Unsent → talk.new.source ≡ talk.old.source }
+    ensures lines { Takes talk.old.lines talk.new.lines (coming talk.old.held (S.left talk.old.source))
+        (coming talk.new.held (S.left talk.new.source)) }
 {
     let said = talk.ask(request)?;
     let answer = answer_to(op.write, op.bytes, said)?;
@@ -69,6 +71,8 @@ fn done_over<S: Source, K: Sink>(talk: &mut Talk<S, K>, request: &[u8]) -> Resul
     ensures done { OnOk result (IfSome (coming talk.old.held (S.left talk.old.source))
         (λ bytes. IsDone bytes (coming talk.new.held (S.left talk.new.source)))) }
     ensures out_first { result ≡ Err Cause.Unsent → talk.new.source ≡ talk.old.source }
+    ensures lines { Takes talk.old.lines talk.new.lines (coming talk.old.held (S.left talk.old.source))
+        (coming talk.new.held (S.left talk.new.source)) }
 {
     let said = talk.ask(request)?;
     done_by(said)?;
@@ -101,7 +105,13 @@ impl<S: Source + Drop, K: Sink + Drop> Link<S, K> {
 
 impl<S: Source, K: Sink> Link<S, K> {
     /// Looks whether an answer is held that nothing was asked for, which breaks the link: once all was sent.
-    pub fn close(&mut self) {
+    pub fn close(&mut self)
+        ensures broken { IsNone self.old.broken → IfSome self.new.broken (λ broken. broken.cause ≡ Cause.Unasked) }
+        ensures kept { IsSome self.old.broken → self.new ≡ self.old }
+        ensures streams { (self.new.talk.source ≡ self.old.talk.source) × (self.new.talk.sink ≡ self.old.talk.sink) }
+        ensures names { self.new.names ≡ self.old.names }
+        ensures later { self.old.errors ≤ self.new.errors }
+    {
         if self.broken.is_none()
             && let Err(cause) = self.talk.skim()
         {
@@ -125,6 +135,8 @@ impl<S: Source, K: Sink> Link<S, K> {
           broken = (if is_some self.old.broken then self.old.broken
               else Some (record { cause = cause; line = min (self.old.talk.lines + 1) (2 ^ 64 - 1) }));
         } }
+        ensures line { IsNone self.old.broken → IfSome self.new.broken
+            (λ broken. broken.line ≡ min (self.new.talk.lines + 1) (2 ^ 64 - 1)) }
     {
         self.count();
         if self.broken.is_none() {
@@ -143,6 +155,7 @@ impl<S: Source, K: Sink> Link<S, K> {
         }
     }
 
+    #[tactic(auto, using(crate::proofs::ComingLemmas::takes_none))]
     fn try_transfer(&mut self, port: u32, op: &BusOp, tag: u64) -> Result<Answer, Cause>
         requires { IsWidth op.now.bytes }
         ensures going { OnOk result (IsNone self.old.broken) }
@@ -154,6 +167,9 @@ impl<S: Source, K: Sink> Link<S, K> {
         ensures small { IfOk result (λ answer. answer.word < 256 ^ op.now.bytes) }
         ensures silent { IsSome self.old.broken → self.new.talk ≡ self.old.talk }
         ensures out_first { result ≡ Err Cause.Unsent → self.new.talk.source ≡ self.old.talk.source }
+        ensures lines { Takes self.old.talk.lines self.new.talk.lines
+            (coming self.old.talk.held (S.left self.old.talk.source))
+            (coming self.new.talk.held (S.left self.new.talk.source)) }
         ensures names { self.new.names ≡ self.old.names }
         ensures errors { self.new.errors ≡ self.old.errors }
         ensures broken { self.new.broken ≡ self.old.broken }
@@ -163,6 +179,7 @@ impl<S: Source, K: Sink> Link<S, K> {
         transfer_over(&mut self.talk, &self.request, op)
     }
 
+    #[tactic(auto, using(crate::proofs::ComingLemmas::takes_none))]
     fn try_reset(&mut self, kind: u32) -> Result<(), Cause>
         ensures going { OnOk result (IsNone self.old.broken) }
         ensures sent { Puts (K.written self.old.talk.sink) (K.written self.new.talk.sink)
@@ -170,6 +187,9 @@ impl<S: Source, K: Sink> Link<S, K> {
         ensures done { OnOk result (IfSome (coming self.old.talk.held (S.left self.old.talk.source))
             (λ bytes. IsDone bytes (coming self.new.talk.held (S.left self.new.talk.source)))) }
         ensures silent { IsSome self.old.broken → self.new.talk ≡ self.old.talk }
+        ensures lines { Takes self.old.talk.lines self.new.talk.lines
+            (coming self.old.talk.held (S.left self.old.talk.source))
+            (coming self.new.talk.held (S.left self.new.talk.source)) }
         ensures names { self.new.names ≡ self.old.names }
         ensures errors { self.new.errors ≡ self.old.errors }
         ensures broken { self.new.broken ≡ self.old.broken }
@@ -179,6 +199,7 @@ impl<S: Source, K: Sink> Link<S, K> {
         done_over(&mut self.talk, &self.request)
     }
 
+    #[tactic(auto, using(crate::proofs::ComingLemmas::takes_none))]
     fn try_hw(&mut self, field: u32, value: u64) -> Result<(), Cause>
         ensures going { OnOk result (IsNone self.old.broken) }
         ensures sent { Puts (K.written self.old.talk.sink) (K.written self.new.talk.sink)
@@ -186,6 +207,9 @@ impl<S: Source, K: Sink> Link<S, K> {
         ensures done { OnOk result (IfSome (coming self.old.talk.held (S.left self.old.talk.source))
             (λ bytes. IsDone bytes (coming self.new.talk.held (S.left self.new.talk.source)))) }
         ensures silent { IsSome self.old.broken → self.new.talk ≡ self.old.talk }
+        ensures lines { Takes self.old.talk.lines self.new.talk.lines
+            (coming self.old.talk.held (S.left self.old.talk.source))
+            (coming self.new.talk.held (S.left self.new.talk.source)) }
         ensures names { self.new.names ≡ self.old.names }
         ensures errors { self.new.errors ≡ self.old.errors }
         ensures broken { self.new.broken ≡ self.old.broken }
@@ -228,6 +252,12 @@ impl<S: Source, K: Sink> Device for Link<S, K> {
         ensures silent { IsSome self.old.broken
             → (self.new.talk ≡ self.old.talk) × (self.new.broken ≡ self.old.broken) }
         ensures names { self.new.names ≡ self.old.names }
+        // Each line of the peer that is taken counts one, and the number of a break is that of the line behind them.
+        ensures lines { Takes self.old.talk.lines self.new.talk.lines
+            (coming self.old.talk.held (S.left self.old.talk.source))
+            (coming self.new.talk.held (S.left self.new.talk.source)) }
+        ensures line { IsNone self.old.broken → IfSome self.new.broken
+            (λ broken. broken.line ≡ min (self.new.talk.lines + 1) (2 ^ 64 - 1)) }
     {
         let op = carried(transfer);
         let answer = match self.try_transfer(port, &op, transfer.tag()) {
@@ -268,6 +298,12 @@ impl<S: Source, K: Sink> Device for Link<S, K> {
         ensures silent { IsSome self.old.broken
             → (self.new.talk ≡ self.old.talk) × (self.new.broken ≡ self.old.broken) }
         ensures names { self.new.names ≡ self.old.names }
+        // Each line of the peer that is taken counts one, and the number of a break is that of the line behind them.
+        ensures lines { Takes self.old.talk.lines self.new.talk.lines
+            (coming self.old.talk.held (S.left self.old.talk.source))
+            (coming self.new.talk.held (S.left self.new.talk.source)) }
+        ensures line { IsNone self.old.broken → IfSome self.new.broken
+            (λ broken. broken.line ≡ min (self.new.talk.lines + 1) (2 ^ 64 - 1)) }
     {
         if let Err(cause) = self.try_reset(kind) {
             self.break_off(cause);
@@ -285,6 +321,12 @@ impl<S: Source, K: Sink> Device for Link<S, K> {
         ensures silent { IsSome self.old.broken
             → (self.new.talk ≡ self.old.talk) × (self.new.broken ≡ self.old.broken) }
         ensures names { self.new.names ≡ self.old.names }
+        // Each line of the peer that is taken counts one, and the number of a break is that of the line behind them.
+        ensures lines { Takes self.old.talk.lines self.new.talk.lines
+            (coming self.old.talk.held (S.left self.old.talk.source))
+            (coming self.new.talk.held (S.left self.new.talk.source)) }
+        ensures line { IsNone self.old.broken → IfSome self.new.broken
+            (λ broken. broken.line ≡ min (self.new.talk.lines + 1) (2 ^ 64 - 1)) }
     {
         if let Err(cause) = self.try_hw(field, value) {
             self.break_off(cause);

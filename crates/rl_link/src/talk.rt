@@ -7,7 +7,7 @@ ghost use Rattle.rl_report.specs.Lines.{first_line, after_line};
 ghost use Rattle.rl_report.specs.Pieces.{Puts};
 ghost use Rattle.rl_link.specs.Answers.{said_in};
 ghost use Rattle.rl_link.specs.Causes.{IsCauseOfReading, IsCauseOfAsking};
-ghost use Rattle.rl_link.specs.Coming.{coming, Skips, Hears, HasLine, IsLine};
+ghost use Rattle.rl_link.specs.Coming.{coming, Skips, Takes, Hears, HasLine, IsLine};
 
 use crate::answer::{Cause, Said, is_nothing, says};
 use crate::held::Held;
@@ -87,6 +87,7 @@ fn pass_line(held: &mut Held, lines: &mut u64, len: usize)
 // Passes over what is held already. What says something there was asked for by nobody.
 fn skim(held: &mut Held, lines: &mut u64) -> Result<(), Cause>
     ensures skips { (left : _) → Skips (coming held.old left) (coming held.new left) }
+    ensures lines { (left : _) → Takes lines.old lines.new (coming held.old left) (coming held.new left) }
     ensures fault { IfErr result (λ cause. cause ≡ Cause.Unasked) }
 {
     while let Some(len) = held.line_len() {
@@ -99,9 +100,11 @@ fn skim(held: &mut Held, lines: &mut u64) -> Result<(), Cause>
 }
 
 // Reads until a line that says something stands in front.
-#[tactic(auto, using(crate::proofs::ComingLemmas::skips_more, crate::proofs::ComingLemmas::skips_kept, crate::proofs::ComingLemmas::has_line))]
+#[tactic(auto, using(crate::proofs::ComingLemmas::skips_more, crate::proofs::ComingLemmas::skips_kept, crate::proofs::ComingLemmas::has_line, crate::proofs::ComingLemmas::takes_more, crate::proofs::ComingLemmas::takes_kept))]
 fn hear<S: Source>(held: &mut Held, lines: &mut u64, source: &mut S) -> Result<Said, Cause>
     ensures skips { Skips (coming held.old (S.left source.old)) (coming held.new (S.left source.new)) }
+    ensures lines { Takes lines.old lines.new
+        (coming held.old (S.left source.old)) (coming held.new (S.left source.new)) }
     ensures heard { IfOk result (λ said. IfSome (coming held.old (S.left source.old))
         (λ bytes. Hears bytes said (coming held.new (S.left source.new)))) }
     ensures front { OnOk result (HasLine held.new) }
@@ -141,7 +144,7 @@ impl<S: Source + Drop, K: Sink + Drop> Talk<S, K> {
 
 impl<S: Source, K: Sink> Talk<S, K> {
     /// Sends a request, and then reads the line that answers it, which stays in front.
-    #[tactic(auto, using(crate::proofs::SentLemmas::puts_sent, crate::proofs::SentLemmas::front_none, rl_report::proofs::PieceLemmas::puts_stopped, crate::proofs::ComingLemmas::skips_more, crate::proofs::ComingLemmas::skips_none, crate::proofs::ComingLemmas::heard_after))]
+    #[tactic(auto, using(crate::proofs::SentLemmas::puts_sent, crate::proofs::SentLemmas::front_none, rl_report::proofs::PieceLemmas::puts_stopped, crate::proofs::ComingLemmas::skips_more, crate::proofs::ComingLemmas::skips_none, crate::proofs::ComingLemmas::heard_after, crate::proofs::ComingLemmas::takes_more))]
     pub fn ask(&mut self, request: &[u8]) -> Result<Said, Cause>
         ensures sent { Puts (K.written self.old.sink) (K.written self.new.sink) request.now result }
         ensures skips { Skips (coming self.old.held (S.left self.old.source))
@@ -149,6 +152,10 @@ impl<S: Source, K: Sink> Talk<S, K> {
         ensures heard { IfOk result (λ said. IfSome (coming self.old.held (S.left self.old.source))
             (λ bytes. Hears bytes said (coming self.new.held (S.left self.new.source)))) }
         ensures front { OnOk result (HasLine self.new.held) }
+
+        // Each line that is taken counts one.
+        ensures lines { Takes self.old.lines self.new.lines (coming self.old.held (S.left self.old.source))
+            (coming self.new.held (S.left self.new.source)) }
 
         // Nothing is read before the request is out, and nothing is sent where an answer came that wasn't asked for.
         ensures out_first { result ≡ Err Cause.Unsent → self.new.source ≡ self.old.source }
@@ -173,7 +180,10 @@ impl<S: Source, K: Sink> Talk<S, K> {
 
     /// Passes over the lines that are held already, none of which may say something.
     pub fn skim(&mut self) -> Result<(), Cause>
-        ensures { IfErr result (λ cause. cause ≡ Cause.Unasked) }
+        ensures cause { IfErr result (λ cause. cause ≡ Cause.Unasked) }
+        ensures lines { (left : _) → Takes self.old.lines self.new.lines
+            (coming self.old.held left) (coming self.new.held left) }
+        ensures streams { (self.new.source ≡ self.old.source) × (self.new.sink ≡ self.old.sink) }
     {
         skim(&mut self.held, &mut self.lines)
     }

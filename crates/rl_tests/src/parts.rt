@@ -20,17 +20,22 @@ const PARTIAL: &[u8] =
 const PARTIAL_LOG: &[u8] =
     b"write a 0xabcdef @bus: ok mirror 0xabcdef\n  bus w 0x0 0xcdef 11 #100 ok\n  bus w 0x2 0x00ab 11 #101 ok\nend: 1 events, 0 differences, 0 bus errors\n";
 
-// A plain adapter, and one of another name.
-fn two_adapters(alloc: Global) -> Result<Adapters, Fail>
+// A plain adapter, and two of another name, whose tags begin at 100 and at 500.
+fn three_adapters(alloc: Global) -> Result<Adapters, Fail>
     ensures { IfOk result (λ adapters. length (map standing adapters.items) < 2 ^ 32) }
 {
     let third = ThirdAdapter {
         next_tag: 100,
         trail: 0,
     };
+    let namesake = ThirdAdapter {
+        next_tag: 500,
+        trail: 0,
+    };
     let mut adapters: Adapters = Vec::new(alloc);
     adapters.push(Box::new(alloc, PLAIN)?)?;
     adapters.push(Box::new(alloc, third)?)?;
+    adapters.push(Box::new(alloc, namesake)?)?;
     Ok(adapters)
 }
 
@@ -40,11 +45,12 @@ fn try_regrun(
     source: &mut MemSource,
     sink: &mut MemSink,
 ) -> Result<Status, Fail> {
-    let mut adapters = two_adapters(alloc)?;
+    let mut adapters = three_adapters(alloc)?;
     Ok(regrun(alloc, words, source, sink, &mut adapters))
 }
 
-// One lane of the last word has no byte, and an adapter without enables enables it too.
+// The first adapter of the map's name is used. One lane of the last word has no byte, and an adapter without enables
+// enables it too.
 #[test]
 fn an_adapter_is_used_by_its_name(rt: HostRuntime) -> Result<(), Fail> {
     let alloc = rt.alloc();

@@ -1,7 +1,7 @@
-use Rattle.std.proofs.Common.{◌≡◌, ◌≤◌, true, false, IfSome, ap, sym, ◌∙◌, subst, arith}
+use Rattle.std.proofs.Common.{◌≡◌, ◌≤◌, ◌+◌, ◌-◌, ◌^◌, min, true, false, IfSome, ap, sym, ◌∙◌, subst, arith}
 use Rattle.rl_link.specs.Answers.{is_nothing}
-use Rattle.rl_link.specs.Coming.{coming, Skips, Hears}
-use Rattle.rl_link.proofs.ComingLemmas.{skips_more, skips_kept, skips_line, hears_here, has_line}
+use Rattle.rl_link.specs.Coming.{coming, Skips, Takes, Hears}
+use Rattle.rl_link.proofs.ComingLemmas.{skips_more, skips_kept, skips_line, hears_here, has_line, takes_more, takes_kept, takes_then_line}
 use Rattle.rl_link.proofs.SaidLemmas.{silent}
 use Rattle.rl_link.proofs.talk.hear.Goals as goal
 
@@ -13,6 +13,10 @@ loop-preserved g c =
     record {
       skips = skips_more _ _ _ (skips_more _ _ _ c.loop.invariant.skips (skips_kept _ _ c.in_ok-len.ensures.coming))
           (subst (λ h. Skips (coming here left) (coming h left)) (sym c.pass_line.ensures.held) (skips_line here left (has_line _ _ c.in_ok-len.ensures.line) passed));
+      lines = subst (λ n. Takes c.args.lines.now n (coming c.args.held.now (g.S.Source.left c.args.source.now)) (coming c.pass_line.new.held left)) (sym c.pass_line.ensures.lines)
+          (subst (λ h. Takes c.args.lines.now (min (c.loop.lines + 1) (2 ^ 64 - 1)) (coming c.args.held.now (g.S.Source.left c.args.source.now)) (coming h left))
+          (sym c.pass_line.ensures.held)
+          (takes_then_line _ _ _ here left (takes_more _ _ _ _ _ _ c.loop.invariant.lines (takes_kept _ _ _ c.in_ok-len.ensures.coming)) (has_line _ _ c.in_ok-len.ensures.line)));
       later = omega (arith, c.in_ok-len.ensures.later);
     }
 

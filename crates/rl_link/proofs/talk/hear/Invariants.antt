@@ -1,6 +1,6 @@
--- Only lines that say nothing were passed over.
+-- Only lines that say nothing were passed over, and each was counted.
 use Rattle.std.proofs.Common.{◌≤◌}
-use Rattle.rl_link.specs.Coming.{coming, Skips}
+use Rattle.rl_link.specs.Coming.{coming, Skips, Takes}
 use Rattle.rl_link.proofs.talk.hear.Given as goal
 
 abbrev pub invariant-loop : goal.invariant-loop
@@ -8,5 +8,6 @@ invariant-loop g l =
     let left = g.S.Source.left in
     record {
       skips : Skips (coming l.initial.held (left l.initial.source)) (coming l.held (left l.source));
+      lines : Takes l.initial.lines l.lines (coming l.initial.held (left l.initial.source)) (coming l.held (left l.source));
       later : g.S.Source.faults l.initial.source ≤ g.S.Source.faults l.source;
     }

@@ -1,5 +1,8 @@
 // What a session over a link can't have.
+ghost use Rattle.std.specs.Prelude.{◌≡◌};
 ghost use Rattle.rl_bus.specs.Causes.{HasCause};
+ghost use Rattle.rl_report.specs.Pieces.{Puts};
+ghost use Rattle.rl_linked.specs.Refusals.{backdoor_reg, backdoor_mem, backdoor_text, refusal_of, refusal_text};
 
 use itoa::Buffer;
 use rl_desc::Desc;
@@ -8,7 +11,7 @@ use rl_report::{Failed, Sink, put_all};
 
 /// Why a description that can be run on a device model can't be run over a link.
 #[derive(Clone, Copy, Debug, PartialEq, Eq)]
-pub(crate) enum Refusal {
+pub enum Refusal {
     /// It declares a flaw, which is one of the model.
     Flaw,
     /// The register has a backdoor.
@@ -18,7 +21,9 @@ pub(crate) enum Refusal {
 }
 
 // The first register with a backdoor.
-fn backdoor_reg(chip: &Chip) -> Option<u32> {
+fn backdoor_reg(chip: &Chip) -> Option<u32>
+    ensures { result ≡ backdoor_reg chip.now }
+{
     for reg in 0..chip.regs() {
         if chip.backdoor(Item::Reg(reg)) {
             return Some(reg);
@@ -28,7 +33,9 @@ fn backdoor_reg(chip: &Chip) -> Option<u32> {
 }
 
 // The first memory with a backdoor.
-fn backdoor_mem(chip: &Chip) -> Option<u32> {
+fn backdoor_mem(chip: &Chip) -> Option<u32>
+    ensures { result ≡ backdoor_mem chip.now }
+{
     for mem in 0..chip.mems() {
         if chip.backdoor(Item::Mem(mem)) {
             return Some(mem);
@@ -38,7 +45,9 @@ fn backdoor_mem(chip: &Chip) -> Option<u32> {
 }
 
 /// The first thing of a description that a link can't have: a flaw, a register's backdoor, a memory's.
-pub(crate) fn refusal_of(desc: &Desc) -> Option<Refusal> {
+pub fn refusal_of(desc: &Desc) -> Option<Refusal>
+    ensures { result ≡ refusal_of desc.now }
+{
     if !desc.flaws.is_empty() {
         return Some(Refusal::Flaw);
     }
@@ -53,7 +62,9 @@ pub(crate) fn refusal_of(desc: &Desc) -> Option<Refusal> {
 
 // Writes that an item of an array has a backdoor. Rows are counted from 1.
 fn put_backdoor<Q: Sink>(log: &mut Q, array: &[u8], row: u32) -> Result<(), Failed>
+    ensures bytes { Puts (Q.written log.old) (Q.written log.new) (backdoor_text array.now row) result }
     ensures cause { HasCause (Q.faults log.old) (Q.faults log.new) result }
+    ensures ends_kept { Q.ends log.new ≡ Q.ends log.old }
 {
     let mut number = Buffer::new();
     put_all(log, b"refused description ")?;
@@ -63,8 +74,10 @@ fn put_backdoor<Q: Sink>(log: &mut Q, array: &[u8], row: u32) -> Result<(), Fail
 }
 
 /// Writes the last line of a session that is refused so.
-pub(crate) fn put_refusal<Q: Sink>(log: &mut Q, refusal: Refusal) -> Result<(), Failed>
+pub fn put_refusal<Q: Sink>(log: &mut Q, refusal: Refusal) -> Result<(), Failed>
+    ensures bytes { Puts (Q.written log.old) (Q.written log.new) (refusal_text refusal) result }
     ensures cause { HasCause (Q.faults log.old) (Q.faults log.new) result }
+    ensures ends_kept { Q.ends log.new ≡ Q.ends log.old }
 {
     match refusal {
         Refusal::Flaw => put_all(log, b"refused description flaw 1: no flaws over a link\n"),

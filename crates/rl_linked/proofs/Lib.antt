@@ -1,0 +1,4 @@
+mod BackdoorLemmas
+mod OpeningLemmas
+mod SessionLemmas
+mod StaysLemmas

@@ -1,0 +1,5 @@
+pub mod Opening
+pub mod Prelude
+pub mod Refusals
+pub mod Session
+pub mod Stays

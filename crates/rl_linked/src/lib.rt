@@ -1,0 +1,12 @@
+//! Runs a session on a device over a link: refuses what a link can't have, plays the script, and says how the link broke.
+#![tactic(auto)]
+
+mod opening;
+mod playing;
+mod ran;
+mod refusal;
+mod session;
+
+pub use ran::Ran;
+pub use refusal::{Refusal, put_refusal, refusal_of};
+pub use session::run_linked;

@@ -1,0 +1,111 @@
+// A session on a device over a link.
+ghost use Rattle.std.specs.Prelude.{◌≡◌, ◌≢◌, ◌≤◌, ◌<◌, ◌^◌, List, ℕ, Err, map, length, true, false, IfSome, IsNone};
+ghost use Rattle.std.specs.Io.KnownBytes.{Keeps};
+ghost use Rattle.rl_linked.specs.Prelude.{IsCaused, KeepsEarlier, Rose, StaysOpen, is_complete, kinds_of};
+ghost use Rattle.rl_linked.specs.Opening.{linked_opening};
+ghost use Rattle.rl_linked.specs.Session.{RunsLinked};
+
+use crate::opening::{fresh_lines, open_desc};
+use crate::playing::play_over;
+use crate::ran::Ran;
+use rl_bus::{Adapter, Adapters};
+use rl_log::Status;
+use rl_report::{Failed, Sink, Source};
+use std::alloc::Global;
+
+// Ends the log where its last line was written.
+fn finished<Q: Sink>(status: Status, log: &mut Q) -> Status
+    ensures kept { result ≢ Status.SinkFault → result ≡ status }
+    ensures told { Keeps (Q.written log.old) (Q.written log.new) }
+    ensures later { Q.faults log.old ≤ Q.faults log.new }
+    ensures cause { result ≡ Status.SinkFault → status ≢ Status.SinkFault
+        → Rose (Q.faults log.old) (Q.faults log.new) }
+    ensures ended { is_complete result ≡ true → Rose (Q.ends log.old) (Q.ends log.new) }
+    ensures not_ended { is_complete result ≡ false → Q.ends log.new ≡ Q.ends log.old }
+{
+    if !status.is_complete() {
+        return status;
+    }
+    match log.finish() {
+        Ok(()) => status,
+        Err(Failed) => Status::SinkFault,
+    }
+}
+
+// Runs a session, and leaves its log open.
+fn run<P: Source, Q: Sink, S: Source + Drop, K: Sink + Drop>(
+    alloc: Global,
+    session: &mut P,
+    log: &mut Q,
+    source: S,
+    sink: K,
+    adapters: &mut Adapters,
+) -> Ran<S, K>
+    requires few { length (map standing adapters.old.items) < 2 ^ 32 }
+    ensures does { IfSome (P.left session.old) (λ bytes. RunsLinked bytes result.status
+        (Q.written log.old) (Q.written log.new) (map standing adapters.old.items) (map standing adapters.new.items)) }
+    ensures unsent { IfSome (P.left session.old) (λ bytes. (line : List ℕ)
+        → linked_opening bytes (kinds_of (map standing adapters.old.items)) ≡ Err line → IsNone result.link) }
+    ensures kinds { kinds_of (map standing adapters.new.items) ≡ kinds_of (map standing adapters.old.items) }
+    ensures source_later { P.faults session.old ≤ P.faults session.new }
+    ensures cause { IsCaused result.status
+        (P.faults session.old) (P.faults session.new) (Q.faults log.old) (Q.faults log.new) }
+    ensures stays { StaysOpen Q.written Q.faults Q.ends log.old log.new }
+{
+    let Ok(mut lines) = fresh_lines(alloc) else {
+        return Ran {
+            status: Status::Memory,
+            link: None,
+        };
+    };
+    match open_desc(alloc, &mut lines, session, log, adapters) {
+        Ok(desc) => play_over(
+            alloc, desc, &mut lines, session, log, source, sink, adapters,
+        ),
+        Err(status) => Ran { status, link: None },
+    }
+}
+
+/// Runs a session on a device over a link to these streams, and writes its log.
+///
+/// The description is read before anything is sent. Requests go to the sink, and answers come from the source. The log
+/// is finished once, where its last line was written. A link that breaks doesn't end the session: the answer's `code`
+/// tells of it.
+pub fn run_linked<P: Source, Q: Sink, S: Source + Drop, K: Sink + Drop>(
+    alloc: Global,
+    session: &mut P,
+    log: &mut Q,
+    source: S,
+    sink: K,
+    adapters: &mut Adapters,
+) -> Ran<S, K>
+    requires few { length (map standing adapters.old.items) < 2 ^ 32 }
+
+    // Which sessions are refused and in what words, what is written of the others, and the statuses, one fact a field.
+    ensures does { IfSome (P.left session.old) (λ bytes. RunsLinked bytes result.status
+        (Q.written log.old) (Q.written log.new) (map standing adapters.old.items) (map standing adapters.new.items)) }
+
+    // Of a session that is refused before its script, nothing is sent: there is no link.
+    ensures unsent { IfSome (P.left session.old) (λ bytes. (line : List ℕ)
+        → linked_opening bytes (kinds_of (map standing adapters.old.items)) ≡ Err line → IsNone result.link) }
+
+    // However it ends, the log keeps the bytes that it had before, and the adapters their kinds.
+    ensures keeps_earlier { KeepsEarlier (Q.written log.old) (Q.written log.new) }
+    ensures kinds { kinds_of (map standing adapters.new.items) ≡ kinds_of (map standing adapters.old.items) }
+
+    // No fault is made up, and the status is never that of other words.
+    ensures source_later { P.faults session.old ≤ P.faults session.new }
+    ensures log_later { Q.faults log.old ≤ Q.faults log.new }
+    ensures cause { IsCaused result.status
+        (P.faults session.old) (P.faults session.new) (Q.faults log.old) (Q.faults log.new) }
+
+    // The log is ended exactly where its last line was written.
+    ensures ended { is_complete result.status ≡ true → Rose (Q.ends log.old) (Q.ends log.new) }
+    ensures not_ended { is_complete result.status ≡ false → Q.ends log.new ≡ Q.ends log.old }
+{
+    let ran = run(alloc, session, log, source, sink, adapters);
+    Ran {
+        status: finished(ran.status, log),
+        link: ran.link,
+    }
+}
