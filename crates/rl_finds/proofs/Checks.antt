@@ -50,7 +50,7 @@ none_there l gathered place built = record {
   ];
 }
 
-forgotten_built : (b : Bool) (l : LayoutData) (gathered : List Gathered) (place : ℕ) → IsPredictorOf l gathered
+pub forgotten_built : (b : Bool) (l : LayoutData) (gathered : List Gathered) (place : ℕ) → IsPredictorOf l gathered
     → IsPredictorOf l (if b then slice_set gathered place no_words else gathered)
 forgotten_built true l gathered place built = none_there l gathered place built
 forgotten_built false l gathered place built = built
@@ -62,7 +62,7 @@ record IsChecked (m new : ModelData) (reg : ℕ) : Type 0 where
   layout : new.layout ≡ m.layout
   others : (q : ℕ) → (q ≡ reg → ⊥) → mirrored_of new.mirror q ≡ mirrored_of m.mirror q
 
-read_other : (c : ChipData) (reg value q : ℕ) (m : MirrorData) → (q ≡ reg → ⊥) → mirrored_of (predict_read c reg value every_field m) q ≡ mirrored_of m q
+pub read_other : (c : ChipData) (reg value q : ℕ) (m : MirrorData) → (q ≡ reg → ⊥) → mirrored_of (predict_read c reg value every_field m) q ≡ mirrored_of m q
 unfolding predict_read
 read_other c reg value q m other = get_or-set_other m.mirrored reg q _ 0 other
 

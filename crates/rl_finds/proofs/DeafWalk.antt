@@ -192,7 +192,7 @@ after_ops s new t mem x place o e ops deaf h done sent model goes fine first =
     let d = h.device in
     let port = port_for m.layout place in
     let adapter = standing_at s.adapters (adapter_for m.layout place) in
-    let alike : AreAlike d (blank d) = record { setup = refl; beats = refl; items = refl } in
+    let alike : AreAlike d (blank d) = record { deaf = []; stuck = d.setup.flaws.stuck; setup = refl; beats = refl; items = refl } in
     let ans = answered adapter d port ops (none_fails d (blank d) port ops alike fine) in
     let trace : e.trace ≡ items_of adapter d port ops = done.answers d h.told ∙ ap (items_of adapter d port) sent in
     let after : state_after_all d e.trace ≡ ops_after d port ops = ap (state_after_all d) trace ∙ ans.state in
@@ -265,7 +265,7 @@ memory_step m s new t mem x o e ok deaf is numbers h performs =
 
 -- ---- the check of the first location
 
-all_reads : (l : LayoutData) (place index chosen : ℕ) → All (λ (o : BusOp). o.write ≡ false) (ops_of l place index chosen 0 false)
+pub all_reads : (l : LayoutData) (place index chosen : ℕ) → All (λ (o : BusOp). o.write ≡ false) (ops_of l place index chosen 0 false)
 unfolding ops_of
 all_reads l place index chosen = All-map (λ (o : BusOp). o.write ≡ false) (op_of l place chosen 0 false) (sent_of l place index chosen) (λ k d low. refl)
 

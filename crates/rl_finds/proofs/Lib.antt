@@ -13,3 +13,9 @@ pub mod Walked
 pub mod Twins
 pub mod Untouched
 pub mod DeafWalk
+pub mod StuckBit
+pub mod Bashing
+pub mod BitBash
+pub mod Turned
+pub mod AccessTest
+pub mod DeafRegister

@@ -1,9 +1,9 @@
 -- Operations of sequences are accesses to a place, from any model of the chip and the layout.
-use Rattle.std.proofs.Common.{◌≡◌, ℕ, ◌*◌, ◌^◌, ◌<◌, nat_lt, if◌then◌else◌, Bool, true, false, ◌&&◌, length, Option, None, Some, option_map, Ok, Err, refl, sym, ap, ◌∙◌, subst, eq-eqb, arith}
+use Rattle.std.proofs.Common.{◌≡◌, ℕ, ◌*◌, ◌^◌, ◌<◌, nat_lt, bit_xor, if◌then◌else◌, Bool, true, false, ◌&&◌, length, Option, None, Some, option_map, Ok, Err, refl, sym, ap, ◌∙◌, subst, eq-eqb, arith}
 use Rattle.std.specs.Option.{option_map_or}
 use Rattle.std.proofs.lemmas.Bool.{and_parts, eqb-true, false_from_ne_true}
 use Rattle.std.proofs.lemmas.List.Sums.{position_or_len_is}
-use Rattle.std.proofs.lemmas.Nat.{mod_below, pow_pos}
+use Rattle.std.proofs.lemmas.Nat.{mod_below, pow_pos, pow_below, xor_lt}
 use borrow.Author.Tests.{lt-ltb}
 use Rattle.rl_model.specs.Rows.{ChipData}
 use Rattle.rl_model.specs.Fields.{size_of}
@@ -15,11 +15,12 @@ use Rattle.rl_map.specs.declared.rows.PlaceRow.{PlaceRow}
 use Rattle.rl_map.proofs.Accepting.{at_first}
 use Rattle.rl_map.proofs.Lookups.{same_from}
 use Rattle.rl_split.specs.Access.{all_bytes, ops_of}
+use Rattle.rl_mirror.specs.Mirror.{mirrored_of}
 use Rattle.rl_access.specs.declared.event.Op.TheVariants as op
 use Rattle.rl_access.specs.declared.event.Refused.{Refused}
 use Rattle.rl_access.specs.declared.event.Refused.TheVariants.{NoRight, NotWritable, OutOfRange, TooWide}
 use Rattle.rl_access.specs.Items.{failed_at}
-use Rattle.rl_access.specs.Model.{ModelData}
+use Rattle.rl_access.specs.Model.{ModelData, IsModel}
 use Rattle.rl_access.specs.Operation.{location_size}
 use Rattle.rl_access.specs.Rules.{Grant, grant, only_where, placed, with_right, way, item_size, memory_size, is_writable}
 use Rattle.rl_access.proofs.Bytes.{bytes_bits}
@@ -115,6 +116,22 @@ write_is c l reg place v p right =
           ∙ ap (λ n. ops_of l place 0 (all_bytes n) value true) (ap (λ x. size_of x reg) chip ∙ p.size);
       ends = λ m sampled items some. error_end (failed_at items) _ _ some;
     }
+
+-- the word that turns a bit round is written too
+turned_fits_in : (m : ModelData) (reg bit : ℕ) → IsModel m → reg < length m.chip.regs → bit < 8 * size_of m.chip reg
+    → nat_lt (bit_xor (mirrored_of m.mirror reg) (2 ^ bit)) (256 ^ size_of m.chip reg) ≡ true
+turned_fits_in m reg bit ok there low =
+    let bits = bytes_bits (size_of m.chip reg) in
+    let fits = (ok.mirror.mirrored reg there).fits in
+    let one = pow_below bit (8 * size_of m.chip reg) low in
+    let both = xor_lt (8 * size_of m.chip reg) (mirrored_of m.mirror reg) (2 ^ bit) (omega (arith, bits, fits)) one in
+    lt-ltb (bit_xor (mirrored_of m.mirror reg) (2 ^ bit)) (256 ^ size_of m.chip reg) (omega (arith, bits, both))
+
+pub bash_granted : (c : ChipData) (l : LayoutData) (reg place bit : ℕ) → IsPlaceOf c l place (Reg reg) → may_write l place ≡ true → (m : ModelData) → IsModel m
+    → m.chip ≡ c → m.layout ≡ l → reg < length m.chip.regs → bit < 8 * size_of m.chip reg
+    → grant m (op.Write reg (Some (map_at l place)) (bit_xor (mirrored_of m.mirror reg) (2 ^ bit))) ≡ Ok place
+bash_granted c l reg place bit p right m ok chip layout there low =
+    met _ place _ TooWide (way_to c l place (Reg reg) true p right m layout) (turned_fits_in m reg bit ok there low)
 
 pub mem_write_is : (c : ChipData) (l : LayoutData) (mem place index v : ℕ) → IsPlaceOf c l place (Mem mem) → may_write l place ≡ true
     → is_writable c mem ≡ true → index < memory_size c mem

@@ -1,4 +1,5 @@
--- A device with deaf items beside one that hears: whatever the two hold, their beats go the same way, and the same items fail.
+-- A device beside one with other deaf items and other stuck bits: whatever the two hold, their beats go the same way, and the
+-- same items fail. One that hears, and holds the same, answers reads the same.
 use Rattle.std.proofs.Common.{◌≡◌, ℕ, Bool, true, false, not, List, [], ◌∷◌, Option, None, Some, All, if◌then◌else◌, refl, sym, ap, ◌∙◌, subst}
 use Rattle.std.proofs.lemmas.List.Elements.{All-nil, All-cons, All-head, All-tail}
 use Rattle.rl_policy.specs.Bits.{bit, from_bits}
@@ -6,11 +7,22 @@ use Rattle.rl_bus.specs.declared.op.Answer.{Answer}
 use Rattle.rl_bus.specs.declared.op.BusOp.{BusOp}
 use Rattle.rl_bus.specs.declared.table.Cell.{Cell}
 use Rattle.rl_bus.specs.declared.table.Cell.TheVariants.{Reg, Loc}
+use Rattle.rl_bus.specs.declared.table.ItemRow.{ItemRow}
+use Rattle.rl_bus.specs.declared.table.StuckRow.{StuckRow}
 use Rattle.rl_bus.specs.declared.table.WordRow.{WordRow}
 use Rattle.rl_bus.specs.Setup.{Setup, Flaws, mem_of, is_deaf, held}
 use Rattle.rl_bus.specs.Spread.{lane_bit, spread_bit, gathered_bit, lanes_in}
 use Rattle.rl_bus.specs.State.{State, counted, word_at, is_faulty, beats_on, shown_bit, after_reading, after_writing, after_word, after_touch, answer_at, state_after, answer_of}
 use Rattle.rl_split.specs.Runs.{answers_of, state_after_all}
+use Rattle.rl_access.specs.declared.trace.TraceItem.{TraceItem}
+use Rattle.rl_access.specs.Items.{state_after_all as items_after}
+
+abbrev with_others : List ItemRow → List StuckRow → Flaws → Flaws
+with_others deaf stuck f = record f { deaf = deaf; stuck = stuck }
+
+-- what it has, with these deaf items and stuck bits
+abbrev flawed : List ItemRow → List StuckRow → Setup → Setup
+flawed deaf stuck t = record t { flaws = with_others deaf stuck t.flaws }
 
 abbrev all_hear : Flaws → Flaws
 all_hear f = record f { deaf = [] }
@@ -23,17 +35,24 @@ hearing t = record t { flaws = all_hear t.flaws }
 abbrev pub twin : State → (bits marks locations : List ℕ) → State
 twin d bits marks locations = record d { setup = hearing d.setup; bits = bits; marks = marks; locations = locations }
 
--- it hears, and is at the same beats
+-- one with these flaws
+abbrev other : State → List ItemRow → List StuckRow → (bits marks locations : List ℕ) → State
+other d deaf stuck bits marks locations = record d { setup = flawed deaf stuck d.setup; bits = bits; marks = marks; locations = locations }
+
+-- it has other deaf items and stuck bits at most, and is at the same beats
 pub record AreAlike (d e : State) : Type 0 where
-  pub setup : e.setup ≡ hearing d.setup
+  pub deaf : List ItemRow
+  pub stuck : List StuckRow
+  pub setup : e.setup ≡ flawed deaf stuck d.setup
   pub beats : e.beats ≡ d.beats
   pub items : e.items ≡ d.items
 
-is_twin : (d e : State) → AreAlike d e → e ≡ twin d e.bits e.marks e.locations
-is_twin d e a =
+is_other : (d e : State) → (a : AreAlike d e) → e ≡ other d a.deaf a.stuck e.bits e.marks e.locations
+is_other d e a =
+    let t = flawed a.deaf a.stuck d.setup in
     ap (λ t. let x : State = record e { setup = t } in x) a.setup
-    ∙ ap (λ b. let x : State = record e { setup = hearing d.setup; beats = b } in x) a.beats
-    ∙ ap (λ n. let x : State = record e { setup = hearing d.setup; beats = d.beats; items = n } in x) a.items
+    ∙ ap (λ b. let x : State = record e { setup = t; beats = b } in x) a.beats
+    ∙ ap (λ n. let x : State = record e { setup = t; beats = d.beats; items = n } in x) a.items
 
 -- ---- one item
 
@@ -64,38 +83,45 @@ either_alike : (t : Bool) (x y v w : State) → AreAlike x v → AreAlike y w �
 either_alike true x y v w h k = h
 either_alike false x y v w h k = k
 
-touched : (d : State) (b m xs : List ℕ) (port : ℕ) (op : BusOp) (o : Option WordRow) → AreAlike (after_touch d port op o) (after_touch (twin d b m xs) port op o)
-touched d b m xs port op None = record { setup = refl; beats = refl; items = refl }
-touched d b m xs port op (Some w) =
-    either_alike (is_faulty d port op) _ _ _ _ (record { setup = refl; beats = refl; items = refl }) (record {
-      setup = (word (twin d b m xs) op w).setup ∙ ap hearing (sym (word d op w).setup);
+touched : (d : State) (deaf : List ItemRow) (stuck : List StuckRow) (b m xs : List ℕ) (port : ℕ) (op : BusOp) (o : Option WordRow)
+    → AreAlike (after_touch d port op o) (after_touch (other d deaf stuck b m xs) port op o)
+touched d deaf stuck b m xs port op None = record { deaf = deaf; stuck = stuck; setup = refl; beats = refl; items = refl }
+touched d deaf stuck b m xs port op (Some w) =
+    either_alike (is_faulty d port op) _ _ _ _ (record { deaf = deaf; stuck = stuck; setup = refl; beats = refl; items = refl }) (record {
+      deaf = deaf;
+      stuck = stuck;
+      setup = (word (other d deaf stuck b m xs) op w).setup ∙ ap (flawed deaf stuck) (sym (word d op w).setup);
       beats = refl;
-      items = (word (twin d b m xs) op w).items ∙ sym (word d op w).items;
+      items = (word (other d deaf stuck b m xs) op w).items ∙ sym (word d op w).items;
     })
 
-state_twin : (d : State) (b m xs : List ℕ) (port : ℕ) (op : BusOp) → AreAlike (state_after d port op) (state_after (twin d b m xs) port op)
+state_other : (d : State) (deaf : List ItemRow) (stuck : List StuckRow) (b m xs : List ℕ) (port : ℕ) (op : BusOp)
+    → AreAlike (state_after d port op) (state_after (other d deaf stuck b m xs) port op)
 unfolding state_after
-state_twin d b m xs port op = touched (counted d) b m xs port op (word_at d port op)
+state_other d deaf stuck b m xs port op = touched (counted d) deaf stuck b m xs port op (word_at d port op)
 
 goes_alike : (d e : State) (port : ℕ) (op : BusOp) → AreAlike d e → AreAlike (state_after d port op) (state_after e port op)
 goes_alike d e port op a =
-    subst (λ (x : State). AreAlike (state_after d port op) (state_after x port op)) (sym (is_twin d e a)) (state_twin d e.bits e.marks e.locations port op)
+    subst (λ (x : State). AreAlike (state_after d port op) (state_after x port op)) (sym (is_other d e a)) (state_other d a.deaf a.stuck e.bits e.marks e.locations port op)
 
 either_fails : (t : Bool) (x y v w : Answer) → x.failed ≡ v.failed → y.failed ≡ w.failed → (if t then x else y).failed ≡ (if t then v else w).failed
 either_fails true x y v w h k = h
 either_fails false x y v w h k = k
 
-answer_twin : (d : State) (b m xs : List ℕ) (port : ℕ) (op : BusOp) (o : Option WordRow) → (answer_at d port op o).failed ≡ (answer_at (twin d b m xs) port op o).failed
-answer_twin d b m xs port op None = refl
-answer_twin d b m xs port op (Some w) = either_fails (is_faulty d port op) _ _ _ _ refl refl
+answer_other : (d : State) (deaf : List ItemRow) (stuck : List StuckRow) (b m xs : List ℕ) (port : ℕ) (op : BusOp) (o : Option WordRow)
+    → (answer_at d port op o).failed ≡ (answer_at (other d deaf stuck b m xs) port op o).failed
+answer_other d deaf stuck b m xs port op None = refl
+answer_other d deaf stuck b m xs port op (Some w) = either_fails (is_faulty d port op) _ _ _ _ refl refl
 
-answered_twin : (d : State) (b m xs : List ℕ) (port : ℕ) (op : BusOp) → (answer_of d port op).failed ≡ (answer_of (twin d b m xs) port op).failed
+answered_other : (d : State) (deaf : List ItemRow) (stuck : List StuckRow) (b m xs : List ℕ) (port : ℕ) (op : BusOp)
+    → (answer_of d port op).failed ≡ (answer_of (other d deaf stuck b m xs) port op).failed
 unfolding answer_of
-answered_twin d b m xs port op = answer_twin (counted d) b m xs port op (word_at d port op)
+answered_other d deaf stuck b m xs port op = answer_other (counted d) deaf stuck b m xs port op (word_at d port op)
 
 fails_alike : (d e : State) (port : ℕ) (op : BusOp) → AreAlike d e → (answer_of d port op).failed ≡ (answer_of e port op).failed
 fails_alike d e port op a =
-    subst (λ (x : State). (answer_of d port op).failed ≡ (answer_of x port op).failed) (sym (is_twin d e a)) (answered_twin d e.bits e.marks e.locations port op)
+    subst (λ (x : State). (answer_of d port op).failed ≡ (answer_of x port op).failed) (sym (is_other d e a))
+    (answered_other d a.deaf a.stuck e.bits e.marks e.locations port op)
 
 -- ---- items one after another
 
@@ -113,6 +139,42 @@ none_fails d e port (op ∷ ops) a h =
 pub all_alike : (d e : State) (port : ℕ) (ops : List BusOp) → AreAlike d e → AreAlike (state_after_all d port ops) (state_after_all e port ops)
 all_alike d e port [] a = a
 all_alike d e port (op ∷ ops) a = all_alike (state_after d port op) (state_after e port op) port ops (goes_alike d e port op a)
+
+-- the same through items
+pub items_alike : (d e : State) (items : List TraceItem) → AreAlike d e → AreAlike (items_after d items) (items_after e items)
+items_alike d e [] a = a
+items_alike d e (item ∷ items) a = items_alike (state_after d item.port item.op) (state_after e item.port item.op) items (goes_alike d e item.port item.op a)
+
+-- ---- writes are answered the same
+
+no_word : (b : Bool) (x y : ℕ) → b ≡ true → ◌≡◌ {A = ℕ} (if b then 0 else x) (if b then 0 else y)
+no_word true x y so = refl
+no_word false x y so = absurd (cc)
+
+write_at : (d : State) (deaf : List ItemRow) (stuck : List StuckRow) (b m xs : List ℕ) (port : ℕ) (op : BusOp) (o : Option WordRow) → op.write ≡ true
+    → answer_at (other d deaf stuck b m xs) port op o ≡ answer_at d port op o
+write_at d deaf stuck b m xs port op None writes = refl
+write_at d deaf stuck b m xs port op (Some w) writes =
+    ap (λ (n : ℕ). let fine : Answer = record { word = n; failed = false } in
+    let bad : Answer = record { word = 0; failed = true } in
+    if is_faulty d port op then bad else fine) (no_word op.write _ _ writes)
+
+write_other : (d : State) (deaf : List ItemRow) (stuck : List StuckRow) (b m xs : List ℕ) (port : ℕ) (op : BusOp) → op.write ≡ true
+    → answer_of (other d deaf stuck b m xs) port op ≡ answer_of d port op
+unfolding answer_of
+write_other d deaf stuck b m xs port op writes = write_at (counted d) deaf stuck b m xs port op (word_at d port op) writes
+
+write_alike : (d e : State) (port : ℕ) (op : BusOp) → AreAlike d e → op.write ≡ true → answer_of e port op ≡ answer_of d port op
+write_alike d e port op a writes =
+    subst (λ (x : State). answer_of x port op ≡ answer_of d port op) (sym (is_other d e a)) (write_other d a.deaf a.stuck e.bits e.marks e.locations port op writes)
+
+pub writes_alike : (d e : State) (port : ℕ) (ops : List BusOp) → AreAlike d e → All (λ (op : BusOp). op.write ≡ true) ops
+    → answers_of e port ops ≡ answers_of d port ops
+writes_alike d e port [] a h = refl
+writes_alike d e port (op ∷ ops) a h =
+    ap (λ (x : Answer). x ∷ answers_of (state_after e port op) port ops) (write_alike d e port op a (All-head (λ (o : BusOp). o.write ≡ true) op ops h))
+    ∙ ap (λ (more : List Answer). answer_of d port op ∷ more)
+    (writes_alike (state_after d port op) (state_after e port op) port ops (goes_alike d e port op a) (All-tail (λ (o : BusOp). o.write ≡ true) op ops h))
 
 -- ---- reads: the one that holds the same answers the same
 

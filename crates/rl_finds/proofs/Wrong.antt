@@ -14,7 +14,7 @@ use Rattle.rl_policy.specs.declared.policy.Policy.TheVariants.{Wo, Woc, Wos, Wo1
 use Rattle.rl_policy.proofs.BitLemmas.{bit-from_bits, from_bits-same, is_from_bits}
 use Rattle.rl_bus.specs.declared.table.FieldRow.{FieldRow}
 use Rattle.rl_bus.specs.declared.table.ResetRow.{ResetRow}
-use Rattle.rl_bus.specs.Setup.{Setup, no_field as no_row, field_of as row_of_field, field_at, covers as covers_bit, reset_of, stuck_at, or_else, held}
+use Rattle.rl_bus.specs.Setup.{Setup, Flaws, no_field as no_row, field_of as row_of_field, field_at, covers as covers_bit, reset_of, stuck_at, or_else, held}
 use Rattle.rl_bus.specs.State.{State, value_bit, reset_bit as device_bit, reg_reset}
 use Rattle.rl_model.specs.Rows.{FieldSeen, ChipData}
 use Rattle.rl_model.specs.Chip.{IsSound, value_for}
@@ -40,15 +40,15 @@ place_found : (o : Option ℕ) (k : ℕ) → is_place o k ≡ true → o ≡ Som
 place_found None k e = absurd (cc)
 place_found (Some j) k e = ap Some (eqb-true j k e)
 
-covered : (f : FieldSeen) (i : ℕ) → i < f.shape.width → covers f.shape (f.shape.lsb + i) ≡ true
+pub covered : (f : FieldSeen) (i : ℕ) → i < f.shape.width → covers f.shape (f.shape.lsb + i) ≡ true
 covered f i l = grind (arith, nat_tests)
 
 -- each belongs to it
-record IsBitOf (fs : List FieldSeen) (k b : ℕ) : Type 0 where
-  low : b < 64
-  at : place_at fs b ≡ Some k
+pub record IsBitOf (fs : List FieldSeen) (k b : ℕ) : Type 0 where
+  pub low : b < 64
+  pub at : place_at fs b ≡ Some k
 
-bit_of : (bits : ℕ) (fs : List FieldSeen) (k i : ℕ) → IsFieldList bits fs → k < length fs → i < (field_in fs k).shape.width
+pub bit_of : (bits : ℕ) (fs : List FieldSeen) (k i : ℕ) → IsFieldList bits fs → k < length fs → i < (field_in fs k).shape.width
     → IsBitOf fs k ((field_in fs k).shape.lsb + i)
 bit_of bits fs k i list inside l =
     let f = (field_in fs k).shape in
@@ -59,7 +59,7 @@ bit_of bits fs k i list inside l =
 
 -- ---- a compared field reads as its bits
 
-shows : (p : Policy) (x : Bool) → is_write_only p ≡ false → value_read p x ≡ x
+pub shows : (p : Policy) (x : Bool) → is_write_only p ≡ false → value_read p x ≡ x
 shows Wo x e = absurd (cc)
 shows Woc x e = absurd (cc)
 shows Wos x e = absurd (cc)
@@ -96,46 +96,46 @@ described_part bits fs k v kept list inside says fits =
 
 -- ---- in the device: the value that its flaw says
 
-row_is : (c : ChipData) (l : LayoutData) (resets : List ResetRow) (field : ℕ) → field < length c.fields
-    → row_of_field (setup_of c l (wrong_resets resets)) field ≡ field_row (field_of c field)
+pub row_is : (c : ChipData) (l : LayoutData) (f : Flaws) (field : ℕ) → field < length c.fields
+    → row_of_field (setup_of c l f) field ≡ field_row (field_of c field)
 unfolding setup_of
-row_is c l resets field inside = get_or-map field_row c.fields field no_field no_row inside
+row_is c l f field inside = get_or-map field_row c.fields field no_field no_row inside
 
-first_field : (c : ChipData) (l : LayoutData) (resets : List ResetRow) (reg b n : ℕ) → field_at (setup_of c l (wrong_resets resets)) reg b ≡ Some n
-    → (n < length c.fields) × (covers_bit (row_of_field (setup_of c l (wrong_resets resets)) n) reg b ≡ true)
+first_field : (c : ChipData) (l : LayoutData) (f : Flaws) (reg b n : ℕ) → field_at (setup_of c l f) reg b ≡ Some n
+    → (n < length c.fields) × (covers_bit (row_of_field (setup_of c l f) n) reg b ≡ true)
 unfolding setup_of
-first_field c l resets reg b n e =
-    let at = position-Some (λ (f : FieldRow). covers_bit f reg b) (map field_row c.fields) n no_row e in
+first_field c l f reg b n e =
+    let at = position-Some (λ (r : FieldRow). covers_bit r reg b) (map field_row c.fields) n no_row e in
     let inside : n < length c.fields = subst (λ k. n < k) (length-map c.fields field_row) at.0 in
     (inside, at.1)
 
-same_field : (c : ChipData) (l : LayoutData) (resets : List ResetRow) (reg b : ℕ)
-    → field_at (setup_of c l (wrong_resets resets)) reg b ≡ field_at (setup_of c l no_flaws) reg b
+same_field : (c : ChipData) (l : LayoutData) (f : Flaws) (reg b : ℕ)
+    → field_at (setup_of c l f) reg b ≡ field_at (setup_of c l no_flaws) reg b
 unfolding setup_of
-same_field c l resets reg b = refl
+same_field c l f reg b = refl
 
 -- the bit of a register's k-th field belongs to that field, counted through all registers
-field_found : (c : ChipData) (l : LayoutData) (resets : List ResetRow) (reg b k : ℕ) → IsSound c → reg < length c.regs → place_at (fields_of c reg) b ≡ Some k
-    → field_at (setup_of c l (wrong_resets resets)) reg b ≡ Some (first_of c reg + k)
-field_found c l resets reg b k sound inside at = by (field_at (setup_of c l (wrong_resets resets)) reg b) refl
+pub field_found : (c : ChipData) (l : LayoutData) (f : Flaws) (reg b k : ℕ) → IsSound c → reg < length c.regs → place_at (fields_of c reg) b ≡ Some k
+    → field_at (setup_of c l f) reg b ≡ Some (first_of c reg + k)
+field_found c l f reg b k sound inside at = by (field_at (setup_of c l f) reg b) refl
   where
-    by : (o : Option ℕ) → field_at (setup_of c l (wrong_resets resets)) reg b ≡ o → o ≡ Some (first_of c reg + k)
+    by : (o : Option ℕ) → field_at (setup_of c l f) reg b ≡ o → o ≡ Some (first_of c reg + k)
     by None e =
-        let no : is_some (field_at (setup_of c l no_flaws) reg b) ≡ false = ap is_some (sym (same_field c l resets reg b) ∙ e) in
+        let no : is_some (field_at (setup_of c l no_flaws) reg b) ≡ false = ap is_some (sym (same_field c l f reg b) ∙ e) in
         let yes : is_some (place_at (fields_of c reg) b) ≡ true = ap is_some at in
         let both : false ≡ true = sym no ∙ is_field c l reg b sound inside ∙ yes in
         absurd (cc)
     by (Some n) e =
         let here = place_is (fields_of c reg) b k at in
         let j = first_of c reg + k in
-        let found = first_field c l resets reg b n e in
-        let row : covers_bit (field_row (field_of c n)) reg b ≡ true = subst (λ (f : FieldRow). covers_bit f reg b ≡ true) (row_is c l resets n found.0) found.1 in
+        let found = first_field c l f reg b n e in
+        let row : covers_bit (field_row (field_of c n)) reg b ≡ true = subst (λ (r : FieldRow). covers_bit r reg b ≡ true) (row_is c l f n found.0) found.1 in
         let parts = and_parts (eqb (field_of c n).shape.reg reg) (is_within (field_of c n).shape.lsb (field_of c n).shape.width b) row in
         let own_n : (field_of c n).shape.reg ≡ reg = eqb-true (field_of c n).shape.reg reg parts.0 in
         let all : length (fields_of c reg) ≡ count_of c reg = length-fields_of c reg sound inside in
         let within : j < length c.fields = number_within c reg k sound inside here.0 in
         let own_j : (field_of c j).shape.reg ≡ reg = owner_is c reg j sound inside (omega arith) (omega (arith, all, here.0)) in
-        let in_j : covers (field_of c j).shape b ≡ true = subst (λ (f : FieldSeen). covers f.shape b ≡ true) (field_in-fields_of c reg k sound inside here.0) here.1 in
+        let in_j : covers (field_of c j).shape b ≡ true = subst (λ (r : FieldSeen). covers r.shape b ≡ true) (field_in-fields_of c reg k sound inside here.0) here.1 in
         ap Some (apart_fields c n j b sound found.0 within (own_n ∙ sym own_j) parts.1 in_j)
 
 none_stuck : (c : ChipData) (l : LayoutData) (resets : List ResetRow) (reg b : ℕ) (x : Bool) → or_else (stuck_at (setup_of c l (wrong_resets resets)) reg b) x ≡ x
@@ -164,8 +164,8 @@ taken_bit c l resets field v x i sound inside takes low =
     let bits : IsBitOf fs k b =
     subst (λ (f : FieldSeen). i < f.shape.width → IsBitOf fs k (f.shape.lsb + i)) at.field
     (λ l. bit_of (8 * size_of c reg) fs k i (field_list c reg sound there) at.place l) low in
-    let owner : field_at t reg b ≡ Some field = field_found c l resets reg b k sound there bits.at ∙ ap Some at.number in
-    let lsb : b - (row_of_field t field).lsb ≡ i = ap (λ (f : FieldRow). b - f.lsb) (row_is c l resets field inside) ∙ (let e : b - (field_of c field).shape.lsb ≡ i = omega arith in e) in
+    let owner : field_at t reg b ≡ Some field = field_found c l (wrong_resets resets) reg b k sound there bits.at ∙ ap Some at.number in
+    let lsb : b - (row_of_field t field).lsb ≡ i = ap (λ (f : FieldRow). b - f.lsb) (row_is c l (wrong_resets resets) field inside) ∙ (let e : b - (field_of c field).shape.lsb ≡ i = omega arith in e) in
     bit-from_bits 64 (λ b. or_else (stuck_at t reg b) (device_bit t 0 (field_at t reg b) b (bit x b))) b bits.low
     ∙ none_stuck c l resets reg b (device_bit t 0 (field_at t reg b) b (bit x b))
     ∙ ap (λ o. device_bit t 0 o b (bit x b)) owner

@@ -1,20 +1,26 @@
--- Which sequence finds a deaf memory: `mem_walk`.
-use Rattle.std.specs.Prelude.{◌≡◌, ◌≢◌, ℕ, ◌^◌, ◌<◌, true, List, length, slice_index, sum_by, Option, Some}
-use Rattle.rl_bus.specs.declared.table.Cell.TheVariants.{Loc}
+-- Which sequence finds a deaf memory: `mem_walk`; and a deaf register: `access_test`.
+use Rattle.std.specs.Prelude.{◌≡◌, ◌≢◌, ℕ, ◌+◌, ◌^◌, ◌<◌, Bool, true, List, length, slice_index, sum_by, Option, Some}
+use Rattle.rl_policy.specs.Bits.{bit}
+use Rattle.rl_bus.specs.declared.table.Cell.TheVariants.{Reg, Loc}
 use Rattle.rl_bus.specs.declared.table.ItemRow.{ItemRow}
 use Rattle.rl_bus.specs.Setup.{Flaws, location, is_deaf}
 use Rattle.rl_bus.specs.State.{State}
 use Rattle.rl_model.specs.Rows.{ChipData}
+use Rattle.rl_model.specs.Fields.{field_of}
 use Rattle.rl_model.specs.declared.rows.Item.TheVariants.{Mem}
 use Rattle.rl_map.specs.Layout.{LayoutData}
 use Rattle.rl_map.specs.Tables.{setup_of}
 use Rattle.rl_split.specs.Law.{no_flaws}
+use Rattle.rl_mirror.specs.Mirror.{MirrorData, mirrored_of}
 use Rattle.rl_access.specs.Call.{Scene}
 use Rattle.rl_access.specs.HandsOver.{Told}
+use Rattle.rl_access.specs.Laws.{IsComparedField}
 use Rattle.rl_access.specs.Model.{IsModel}
-use Rattle.rl_access.specs.Operation.{location_size}
-use Rattle.rl_seq.specs.declared.sequence.Sequence.TheVariants.{MemWalk}
+use Rattle.rl_access.specs.Operation.{location_size, reg_of}
+use Rattle.rl_seq.specs.declared.sequence.Sequence.TheVariants.{Access, MemWalk}
 use Rattle.rl_seq.specs.Choice.{turned_round}
+use Rattle.rl_finds.specs.Resets.{IsNamedBy}
+use Rattle.rl_finds.specs.Stuck.{IsTurned}
 use Rattle.rl_finds.specs.Visited.{RunsAll, HasEvent, IsVisited}
 
 abbrev pub deaf_items : List ItemRow → Flaws
@@ -42,3 +48,23 @@ DeafMemoryIsFound =
     → IsModel s.model → s.device ≡ Some d → HasDeafItems s.model.chip s.model.layout d → IsDeafTo s.model.chip d mem
     → IsVisited MemWalk s.model.chip s.model.layout block mem place → RunsAll MemWalk block s told new
     → HasEvent (λ e. e.differ ≡ 1) told
+
+-- a deaf register, and a bit of a compared field of it that is believed as it is held, at a value from which the field's policy
+-- turns it
+pub record IsDeafBit (c : ChipData) (d : State) (m : MirrorData) (field i : ℕ) : Type 0 where
+  pub deaf : is_deaf d.setup (Reg (reg_of c field)) ≡ true
+  pub field_in : field < length c.fields
+  pub bit_in : i < (field_of c field).shape.width
+  pub compared : IsComparedField (field_of c field).shape
+  pub value : Bool
+  pub held : bit (slice_index d.bits (reg_of c field)) ((field_of c field).shape.lsb + i) ≡ value
+  pub believed : bit (mirrored_of m (reg_of c field)) ((field_of c field).shape.lsb + i) ≡ value
+  pub turned : IsTurned (field_of c field).shape.policy value
+
+-- Where a visited register is deaf and has such a bit, some check names the bit's field.
+abbrev pub DeafRegisterIsNamed : Type 0
+DeafRegisterIsNamed =
+    (s new : Scene) (d : State) (block : Option ℕ) (told : List Told) (field i place : ℕ)
+    → IsModel s.model → s.device ≡ Some d → HasDeafItems s.model.chip s.model.layout d → IsDeafBit s.model.chip d s.model.mirror field i
+    → IsVisited Access s.model.chip s.model.layout block (reg_of s.model.chip field) place → RunsAll Access block s told new
+    → HasEvent (IsNamedBy s.model.chip field) told

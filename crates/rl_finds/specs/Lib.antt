@@ -3,3 +3,4 @@ pub mod Named
 pub mod Errors
 pub mod Resets
 pub mod Deaf
+pub mod Stuck

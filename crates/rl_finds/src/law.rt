@@ -1,8 +1,9 @@
 //! What the sequences find. Each function does nothing; its contract is the law.
-ghost use Rattle.rl_finds.specs.Deaf.{DeafMemoryIsFound};
+ghost use Rattle.rl_finds.specs.Deaf.{DeafMemoryIsFound, DeafRegisterIsNamed};
 ghost use Rattle.rl_finds.specs.Errors.{SharedErrorIsFound, VisitedErrorIsFound};
 ghost use Rattle.rl_finds.specs.Named.{NoLocationDiffers, NothingIsNamed};
 ghost use Rattle.rl_finds.specs.Resets.{WrongResetIsNamed};
+ghost use Rattle.rl_finds.specs.Stuck.{NewOneHasStuckBit, PoliciesTurn, StuckBitIsNamed};
 
 /// Where a device without flaws and a model without a volatile field agree, as new ones do, no event of a sequence
 /// names a field.
@@ -36,4 +37,20 @@ pub fn wrong_reset_is_named()
 /// in each bit, some check of a location is marked.
 pub fn deaf_memory_is_found()
     ensures { DeafMemoryIsFound }
+{}
+
+/// `bit_bash` finds a stuck bit: where one bit of a compared field of a register that it visits is stuck, and nothing else
+/// is wrong with the device, some check names the field. The field is RW, or has another policy by which a read leaves
+/// the bit at that value and a write of the other one changes it.
+pub fn stuck_bit_is_named()
+    ensures named { StuckBitIsNamed }
+    ensures policies { PoliciesTurn }
+    ensures first { NewOneHasStuckBit }
+{}
+
+/// `access_test` finds a deaf register: where a register that it visits takes no write over the bus, and a bit of a
+/// compared field of it is believed as it is held, some check names the field, if it is RW or has another policy that
+/// turns the bit.
+pub fn deaf_register_is_named()
+    ensures { DeafRegisterIsNamed }
 {}
