@@ -26,7 +26,7 @@ judge() {
 agrees() {
     local scopes
     scopes=$(python3 "$here/waves.py" check "$1" "$2") || return
-    [ "${scopes%% *}" = "$(sed '/^---$/q' "$3" | grep -c '^adapter *= *"apb"')" ]
+    [ "${scopes%% *}" = "$(sed '/^---$/q' "$3" | grep -oE "adapter[\"']? *= *(\"apb\"|'apb')" | wc -l)" ]
 }
 
 # converted VCD LOG SESSION: the same of what vcd2fst read.
