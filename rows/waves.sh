@@ -69,7 +69,7 @@ simulated() {
     printf 'module dump; initial begin $dumpfile("rtl.vcd"); $dumpvars(1, bench); end endmodule\n' > dump.v
     iverilog -g2005 -s bench -s dump -o bench.vvp dump.v "$rtl/bench.v" "$rtl/uart_regs.v" || return
     mkfifo answers
-    "$link" "$rtl/uart.regrun" link.log < answers | vvp -n bench.vvp > answers || return
+    "$link" "$rtl/uart.regrun" link.log < answers | vvp -n bench.vvp | grep -v --line-buffered '^VCD info' > answers || return
     python3 "$here/waves.py" cycles rtl.vcd > rtl.cycles || return
     "$program" "$rtl/uart.regrun" waves.vcd > log || return
     python3 "$here/waves.py" cycles waves.vcd > model.cycles && [ -s model.cycles ] && diff rtl.cycles model.cycles
