@@ -19,3 +19,4 @@ pub mod BitBash
 pub mod Turned
 pub mod AccessTest
 pub mod DeafRegister
+pub mod NewDeaf

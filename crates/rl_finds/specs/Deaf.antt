@@ -4,14 +4,16 @@ use Rattle.rl_policy.specs.Bits.{bit}
 use Rattle.rl_bus.specs.declared.table.Cell.TheVariants.{Reg, Loc}
 use Rattle.rl_bus.specs.declared.table.ItemRow.{ItemRow}
 use Rattle.rl_bus.specs.Setup.{Flaws, location, is_deaf}
-use Rattle.rl_bus.specs.State.{State}
+use Rattle.rl_bus.specs.State.{State, first_state}
 use Rattle.rl_model.specs.Rows.{ChipData}
+use Rattle.rl_model.specs.Chip.{IsSound}
 use Rattle.rl_model.specs.Fields.{field_of}
 use Rattle.rl_model.specs.declared.rows.Item.TheVariants.{Mem}
 use Rattle.rl_map.specs.Layout.{LayoutData}
 use Rattle.rl_map.specs.Tables.{setup_of}
 use Rattle.rl_split.specs.Law.{no_flaws}
 use Rattle.rl_mirror.specs.Mirror.{MirrorData, mirrored_of}
+use Rattle.rl_mirror.specs.Prediction.{fresh}
 use Rattle.rl_access.specs.Call.{Scene}
 use Rattle.rl_access.specs.HandsOver.{Told}
 use Rattle.rl_access.specs.Laws.{IsComparedField}
@@ -19,6 +21,7 @@ use Rattle.rl_access.specs.Model.{IsModel}
 use Rattle.rl_access.specs.Operation.{location_size, reg_of}
 use Rattle.rl_seq.specs.declared.sequence.Sequence.TheVariants.{Access, MemWalk}
 use Rattle.rl_seq.specs.Choice.{turned_round}
+use Rattle.rl_plain.specs.Agree.{HasNoVolatile}
 use Rattle.rl_finds.specs.Resets.{IsNamedBy}
 use Rattle.rl_finds.specs.Stuck.{IsTurned}
 use Rattle.rl_finds.specs.Visited.{RunsAll, HasEvent, IsVisited}
@@ -68,3 +71,9 @@ DeafRegisterIsNamed =
     → IsModel s.model → s.device ≡ Some d → HasDeafItems s.model.chip s.model.layout d → IsDeafBit s.model.chip d s.model.mirror field i
     → IsVisited Access s.model.chip s.model.layout block (reg_of s.model.chip field) place → RunsAll Access block s told new
     → HasEvent (IsNamedBy s.model.chip field) told
+
+-- A new device with deaf items and new beliefs of the same chip agree on each register, where no field is volatile.
+abbrev pub NewOnesAgreeOnBits : Type 0
+NewOnesAgreeOnBits =
+    (c : ChipData) (l : LayoutData) (deaf : List ItemRow) (count reg : ℕ) → IsSound c → HasNoVolatile c → reg < length c.regs
+    → mirrored_of (fresh c) reg ≡ slice_index (first_state (setup_of c l (deaf_items deaf)) count).bits reg

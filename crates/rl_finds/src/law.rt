@@ -1,5 +1,5 @@
 //! What the sequences find. Each function does nothing; its contract is the law.
-ghost use Rattle.rl_finds.specs.Deaf.{DeafMemoryIsFound, DeafRegisterIsNamed};
+ghost use Rattle.rl_finds.specs.Deaf.{DeafMemoryIsFound, DeafRegisterIsNamed, NewOnesAgreeOnBits};
 ghost use Rattle.rl_finds.specs.Errors.{SharedErrorIsFound, VisitedErrorIsFound};
 ghost use Rattle.rl_finds.specs.Named.{NoLocationDiffers, NothingIsNamed};
 ghost use Rattle.rl_finds.specs.Resets.{WrongResetIsNamed};
@@ -52,5 +52,6 @@ pub fn stuck_bit_is_named()
 /// compared field of it is believed as it is held, some check names the field, if it is RW or has another policy that
 /// turns the bit.
 pub fn deaf_register_is_named()
-    ensures { DeafRegisterIsNamed }
+    ensures named { DeafRegisterIsNamed }
+    ensures first { NewOnesAgreeOnBits }
 {}

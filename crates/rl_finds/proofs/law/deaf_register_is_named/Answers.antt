@@ -1,5 +1,9 @@
 use Rattle.rl_finds.proofs.DeafRegister.{deaf_register_is_named}
+use Rattle.rl_finds.proofs.NewDeaf.{new_ones_agree_on_bits}
 use Rattle.rl_finds.proofs.law.deaf_register_is_named.Goals as goal
 
-pub returns : goal.returns
-returns c = deaf_register_is_named
+pub returns-clause-named : goal.returns-clause-named
+returns-clause-named c = deaf_register_is_named
+
+pub returns-clause-first : goal.returns-clause-first
+returns-clause-first c = new_ones_agree_on_bits
