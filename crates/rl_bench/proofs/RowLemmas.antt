@@ -1,5 +1,5 @@
 -- Rows made one after another.
-use Rattle.std.proofs.Common.{◌≡◌, ℕ, zero, suc, ◌+◌, ◌<◌, List, [], ◌∷◌, ◌++◌, length, get_or, take, map, Bool, Option, Some, None, refl, sym, ap, ◌∙◌, arith, append_assoc, add-zero}
+use Rattle.std.proofs.Common.{◌≡◌, ℕ, zero, suc, ◌+◌, ◌^◌, ◌<◌, List, [], ◌∷◌, ◌++◌, length, get_or, take, map, Bool, Option, Some, None, refl, sym, ap, ◌∙◌, arith, append_assoc, add-zero}
 use Rattle.std.specs.Prelude.{slice_get, option_map, sum_by}
 use Rattle.std.proofs.lemmas.List.{take_more, map-append, append-nil}
 use Rattle.std.proofs.lemmas.Option.{slice_get_within, slice_get-get_or}
@@ -8,7 +8,8 @@ use Rattle.std.proofs.lemmas.List.Sums.{sum_by_more, sum_by-cons}
 use Rattle.rl_model.specs.declared.rows.Field.{Field}
 use Rattle.rl_model.specs.declared.rows.RegRow.{RegRow}
 use Rattle.rl_model.specs.declared.rows.MemRow.{MemRow as Mem}
-use Rattle.rl_model.specs.Rows.{FieldSeen}
+use Rattle.rl_model.specs.Rows.{FieldSeen, ChipData}
+use Rattle.rl_model.specs.Chip.{IsSound}
 use Rattle.rl_bus.specs.declared.table.FieldRow.{FieldRow}
 use Rattle.rl_bus.specs.declared.table.MemRow.{MemRow}
 use Rattle.rl_map.specs.Tables.{field_row, reset_rows, mem_rows}
@@ -54,6 +55,17 @@ resets_more fs k rs h =
     let e : k ≡ 0 + k = omega arith in
     let f : suc k ≡ k + 1 = omega arith in
     ap (λ j. reset_rows 0 (take k fs) ++ map (reset_of j) rs) e ∙ resets_suc 0 fs k rs h ∙ ap (λ j. reset_rows 0 (take j fs)) f
+
+pub few_kinds : (c : ChipData) (field : ℕ) (rs : List Reset) → IsSound c → option_map (λ f. f.resets) (slice_get c.fields field) ≡ Some rs
+    → (k : ℕ) (d : Reset) → k < length rs → (get_or rs k d).kind < 2 ^ 32
+few_kinds c field rs sound h k d low = by (slice_get c.fields field) refl h
+  where
+    by : (o : Option FieldSeen) → slice_get c.fields field ≡ o → option_map (λ f. f.resets) o ≡ Some rs → (get_or rs k d).kind < 2 ^ 32
+    by None at none = absurd (let no : ⊥ = cc in no)
+    by (Some f) at some =
+        let here : slice_get f.resets k ≡ Some (get_or rs k d) = ap (λ zs. slice_get zs k) (some_same some) ∙ slice_get-get_or rs k d low in
+        let fits = sound.each_reset field f k (get_or rs k d) at here in
+        omega (arith, fits.0, sound.kinds)
 
 abbrev pub mem_row : ℕ → Mem → MemRow
 mem_row first m = record { first = first; bytes = m.bytes; size = m.size; writable = m.writable }

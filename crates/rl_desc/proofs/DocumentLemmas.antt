@@ -1,13 +1,10 @@
 -- The document that the bytes are.
-use Rattle.std.proofs.Common.{◌≡◌, ◌≢◌, ℕ, List, Option, Some, None, Result, Ok, Err, IfOk, IfErr, inl, inr}
+use Rattle.std.proofs.Common.{◌≡◌, ℕ, List, Some, None, inl, inr}
 use Rattle.std.proofs.lemmas.Bool.{cases_Bool}
 use Rattle.std.proofs.lemmas.Str.{IsUtf8-from_is_utf8, is_utf8-from_IsUtf8}
 use Rattle.std.specs.Str.{IsUtf8, is_utf8}
 use Rattle.toml.specs.Data.{Members}
 use Rattle.toml.specs.Parse.{parse_document}
-use Rattle.rl_desc.specs.declared.fault.DescFault.{DescFault}
-use Rattle.rl_desc.specs.declared.fault.DescFault.TheVariants.{Memory}
-use Rattle.rl_desc.specs.Refusals.{Reads}
 use Rattle.rl_desc.specs.Described.{document_of}
 
 pub document_of-text : (bytes : List ℕ) (doc : Members) → IsUtf8 bytes → parse_document bytes ≡ Some doc → document_of bytes ≡ Some doc

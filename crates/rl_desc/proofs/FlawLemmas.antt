@@ -1,12 +1,12 @@
 -- Flaws, one after the other.
-use Rattle.std.proofs.Common.{◌≡◌, ℕ, ◌+◌, ◌^◌, ◌<◌, ◌≤◌, true, false, List, [], ◌∷◌, ◌++◌, Some, None, sym, ◌∙◌, ap, append_assoc, arith}
+use Rattle.std.proofs.Common.{◌≡◌, ℕ, ◌+◌, ◌^◌, ◌<◌, ◌≤◌, true, false, List, [], ◌∷◌, ◌++◌, Some, sym, ◌∙◌, ap, append_assoc, arith}
 use Rattle.std.specs.Prelude.{nat_lt, nat_le}
 use Rattle.std.proofs.Math.Pow.{pow_mono}
 use Rattle.std.proofs.lemmas.Bool.Decides.{nat_tests}
 use Rattle.rl_model.specs.Rows.{ChipData}
 use Rattle.rl_map.specs.Layout.{LayoutData}
 use Rattle.rl_bench.specs.declared.flaw.Flaw.{Flaw}
-use Rattle.rl_desc.specs.declared.fault.DescFault.TheVariants.{TooManyFlaws, Flaw as BadFlaw}
+use Rattle.rl_desc.specs.declared.fault.DescFault.TheVariants.{TooManyFlaws}
 use Rattle.rl_desc.specs.declared.flaw.FlawPart.{FlawPart}
 use Rattle.rl_desc.specs.Flaws.{flaw_of, flaws_fault, flaws_of}
 

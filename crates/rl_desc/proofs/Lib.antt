@@ -1,4 +1,5 @@
 mod DocumentLemmas
+mod FirstLemmas
 mod FlawLemmas
 mod Places
 mod PolicyLemmas

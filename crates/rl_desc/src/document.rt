@@ -5,7 +5,7 @@ use rl_model::Parts;
 use std::marker::Model;
 
 /// All rows of a description, in order.
-#[derive(Debug, Drop)]
+#[derive(Drop)]
 pub(crate) struct Document {
     pub(crate) parts: Parts,
     pub(crate) maps: Vec<MapNode>,

@@ -14,7 +14,7 @@ use std::alloc::Global;
 const MOST_FLAWS: u32 = 256;
 
 /// A flaw as its row gives it, with the names of what it concerns.
-#[derive(Debug, Drop)]
+#[derive(Drop)]
 pub(crate) enum FlawPart {
     OtherPolicy { field: Name, policy: Policy },
     OtherReset { field: Name, on: Name, value: u64 },

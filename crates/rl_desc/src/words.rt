@@ -39,7 +39,7 @@ impl Word for Kind {
 }
 
 /// What a memory may be used for.
-#[derive(Clone, Copy, Debug, PartialEq, Eq)]
+#[derive(Clone, Copy)]
 pub(crate) enum Access {
     ReadWrite,
     ReadOnly,
@@ -58,7 +58,7 @@ impl Word for Access {
 }
 
 /// What the addresses of a map count.
-#[derive(Clone, Copy, Debug, PartialEq, Eq)]
+#[derive(Clone, Copy)]
 pub(crate) enum Addressing {
     Byte,
     Word,
@@ -90,7 +90,7 @@ impl Word for Rights {
 }
 
 /// How a root predicts.
-#[derive(Clone, Copy, Debug, PartialEq, Eq)]
+#[derive(Clone, Copy)]
 pub(crate) enum Predict {
     Implicit,
     Explicit,
@@ -109,7 +109,7 @@ impl Word for Predict {
 }
 
 /// A kind of flaw.
-#[derive(Clone, Copy, Debug, PartialEq, Eq)]
+#[derive(Clone, Copy)]
 pub(crate) enum FlawKind {
     OtherPolicy,
     OtherReset,

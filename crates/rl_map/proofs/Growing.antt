@@ -204,3 +204,8 @@ maps_step kinds parts i maps maps' ports ports' part low read a b e f =
       e ∙ ap (λ x. x ++ map_row (length ports) x part ∷ []) a ∙ ap (λ y. t.maps ++ map_row (length y) t.maps part ∷ []) b ∙ ap (λ (s : MapTables). s.maps) (sym step),
       f ∙ ap (λ x. ports_with kinds (length x) ports part.parent part) a ∙ ap (λ y. ports_with kinds (length t.maps) y part.parent part) b ∙ ap (λ (s : MapTables). s.ports) (sym step),
     )
+
+pub none_yet : (kinds : List AdapterKind) (maps : List MapRow) (ports : List PortRow) → maps ≡ [] → ports ≡ [] → AreTables kinds maps ports
+none_yet kinds maps ports no_maps no_ports =
+    let none : AreTables kinds [] [] = record { few = omega arith; fewer = omega arith; each_map = λ k d low. absurd (omega arith); each_port = λ k d low. absurd (omega arith) } in
+    subst (λ x. AreTables kinds x ports) (sym no_maps) (subst (λ y. AreTables kinds [] y) (sym no_ports) none)

@@ -7,7 +7,6 @@ ghost use Rattle.rl_map.specs.Clashes.{first_fault};
 
 use crate::fault::{MapCause, MapFault, refusal, row_at};
 use crate::layout::Layout;
-use crate::links::ItemLinks;
 use crate::maps::add_maps;
 use crate::parts::{MapNode, PlacePart};
 use crate::places::{Placing, add_places};
@@ -59,12 +58,7 @@ impl Layout {
     {
         let tables = add_maps(alloc, maps, kinds)?;
         let (map_rows, ports) = tables;
-        let mut placing = Placing {
-            places: Vec::new(alloc),
-            links: ItemLinks::new(alloc),
-            rows: Vec::new(alloc),
-            words: Vec::new(alloc),
-        };
+        let mut placing = Placing::new(alloc);
         let refused = add_places(chip, &map_rows, &ports, &mut placing, places)?;
         let Placing {
             places: place_rows,

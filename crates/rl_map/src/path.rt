@@ -23,7 +23,7 @@ pub enum Kind {
 }
 
 /// One map of a path.
-#[derive(Clone, Copy, Debug, PartialEq, Eq)]
+#[derive(Clone, Copy)]
 pub struct Level {
     /// The width in bytes: 1, 2, 4 or 8.
     pub bytes: u64,
@@ -36,7 +36,7 @@ pub struct Level {
 }
 
 /// At most four maps, from an item's own up to the root.
-#[derive(Debug, Drop)]
+#[derive(Drop)]
 pub struct Path {
     len: usize,
     levels: [Level; 4],

@@ -1,5 +1,8 @@
 //! The places of a layout, and the rows of their words.
-ghost use Rattle.std.specs.Prelude.{◌≡◌, ◌++◌, ◌<◌, ◌≤◌, ◌∷◌, ℕ, [], Some, None, IfOk, OnOk, length, map};
+ghost use Rattle.std.specs.Prelude.{◌≡◌, ◌++◌, ◌<◌, ◌≤◌, ◌∷◌, ℕ, List, [], Some, None, IfOk, OnOk, length, map};
+ghost use Rattle.rl_model.specs.Rows.{ChipData};
+ghost use Rattle.rl_map.specs.declared.rows.MapRow.{MapRow};
+ghost use Rattle.rl_map.specs.declared.rows.PortRow.{PortRow};
 ghost use Rattle.rl_map.specs.declared.fault.MapFault.{MapFault};
 ghost use Rattle.rl_map.specs.Level.{IsPath};
 ghost use Rattle.rl_map.specs.Seat.{AddressesFit};
@@ -20,7 +23,7 @@ use crate::word::Word;
 use bitflags::Flags;
 use rl_bus::{Cell, Lanes, WordRow};
 use rl_model::{Array, Chip, Item, Rights};
-use std::alloc::AllocError;
+use std::alloc::{AllocError, Global};
 
 fn has_right(rights: Rights, write: bool) -> bool
     ensures { result ≡ has_right rights write }
@@ -119,6 +122,23 @@ pub(crate) struct Placing {
     pub(crate) links: ItemLinks,
     pub(crate) rows: Vec<WordRow>,
     pub(crate) words: Vec<PlaceWords>,
+}
+
+impl Placing {
+    /// No place so far.
+    pub(crate) fn new(alloc: Global) -> Placing
+        ensures places { result.places.items ≡ [] }
+        ensures rows { result.rows.items ≡ [] }
+        ensures placed { (chip : ChipData) (maps : List MapRow) (ports : List PortRow)
+            → ArePlaced chip maps ports result }
+    {
+        Placing {
+            places: Vec::new(alloc),
+            links: ItemLinks::new(alloc),
+            rows: Vec::new(alloc),
+            words: Vec::new(alloc),
+        }
+    }
 }
 
 /// Adds a place, its rows and its words, or says why it is refused.

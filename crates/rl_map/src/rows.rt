@@ -8,7 +8,7 @@ use rl_bus::AdapterKind;
 use rl_model::{Item, Name, Rights};
 
 /// A map: its path, from the map itself up to the root, and its port.
-#[derive(Debug, Drop)]
+#[derive(Drop)]
 pub(crate) struct MapRow {
     pub(crate) name: Name,
     pub(crate) path: Path,
@@ -16,7 +16,7 @@ pub(crate) struct MapRow {
 }
 
 /// A port: the root map, where its addresses begin, its width, and the adapter kind.
-#[derive(Clone, Copy, Debug)]
+#[derive(Clone, Copy)]
 pub(crate) struct PortRow {
     pub(crate) map: u32,
     pub(crate) base: u64,
@@ -28,7 +28,7 @@ pub(crate) struct PortRow {
 }
 
 /// A place: where an item stands, its bytes and, for a memory, its number of locations.
-#[derive(Clone, Copy, Debug)]
+#[derive(Clone, Copy)]
 pub(crate) struct PlaceRow {
     pub(crate) map: u32,
     pub(crate) item: Item,

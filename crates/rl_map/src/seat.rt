@@ -5,7 +5,7 @@ ghost use Rattle.std.specs.List.{list_any};
 use crate::path::Level;
 
 /// A register, or one location of a memory, in its own map.
-#[derive(Clone, Copy, Debug, PartialEq, Eq)]
+#[derive(Clone, Copy)]
 pub(crate) struct Location {
     /// The size in bytes, from 1 to 8.
     pub(crate) bytes: u64,
@@ -29,7 +29,7 @@ pub struct Seat {
 }
 
 /// One byte of an access of `bytes` bytes, on its way up a path.
-#[derive(Clone, Copy, Debug, PartialEq, Eq)]
+#[derive(Clone, Copy)]
 pub(crate) struct Access {
     /// The width of the access.
     pub(crate) bytes: u64,

@@ -13,7 +13,7 @@ use rl_bus::WordRow;
 use std::alloc::AllocError;
 
 /// A place that clashes with an earlier one at an address.
-#[derive(Clone, Copy, Debug)]
+#[derive(Clone, Copy)]
 pub(crate) struct Shared {
     pub(crate) place: u32,
     pub(crate) address: u64,

@@ -76,7 +76,7 @@ pub enum Item {
 }
 
 /// What a command is on.
-#[derive(Clone, Copy, Debug, PartialEq, Eq)]
+#[derive(Clone, Copy)]
 pub(crate) enum Kind {
     Register,
     Field,
@@ -115,81 +115,116 @@ impl Command {
     }
 }
 
+/// Whether a word is a name.
+// Inlined, so that the name's length is known, and the test is a compare or two.
+#[inline(always)]
+fn is(word: &[u8], name: &[u8]) -> bool
+    ensures { result ≡ bytes_eq name.now word.now }
+{
+    name == word
+}
+
 /// A command on no one item, or with many values.
 fn other_command(word: &[u8]) -> Option<Command>
     ensures { result ≡ find (λ c. bytes_eq (command_name c) word.now) other_commands }
 {
-    Some(match word {
-        b"burst-write" => Command::BurstWrite,
-        b"reset" => Command::Reset,
-        b"seq" => Command::Seq,
-        _ => return None,
-    })
+    if is(word, b"burst-write") {
+        Some(Command::BurstWrite)
+    } else if is(word, b"reset") {
+        Some(Command::Reset)
+    } else if is(word, b"seq") {
+        Some(Command::Seq)
+    } else {
+        None
+    }
 }
 
 fn register_item(word: &[u8]) -> Option<Item>
     ensures { result ≡ find (λ item. bytes_eq (item_name item) word.now) register_items }
 {
-    Some(match word {
-        b"write" => Item::Write,
-        b"read" => Item::Read,
-        b"mirror" => Item::Mirror,
-        b"check" => Item::Check,
-        b"update" => Item::Update,
-        _ => return None,
-    })
+    if is(word, b"write") {
+        Some(Item::Write)
+    } else if is(word, b"read") {
+        Some(Item::Read)
+    } else if is(word, b"mirror") {
+        Some(Item::Mirror)
+    } else if is(word, b"check") {
+        Some(Item::Check)
+    } else if is(word, b"update") {
+        Some(Item::Update)
+    } else {
+        None
+    }
 }
 
 /// What another master does.
 fn other_item(word: &[u8]) -> Option<Item>
     ensures { result ≡ find (λ item. bytes_eq (item_name item) word.now) other_items }
 {
-    Some(match word {
-        b"other-write" => Item::OtherWrite,
-        b"other-read" => Item::OtherRead,
-        _ => return None,
-    })
+    if is(word, b"other-write") {
+        Some(Item::OtherWrite)
+    } else if is(word, b"other-read") {
+        Some(Item::OtherRead)
+    } else {
+        None
+    }
 }
 
 fn field_item(word: &[u8]) -> Option<Item>
     ensures { result ≡ find (λ item. bytes_eq (item_name item) word.now) field_items }
 {
-    Some(match word {
-        b"field-write" => Item::FieldWrite,
-        b"field-read" => Item::FieldRead,
-        b"set" => Item::Set,
-        b"hw" => Item::Hw,
-        _ => return None,
-    })
+    if is(word, b"field-write") {
+        Some(Item::FieldWrite)
+    } else if is(word, b"field-read") {
+        Some(Item::FieldRead)
+    } else if is(word, b"set") {
+        Some(Item::Set)
+    } else if is(word, b"hw") {
+        Some(Item::Hw)
+    } else {
+        None
+    }
 }
 
 /// What goes by no bus, on a register.
 fn backdoor_item(word: &[u8]) -> Option<Item>
     ensures { result ≡ find (λ item. bytes_eq (item_name item) word.now) backdoor_items }
 {
-    Some(match word {
-        b"show" => Item::Show,
-        b"back-read" => Item::BackRead,
-        b"back-check" => Item::BackCheck,
-        b"peek" => Item::Peek,
-        b"back-write" => Item::BackWrite,
-        b"poke" => Item::Poke,
-        _ => return None,
-    })
+    if is(word, b"show") {
+        Some(Item::Show)
+    } else if is(word, b"back-read") {
+        Some(Item::BackRead)
+    } else if is(word, b"back-check") {
+        Some(Item::BackCheck)
+    } else if is(word, b"peek") {
+        Some(Item::Peek)
+    } else if is(word, b"back-write") {
+        Some(Item::BackWrite)
+    } else if is(word, b"poke") {
+        Some(Item::Poke)
+    } else {
+        None
+    }
 }
 
 fn memory_item(word: &[u8]) -> Option<Item>
     ensures { result ≡ find (λ item. bytes_eq (item_name item) word.now) memory_items }
 {
-    Some(match word {
-        b"mem-write" => Item::MemWrite,
-        b"mem-check" => Item::MemCheck,
-        b"mem-read" => Item::MemRead,
-        b"burst-read" => Item::BurstRead,
-        b"mem-peek" => Item::MemPeek,
-        b"mem-poke" => Item::MemPoke,
-        _ => return None,
-    })
+    if is(word, b"mem-write") {
+        Some(Item::MemWrite)
+    } else if is(word, b"mem-check") {
+        Some(Item::MemCheck)
+    } else if is(word, b"mem-read") {
+        Some(Item::MemRead)
+    } else if is(word, b"burst-read") {
+        Some(Item::BurstRead)
+    } else if is(word, b"mem-peek") {
+        Some(Item::MemPeek)
+    } else if is(word, b"mem-poke") {
+        Some(Item::MemPoke)
+    } else {
+        None
+    }
 }
 
 impl Item {

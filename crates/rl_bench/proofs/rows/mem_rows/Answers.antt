@@ -1,4 +1,6 @@
-use Rattle.std.proofs.Common.{◌+◌, ◌++◌, ◌∷◌, [], ap, ◌∙◌}
+use Rattle.std.proofs.Common.{◌+◌, ◌++◌, ◌∷◌, [], refl, ap, ◌∙◌, arith}
+use Rattle.std.proofs.lemmas.List.{take_all}
+use Rattle.rl_map.specs.Tables.{mem_rows}
 use Rattle.rl_bench.proofs.RowLemmas.{mem_more, sizes_more}
 use Rattle.rl_bench.proofs.rows.mem_rows.Goals as goal
 
@@ -14,3 +16,10 @@ loop-mem-preserved c =
           ∙ mem_more mems k c.loop-mem.first c.bytes.result size c.writable.result c.size-size.ensures.value c.bytes.ensures.value c.writable.ensures was.first;
       first = ap (λ n. n + size) was.first ∙ sizes_more mems k size c.size-size.ensures.value;
     }
+
+pub loop-mem-init : goal.loop-mem-init
+loop-mem-init c = record { rows = c.new-rows.ensures.items; first = refl }
+
+pub returns : goal.returns
+returns c =
+    c.loop-mem.invariant.rows ∙ ap (mem_rows 0) (take_all c.loop-mem.mem c.args.chip.now.mems (omega (arith, c.loop-mem-test.false, c.mems-mem-end.ensures.count)))

@@ -1,6 +1,6 @@
 use Rattle.std.proofs.Common.{◌++◌, ap, ◌∙◌, map}
 use Rattle.rl_bench.specs.Rows.{reset_of}
-use Rattle.rl_bench.proofs.RowLemmas.{resets_more}
+use Rattle.rl_bench.proofs.RowLemmas.{resets_more, few_kinds}
 use Rattle.rl_bench.proofs.rows.reset_rows.Goals as goal
 
 pub loop-field-preserved : goal.loop-field-preserved
@@ -8,3 +8,6 @@ loop-field-preserved c =
     c.in_ok-push_resets.ensures
     ∙ ap (λ rows. rows ++ map (reset_of c.loop-field.field) c.resets.result.now) c.loop-field.invariant
     ∙ resets_more c.args.chip.now.fields c.loop-field.field c.resets.result.now c.resets.ensures
+
+pub push_resets-requires : goal.push_resets-requires
+push_resets-requires c = few_kinds c.args.chip.now c.loop-field.field c.resets.result.now c.fields-field-end.ensures.sound c.resets.ensures

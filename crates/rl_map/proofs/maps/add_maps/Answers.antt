@@ -1,7 +1,24 @@
-use Rattle.rl_map.proofs.Growing.{maps_step}
+use Rattle.std.proofs.Common.{[], ap, ◌∙◌, arith}
+use Rattle.std.proofs.lemmas.List.{take_all}
+use Rattle.rl_map.specs.Maps.{tables_of}
+use Rattle.rl_map.proofs.Growing.{maps_step, none_yet}
 use Rattle.std.proofs.lemmas.Result.{err_from_is_err_and}
-use Rattle.rl_map.proofs.Refusing.{failed, maps_end, maps_next, maps_done}
+use Rattle.rl_map.proofs.Refusing.{failed, maps_from, maps_end, maps_next, maps_done}
 use Rattle.rl_map.proofs.maps.add_maps.Goals as goal
+
+pub add_map-requires : goal.add_map-requires
+add_map-requires c = record { kinds = c.requires; tables = c.loop-part.invariant.tables }
+
+pub loop-part-init : goal.loop-part-init
+loop-part-init c =
+    let maps = c.new-maps.ensures.items in
+    let ports = c.new-ports.ensures.items in
+    record {
+      maps = maps;
+      ports = ports;
+      tables = none_yet c.args.kinds.now _ _ maps ports;
+      fault = ap (λ x. maps_from c.args.kinds.now x c.new-ports.result.items c.args.parts.now) maps ∙ ap (λ x. maps_from c.args.kinds.now [] x c.args.parts.now) ports;
+    }
 
 pub loop-part-preserved : goal.loop-part-preserved
 loop-part-preserved c =
@@ -27,3 +44,14 @@ returns-in_err-add_map-clause-fault c =
 pub returns-clause-fault : goal.returns-clause-fault
 returns-clause-fault c =
     (maps_done c.args.kinds.now c.loop-part.maps.items c.loop-part.ports.items c.args.parts.now c.loop-part.part-index _ c.loop-part-test.false c.loop-part.invariant.fault, tt)
+
+pub returns-clause-maps : goal.returns-clause-maps
+returns-clause-maps c =
+    c.loop-part.invariant.maps ∙ ap (λ parts. (tables_of c.args.kinds.now parts).maps) (take_all c.loop-part.part-index c.args.parts.now (omega (arith, c.loop-part-test.false)))
+
+pub returns-clause-ports : goal.returns-clause-ports
+returns-clause-ports c =
+    c.loop-part.invariant.ports ∙ ap (λ parts. (tables_of c.args.kinds.now parts).ports) (take_all c.loop-part.part-index c.args.parts.now (omega (arith, c.loop-part-test.false)))
+
+pub returns-clause-tables : goal.returns-clause-tables
+returns-clause-tables c = c.loop-part.invariant.tables

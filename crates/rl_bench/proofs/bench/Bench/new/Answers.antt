@@ -1,8 +1,11 @@
-use Rattle.std.proofs.Common.{◌≡◌, ℕ, List, length, refl, ap, ◌∙◌, subst, replicate, cond, eqb}
+use Rattle.std.proofs.Common.{◌≡◌, ℕ, ◌<◌, ◌^◌, List, length, refl, sym, ap, ◌∙◌, subst, replicate, cond, eqb}
+use Rattle.std.proofs.lemmas.List.{length-replicate}
+use Rattle.rl_bus.specs.declared.table.WordRow.{WordRow}
 use Rattle.rl_bus.specs.Setup.{Setup}
 use Rattle.rl_bus.specs.State.{State, reset_by, first_state}
-use Rattle.rl_bench.specs.Board.{state_of}
-use Rattle.rl_bench.specs.Beats.{beats_of, HasBeats}
+use Rattle.rl_bench.specs.Board.{state_of, HasRoom}
+use Rattle.rl_bench.specs.Beats.{beats_of, AreQueuesOf, HasBeats}
+use Rattle.rl_bench.specs.Stretch.{AreOrdered}
 use Rattle.rl_bench.specs.Tables.{setup_held}
 use Rattle.rl_bench.proofs.BeatLemmas.{no_beats}
 use Rattle.rl_bench.proofs.NamedLemmas.{named_first}
@@ -11,6 +14,32 @@ use Rattle.rl_bench.proofs.bench.Bench.new.Goals as goal
 
 abbrev start : Setup → List ℕ → List ℕ → List ℕ → State
 start t bits marks locations = record { setup = t; bits = bits; marks = marks; locations = locations; beats = λ p a. 0; items = 0 }
+
+pub queues_of-requires : goal.queues_of-requires
+queues_of-requires c = record {
+  rise = subst AreOrdered (sym c.words-words.ensures) c.requires.setup.words_rise;
+  few = subst (λ (ws : List WordRow). length ws < 2 ^ 32) (sym c.words-words.ensures) c.requires.setup.few_words;
+}
+
+pub invariant_of-board : goal.invariant_of-board
+invariant_of-board c = record {
+  sound = c.requires.setup;
+  queued = subst (λ ws. AreQueuesOf ws c.in_ok-queues.queues.items) c.words-words.ensures c.in_ok-queues.ensures;
+  shaped = c.in_ok-shapes.ensures;
+}
+
+pub reset_cells-requires : goal.reset_cells-requires
+reset_cells-requires c =
+    let t = setup_held c.args.tables in
+    let regs : c.len-regs.result ≡ length t.regs = c.len-regs.ensures ∙ c.args.tables.regs.ok.0 in
+    record {
+      bits = ap length c.in_ok-zeros.ensures ∙ length-replicate c.len-regs.result 0 ∙ regs;
+      marks = ap length c.in_ok-zeros-2.ensures ∙ length-replicate c.len-regs.result 0 ∙ regs;
+      mems = subst (HasRoom t) (sym (ap length c.in_ok-zeros-3.ensures ∙ length-replicate c.args.locations 0)) c.requires.room;
+    }
+
+pub returns-clause-failures : goal.returns-clause-failures
+returns-clause-failures c = refl
 
 pub returns-clause-state : goal.returns-clause-state
 unfolding first_state

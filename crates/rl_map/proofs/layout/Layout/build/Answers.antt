@@ -11,6 +11,9 @@ use Rattle.rl_map.specs.Clashes.{IsLeast, IsMade}
 use Rattle.rl_map.proofs.Exactly.{AreMade, by_maps, fault_is, whole_is, none_shared, accepted_by, refused_by, failed}
 use Rattle.rl_map.proofs.layout.Layout.build.Goals as goal
 
+pub add_places-requires-clause-placed : goal.add_places-requires-clause-placed
+add_places-requires-clause-placed c = c.new-placing.ensures.placed c.args.chip.now c.deref.result.now c.deref-2.result.now
+
 pub first_shared-shared-requires-clause-rows : goal.first_shared-shared-requires-clause-rows
 first_shared-shared-requires-clause-rows c =
     subst (λ x. AreRowsOf x c.deref-4.result.now) (sym c.deref-3.ensures.value)
@@ -73,13 +76,13 @@ returns-in-Some-clause-exact c =
         maps_are = c.in_ok-tables.ensures.maps;
         ports_are = c.in_ok-tables.ensures.ports;
         rows_are = accepted_by chip c.args.places.now c.deref.result.now maps c.deref-2.result.now ports _ places _ c.deref.ensures.value c.deref-2.ensures.value
-            c.new.ensures.items c.new-3.ensures.items c.in_ok-refused.ensures.accepted;
+            c.new-placing.ensures.places c.new-placing.ensures.rows c.in_ok-refused.ensures.accepted;
       };
       tables = c.in_ok-tables.ensures.tables;
       few = c.requires;
       placed = p;
       refused_is = refused_by chip c.args.places.now c.deref.result.now maps c.deref-2.result.now ports _ _ _ c.deref.ensures.value c.deref-2.ensures.value
-          c.new.ensures.items c.new-3.ensures.items c.in_ok-refused.ensures.fault;
+          c.new-placing.ensures.places c.new-placing.ensures.rows c.in_ok-refused.ensures.fault;
       moved = sorted.moved;
       ascending = sorted.ascending;
       stable = sorted.stable;
@@ -109,13 +112,13 @@ returns-clause-exact c =
         maps_are = c.in_ok-tables.ensures.maps;
         ports_are = c.in_ok-tables.ensures.ports;
         rows_are = accepted_by chip c.args.places.now c.deref.result.now maps c.deref-2.result.now ports _ places _ c.deref.ensures.value c.deref-2.ensures.value
-            c.new.ensures.items c.new-3.ensures.items c.in_ok-refused.ensures.accepted;
+            c.new-placing.ensures.places c.new-placing.ensures.rows c.in_ok-refused.ensures.accepted;
       };
       tables = c.in_ok-tables.ensures.tables;
       few = c.requires;
       placed = p;
       refused_is = refused_by chip c.args.places.now c.deref.result.now maps c.deref-2.result.now ports _ _ _ c.deref.ensures.value c.deref-2.ensures.value
-          c.new.ensures.items c.new-3.ensures.items c.in_ok-refused.ensures.fault;
+          c.new-placing.ensures.places c.new-placing.ensures.rows c.in_ok-refused.ensures.fault;
       moved = sorted.moved;
       ascending = sorted.ascending;
       stable = sorted.stable;
