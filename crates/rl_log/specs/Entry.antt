@@ -11,8 +11,10 @@ use Rattle.rl_script.specs.declared.line.Line.{Line}
 use Rattle.rl_script.specs.declared.line.Line.TheVariants as line
 use Rattle.rl_script.specs.declared.line.Sequence.{Sequence}
 use Rattle.rl_script.specs.declared.line.Sequence.TheVariants.{HwReset, BitBash, Access, Shared, MemWalk}
+use Rattle.rl_seq.specs.declared.sequence.Sequence.{Sequence as Named}
+use Rattle.rl_seq.specs.declared.sequence.Sequence.TheVariants as named
 use Rattle.rl_seq.specs.Plan.{Plan}
-use Rattle.rl_seq.specs.Sequences.{hw_reset_plan, bit_bash_plan, access_test_plan, shared_access_plan, mem_walk_plan}
+use Rattle.rl_seq.specs.Sequences.{plan_of as sequence_plan}
 use Rattle.rl_report.specs.Pieces.{joined}
 use Rattle.rl_log.specs.Course.{Course, nothing_done, alone, along, burst}
 use Rattle.rl_log.specs.Named.{mem_named, map_asked, block_asked, op_named}
@@ -28,12 +30,16 @@ plain c = record { text = events_text c.told; course = c }
 
 -- ---- sequences
 
+-- the sequence that a line names, and its plan
+abbrev pub sequence_of : Sequence → Named
+sequence_of HwReset = named.HwReset
+sequence_of BitBash = named.BitBash
+sequence_of Access = named.Access
+sequence_of Shared = named.Shared
+sequence_of MemWalk = named.MemWalk
+
 abbrev pub plan_of : Sequence → ModelData → Option ℕ → Plan
-plan_of HwReset m block = hw_reset_plan m.chip m.layout block
-plan_of BitBash m block = bit_bash_plan m.chip m.layout block
-plan_of Access m block = access_test_plan m.chip m.layout block
-plan_of Shared m block = shared_access_plan m.chip m.layout block
-plan_of MemWalk m block = mem_walk_plan m.chip m.layout block
+plan_of which m block = sequence_plan (sequence_of which) m.chip m.layout block
 
 -- its operations, from a world on
 abbrev pub sequence_course : Sequence → Option ℕ → World → Course

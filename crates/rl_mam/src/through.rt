@@ -107,10 +107,8 @@ impl Mam {
         ensures failed { OnOk (location_in self.now.regions first k (length values.now))
             (HasCause (R.faults rec.old) (R.faults rec.new) result) }
         ensures steady { R.steady rec.new ≡ R.steady rec.old }
-        ensures refused { OnErr (location_in self.now.regions first k (length values.now)) (device.new ≡ device.old) }
-        ensures not_sent { OnErr (location_in self.now.regions first k (length values.now))
-            (adapters.new ≡ adapters.old) }
-        ensures not_told { OnErr (location_in self.now.regions first k (length values.now)) (rec.new ≡ rec.old) }
+        ensures refused { OnErr (location_in self.now.regions first k (length values.now))
+            ((device.new ≡ device.old) × (adapters.new ≡ adapters.old) × (rec.new ≡ rec.old)) }
         ensures outside { IfSome (region_at self.now.regions first) (λ r.
             LeavesOutside model.old.chip self.now.mem r (D.state device.old) (D.state device.new)) }
     {

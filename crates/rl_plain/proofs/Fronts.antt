@@ -1,5 +1,5 @@
 -- What is handed over of a burst or a sequence is a front of the plain machine's events.
-use Rattle.std.proofs.Common.{◌≡◌, ℕ, zero, suc, List, [], ◌∷◌, length, map, take, Option, Result, Ok, Err, OnOk, OnErr, refl, sym, ap, ◌∙◌}
+use Rattle.std.proofs.Common.{◌≡◌, ℕ, zero, suc, List, [], ◌∷◌, length, map, take, Result, Ok, Err, OnOk, OnErr, refl, sym, ap, ◌∙◌}
 use Rattle.std.proofs.Math.Seq.{take-length}
 use Rattle.std.proofs.lemmas.List.{length-map}
 use Rattle.rl_bus.specs.declared.device.Failed.{Failed}
@@ -11,13 +11,12 @@ use Rattle.rl_access.specs.declared.event.Tally.{Tally}
 use Rattle.rl_access.specs.Call.{Scene}
 use Rattle.rl_access.specs.HandsOver.{Told}
 use Rattle.rl_access.specs.Model.{ModelData, IsModel}
-use Rattle.rl_seq.specs.declared.sequence.Sequence.{Sequence}
-use Rattle.rl_seq.specs.declared.sequence.Sequence.TheVariants.{HwReset, BitBash, Access, Shared, MemWalk}
 use Rattle.rl_seq.specs.Plan.{Plan, stop, step, look, IsSequence}
+use Rattle.rl_seq.specs.Sequences.{plan_of}
 use Rattle.rl_plain.specs.Machine.{Machine, seen, machine_step}
 use Rattle.rl_plain.specs.Courses.{Course, through, along, first_along, burst}
 use Rattle.rl_plain.specs.Calls.{without_items, IsMachineOf, IsPlainCourse, PlanHasNumbers}
-use Rattle.rl_plain.specs.Fronts.{HandsOverFront, BurstHandsOverFront, SequenceHandsOverFront, plan_of}
+use Rattle.rl_plain.specs.Fronts.{HandsOverFront, BurstHandsOverFront, SequenceHandsOverFront}
 use Rattle.rl_plain.proofs.PlainCourses.{burst_is_plain, plan_is_plain}
 use Rattle.rl_plain.proofs.BrokenCourses.{broken_run_is_plain, broken_plan_is_plain}
 use Rattle.rl_plain.proofs.PlanNumbers.{plans_have_numbers}
@@ -59,15 +58,6 @@ on_ok (Err e) h = tt
 on_err : {T E : Type 0} (r : Result T E) {P : Type 0} → P → OnErr r P
 on_err (Ok x) h = tt
 on_err (Err e) h = h
-
--- ---- each sequence has its numbers
-
-numbers_of : (m : ModelData) (which : Sequence) (block : Option ℕ) → IsModel m → PlanHasNumbers m.chip m.layout (plan_of which m.chip m.layout block)
-numbers_of m HwReset block ok = (plans_have_numbers m.chip m.layout block ok.chip ok.layout).hw_reset
-numbers_of m BitBash block ok = (plans_have_numbers m.chip m.layout block ok.chip ok.layout).bit_bash
-numbers_of m Access block ok = (plans_have_numbers m.chip m.layout block ok.chip ok.layout).access
-numbers_of m Shared block ok = (plans_have_numbers m.chip m.layout block ok.chip ok.layout).shared_access
-numbers_of m MemWalk block ok = (plans_have_numbers m.chip m.layout block ok.chip ok.layout).mem_walk
 
 -- ---- a burst
 
@@ -115,4 +105,6 @@ module _ {R : Type 0} (takes breaks : R → ModelData → Event → R → Type 0
 
   pub sequence_hands_over_front : SequenceHandsOverFront takes breaks
   sequence_hands_over_front old rec s new which block r p ok is run =
-      plan_hands_over_front old rec s new (plan_of which s.model.chip s.model.layout block) r p (numbers_of s.model which block ok) ok is run
+      let c = s.model.chip in
+      let l = s.model.layout in
+      plan_hands_over_front old rec s new (plan_of which c l block) r p (plans_have_numbers which c l block ok.chip ok.layout) ok is run

@@ -10,7 +10,7 @@ use Rattle.rl_seq.specs.declared.sequence.Sequence.TheVariants.{HwReset, BitBash
 use Rattle.rl_seq.specs.Choice.{is_bit_compared}
 use Rattle.rl_seq.specs.Plan.{Plan, stop, step, look, followed_by, only_if, each_below}
 use Rattle.rl_seq.specs.Sequences.{map_at, check_at, bash_once, bash_bit, check_other, fill, check_filled, write_number}
-use Rattle.rl_seq.specs.Sequences.{settle_before, check_last, walk_location, items_of, at_place, visit, visit_all, walk}
+use Rattle.rl_seq.specs.Sequences.{settle_before, check_last, walk_location, items_of, at_place, visit, visit_all, walk, beginning_of}
 use Rattle.rl_plain.specs.Calls.{PlanHasNumbers, PlansHaveNumbers}
 
 -- ---- plans of plans
@@ -74,11 +74,12 @@ numbers which c l block ok =
     (each c l (length l.places) (visit which c l number)
     (λ place there. chosen c l _ (at_place which c l number place) (at_place_numbers which c l number place ok inside there))))
 
+begun : (which : Sequence) (c : ChipData) (l : LayoutData) → IsSoundChip c → PlanHasNumbers c l (beginning_of which)
+begun HwReset c l sound = (omega (arith, sound.two_kinds), tt)
+begun BitBash c l sound = tt
+begun Access c l sound = tt
+begun Shared c l sound = tt
+begun MemWalk c l sound = tt
+
 pub plans_have_numbers : PlansHaveNumbers
-plans_have_numbers c l block sound ok = record {
-  hw_reset = (omega (arith, sound.two_kinds), numbers HwReset c l block ok);
-  bit_bash = numbers BitBash c l block ok;
-  access = numbers Access c l block ok;
-  shared_access = numbers Shared c l block ok;
-  mem_walk = numbers MemWalk c l block ok;
-}
+plans_have_numbers which c l block sound ok = followed c l (beginning_of which) (walk which c l block) (begun which c l sound) (numbers which c l block ok)

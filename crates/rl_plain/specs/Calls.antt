@@ -19,8 +19,9 @@ use Rattle.rl_access.specs.Model.{ModelData, IsModel, IsSameChip}
 use Rattle.rl_access.specs.Operation.{location_size, IsMapIn, HasNumbers}
 use Rattle.rl_access.specs.Rules.{Grant, memory_size}
 use Rattle.rl_access.specs.Runs.{RunsInto, RunsThrough, writes_of, reads_of}
+use Rattle.rl_seq.specs.declared.sequence.Sequence.{Sequence}
 use Rattle.rl_seq.specs.Plan.{Plan, stop, step, look, Breaks, Runs}
-use Rattle.rl_seq.specs.Sequences.{hw_reset_plan, bit_bash_plan, access_test_plan, shared_access_plan, mem_walk_plan}
+use Rattle.rl_seq.specs.Sequences.{plan_of}
 use Rattle.rl_plain.specs.Agree.{HasNoVolatile, Agree}
 use Rattle.rl_plain.specs.Machine.{Machine, seen, first_machine, refused_at, machine_step}
 use Rattle.rl_plain.specs.Courses.{Course, through, along, first_along, burst}
@@ -129,16 +130,10 @@ PlanHasNumbers c l (step op plan) = HasNumbers c (length l.maps) op × PlanHasNu
 PlanHasNumbers c l (look f) = (m : ModelData) → m.chip ≡ c → m.layout ≡ l → PlanHasNumbers c l (f m)
 
 -- those of the sequences have
-pub record HaveNumbers (c : ChipData) (l : LayoutData) (block : Option ℕ) : Type 0 where
-  pub hw_reset : PlanHasNumbers c l (hw_reset_plan c l block)
-  pub bit_bash : PlanHasNumbers c l (bit_bash_plan c l block)
-  pub access : PlanHasNumbers c l (access_test_plan c l block)
-  pub shared_access : PlanHasNumbers c l (shared_access_plan c l block)
-  pub mem_walk : PlanHasNumbers c l (mem_walk_plan c l block)
-
 abbrev pub PlansHaveNumbers : Type 0
 PlansHaveNumbers =
-    (c : ChipData) (l : LayoutData) (block : Option ℕ) → IsSoundChip c → IsSoundLayout l → HaveNumbers c l block
+    (which : Sequence) (c : ChipData) (l : LayoutData) (block : Option ℕ) → IsSoundChip c → IsSoundLayout l
+    → PlanHasNumbers c l (plan_of which c l block)
 
 -- those of a plan
 abbrev pub PlanIsPlain : Type 0

@@ -1,8 +1,6 @@
 -- What a burst or a sequence hands over to a recorder, also where the recorder fails, is a front of the plain machine's events.
 use Rattle.std.specs.Prelude.{◌≡◌, ℕ, List, length, map, take, All, Option, Result, OnOk, OnErr}
 use Rattle.rl_bus.specs.declared.device.Failed.{Failed}
-use Rattle.rl_model.specs.Rows.{ChipData}
-use Rattle.rl_map.specs.Layout.{LayoutData}
 use Rattle.rl_access.specs.declared.event.Event.{Event}
 use Rattle.rl_access.specs.declared.event.Op.{Op}
 use Rattle.rl_access.specs.declared.event.Tally.{Tally}
@@ -13,9 +11,8 @@ use Rattle.rl_access.specs.Operation.{HasNumbers}
 use Rattle.rl_access.specs.Rules.{Grant}
 use Rattle.rl_access.specs.Runs.{IsBurst}
 use Rattle.rl_seq.specs.declared.sequence.Sequence.{Sequence}
-use Rattle.rl_seq.specs.declared.sequence.Sequence.TheVariants.{HwReset, BitBash, Access, Shared, MemWalk}
-use Rattle.rl_seq.specs.Plan.{Plan, IsSequence}
-use Rattle.rl_seq.specs.Sequences.{hw_reset_plan, bit_bash_plan, access_test_plan, shared_access_plan, mem_walk_plan}
+use Rattle.rl_seq.specs.Plan.{IsSequence}
+use Rattle.rl_seq.specs.Sequences.{plan_of}
 use Rattle.rl_plain.specs.Machine.{Machine}
 use Rattle.rl_plain.specs.Courses.{Course, first_along, along, burst}
 use Rattle.rl_plain.specs.Calls.{without_items, IsMachineOf, IsPlainCourse}
@@ -42,13 +39,6 @@ BurstHandsOverFront {R} takes breaks =
     HandsOverFront takes breaks old rec s new (burst c l p g op ops) (λ count. burst c l p g op (take count ops)) r
 
 -- ---- each of the five sequences
-
-abbrev pub plan_of : Sequence → ChipData → LayoutData → (block : Option ℕ) → Plan
-plan_of HwReset c l block = hw_reset_plan c l block
-plan_of BitBash c l block = bit_bash_plan c l block
-plan_of Access c l block = access_test_plan c l block
-plan_of Shared c l block = shared_access_plan c l block
-plan_of MemWalk c l block = mem_walk_plan c l block
 
 abbrev pub SequenceHandsOverFront : {R : Type 0} → (takes breaks : R → ModelData → Event → R → Type 0) → Type 0
 SequenceHandsOverFront {R} takes breaks =

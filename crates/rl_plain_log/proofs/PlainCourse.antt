@@ -16,7 +16,7 @@ use Rattle.rl_access.specs.Runs.{writes_of, reads_of}
 use Rattle.rl_access.specs.Tally.{is_bus_error}
 use Rattle.rl_bus.specs.Standing.{Standing}
 use Rattle.rl_bus.specs.State.{State}
-use Rattle.rl_plain.specs.Calls.{without_items, IsMachineOf, CallIsPlain, CallKeepsModel}
+use Rattle.rl_plain.specs.Calls.{without_items, IsMachineOf, CallIsPlain, CallKeepsModel, PlanHasNumbers}
 use Rattle.rl_plain.specs.Machine.{Machine, seen, mirror_of, machine_end, Done, done_by, refused_at, machine_step}
 use Rattle.rl_plain.specs.Courses as plain
 use Rattle.rl_seq.specs.Plan.{Plan, stop, step, look}
@@ -24,7 +24,6 @@ use Rattle.rl_log.specs.Course.{Course, told_of, nothing_done, alone, first_then
 use Rattle.rl_access.specs.World.{World, world, Step, step_of, unchanged}
 use Rattle.rl_access.specs.World.{scene_at}
 use Rattle.rl_access.proofs.Worlds.{step_is_call}
-use Rattle.rl_plain_log.proofs.PlainNumbers.{HasPlanNumbers}
 
 -- ---- a world, and the machine
 
@@ -151,7 +150,7 @@ module _ (law : CallIsPlain) (keeps : CallKeepsModel) (c : ChipData) (l : Layout
       going_on (is_bus_error st.event.end) st (through st.world ops) (plain.then_on done (λ after. plain.through c l after ops)) (step_quiet st p op one)
       (then_plain st done (through st.world ops) (λ after. plain.through c l after ops) one (through_plain ops st.world done.machine one.world numbers.1))
 
-  pub along_plain : (plan : Plan) (w : World) (p : Machine) → IsPlainWorld c l w p → HasPlanNumbers c (length l.maps) plan → IsPlainCourse c l (along w plan) (plain.along c l p plan)
+  pub along_plain : (plan : Plan) (w : World) (p : Machine) → IsPlainWorld c l w p → PlanHasNumbers c l plan → IsPlainCourse c l (along w plan) (plain.along c l p plan)
   unfolding along plain.along
   along_plain stop w p h numbers = none_plain w p h
   along_plain (step op plan) w p h numbers =
@@ -160,7 +159,7 @@ module _ (law : CallIsPlain) (keeps : CallKeepsModel) (c : ChipData) (l : Layout
       let one : IsPlainStep c l st done = step_plain w p op h numbers.0 in
       then_plain st done (along st.world plan) (λ after. plain.along c l after plan) one (along_plain plan st.world done.machine one.world numbers.1)
   along_plain (look f) w p h numbers =
-      subst (λ m. IsPlainCourse c l (along w (f m)) (plain.along c l p (f (seen c l p)))) (sym h.model) (along_plain (f (seen c l p)) w p h (numbers (seen c l p)))
+      subst (λ m. IsPlainCourse c l (along w (f m)) (plain.along c l p (f (seen c l p)))) (sym h.model) (along_plain (f (seen c l p)) w p h (numbers (seen c l p) refl refl))
 
   -- ---- bursts
 

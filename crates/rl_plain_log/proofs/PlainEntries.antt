@@ -11,6 +11,7 @@ use Rattle.rl_access.specs.Runs.{write_grant, writes_of, reads_of}
 use Rattle.rl_plain.specs.Calls.{CallIsPlain, CallKeepsModel}
 use Rattle.rl_plain.specs.Machine.{Machine, seen}
 use Rattle.rl_plain.specs.Courses as plain
+use Rattle.rl_plain.proofs.PlanNumbers.{plans_have_numbers}
 use Rattle.rl_report.specs.WithoutItems.{plain_part, HasNames}
 use Rattle.rl_script.specs.declared.line.Line.{Line}
 use Rattle.rl_script.specs.declared.line.Line.TheVariants as line
@@ -19,7 +20,7 @@ use Rattle.rl_log.specs.declared.counts.Counts.{Counts}
 use Rattle.rl_log.specs.declared.refusal.LineRefusal.{LineRefusal}
 use Rattle.rl_log.specs.declared.refusal.LineRefusal.TheVariants.{NoSuchName}
 use Rattle.rl_log.specs.Course.{nothing_done, alone, along, burst}
-use Rattle.rl_log.specs.Entry.{Entry, plain as entry_made, with_both, framed, plan_of, entry_of}
+use Rattle.rl_log.specs.Entry.{Entry, plain as entry_made, with_both, framed, sequence_of, plan_of, entry_of}
 use Rattle.rl_log.specs.Log.{said, there, comes_of, goes_on, script_from}
 use Rattle.rl_log.specs.Named.{mem_named, map_asked, block_asked, op_named}
 use Rattle.rl_plain_log.specs.PlainLog.{PlainEntry, plain_entry, plain_framed, plain_entry_of, plain_comes_of, plain_goes_on, plain_from}
@@ -27,7 +28,7 @@ use Rattle.rl_log.specs.Recording.{with_events}
 use Rattle.rl_access.specs.World.{World, step_of}
 use Rattle.rl_plain_log.proofs.LogLines.{line_stays, refused_is_line, end_is_line}
 use Rattle.rl_plain_log.proofs.PlainCourse.{IsPlainWorld, one_plain, blank_plain, along_plain, write_burst_plain, read_burst_plain}
-use Rattle.rl_plain_log.proofs.PlainNumbers.{mem_in, map_in, op_numbers, plan_numbers}
+use Rattle.rl_plain_log.proofs.PlainNumbers.{mem_in, map_in, op_numbers}
 use Rattle.rl_plain_log.proofs.PlainText.{IsPlainEntry, over_unbroken, entry_plain, framed_plain}
 
 -- both have no entry, or both one
@@ -91,7 +92,7 @@ module _ (law : CallIsPlain) (keeps : CallKeepsModel) (c : ChipData) (l : Layout
       (made_plain c l (block_asked c over) (λ block. framed which over (along w (plan_of which (seen c l p) block))) (λ block. plain_framed which over c l (plain.along c l p (plan_of which
       (seen c l p) block)))
       (λ block is. framed_plain c l chip names which over (along w (plan_of which (seen c l p) block)) (plain.along c l p (plan_of which (seen c l p) block)) (over_unbroken c over block chip is)
-      (along_plain law keeps c l (plan_of which (seen c l p) block) w p h (plan_numbers c l chip h.sound.layout which (seen c l p) block refl refl))))
+      (along_plain law keeps c l (plan_of which (seen c l p) block) w p h (plans_have_numbers (sequence_of which) c l block chip h.sound.layout))))
 
   entry_is_plain : (w : World) (p : Machine) (said : Line) → IsPlainWorld c l w p → IsPlainOption c l (entry_of w said) (plain_entry_of c l p said)
   entry_is_plain w p line.Blank h = entry_plain c l chip names (nothing_done w) (plain.through c l p []) (blank_plain law keeps c l w p h)

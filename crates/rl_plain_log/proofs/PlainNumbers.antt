@@ -1,48 +1,18 @@
 -- The numbers in the operations of a script are in range.
-use Rattle.std.proofs.Common.{◌≡◌, ℕ, zero, suc, ◌+◌, ◌*◌, ◌<◌, Bool, true, false, List, [], length, take, drop, map, Option, Some, None, refl, sym, ap, subst, ◌∙◌, arith, length-take}
+use Rattle.std.proofs.Common.{◌≡◌, ℕ, ◌+◌, ◌<◌, List, [], length, take, drop, map, Option, Some, None, refl, subst, arith, length-take}
 use Rattle.std.specs.Prelude.{option_map, bytes_eq}
 use Rattle.std.proofs.lemmas.List.{length-map}
 use Rattle.std.proofs.lemmas.List.Quantifiers.{position-Some}
 use Rattle.rl_map.specs.declared.rows.MapRow.{MapRow}
-use Rattle.rl_map.specs.Layout.{LayoutData, map_named, no_map, IsSound as IsLayout}
-use Rattle.rl_model.specs.Chip.{IsSound, field_path}
+use Rattle.rl_map.specs.Layout.{LayoutData, map_named, no_map}
+use Rattle.rl_model.specs.Chip.{field_path}
 use Rattle.rl_model.specs.Rows.{ChipData}
-use Rattle.rl_model.specs.Fields.{size_of}
 use Rattle.rl_access.specs.declared.event.Op.{Op}
 use Rattle.rl_access.specs.declared.event.Op.TheVariants as op
 use Rattle.rl_access.specs.Model.{ModelData}
 use Rattle.rl_access.specs.Operation.{IsMapIn, HasNumbers}
-use Rattle.rl_access.specs.Rules.{memory_size}
 use Rattle.rl_script.specs.declared.line.Line.{Line}
 use Rattle.rl_script.specs.declared.line.Line.TheVariants as line
-use Rattle.rl_script.specs.declared.line.Sequence.{Sequence}
-use Rattle.rl_script.specs.declared.line.Sequence.TheVariants.{HwReset, BitBash, Access, Shared, MemWalk}
-use Rattle.rl_seq.specs.declared.sequence.Sequence.{Sequence as Walk}
-use Rattle.rl_seq.specs.declared.sequence.Sequence.TheVariants as over
-use Rattle.rl_seq.specs.Plan.{Plan, stop, step, look, followed_by, only_if, each_below}
-use Rattle.rl_seq.specs.Sequences.{
-  map_at,
-  check_at,
-  bash_once,
-  bash_bit,
-  check_other,
-  fill,
-  check_filled,
-  settle_before,
-  check_last,
-  walk_location,
-  items_of,
-  at_place,
-  visit,
-  visit_all,
-  walk,
-  hw_reset_plan,
-  bit_bash_plan,
-  access_test_plan,
-  shared_access_plan,
-  mem_walk_plan,
-}
-use Rattle.rl_log.specs.Entry.{plan_of}
 use Rattle.rl_log.specs.Named.{number_of, reg_named, mem_named, field_named, kind_named, map_asked, with_number, with_map, op_named}
 
 -- ---- the number of a name
@@ -142,79 +112,3 @@ module _ (m : ModelData) where
   op_numbers (line.MemPoke mem index value) o is = mem_alone mem (λ i. op.MemPoke i index value) o (λ n h. h) is
   op_numbers (line.Reset kind) o is = by_number (kind_named m.chip kind) (λ k. op.Reset k) o Fine (λ n a. kind_in m.chip kind n a) is
   op_numbers _ o is = absurd (cc)
-
--- ---- the operations of a plan
-
-abbrev pub HasPlanNumbers : ChipData → (maps : ℕ) → Plan → Type 0
-HasPlanNumbers c maps stop = Unit {0}
-HasPlanNumbers c maps (step op p) = HasNumbers c maps op × HasPlanNumbers c maps p
-HasPlanNumbers c maps (look f) = (m : ModelData) → HasPlanNumbers c maps (f m)
-
-module _ (c : ChipData) (l : LayoutData) (chip : IsSound c) (layout : IsLayout l) where
-  abbrev Good : Plan → Type 0
-  Good p = HasPlanNumbers c (length l.maps) p
-
-  then_on : (p q : Plan) → Good p → Good q → Good (followed_by p q)
-  then_on stop q h g = g
-  then_on (step op p) q h g = (h.0, then_on p q h.1 g)
-  then_on (look f) q h g = λ m. then_on (f m) q (h m) g
-
-  where_chosen : (b : Bool) (p : Plan) → Good p → Good (only_if b p)
-  where_chosen true p h = h
-  where_chosen false p h = tt
-
-  below : (n : ℕ) (f : ℕ → Plan) → ((i : ℕ) → i < n → Good (f i)) → Good (each_below n f)
-  below zero f h = tt
-  below (suc n) f h = then_on (each_below n f) (f n) (below n f (λ i low. h i (omega arith))) (h n (omega arith))
-
-  map_low : (place : ℕ) → place < length l.places → map_at l place < length l.maps
-  map_low place low = (layout.each_place place low).map
-
-  bashed : (reg map bit : ℕ) → reg < length c.regs → map < length l.maps → Good (bash_bit c reg map bit)
-  bashed reg map bit lr lm =
-      let once : Good (bash_once reg map bit) = λ m. ((lr, lm), ((lr, lm), tt)) in
-      where_chosen _ (followed_by (bash_once reg map bit) (bash_once reg map bit))
-      (then_on (bash_once reg map bit) (bash_once reg map bit) once once)
-
-  before : (mem map k : ℕ) → mem < length c.mems → map < length l.maps → Good (settle_before c mem map k)
-  before mem map zero li lm = tt
-  before mem map (suc k) li lm = ((li, lm), ((li, lm), tt))
-
-  walked : (mem map k : ℕ) → mem < length c.mems → map < length l.maps → Good (walk_location c mem map k)
-  walked mem map k li lm =
-      then_on (fill c mem map k) (followed_by (settle_before c mem map k) (check_last c mem map k)) ((li, lm), tt)
-      (then_on (settle_before c mem map k) (check_last c mem map k) (before mem map k li lm)
-      (where_chosen _ (check_filled c mem map k) ((li, lm), tt)))
-
-  place_numbers : (which : Walk) (number place : ℕ) → number < items_of which c → place < length l.places
-      → Good (at_place which c l number place)
-  place_numbers over.HwReset reg place lr lp = ((lr, map_low place lp), tt)
-  place_numbers over.BitBash reg place lr lp =
-      below (8 * size_of c reg) (bash_bit c reg (map_at l place)) (λ bit lb. bashed reg (map_at l place) bit lr (map_low place lp))
-  place_numbers over.Access reg place lr lp = let lm = map_low place lp in λ m. ((lr, lm), (lr, (lr, ((lr, lm), tt))))
-  place_numbers over.Shared reg place lr lp =
-      λ m. (
-        (lr, map_low place lp),
-        below (length l.places) (check_other l reg place) (λ other lo. where_chosen _ (check_at l reg other) ((lr, map_low other lo), tt)),
-      )
-  place_numbers over.MemWalk mem place li lp =
-      below (memory_size c mem) (walk_location c mem (map_at l place))
-      (λ k lk. walked mem (map_at l place) k li (map_low place lp))
-
-  walk_numbers : (which : Walk) (block : Option ℕ) → Good (walk which c l block)
-  walk_numbers which block =
-      below (items_of which c) (visit_all which c l block)
-      (λ number li. where_chosen _ (each_below (length l.places) (visit which c l number))
-      (below (length l.places) (visit which c l number)
-      (λ place lp. where_chosen _ (at_place which c l number place) (place_numbers which number place li lp))))
-
-  hw_reset_numbers : (block : Option ℕ) → Good (hw_reset_plan c l block)
-  hw_reset_numbers block =
-      let kind : 0 < length c.kinds = let two = chip.two_kinds in omega arith in (kind, walk_numbers over.HwReset block)
-
-  pub plan_numbers : (which : Sequence) (m : ModelData) (block : Option ℕ) → m.chip ≡ c → m.layout ≡ l → HasPlanNumbers c (length l.maps) (plan_of which m block)
-  plan_numbers HwReset m block e f = subst Good (ap (λ x. hw_reset_plan x l block) (sym e) ∙ ap (λ y. hw_reset_plan m.chip y block) (sym f)) (hw_reset_numbers block)
-  plan_numbers BitBash m block e f = subst Good (ap (λ x. bit_bash_plan x l block) (sym e) ∙ ap (λ y. bit_bash_plan m.chip y block) (sym f)) (walk_numbers over.BitBash block)
-  plan_numbers Access m block e f = subst Good (ap (λ x. access_test_plan x l block) (sym e) ∙ ap (λ y. access_test_plan m.chip y block) (sym f)) (walk_numbers over.Access block)
-  plan_numbers Shared m block e f = subst Good (ap (λ x. shared_access_plan x l block) (sym e) ∙ ap (λ y. shared_access_plan m.chip y block) (sym f)) (walk_numbers over.Shared block)
-  plan_numbers MemWalk m block e f = subst Good (ap (λ x. mem_walk_plan x l block) (sym e) ∙ ap (λ y. mem_walk_plan m.chip y block) (sym f)) (walk_numbers over.MemWalk block)

@@ -74,29 +74,36 @@ any_found p (suc n) k low is =
 pub any_more : (p : ℕ → Bool) (n : ℕ) → any_below n p ≡ false → p n ≡ false → any_below (n + 1) p ≡ false
 any_more p n before now = ap (λ m. any_below m p) (add-one n) ∙ ap (λ b. b || p n) before ∙ now
 
--- a field of a register, as it is asked for
-pub writable_at : (c : ChipData) (reg first count k : ℕ) (f : Field) (b : Bool) → IsSound c → reg < length c.regs
+-- the k-th field of a register, as it is asked for
+field_asked : (c : ChipData) (reg first count k : ℕ) (f : Field) → IsSound c → reg < length c.regs
     → option_map (λ r. r.first) (slice_get c.regs reg) ≡ Some first → option_map (λ r. r.count) (slice_get c.regs reg) ≡ Some count
-    → k < count
-    → option_map (λ f. f.shape) (slice_get c.fields (first + k)) ≡ Some f → b ≡ is_read_only f.policy
-    → not b ≡ not (is_read_only (field_of c (first_of c reg + k)).shape.policy)
-writable_at c reg first count k f b sound there firsts counts low asked is =
+    → k < count → option_map (λ f. f.shape) (slice_get c.fields (first + k)) ≡ Some f
+    → f ≡ (field_of c (first_of c reg + k)).shape
+field_asked c reg first count k f sound there firsts counts low asked =
     let starts : first_of c reg ≡ first = mapped_or (λ r. r.first) (slice_get c.regs reg) 0 first firsts in
     let many : count_of c reg ≡ count = mapped_or (λ r. r.count) (slice_get c.regs reg) 0 count counts in
     let within : first_of c reg + count_of c reg ≤ length c.fields = fields_within c reg sound there in
-    let shape : f ≡ (field_of c (first + k)).shape = field_answer c (first + k) f (omega (arith, starts, many, within, low)) asked in
-    ap not (is ∙ ap (λ (g : Field). is_read_only g.policy) (shape ∙ ap (λ n. (field_of c (n + k)).shape) (sym starts)))
+    field_answer c (first + k) f (omega (arith, starts, many, within, low)) asked ∙ ap (λ n. (field_of c (n + k)).shape) (sym starts)
 
--- the bit belongs to the k-th field of the register, which checks compare
+-- whether it isn't RO
+pub writable_at : (c : ChipData) (reg first count k : ℕ) (f : Field) (b : Bool) → IsSound c → reg < length c.regs
+    → option_map (λ r. r.first) (slice_get c.regs reg) ≡ Some first → option_map (λ r. r.count) (slice_get c.regs reg) ≡ Some count
+    → k < count → option_map (λ f. f.shape) (slice_get c.fields (first + k)) ≡ Some f
+    → b ≡ is_read_only f.policy
+    → not b ≡ not (is_read_only (field_of c (first_of c reg + k)).shape.policy)
+writable_at c reg first count k f b sound there firsts counts low asked is =
+    ap not (is ∙ ap (λ (g : Field). is_read_only g.policy) (field_asked c reg first count k f sound there firsts counts low asked))
+
+-- the bit belongs to it, and checks compare it
 abbrev pub is_compared_at : ChipData → (reg bit k : ℕ) → Bool
 is_compared_at c reg bit k =
     let f = (field_of c (first_of c reg + k)).shape in
     is_within f.lsb f.width bit && is_compared f
 
--- what is found of the k-th field, by its number
-pub compared_in : (c : ChipData) (reg bit first k : ℕ) (f : Field) → first_of c reg ≡ first → f ≡ (field_of c (first + k)).shape
-    → (is_within f.lsb f.width bit && is_compared f) ≡ is_compared_at c reg bit k
-compared_in c reg bit first k f starts is =
-    ap (λ (g : Field). is_within g.lsb g.width bit && is_compared g) is
-    ∙ ap (λ n. is_within (field_of c (n + k)).shape.lsb (field_of c (n + k)).shape.width bit && is_compared (field_of c (n + k)).shape)
-    (sym starts)
+pub compared_at : (c : ChipData) (reg bit first count k : ℕ) (f : Field) (b : Bool) → IsSound c → reg < length c.regs
+    → option_map (λ r. r.first) (slice_get c.regs reg) ≡ Some first → option_map (λ r. r.count) (slice_get c.regs reg) ≡ Some count
+    → k < count → option_map (λ f. f.shape) (slice_get c.fields (first + k)) ≡ Some f
+    → b ≡ (is_within f.lsb f.width bit && is_compared f)
+    → b ≡ is_compared_at c reg bit k
+compared_at c reg bit first count k f b sound there firsts counts low asked is =
+    is ∙ ap (λ (g : Field). is_within g.lsb g.width bit && is_compared g) (field_asked c reg first count k f sound there firsts counts low asked)

@@ -1,5 +1,5 @@
 -- Plans that are followed one after another, with all that stays.
-use Rattle.std.proofs.Common.{◌≡◌, ℕ, ◌+◌, ◌<◌, true, false, Result, Ok, Err, OnOk, OnErr, refl, sym, ap, ◌∙◌, arith}
+use Rattle.std.proofs.Common.{◌≡◌, ℕ, ◌+◌, ◌<◌, true, false, Option, Result, Ok, Err, OnOk, OnErr, refl, sym, ap, ◌∙◌, arith}
 use Rattle.std.specs.Result.{IsErr}
 use Rattle.rl_bus.specs.Causes.{HasCause}
 use Rattle.rl_access.specs.Call.{Scene, Performs}
@@ -10,9 +10,11 @@ use Rattle.rl_access.specs.declared.event.Event.{Event}
 use Rattle.rl_access.specs.declared.event.Op.{Op}
 use Rattle.rl_access.specs.declared.event.Tally.{Tally}
 use Rattle.rl_access.specs.declared.recorder.Recorder.{Ghosts as Recorder}
-use Rattle.rl_seq.specs.Plan.{Plan, stop, step, look, followed_by, each_below, IsSequence}
-use Rattle.rl_seq.specs.Stage.{Stage, Stays, Follows}
-use Rattle.rl_seq.proofs.Planned.{walks_one, walks_none, walks_then, walks_broke, walks_below, walks_look, walks_same, walks_alike, Alike, grown, sequence_done, sequence_broke}
+use Rattle.rl_seq.specs.declared.sequence.Sequence.{Sequence}
+use Rattle.rl_seq.specs.Plan.{Plan, stop, step, look, followed_by, each_below}
+use Rattle.rl_seq.specs.Sequences.{walk, beginning_of, plan_of}
+use Rattle.rl_seq.specs.Stage.{Stage, Stays, Follows, IsRunOf}
+use Rattle.rl_seq.proofs.Planned.{walks_one, walks_none, walks_then, walks_broke, walks_below, walks_look, walks_same, walks_alike, Alike, grown, same_plan, sequence_done, sequence_broke}
 
 pub same_parts : (m : ModelData) → IsSameChip m m
 same_parts m = record { chip = refl; layout = refl }
@@ -161,12 +163,29 @@ module _ {R : Type 0} (r : Recorder R) where
 
   -- ---- a sequence
 
-  pub sequence_ends : {T E : Type 0} (s new : Stage R) (before after : Tally) (p : Plan) (x : T)
-      → Follows {E = E} r s new before after p (Ok x) → before ≡ no_tally
-      → IsSequence {E = E} r.takes r.breaks s.recorder new.recorder s.scene new.scene p (Ok after)
-  sequence_ends s new before after p x a none = sequence_done r.takes r.breaks s.recorder new.recorder s.scene new.scene before after p x a.walks none
+  -- its beginning, and then its walk
+  pub then_walked : {T U E F : Type 0} (s m new : Stage R) (which : Sequence) (block : Option ℕ) (t0 t1 t2 : Tally) (x : T) (result : Result U E)
+      → Follows {E = F} r s m t0 t1 (beginning_of which) (Ok x)
+      → Follows r m new t1 t2 (walk which m.scene.model.chip m.scene.model.layout block) result
+      → Follows r s new t0 t2 (plan_of which s.scene.model.chip s.scene.model.layout block) result
+  then_walked s m new which block t0 t1 t2 x result begun walked =
+      let same = same_plan (λ c l. walk which c l block) s.scene.model m.scene.model begun.stays.parts in
+      follows_then s m new t0 t1 t2 (beginning_of which) (walk which s.scene.model.chip s.scene.model.layout block) x result begun
+      (follows_same m new t1 t2 _ _ result same walked)
 
-  pub sequence_breaks : {T E : Type 0} (s new : Stage R) (before after : Tally) (p : Plan) (e : E) (result : Result Tally E)
-      → Follows {T = T} r s new before after p (Err e) → IsErr result
-      → IsSequence r.takes r.breaks s.recorder new.recorder s.scene new.scene p result
-  sequence_breaks s new before after p e result a is = sequence_broke r.takes r.breaks s.recorder new.recorder s.scene new.scene before after p e result a.walks is
+  pub sequence_ends : {T E : Type 0} (s new : Stage R) (which : Sequence) (block : Option ℕ) (before after : Tally) (x : T)
+      → Follows {E = E} r s new before after (plan_of which s.scene.model.chip s.scene.model.layout block) (Ok x) → before ≡ no_tally
+      → IsRunOf {E = E} r which block s new (Ok after)
+  sequence_ends s new which block before after x a none = record {
+    hands_over = sequence_done r.takes r.breaks s.recorder new.recorder s.scene new.scene before after _ x a.walks none;
+    stays = stays_ok s new x after a.stays;
+  }
+
+  pub sequence_breaks : {T E : Type 0} (s new : Stage R) (which : Sequence) (block : Option ℕ) (before after : Tally) (e : E)
+      (result : Result Tally E)
+      → Follows {T = T} r s new before after (plan_of which s.scene.model.chip s.scene.model.layout block) (Err e) → IsErr result
+      → IsRunOf r which block s new result
+  sequence_breaks s new which block before after e result a is = record {
+    hands_over = sequence_broke r.takes r.breaks s.recorder new.recorder s.scene new.scene before after _ e result a.walks is;
+    stays = stays_err s new e result a.stays is;
+  }

@@ -26,7 +26,7 @@ use Rattle.rl_seq.specs.declared.sequence.Sequence.TheVariants.{HwReset, BitBash
 use Rattle.rl_seq.specs.Choice.{is_bit_compared, is_of, may_read, may_write, is_reg_tested, is_tested, has_writable_field, no_reg_access_test, no_mem_walk_test, low_bits, turned_round}
 use Rattle.rl_seq.specs.Plan.{Plan, stop, step, look, followed_by, only_if, each_below}
 use Rattle.rl_seq.specs.Sequences.{map_at, check_at, bash_once, bash_bit, check_other, fill, check_filled, write_number, settle_before, check_last, walk_location, items_of, item_of, has_rights}
-use Rattle.rl_seq.specs.Sequences.{is_chosen, is_visited, at_place, visit, visit_all, walk}
+use Rattle.rl_seq.specs.Sequences.{is_chosen, is_visited, at_place, visit, visit_all, walk, beginning_of}
 use Rattle.rl_seq.specs.Granted.{IsModelFor, IsGranted, NoStepIsRefused}
 
 -- ---- plans of plans
@@ -327,11 +327,12 @@ granted which c l block =
     granted_at which c l number place inside (is_right which c l block number so) (record { there = there; mine = both.0 })
     (are_there which l place both.1)))))
 
+begun : (which : Sequence) (c : ChipData) (l : LayoutData) → IsGranted c l (beginning_of which)
+begun HwReset c l = ((λ m is. refl), tt)
+begun BitBash c l = tt
+begun Access c l = tt
+begun Shared c l = tt
+begun MemWalk c l = tt
+
 pub no_step_is_refused : NoStepIsRefused
-no_step_is_refused c l block = record {
-  hw_reset = ((λ m is. refl), granted HwReset c l block);
-  bit_bash = granted BitBash c l block;
-  access = granted Access c l block;
-  shared_access = granted Shared c l block;
-  mem_walk = granted MemWalk c l block;
-}
+no_step_is_refused which c l block = followed c l (beginning_of which) (walk which c l block) (begun which c l) (granted which c l block)

@@ -13,10 +13,10 @@ use Rattle.rl_seq.specs.declared.visit.Visit.{Visit}
 use Rattle.rl_seq.specs.declared.visit.Visit.TheVariants.{Check, Bash, Access, Share, Walk}
 use Rattle.rl_seq.specs.Choice.{is_bit_compared}
 use Rattle.rl_seq.specs.Plan.{Plan, stop, step, look, followed_by, only_if, each_below}
-use Rattle.rl_seq.specs.Sequences.{map_at, bash_once, access_with, write_turned, check_other, walk_location, is_chosen, is_visited, at_place}
+use Rattle.rl_seq.specs.Sequences.{map_at, bash_once, access_with, write_turned, check_other, walk_location, is_chosen, is_visited, at_place, visit, visit_all}
 use Rattle.rl_seq.specs.Stage.{Stage, Follows}
 use Rattle.rl_seq.specs.Visits.{visit_of, turn_of, turns, parts_of, part_of}
-use Rattle.rl_seq.proofs.Planned.{Alike, alike_same, alike_step, alike_look, alike_looked}
+use Rattle.rl_seq.proofs.Planned.{Alike, alike_same, alike_step, alike_look, alike_looked, same_plan}
 use Rattle.rl_seq.proofs.Following.{follows_none, follows_look, follows_same}
 
 -- an operation, or none
@@ -98,7 +98,7 @@ all_shared : (c : ChipData) (l : LayoutData) (reg place value n : ℕ) → each_
 all_shared c l reg place value n = ap (λ k. each_below k (turn_of c l (Share reg place value))) (add-one n) ∙ shared c l reg place value n
 
 -- what is chosen is done, and what isn't is left out
-pub chosen_is : (b : Bool) (p : Plan) → b ≡ true → p ≡ only_if b p
+chosen_is : (b : Bool) (p : Plan) → b ≡ true → p ≡ only_if b p
 chosen_is b p so = ap (λ c. only_if c p) (sym so)
 
 pub left_out : (b : Bool) (p : Plan) → b ≡ false → only_if b p ≡ stop
@@ -115,7 +115,7 @@ pub visited_same : (which : Sequence) (number place : ℕ) (answer : Bool) (y k 
 visited_same which number place answer y k is layouts = is ∙ ap (λ l. is_visited which l number place) layouts
 
 -- what is mirrored as the sequence comes to the place is what its plan looks at
-pub visited : {R T E : Type 0} (r : Recorder R) (which : Sequence) (number place : ℕ) (s new : Stage R) (before after : Tally)
+visited : {R T E : Type 0} (r : Recorder R) (which : Sequence) (number place : ℕ) (s new : Stage R) (before after : Tally)
     (result : Result T E)
     → Follows r s new before after (turns s.scene.model.chip s.scene.model.layout (visit_of which s.scene.model number place)) result
     → Follows r s new before after (at_place which s.scene.model.chip s.scene.model.layout number place) result
@@ -131,3 +131,38 @@ visited r sequence.Shared reg place s new before after result a =
     (follows_same r s new before after _ _ result (all_shared m.chip m.layout reg place (mirrored_of m.mirror reg)
     (length m.layout.places)) a)
 visited r sequence.MemWalk mem place s new before after result a = a
+
+-- a place that the sequence visits, as its turns were taken
+pub place_followed : {R T E : Type 0} (r : Recorder R) (m : ModelData) (which : Sequence) (number place : ℕ) (answer : Bool) (y : LayoutData)
+    (v : Visit) (s new : Stage R) (before after : Tally) (result : Result T E)
+    → IsSameChip m s.scene.model → answer ≡ is_visited which y number place → y ≡ s.scene.model.layout → answer ≡ true
+    → v ≡ visit_of which s.scene.model number place
+    → Follows r s new before after (turns s.scene.model.chip s.scene.model.layout v) result
+    → Follows r s new before after (visit which m.chip m.layout number place) result
+place_followed r m which number place answer y v s new before after result same is layouts so visit_is a =
+    let n = s.scene.model in
+    let at = at_place which n.chip n.layout number place in
+    let here = visited_same which number place answer y n.layout is layouts in
+    follows_same r s new before after (visit which n.chip n.layout number place) (visit which m.chip m.layout number place) result
+    (same_plan (λ c l. visit which c l number place) m n same)
+    (follows_same r s new before after at (visit which n.chip n.layout number place) result
+    (chosen_is (is_visited which n.layout number place) at (sym here ∙ so))
+    (visited r which number place s new before after result
+    (follows_same r s new before after _ _ result (ap (turns n.chip n.layout) visit_is) a)))
+
+-- a register or memory that the sequence chooses, as its places were visited
+pub item_followed : {R T E : Type 0} (r : Recorder R) (m : ModelData) (which : Sequence) (block : Option ℕ) (number : ℕ) (answer : Bool)
+    (h : ChipData) (y : LayoutData) (s new : Stage R) (before after : Tally) (result : Result T E)
+    → IsSameChip m s.scene.model → answer ≡ is_chosen which h y block number → h ≡ s.scene.model.chip → y ≡ s.scene.model.layout
+    → answer ≡ true
+    → Follows r s new before after
+    (each_below (length s.scene.model.layout.places) (visit which s.scene.model.chip s.scene.model.layout number)) result
+    → Follows r s new before after (visit_all which m.chip m.layout block number) result
+item_followed r m which block number answer h y s new before after result same is chips layouts so a =
+    let n = s.scene.model in
+    let all = each_below (length n.layout.places) (visit which n.chip n.layout number) in
+    let here = chosen_same which block number answer h n.chip y n.layout is chips layouts in
+    follows_same r s new before after (visit_all which n.chip n.layout block number) (visit_all which m.chip m.layout block number) result
+    (same_plan (λ c l. visit_all which c l block number) m n same)
+    (follows_same r s new before after all (visit_all which n.chip n.layout block number) result
+    (chosen_is (is_chosen which n.chip n.layout block number) all (sym here ∙ so)) a)

@@ -127,18 +127,11 @@ visit_all which c l block number =
 abbrev pub walk : Sequence → ChipData → LayoutData → Option ℕ → Plan
 walk which c l block = each_below (items_of which c) (visit_all which c l block)
 
--- a hard reset, and then the checks
-abbrev pub hw_reset_plan : ChipData → LayoutData → Option ℕ → Plan
-hw_reset_plan c l block = step (op.Reset 0) (walk HwReset c l block)
+-- a hardware reset begins with a hard reset, and no other sequence with anything
+abbrev pub beginning_of : Sequence → Plan
+beginning_of HwReset = step (op.Reset 0) stop
+beginning_of _ = stop
 
-abbrev pub bit_bash_plan : ChipData → LayoutData → Option ℕ → Plan
-bit_bash_plan c l block = walk BitBash c l block
-
-abbrev pub access_test_plan : ChipData → LayoutData → Option ℕ → Plan
-access_test_plan c l block = walk Access c l block
-
-abbrev pub shared_access_plan : ChipData → LayoutData → Option ℕ → Plan
-shared_access_plan c l block = walk Shared c l block
-
-abbrev pub mem_walk_plan : ChipData → LayoutData → Option ℕ → Plan
-mem_walk_plan c l block = walk MemWalk c l block
+-- the plan of a sequence, by its name
+abbrev pub plan_of : Sequence → ChipData → LayoutData → Option ℕ → Plan
+plan_of which c l block = followed_by (beginning_of which) (walk which c l block)

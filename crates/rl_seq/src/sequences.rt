@@ -1,12 +1,8 @@
 //! The five sequences.
-ghost use Rattle.std.specs.Prelude.{◌≡◌, ◌<◌, map, IfSome};
-ghost use Rattle.rl_bus.specs.Causes.{HasCause};
-ghost use Rattle.rl_access.specs.Call.{scene_of};
-ghost use Rattle.rl_access.specs.Model.{IsReady, IsSameChip};
-ghost use Rattle.rl_seq.specs.Plan.{IsSequence};
-ghost use Rattle.rl_seq.specs.Sequences.{walk, hw_reset_plan, bit_bash_plan};
-ghost use Rattle.rl_seq.specs.Sequences.{access_test_plan, shared_access_plan, mem_walk_plan};
-ghost use Rattle.rl_seq.specs.Stage.{Stays, stage_of};
+ghost use Rattle.std.specs.Prelude.{◌<◌, map, IfSome};
+ghost use Rattle.rl_access.specs.Model.{IsReady};
+ghost use Rattle.rl_seq.specs.Sequences.{beginning_of};
+ghost use Rattle.rl_seq.specs.Stage.{Follows, IsRunOf, stage_of};
 
 use crate::sequence::Sequence;
 use crate::step::perform_step;
@@ -25,35 +21,11 @@ pub fn hw_reset<D: Device, R: Recorder>(
 ) -> Result<Tally, Failed>
     requires ready { IsReady model.old (map standing adapters.old.items) (D.state device.old) }
     requires block { IfSome block (λ b. b < model.old.chip.blocks) }
-    ensures ready { IsReady model.new (map standing adapters.new.items) (D.state device.new) }
-    ensures parts { IsSameChip model.old model.new }
-    ensures hands_over { IsSequence R.takes R.breaks recorder.old recorder.new
-        (scene_of standing D.errors D.state model.old adapters.old.items device.old)
-        (scene_of standing D.errors D.state model.new adapters.new.items device.new)
-        (hw_reset_plan model.old.chip model.old.layout block) result }
-    ensures cause { HasCause (R.faults recorder.old) (R.faults recorder.new) result }
-    ensures steady { R.steady recorder.new ≡ R.steady recorder.old }
+    ensures { IsRunOf R.Recorder Sequence.HwReset block
+        (stage_of standing D.Device model.old adapters.old.items device.old recorder.old)
+        (stage_of standing D.Device model.new adapters.new.items device.new recorder.new) result }
 {
-    let mut tally = Tally::new();
-    let _has_kinds = model.chip(); // HARD is one of its kinds
-    perform_step(
-        model,
-        device,
-        adapters,
-        Op::Reset { kind: 0 },
-        recorder,
-        &mut tally,
-    )?;
-    walk(
-        Sequence::HwReset,
-        block,
-        model,
-        device,
-        adapters,
-        recorder,
-        &mut tally,
-    )?;
-    Ok(tally)
+    run(Sequence::HwReset, block, model, device, adapters, recorder)
 }
 
 /// Turns each compared bit of every register round, twice, and checks the register each time:
@@ -68,14 +40,9 @@ pub fn bit_bash<D: Device, R: Recorder>(
 ) -> Result<Tally, Failed>
     requires ready { IsReady model.old (map standing adapters.old.items) (D.state device.old) }
     requires block { IfSome block (λ b. b < model.old.chip.blocks) }
-    ensures ready { IsReady model.new (map standing adapters.new.items) (D.state device.new) }
-    ensures parts { IsSameChip model.old model.new }
-    ensures hands_over { IsSequence R.takes R.breaks recorder.old recorder.new
-        (scene_of standing D.errors D.state model.old adapters.old.items device.old)
-        (scene_of standing D.errors D.state model.new adapters.new.items device.new)
-        (bit_bash_plan model.old.chip model.old.layout block) result }
-    ensures cause { HasCause (R.faults recorder.old) (R.faults recorder.new) result }
-    ensures steady { R.steady recorder.new ≡ R.steady recorder.old }
+    ensures { IsRunOf R.Recorder Sequence.BitBash block
+        (stage_of standing D.Device model.old adapters.old.items device.old recorder.old)
+        (stage_of standing D.Device model.new adapters.new.items device.new recorder.new) result }
 {
     run(Sequence::BitBash, block, model, device, adapters, recorder)
 }
@@ -91,14 +58,9 @@ pub fn access_test<D: Device, R: Recorder>(
 ) -> Result<Tally, Failed>
     requires ready { IsReady model.old (map standing adapters.old.items) (D.state device.old) }
     requires block { IfSome block (λ b. b < model.old.chip.blocks) }
-    ensures ready { IsReady model.new (map standing adapters.new.items) (D.state device.new) }
-    ensures parts { IsSameChip model.old model.new }
-    ensures hands_over { IsSequence R.takes R.breaks recorder.old recorder.new
-        (scene_of standing D.errors D.state model.old adapters.old.items device.old)
-        (scene_of standing D.errors D.state model.new adapters.new.items device.new)
-        (access_test_plan model.old.chip model.old.layout block) result }
-    ensures cause { HasCause (R.faults recorder.old) (R.faults recorder.new) result }
-    ensures steady { R.steady recorder.new ≡ R.steady recorder.old }
+    ensures { IsRunOf R.Recorder Sequence.Access block
+        (stage_of standing D.Device model.old adapters.old.items device.old recorder.old)
+        (stage_of standing D.Device model.new adapters.new.items device.new recorder.new) result }
 {
     run(Sequence::Access, block, model, device, adapters, recorder)
 }
@@ -114,14 +76,9 @@ pub fn shared_access<D: Device, R: Recorder>(
 ) -> Result<Tally, Failed>
     requires ready { IsReady model.old (map standing adapters.old.items) (D.state device.old) }
     requires block { IfSome block (λ b. b < model.old.chip.blocks) }
-    ensures ready { IsReady model.new (map standing adapters.new.items) (D.state device.new) }
-    ensures parts { IsSameChip model.old model.new }
-    ensures hands_over { IsSequence R.takes R.breaks recorder.old recorder.new
-        (scene_of standing D.errors D.state model.old adapters.old.items device.old)
-        (scene_of standing D.errors D.state model.new adapters.new.items device.new)
-        (shared_access_plan model.old.chip model.old.layout block) result }
-    ensures cause { HasCause (R.faults recorder.old) (R.faults recorder.new) result }
-    ensures steady { R.steady recorder.new ≡ R.steady recorder.old }
+    ensures { IsRunOf R.Recorder Sequence.Shared block
+        (stage_of standing D.Device model.old adapters.old.items device.old recorder.old)
+        (stage_of standing D.Device model.new adapters.new.items device.new recorder.new) result }
 {
     run(Sequence::Shared, block, model, device, adapters, recorder)
 }
@@ -137,19 +94,14 @@ pub fn mem_walk<D: Device, R: Recorder>(
 ) -> Result<Tally, Failed>
     requires ready { IsReady model.old (map standing adapters.old.items) (D.state device.old) }
     requires block { IfSome block (λ b. b < model.old.chip.blocks) }
-    ensures ready { IsReady model.new (map standing adapters.new.items) (D.state device.new) }
-    ensures parts { IsSameChip model.old model.new }
-    ensures hands_over { IsSequence R.takes R.breaks recorder.old recorder.new
-        (scene_of standing D.errors D.state model.old adapters.old.items device.old)
-        (scene_of standing D.errors D.state model.new adapters.new.items device.new)
-        (mem_walk_plan model.old.chip model.old.layout block) result }
-    ensures cause { HasCause (R.faults recorder.old) (R.faults recorder.new) result }
-    ensures steady { R.steady recorder.new ≡ R.steady recorder.old }
+    ensures { IsRunOf R.Recorder Sequence.MemWalk block
+        (stage_of standing D.Device model.old adapters.old.items device.old recorder.old)
+        (stage_of standing D.Device model.new adapters.new.items device.new recorder.new) result }
 {
     run(Sequence::MemWalk, block, model, device, adapters, recorder)
 }
 
-// A sequence that is a walk alone.
+// The sequence with this name.
 fn run<D: Device, R: Recorder>(
     sequence: Sequence,
     block: Option<u32>,
@@ -160,17 +112,39 @@ fn run<D: Device, R: Recorder>(
 ) -> Result<Tally, Failed>
     requires ready { IsReady model.old (map standing adapters.old.items) (D.state device.old) }
     requires block { IfSome block (λ b. b < model.old.chip.blocks) }
-    ensures hands_over { IsSequence R.takes R.breaks recorder.old recorder.new
-        (scene_of standing D.errors D.state model.old adapters.old.items device.old)
-        (scene_of standing D.errors D.state model.new adapters.new.items device.new)
-        (walk sequence model.old.chip model.old.layout block) result }
-    ensures stays { Stays R.Recorder
+    ensures { IsRunOf R.Recorder sequence block
         (stage_of standing D.Device model.old adapters.old.items device.old recorder.old)
         (stage_of standing D.Device model.new adapters.new.items device.new recorder.new) result }
 {
     let mut tally = Tally::new();
+    begin(sequence, model, device, adapters, recorder, &mut tally)?;
     walk(
         sequence, block, model, device, adapters, recorder, &mut tally,
     )?;
     Ok(tally)
+}
+
+// What comes before its walk: a HARD reset, or nothing.
+fn begin<D: Device, R: Recorder>(
+    sequence: Sequence,
+    model: &mut Model,
+    device: &mut D,
+    adapters: &mut Adapters,
+    recorder: &mut R,
+    tally: &mut Tally,
+) -> Result<(), Failed>
+    requires { IsReady model.old (map standing adapters.old.items) (D.state device.old) }
+    ensures { Follows R.Recorder
+        (stage_of standing D.Device model.old adapters.old.items device.old recorder.old)
+        (stage_of standing D.Device model.new adapters.new.items device.new recorder.new)
+        tally.old tally.new (beginning_of sequence) result }
+{
+    match sequence {
+        Sequence::HwReset => {
+            let _has_kinds = model.chip(); // HARD is one of its kinds
+            let reset = Op::Reset { kind: 0 };
+            perform_step(model, device, adapters, reset, recorder, tally)
+        }
+        _ => Ok(()),
+    }
 }

@@ -4,7 +4,7 @@ ghost use Rattle.rl_model.specs.Fields.{size_of};
 ghost use Rattle.rl_model.specs.declared.rows.Item.TheVariants.{Mem};
 ghost use Rattle.rl_access.specs.Rules.{memory_size};
 ghost use Rattle.rl_access.specs.declared.event.Op.TheVariants as op;
-ghost use Rattle.rl_seq.specs.Choice.{low_bits, turned_round};
+ghost use Rattle.rl_seq.specs.Choice.{turned_round};
 ghost use Rattle.rl_seq.specs.Sequences.{items_of};
 ghost use Rattle.rl_seq.specs.Visits.{visit_of, IsVisit, IsStep, turns_of, parts_of, part_of};
 ghost use Rattle.rl_seq.specs.Visits.{bash_part, access_part, share_part, some_if, walk_part};
@@ -165,25 +165,30 @@ fn walk(model: &Model, mem: u32, map: u32, turn: u32, part: u32) -> Option<Op>
     ensures part { result ≡ walk_part model.now.chip mem map turn part }
     ensures step { IfSome result (IsStep model.now.chip model.now.layout) }
 {
+    let item = Item::Mem(mem);
     match part {
-        0 => Some(fill(model.chip(), mem, map, turn)),
+        0 => {
+            let value = turned_round(model.chip(), item, u64::from(turn));
+            Some(write_at(mem, map, turn, value))
+        }
         1 => Some(check_filled(model.chip(), mem, map, turn.checked_sub(1)?)),
-        2 => Some(write_number(model.chip(), mem, map, turn.checked_sub(1)?)),
+        2 => {
+            let before = turn.checked_sub(1)?;
+            let value = low_bits(model.chip(), item, u64::from(before));
+            Some(write_at(mem, map, before, value))
+        }
         _ => check_last(model.chip(), mem, map, turn),
     }
 }
 
-// Writes the location's number turned round.
-fn fill(chip: &Chip, mem: u32, map: u32, number: u32) -> Op
-    requires { mem < length chip.now.mems }
-    ensures { result ≡ op.MemWrite mem (Some map) number (turned_round chip.now (Mem mem) number) }
+// Writes the value to the location.
+fn write_at(mem: u32, map: u32, number: u32, value: u64) -> Op
+    ensures { result ≡ op.MemWrite mem (Some map) number value }
 {
-    let index = u64::from(number);
-    let value = turned_round(chip, Item::Mem(mem), index);
     Op::MemWrite {
         mem,
         map: Some(map),
-        index,
+        index: u64::from(number),
         value,
     }
 }
@@ -213,20 +218,5 @@ fn check_last(chip: &Chip, mem: u32, map: u32, number: u32) -> Option<Op>
         Some(check_filled(chip, mem, map, number))
     } else {
         None
-    }
-}
-
-// Writes the location's number.
-fn write_number(chip: &Chip, mem: u32, map: u32, number: u32) -> Op
-    requires { mem < length chip.now.mems }
-    ensures { result ≡ op.MemWrite mem (Some map) number (low_bits chip.now (Mem mem) number) }
-{
-    let index = u64::from(number);
-    let value = low_bits(chip, Item::Mem(mem), index);
-    Op::MemWrite {
-        mem,
-        map: Some(map),
-        index,
-        value,
     }
 }

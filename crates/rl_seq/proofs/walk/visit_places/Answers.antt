@@ -1,10 +1,8 @@
-use Rattle.std.proofs.Common.{◌∙◌, length, ap, sym, arith}
+use Rattle.std.proofs.Common.{◌∙◌, length, ap, sym, refl, arith}
 use Rattle.rl_map.specs.Layout.{LayoutData}
 use Rattle.rl_seq.specs.Sequences.{is_visited, visit}
-use Rattle.rl_seq.specs.Visits.{turns}
-use Rattle.rl_seq.proofs.Following.{follows_same, each_first, each_more, each_skipped, each_broke, each_all}
-use Rattle.rl_seq.proofs.Planned.{same_plan}
-use Rattle.rl_seq.proofs.Turning.{chosen_is, left_out, visited_same, visited}
+use Rattle.rl_seq.proofs.Following.{each_first, each_more, each_skipped, each_broke, each_all}
+use Rattle.rl_seq.proofs.Turning.{left_out, visited_same, place_followed}
 use Rattle.rl_seq.proofs.walk.visit_places.Goals as goal
 
 pub loop-place-init : goal.loop-place-init
@@ -15,17 +13,11 @@ loop-place-init g c =
 pub loop-place-preserved : goal.loop-place-preserved
 loop-place-preserved g c =
     let m = c.args.model.now in
-    let n = c.loop-place.model in
-    let which = c.args.sequence in
-    let number = c.args.number in
-    let place = c.loop-place.place in
-    let answer = visited_same which number place c.visits.result _ n.layout c.visits.ensures c.layout-in-loop-place.ensures.layout in
-    each_more g.R.Recorder _ _ _ _ _ _ (visit which m.chip m.layout number) place _ _
-    (same_plan (λ h y. visit which h y number place) m n c.loop-place.invariant.stays.parts) c.loop-place.invariant
-    (follows_same g.R.Recorder _ _ _ _ _ (visit which n.chip n.layout number place) _
-    (chosen_is (is_visited which n.layout number place) _ (sym answer ∙ c.if-not-visits.false))
-    (visited g.R.Recorder which number place _ _ _ _ _
-    (follows_same g.R.Recorder _ _ _ _ _ _ _ (ap (turns n.chip n.layout) c.of-visit.ensures.visit) c.in_ok-take_turns.ensures.follows)))
+    let f = visit c.args.sequence m.chip m.layout c.args.number in
+    each_more g.R.Recorder _ _ _ _ _ _ f c.loop-place.place (f c.loop-place.place) _ refl c.loop-place.invariant
+    (place_followed g.R.Recorder m c.args.sequence c.args.number c.loop-place.place c.visits.result _ _ _ _ _ _ _
+    c.loop-place.invariant.stays.parts c.visits.ensures c.layout-in-loop-place.ensures.layout c.if-not-visits.false
+    c.of-visit.ensures.visit c.in_ok-take_turns.ensures.follows)
 
 pub loop-place-preserved-then-not-visits : goal.loop-place-preserved-then-not-visits
 loop-place-preserved-then-not-visits g c =
@@ -40,21 +32,14 @@ loop-place-preserved-then-not-visits g c =
 pub returns-in_err-take_turns : goal.returns-in_err-take_turns
 returns-in_err-take_turns g c =
     let m = c.args.model.now in
-    let n = c.loop-place.model in
-    let which = c.args.sequence in
-    let number = c.args.number in
-    let place = c.loop-place.place in
-    let answer = visited_same which number place c.visits.result _ n.layout c.visits.ensures c.layout-in-loop-place.ensures.layout in
+    let f = visit c.args.sequence m.chip m.layout c.args.number in
     let count = c.places-place-end.ensures.count ∙ ap (λ (y : LayoutData). length y.places) c.layout.ensures.layout in
     record {
-      follows = each_broke g.R.Recorder _ _ _ _ _ _ _ (visit which m.chip m.layout number) place (length m.layout.places) _ _
-          c.from_residual.result (same_plan (λ h y. visit which h y number place) m n c.loop-place.invariant.stays.parts)
-          (omega arith) c.loop-place.invariant
-          (follows_same g.R.Recorder _ _ _ _ _ (visit which n.chip n.layout number place) _
-          (chosen_is (is_visited which n.layout number place) _ (sym answer ∙ c.if-not-visits.false))
-          (visited g.R.Recorder which number place _ _ _ _ _
-          (follows_same g.R.Recorder _ _ _ _ _ _ _
-          (ap (turns n.chip n.layout) c.of-visit.ensures.visit) c.in_err-take_turns.ensures.follows)))
+      follows = each_broke g.R.Recorder _ _ _ _ _ _ _ f c.loop-place.place (length m.layout.places)
+          (f c.loop-place.place) _ c.from_residual.result refl (omega arith) c.loop-place.invariant
+          (place_followed g.R.Recorder m c.args.sequence c.args.number c.loop-place.place c.visits.result _ _ _ _ _ _ _
+          c.loop-place.invariant.stays.parts c.visits.ensures c.layout-in-loop-place.ensures.layout c.if-not-visits.false
+          c.of-visit.ensures.visit c.in_err-take_turns.ensures.follows)
           c.from_residual.ensures.0;
     }
 

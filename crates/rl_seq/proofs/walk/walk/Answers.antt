@@ -1,8 +1,7 @@
-use Rattle.std.proofs.Common.{◌∙◌, ap, sym, arith}
+use Rattle.std.proofs.Common.{◌∙◌, ap, sym, refl, arith}
 use Rattle.rl_seq.specs.Sequences.{items_of, is_chosen, visit_all}
-use Rattle.rl_seq.proofs.Following.{follows_same, each_first, each_more, each_skipped, each_broke, each_all}
-use Rattle.rl_seq.proofs.Planned.{same_plan}
-use Rattle.rl_seq.proofs.Turning.{chosen_is, left_out, chosen_same}
+use Rattle.rl_seq.proofs.Following.{each_first, each_more, each_skipped, each_broke, each_all}
+use Rattle.rl_seq.proofs.Turning.{left_out, chosen_same, item_followed}
 use Rattle.rl_seq.proofs.walk.walk.Goals as goal
 
 pub loop-number-init : goal.loop-number-init
@@ -13,17 +12,11 @@ loop-number-init g c =
 pub loop-number-preserved : goal.loop-number-preserved
 loop-number-preserved g c =
     let m = c.args.model.now in
-    let n = c.loop-number.model in
-    let which = c.args.sequence in
-    let block = c.args.block in
-    let number = c.loop-number.number in
-    let answer = chosen_same which block number c.is_chosen.result _ n.chip _ n.layout c.is_chosen.ensures
-    c.chip-in-loop-number.ensures.chip c.layout.ensures.layout in
-    each_more g.R.Recorder _ _ _ _ _ _ (visit_all which m.chip m.layout block) number _ _
-    (same_plan (λ h y. visit_all which h y block number) m n c.loop-number.invariant.stays.parts) c.loop-number.invariant
-    (follows_same g.R.Recorder _ _ _ _ _ (visit_all which n.chip n.layout block number) _
-    (chosen_is (is_chosen which n.chip n.layout block number) _ (sym answer ∙ c.if-not-is_chosen.false))
-    c.in_ok-visit_places.ensures.follows)
+    let f = visit_all c.args.sequence m.chip m.layout c.args.block in
+    each_more g.R.Recorder _ _ _ _ _ _ f c.loop-number.number (f c.loop-number.number) _ refl c.loop-number.invariant
+    (item_followed g.R.Recorder m c.args.sequence c.args.block c.loop-number.number c.is_chosen.result _ _ _ _ _ _ _
+    c.loop-number.invariant.stays.parts c.is_chosen.ensures c.chip-in-loop-number.ensures.chip c.layout.ensures.layout
+    c.if-not-is_chosen.false c.in_ok-visit_places.ensures.follows)
 
 pub loop-number-preserved-then-not-is_chosen : goal.loop-number-preserved-then-not-is_chosen
 loop-number-preserved-then-not-is_chosen g c =
@@ -38,20 +31,14 @@ loop-number-preserved-then-not-is_chosen g c =
 pub returns-in_err-visit_places : goal.returns-in_err-visit_places
 returns-in_err-visit_places g c =
     let m = c.args.model.now in
-    let n = c.loop-number.model in
-    let which = c.args.sequence in
-    let block = c.args.block in
-    let number = c.loop-number.number in
-    let answer = chosen_same which block number c.is_chosen.result _ n.chip _ n.layout c.is_chosen.ensures
-    c.chip-in-loop-number.ensures.chip c.layout.ensures.layout in
-    let count = c.items-number-end.ensures ∙ ap (items_of which) c.chip.ensures.chip in
+    let f = visit_all c.args.sequence m.chip m.layout c.args.block in
+    let count = c.items-number-end.ensures ∙ ap (items_of c.args.sequence) c.chip.ensures.chip in
     record {
-      follows = each_broke g.R.Recorder _ _ _ _ _ _ _ (visit_all which m.chip m.layout block) number (items_of which m.chip) _ _
-          c.from_residual.result (same_plan (λ h y. visit_all which h y block number) m n c.loop-number.invariant.stays.parts)
-          (omega arith) c.loop-number.invariant
-          (follows_same g.R.Recorder _ _ _ _ _ (visit_all which n.chip n.layout block number) _
-          (chosen_is (is_chosen which n.chip n.layout block number) _ (sym answer ∙ c.if-not-is_chosen.false))
-          c.in_err-visit_places.ensures.follows)
+      follows = each_broke g.R.Recorder _ _ _ _ _ _ _ f c.loop-number.number (items_of c.args.sequence m.chip)
+          (f c.loop-number.number) _ c.from_residual.result refl (omega arith) c.loop-number.invariant
+          (item_followed g.R.Recorder m c.args.sequence c.args.block c.loop-number.number c.is_chosen.result _ _ _ _ _ _ _
+          c.loop-number.invariant.stays.parts c.is_chosen.ensures c.chip-in-loop-number.ensures.chip c.layout.ensures.layout
+          c.if-not-is_chosen.false c.in_err-visit_places.ensures.follows)
           c.from_residual.ensures.0;
     }
 
