@@ -1,6 +1,6 @@
 -- A deaf register in the access test: what is written there is believed, and the check by the backdoor finds what it kept.
 use Rattle.std.proofs.Common.{◌≡◌, ℕ, ◌+◌, ◌-◌, ◌*◌, ◌%◌, ◌^◌, ◌<◌, ◌≤◌, bit_and, Bool, true, false, not, ◌&&◌, List, length}
-use Rattle.std.proofs.Common.{Option, Some, Ok, Err, MatchResult, refl, sym, ap, ◌∙◌, subst, arith}
+use Rattle.std.proofs.Common.{Option, Some, Ok, Err, MatchResult, refl, sym, ap, ◌∙◌, subst, inr, arith}
 use Rattle.std.specs.Prelude.{slice_index}
 use Rattle.std.specs.Option.{option_map_or}
 use Rattle.std.proofs.Math.Pow.{pow_mono}
@@ -13,12 +13,14 @@ use Rattle.rl_bus.specs.declared.table.Cell.TheVariants as cell
 use Rattle.rl_bus.specs.Setup.{Setup}
 use Rattle.rl_bus.specs.State.{poked}
 use Rattle.rl_model.specs.Rows.{FieldSeen, ChipData}
+use Rattle.rl_model.specs.Chip.{IsSound as IsChip}
 use Rattle.rl_model.specs.Fields.{fields_of, policy_in, size_of, place_at}
 use Rattle.rl_model.specs.declared.rows.Item.TheVariants.{Reg}
 use Rattle.rl_map.specs.Layout.{LayoutData}
+use Rattle.rl_split.specs.Step.{Register, every}
 use Rattle.rl_mirror.specs.Fields.{owned}
-use Rattle.rl_mirror.specs.Mirror.{MirrorData, mirrored_of}
-use Rattle.rl_mirror.specs.Prediction.{predict_write, predict_read, predict_raw, shown}
+use Rattle.rl_mirror.specs.Mirror.{MirrorData, IsMirrorOf, mirrored_of, marks_in}
+use Rattle.rl_mirror.specs.Prediction.{predict_read, predict_raw, shown}
 use Rattle.rl_mirror.proofs.ReachLemmas.{raw_reach}
 use Rattle.rl_mirror.proofs.WordLemmas.{bit-word_by_field}
 use Rattle.rl_access.specs.declared.event.End.TheVariants as end
@@ -28,63 +30,68 @@ use Rattle.rl_access.specs.declared.event.Op.TheVariants as op
 use Rattle.rl_access.specs.Call.{Scene, IsDone, IsRefused, Performs}
 use Rattle.rl_access.specs.Model.{ModelData, IsModel}
 use Rattle.rl_access.specs.Operation.{HasNumbers}
-use Rattle.rl_access.specs.Rules.{Grant, grant, every_field, back_value}
+use Rattle.rl_access.specs.Rules.{Grant, grant, every_field, back_value, back_written}
 use Rattle.rl_access.proofs.Bytes.{bytes_bits}
+use Rattle.rl_plain.specs.Agree.{believed}
+use Rattle.rl_plain.specs.OneStep.{Step, write_step, read_step}
+use Rattle.rl_plain.proofs.Agreement.{IsSame, other_same}
 use Rattle.rl_plain.proofs.Answered.{done_of}
 use Rattle.rl_plain.proofs.Backdoor.{alone_by, peeked_is, raw_other}
+use Rattle.rl_plain.proofs.Followed.{FollowsStep}
 use Rattle.rl_plain.proofs.Kept.{IsKept, raw_built, read_kept}
 use Rattle.rl_seq.proofs.Choosing.{size_most}
 use Rattle.rl_seq.specs.Choice.{turned_round}
-use Rattle.rl_finds.proofs.Bashing.{IsStuckSetup, Holding, from_own, write_done, check_done}
+use Rattle.rl_finds.proofs.Bashing.{IsStuckSetup, Holding, unmarked_bits, from_own, write_done, check_done}
 use Rattle.rl_finds.proofs.Checks.{read_other}
 
 -- ---- what stands
 
--- the bit is believed as it is held
-pub record Agreeing (c : ChipData) (l : LayoutData) (t : Setup) (reg b : ℕ) (v : Bool) (s : Scene) : Type 0 where
+-- the register is believed as it was, while other registers are accessed
+pub record Agreeing (c : ChipData) (l : LayoutData) (t : Setup) (reg b : ℕ) (v : Bool) (kept : Register) (s : Scene) : Type 0 where
   pub holding : Holding c l t reg b v s
-  pub believed : bit (mirrored_of s.model.mirror reg) b ≡ v
+  pub as_before : IsSame c reg kept (believed c s.model.mirror reg)
+
+further : (c : ChipData) (reg : ℕ) (x y z : Register) → IsSame c reg x y → IsSame c reg y z → IsSame c reg x z
+further c reg x y z h k = record { bits = h.bits ∙ k.bits; marks = λ j inside. h.marks j inside ∙ k.marks j inside }
+
+of_others : (c : ChipData) (l : LayoutData) (t : Setup) (reg b : ℕ) (v : Bool) (kept : Register) (s new : Scene) (n : ℕ) (step : Step) (r : Register)
+    → Agreeing c l t reg b v kept s → Holding c l t reg b v new → reg < length c.regs → (reg ≡ n → ⊥) → FollowsStep c n s.model.mirror new.model.mirror r step
+    → Agreeing c l t reg b v kept new
+of_others c l t reg b v kept s new n step r h stands inside other follows =
+    let w = h.holding in
+    record {
+      holding = stands;
+      as_before = further c reg kept (believed c s.model.mirror reg) (believed c new.model.mirror reg) h.as_before
+          (other_same c n reg s.model.mirror new.model.mirror r step (subst IsChip w.chip w.model.chip) inside other
+          (subst (λ (x : ChipData). IsMirrorOf x s.model.mirror) w.chip w.model.mirror) follows);
+    }
 
 -- ---- over the bus, of other registers
 
-write_other : (c : ChipData) (n q value fields : ℕ) (m : MirrorData) → (q ≡ n → ⊥) → mirrored_of (predict_write c n value fields m) q ≡ mirrored_of m q
-unfolding predict_write
-write_other c n q value fields m other = get_or-set_other m.mirrored n q _ 0 other
-
-read_others : (c : ChipData) (n q value fields : ℕ) (m : MirrorData) → (q ≡ n → ⊥) → mirrored_of (predict_read c n value fields m) q ≡ mirrored_of m q
-unfolding predict_read
-read_others c n q value fields m other = get_or-set_other m.mirrored n q _ 0 other
-
 -- refused or done
-by_grant : (c : ChipData) (l : LayoutData) (t : Setup) (reg b : ℕ) (v : Bool) (s new : Scene) (o : Op) (e : Event) (g : Grant) → grant s.model o ≡ g
-    → Agreeing c l t reg b v s → ((place : ℕ) → grant s.model o ≡ Ok place → Agreeing c l t reg b v new)
-    → MatchResult g (λ place. IsDone s new o place e) (λ why. IsRefused s new o why e) → Agreeing c l t reg b v new
-by_grant c l t reg b v s new o e (Ok place) granted h done is = done place granted
-by_grant c l t reg b v s new o e (Err why) granted h done refused = subst (Agreeing c l t reg b v) (sym refused.unchanged) h
+by_grant : (c : ChipData) (l : LayoutData) (t : Setup) (reg b : ℕ) (v : Bool) (kept : Register) (s new : Scene) (o : Op) (e : Event) (g : Grant) → grant s.model o ≡ g
+    → Agreeing c l t reg b v kept s → ((place : ℕ) → grant s.model o ≡ Ok place → Agreeing c l t reg b v kept new)
+    → MatchResult g (λ place. IsDone s new o place e) (λ why. IsRefused s new o why e) → Agreeing c l t reg b v kept new
+by_grant c l t reg b v kept s new o e (Ok place) granted h done is = done place granted
+by_grant c l t reg b v kept s new o e (Err why) granted h done refused = subst (Agreeing c l t reg b v kept) (sym refused.unchanged) h
 
-pub write_agrees : (c : ChipData) (l : LayoutData) (t : Setup) (reg b : ℕ) (v : Bool) (n : ℕ) (map : Option ℕ) (value : ℕ) → IsStuckSetup c l t reg b v
-    → HasNumbers c (length l.maps) (op.Write n map value) → (reg ≡ n → ⊥) → (s new : Scene) (e : Event) → Agreeing c l t reg b v s
-    → Performs s new (op.Write n map value) e → Agreeing c l t reg b v new
-write_agrees c l t reg b v n map value is numbers other s new e h performs =
-    by_grant c l t reg b v s new (op.Write n map value) e (grant s.model (op.Write n map value)) refl h
+pub write_agrees : (c : ChipData) (l : LayoutData) (t : Setup) (reg b : ℕ) (v : Bool) (kept : Register) (n : ℕ) (map : Option ℕ) (value : ℕ) → IsStuckSetup c l t reg b v
+    → HasNumbers c (length l.maps) (op.Write n map value) → (reg ≡ n → ⊥) → (s new : Scene) (e : Event) → Agreeing c l t reg b v kept s
+    → Performs s new (op.Write n map value) e → Agreeing c l t reg b v kept new
+write_agrees c l t reg b v kept n map value is numbers other s new e h performs =
+    by_grant c l t reg b v kept s new (op.Write n map value) e (grant s.model (op.Write n map value)) refl h
     (λ place granted.
     let w = write_done c l s new t reg b v n map value place e is h.holding numbers granted performs in
-    record {
-      holding = w.stands;
-      believed = ap (λ (m : MirrorData). bit (mirrored_of m reg) b) w.predicted.is ∙ ap (λ x. bit x b) (write_other c n reg value w.predicted.fields s.model.mirror other) ∙ h.believed;
-    }) performs
+    of_others c l t reg b v kept s new n (write_step every value) (believed c s.model.mirror n) h w.stands is.reg_in other w.predicted) performs
 
-pub check_agrees : (c : ChipData) (l : LayoutData) (t : Setup) (reg b : ℕ) (v : Bool) (n : ℕ) (map : Option ℕ) → IsStuckSetup c l t reg b v
-    → HasNumbers c (length l.maps) (op.Check n map) → (reg ≡ n → ⊥) → (s new : Scene) (e : Event) → Agreeing c l t reg b v s
-    → Performs s new (op.Check n map) e → Agreeing c l t reg b v new
-check_agrees c l t reg b v n map is numbers other s new e h performs =
-    by_grant c l t reg b v s new (op.Check n map) e (grant s.model (op.Check n map)) refl h
+pub check_agrees : (c : ChipData) (l : LayoutData) (t : Setup) (reg b : ℕ) (v : Bool) (kept : Register) (n : ℕ) (map : Option ℕ) → IsStuckSetup c l t reg b v
+    → HasNumbers c (length l.maps) (op.Check n map) → (reg ≡ n → ⊥) → (s new : Scene) (e : Event) → Agreeing c l t reg b v kept s
+    → Performs s new (op.Check n map) e → Agreeing c l t reg b v kept new
+check_agrees c l t reg b v kept n map is numbers other s new e h performs =
+    by_grant c l t reg b v kept s new (op.Check n map) e (grant s.model (op.Check n map)) refl h
     (λ place granted.
-    let w = check_done c l s new t reg b v n map place e is h.holding numbers granted performs in
-    record {
-      holding = w.stands;
-      believed = ap (λ (m : MirrorData). bit (mirrored_of m reg) b) w.predicted.is ∙ ap (λ x. bit x b) (read_others c n reg _ w.predicted.fields s.model.mirror other) ∙ h.believed;
-    }) performs
+    let w = check_done c l s new t reg b v n map place e is (inr (λ same. other (sym same))) h.holding numbers granted performs in
+    of_others c l t reg b v kept s new n (read_step every) (unmarked_bits w.bits) h w.stands is.reg_in other w.predicted) performs
 
 -- ---- by the backdoor, of other registers
 
@@ -115,51 +122,68 @@ deposit_stays s new t reg b v q x mirror h kept goes is other =
       here = ap (λ n. bit n b) (get_or-set_other h.device.bits q reg _ 0 other) ∙ h.here;
     }
 
-back_write_own : (s new : Scene) (t : Setup) (reg b : ℕ) (v : Bool) (q value place : ℕ) (e : Event) → Agreeing s.model.chip s.model.layout t reg b v s
-    → q < length s.model.chip.regs → (reg ≡ q → ⊥) → IsDone s new (op.BackWrite q value) place e → Agreeing s.model.chip s.model.layout t reg b v new
-back_write_own s new t reg b v q value place e h inside other done =
+raw_spent : (c : ChipData) (q value : ℕ) (m : MirrorData) → (predict_raw c q value m).spent ≡ m.spent
+unfolding predict_raw
+raw_spent c q value m = refl
+
+read_spent : (c : ChipData) (q value : ℕ) (m : MirrorData) → (predict_read c q value every_field m).spent ≡ m.spent
+unfolding predict_read
+read_spent c q value m = refl
+
+-- the same bits of this register, and the same marks
+still_same : (c : ChipData) (reg : ℕ) (old new : MirrorData) → mirrored_of new reg ≡ mirrored_of old reg → new.spent ≡ old.spent → IsSame c reg (believed c old reg) (believed c new reg)
+still_same c reg old new bits marks = record { bits = sym bits; marks = λ k inside. ap (λ xs. marks_in c xs reg k) (sym marks) }
+
+back_write_own : (s new : Scene) (t : Setup) (reg b : ℕ) (v : Bool) (kept : Register) (q value place : ℕ) (e : Event) → Agreeing s.model.chip s.model.layout t reg b v kept s
+    → q < length s.model.chip.regs → (reg ≡ q → ⊥) → IsDone s new (op.BackWrite q value) place e → Agreeing s.model.chip s.model.layout t reg b v kept new
+back_write_own s new t reg b v kept q value place e h inside other done =
     let m = s.model in
     let c = m.chip in
     let w = h.holding in
     let by = alone_by s new (op.BackWrite q value) e place w.device done w.told refl in
-    let kept : IsKept c (predict_raw c q _ m.mirror) = record {
-      built = raw_built c q _ m.mirror w.model.chip inside w.model.mirror;
-      reach = raw_reach c q _ m.mirror inside w.model.mirror w.model.reach;
+    let written = back_written m q value done.sampled in
+    let sound : IsKept c (predict_raw c q written m.mirror) = record {
+      built = raw_built c q written m.mirror w.model.chip inside w.model.mirror;
+      reach = raw_reach c q written m.mirror inside w.model.mirror w.model.reach;
     } in
     record {
-      holding = deposit_stays s new t reg b v q _ _ w kept by.told by.model other;
-      believed = ap (λ (y : ModelData). bit (mirrored_of y.mirror reg) b) by.model ∙ ap (λ x. bit x b) (raw_other c q _ reg m.mirror other) ∙ h.believed;
+      holding = deposit_stays s new t reg b v q _ _ w sound by.told by.model other;
+      as_before = further c reg kept (believed c m.mirror reg) (believed c new.model.mirror reg) h.as_before
+          (subst (λ (y : ModelData). IsSame c reg (believed c m.mirror reg) (believed c y.mirror reg)) (sym by.model)
+          (still_same c reg m.mirror (predict_raw c q written m.mirror) (raw_other c q written reg m.mirror other) (raw_spent c q written m.mirror)));
     }
 
-back_check_own : (s new : Scene) (t : Setup) (reg b : ℕ) (v : Bool) (q place : ℕ) (e : Event) → Agreeing s.model.chip s.model.layout t reg b v s
-    → q < length s.model.chip.regs → (reg ≡ q → ⊥) → IsDone s new (op.BackCheck q) place e → Agreeing s.model.chip s.model.layout t reg b v new
-back_check_own s new t reg b v q place e h inside other done =
+back_check_own : (s new : Scene) (t : Setup) (reg b : ℕ) (v : Bool) (kept : Register) (q place : ℕ) (e : Event) → Agreeing s.model.chip s.model.layout t reg b v kept s
+    → q < length s.model.chip.regs → (reg ≡ q → ⊥) → IsDone s new (op.BackCheck q) place e → Agreeing s.model.chip s.model.layout t reg b v kept new
+back_check_own s new t reg b v kept q place e h inside other done =
     let m = s.model in
     let c = m.chip in
     let w = h.holding in
     let by = alone_by s new (op.BackCheck q) e place w.device done w.told refl in
-    let kept = read_kept c q (back_value m q done.sampled) every_field m.mirror w.model.chip inside (record { built = w.model.mirror; reach = w.model.reach }) in
+    let read = back_value m q done.sampled in
+    let sound = read_kept c q read every_field m.mirror w.model.chip inside (record { built = w.model.mirror; reach = w.model.reach }) in
     record {
-      holding = deposit_stays s new t reg b v q _ _ w kept by.told by.model other;
-      believed = ap (λ (y : ModelData). bit (mirrored_of y.mirror reg) b) by.model
-          ∙ ap (λ x. bit x b) (read_other c q (back_value m q done.sampled) reg m.mirror other) ∙ h.believed;
+      holding = deposit_stays s new t reg b v q _ _ w sound by.told by.model other;
+      as_before = further c reg kept (believed c m.mirror reg) (believed c new.model.mirror reg) h.as_before
+          (subst (λ (y : ModelData). IsSame c reg (believed c m.mirror reg) (believed c y.mirror reg)) (sym by.model)
+          (still_same c reg m.mirror (predict_read c q read every_field m.mirror) (read_other c q read reg m.mirror other) (read_spent c q read m.mirror)));
     }
 
-pub back_write_agrees : (c : ChipData) (l : LayoutData) (t : Setup) (reg b : ℕ) (v : Bool) (q value : ℕ) → q < length c.regs → (reg ≡ q → ⊥)
-    → (s new : Scene) (e : Event) → Agreeing c l t reg b v s → Performs s new (op.BackWrite q value) e → Agreeing c l t reg b v new
-back_write_agrees c l t reg b v q value inside other s new e h performs =
-    by_grant c l t reg b v s new (op.BackWrite q value) e (grant s.model (op.BackWrite q value)) refl h
+pub back_write_agrees : (c : ChipData) (l : LayoutData) (t : Setup) (reg b : ℕ) (v : Bool) (kept : Register) (q value : ℕ) → q < length c.regs → (reg ≡ q → ⊥)
+    → (s new : Scene) (e : Event) → Agreeing c l t reg b v kept s → Performs s new (op.BackWrite q value) e → Agreeing c l t reg b v kept new
+back_write_agrees c l t reg b v kept q value inside other s new e h performs =
+    by_grant c l t reg b v kept s new (op.BackWrite q value) e (grant s.model (op.BackWrite q value)) refl h
     (λ place granted.
-    from_own c l s.model (λ x y. q < length x.regs → Agreeing x y t reg b v s → Agreeing x y t reg b v new) h.holding.chip h.holding.layout
-    (λ inside h. back_write_own s new t reg b v q value place e h inside other (done_of s new (op.BackWrite q value) place e granted performs)) inside h) performs
+    from_own c l s.model (λ x y. q < length x.regs → Agreeing x y t reg b v kept s → Agreeing x y t reg b v kept new) h.holding.chip h.holding.layout
+    (λ inside h. back_write_own s new t reg b v kept q value place e h inside other (done_of s new (op.BackWrite q value) place e granted performs)) inside h) performs
 
-pub back_check_agrees : (c : ChipData) (l : LayoutData) (t : Setup) (reg b : ℕ) (v : Bool) (q : ℕ) → q < length c.regs → (reg ≡ q → ⊥)
-    → (s new : Scene) (e : Event) → Agreeing c l t reg b v s → Performs s new (op.BackCheck q) e → Agreeing c l t reg b v new
-back_check_agrees c l t reg b v q inside other s new e h performs =
-    by_grant c l t reg b v s new (op.BackCheck q) e (grant s.model (op.BackCheck q)) refl h
+pub back_check_agrees : (c : ChipData) (l : LayoutData) (t : Setup) (reg b : ℕ) (v : Bool) (kept : Register) (q : ℕ) → q < length c.regs → (reg ≡ q → ⊥)
+    → (s new : Scene) (e : Event) → Agreeing c l t reg b v kept s → Performs s new (op.BackCheck q) e → Agreeing c l t reg b v kept new
+back_check_agrees c l t reg b v kept q inside other s new e h performs =
+    by_grant c l t reg b v kept s new (op.BackCheck q) e (grant s.model (op.BackCheck q)) refl h
     (λ place granted.
-    from_own c l s.model (λ x y. q < length x.regs → Agreeing x y t reg b v s → Agreeing x y t reg b v new) h.holding.chip h.holding.layout
-    (λ inside h. back_check_own s new t reg b v q place e h inside other (done_of s new (op.BackCheck q) place e granted performs)) inside h) performs
+    from_own c l s.model (λ x y. q < length x.regs → Agreeing x y t reg b v kept s → Agreeing x y t reg b v kept new) h.holding.chip h.holding.layout
+    (λ inside h. back_check_own s new t reg b v kept q place e h inside other (done_of s new (op.BackCheck q) place e granted performs)) inside h) performs
 
 -- ---- by the backdoor, of this one
 

@@ -1,30 +1,33 @@
 -- Writes and checks of registers over a device with one stuck bit.
-use Rattle.std.proofs.Common.{◌≡◌, ℕ, ◌^◌, ◌<◌, bit_xor, Bool, true, false, not, List, [], ◌∷◌, length, All, if◌then◌else◌}
-use Rattle.std.proofs.Common.{Option, None, Some, option_map, Ok, Err, MatchResult, refl, sym, ap, ◌∙◌, subst, eqb}
+use Rattle.std.proofs.Common.{◌≡◌, ◌≢◌, ◌⊎◌, ℕ, ◌^◌, ◌<◌, bit_xor, Bool, true, false, not, List, [], ◌∷◌, length, All, if◌then◌else◌}
+use Rattle.std.proofs.Common.{Option, None, Some, option_map, Ok, Err, MatchResult, refl, sym, ap, ◌∙◌, subst, eqb, inl, inr}
 use Rattle.std.specs.Prelude.{slice_index}
 use Rattle.std.specs.Option.{option_map_or}
 use Rattle.std.proofs.lemmas.List.{get_or-replicate, get_or-set_same, length-replicate}
-use Rattle.std.proofs.lemmas.List.Elements.{All-map}
-use Rattle.std.proofs.lemmas.Nat.Bits.{bit_at-pow_same}
+use Rattle.std.proofs.lemmas.Bool.{cases_eq}
+use Rattle.std.proofs.lemmas.List.Elements.{All-nil, All-cons, All-head, All-tail, All-map}
+use Rattle.std.proofs.lemmas.Nat.Bits.{bit_at-pow_same, bit_at-pow_other}
 use Rattle.rl_policy.proofs.BitLemmas.{bit-from_bits, bit-xor, bit-zero}
 use Rattle.rl_policy.specs.Bits.{bit}
 use Rattle.rl_policy.specs.Table.{after_write, after_read, is_write_only, either_alone}
 use Rattle.rl_policy.specs.declared.policy.Policy.{Policy}
 use Rattle.rl_bus.specs.declared.op.Answer.{Answer}
 use Rattle.rl_bus.specs.declared.op.BusOp.{BusOp}
-use Rattle.rl_bus.specs.Setup.{Setup}
+use Rattle.rl_bus.specs.Setup.{Setup, stuck_at, or_else}
 use Rattle.rl_bus.specs.Standing.{Standing, standing_at}
 use Rattle.rl_bus.specs.State.{State, answer_of, state_after}
 use Rattle.rl_model.specs.Rows.{FieldSeen, ChipData}
 use Rattle.rl_model.specs.Chip.{IsSound as IsChip}
 use Rattle.rl_model.specs.Fields.{fields_of, policy_in, place_at}
+use Rattle.rl_model.specs.declared.rows.Item.TheVariants.{Reg}
 use Rattle.rl_map.specs.Layout.{LayoutData, IsSound as IsLayout, port_at, place_at as row_at}
 use Rattle.rl_map.specs.Maps.{IsBuiltWith}
 use Rattle.rl_map.specs.Tables.{setup_of}
-use Rattle.rl_split.specs.Access.{op_of, sent_of, ops_of}
+use Rattle.rl_split.specs.Access.{all_bytes, op_of, sent_of, ops_of}
 use Rattle.rl_split.specs.Law.{no_flaws}
-use Rattle.rl_split.specs.Runs.{answers_of}
+use Rattle.rl_split.specs.Runs.{answers_of, state_after_all as ops_after}
 use Rattle.rl_split.specs.Step.{Register, every, wstep, ranswer, written_bit, shown_bit}
+use Rattle.rl_split.proofs.Steps.{none_failed}
 use Rattle.rl_mirror.specs.Mirror.{MirrorData, IsMirrorOf, mirrored_of}
 use Rattle.rl_mirror.specs.Prediction.{predict_read, learned_by_read, learned_bit}
 use Rattle.rl_mirror.specs.Reachable.{IsReachable}
@@ -42,19 +45,21 @@ use Rattle.rl_access.specs.Laws.{ChecksRegister}
 use Rattle.rl_access.specs.Model.{ModelData, IsModel}
 use Rattle.rl_access.specs.Operation.{register_of, HasNumbers}
 use Rattle.rl_access.specs.Rules.{Grant, grant, sends, forgotten, forgetting, found_by, device_after, Outcome, or_error}
+use Rattle.rl_access.proofs.Places.{place_size}
 use Rattle.rl_access.proofs.Setups.{setup-state_after_all}
 use Rattle.rl_plain.specs.Agree.{believed}
 use Rattle.rl_plain.specs.OneStep.{IsAccess, Meets, write_step, step_of}
 use Rattle.rl_plain.proofs.Accesses.{IsStepped}
 use Rattle.rl_plain.proofs.Agreement.{here_same}
-use Rattle.rl_plain.proofs.Answered.{done_of}
+use Rattle.rl_plain.proofs.Answered.{answered, done_of}
 use Rattle.rl_plain.proofs.EachAccess.{one_step}
 use Rattle.rl_plain.proofs.Followed.{IsPredictedWrite, IsPredictedRead}
+use Rattle.rl_plain.proofs.Granted.{way_found, place_for}
 use Rattle.rl_plain.proofs.Kept.{step_kept}
 use Rattle.rl_plain.proofs.Registers.{bit-ranswer}
 use Rattle.rl_finds.proofs.Checks.{forgotten_built}
-use Rattle.rl_finds.proofs.DeafWalk.{all_reads}
-use Rattle.rl_finds.proofs.StuckBit.{unstuck, plain, IsFirm, all_still, reads_plain}
+use Rattle.rl_finds.proofs.ReadsAlike.{IsReadOver, IsReadAlike, read_alike}
+use Rattle.rl_finds.proofs.StuckBit.{unstuck, plain, IsFirm, HoldsStuck, firm_holds, IsStill, all_still}
 use Rattle.rl_finds.proofs.Twins.{AreAlike, items_alike, writes_alike}
 use Rattle.rl_finds.proofs.Wrong.{shows}
 
@@ -140,9 +145,9 @@ bashed : (s new : Scene) (t : Setup) (reg b : ℕ) (v : Bool) (o : Op) (place n 
     → register_of s.model.chip o ≡ Some n → n < length s.model.chip.regs → grant s.model o ≡ Ok place → IsDone s new o place e
     → answers_of (plain h.device) (port_for s.model.layout place) (sends s.model o place) ≡ answers_of h.device (port_for s.model.layout place) (sends s.model o place)
     → found_by (plain h.device) o ≡ found_by h.device o → ((x : State) (k : ℕ) → device_after s.model o k e.trace x ≡ state_after_all x e.trace)
-    → new.model.gathered ≡ forgotten s.model.layout place s.model.gathered
+    → new.model.gathered ≡ forgotten s.model.layout place s.model.gathered → IsStill reg b v h.device (state_after_all h.device e.trace)
     → IsBashed s new t reg b v o place n e h.device
-bashed s new t reg b v o place n e is h access numbers register inside granted done same found after gathered =
+bashed s new t reg b v o place n e is h access numbers register inside granted done same found after gathered still =
     let m = s.model in
     let c = m.chip in
     let l = m.layout in
@@ -160,7 +165,6 @@ bashed s new t reg b v o place n e is h access numbers register inside granted d
     } in
     let st = one_step (over s x) (over new (state_after_all x e.trace)) o e place n x (unmarked d n) access numbers register meets granted
     (over_done s new o place e d h.told same found (after x (found_by d o)) done) in
-    let still = all_still t d reg b v e.trace is.alone h.setup in
     let alike : AreAlike d x = record { deaf = []; stuck = []; setup = refl; beats = refl; items = refl } in
     let beats : (state_after_all x e.trace).beats ≡ next.beats = (items_alike d x e.trace alike).beats in
     let came : state_after_all x e.trace ≡ st.stepped.after = some_is st.stepped.told in
@@ -197,6 +201,25 @@ all_writes : (l : LayoutData) (place index chosen value : ℕ) → All (λ (o : 
 unfolding ops_of
 all_writes l place index chosen value = All-map (λ (o : BusOp). o.write ≡ true) (op_of l place chosen value true) (sent_of l place index chosen) (λ k d low. refl)
 
+abbrev Writes : BusOp → Type 0
+Writes op = op.write ≡ true
+
+abbrev IsOfWrite : TraceItem → Type 0
+IsOfWrite item = item.op.write ≡ true
+
+unless_failed : (f : Bool) (more : List TraceItem) → All (λ (item : TraceItem). item.op.write ≡ true) more → All (λ (item : TraceItem). item.op.write ≡ true) (if f then [] else more)
+unless_failed true more all = All-nil IsOfWrite
+unless_failed false more all = all
+
+items_written : (a : Standing) (d : State) (port : ℕ) (ops : List BusOp) → All (λ (op : BusOp). op.write ≡ true) ops
+    → All (λ (item : TraceItem). item.op.write ≡ true) (items_of a d port ops)
+items_written a d port [] all = All-nil IsOfWrite
+items_written a d port (op ∷ ops) all =
+    let first = item_of a port op (answer_of d port op) in
+    let more = items_of (took_item a first) (state_after d port op) port ops in
+    All-cons IsOfWrite first (if first.answer.failed then [] else more) (All-head Writes op ops all)
+    (unless_failed first.answer.failed more (items_written (took_item a first) (state_after d port op) port ops (All-tail Writes op ops all)))
+
 wrote : (s new : Scene) (t : Setup) (reg b : ℕ) (v : Bool) (n : ℕ) (map : Option ℕ) (value place : ℕ) (e : Event) → IsStuckSetup s.model.chip s.model.layout t reg b v
     → (h : Holding s.model.chip s.model.layout t reg b v s) → HasNumbers s.model.chip (length s.model.layout.maps) (op.Write n map value)
     → grant s.model (op.Write n map value) ≡ Ok place → IsDone s new (op.Write n map value) place e
@@ -204,22 +227,58 @@ wrote : (s new : Scene) (t : Setup) (reg b : ℕ) (v : Bool) (n : ℕ) (map : Op
 wrote s new t reg b v n map value place e is h numbers granted done =
     let d = h.device in
     let alike : AreAlike d (plain d) = record { deaf = []; stuck = []; setup = refl; beats = refl; items = refl } in
-    bashed s new t reg b v (op.Write n map value) place n e is h tt numbers refl numbers.0 granted done
-    (writes_alike d (plain d) (port_for s.model.layout place) (sends s.model (op.Write n map value) place) alike (all_writes s.model.layout place 0 _ value))
-    refl (λ x k. refl)
+    let port = port_for s.model.layout place in
+    let ops = sends s.model (op.Write n map value) place in
+    let writes = all_writes s.model.layout place 0 _ value in
+    bashed s new t reg b v (op.Write n map value) place n e is h tt numbers refl numbers.0 granted done (writes_alike d (plain d) port ops alike writes) refl (λ x k. refl)
     (ap (λ (m : ModelData). m.gathered) done.model ∙ kept_gathered (failed_at e.trace) (forgetting s.model place) _ refl)
+    (all_still t d reg b v e.trace is.alone h.setup
+    (subst (All IsOfWrite) (sym (done.answers d h.told)) (items_written (standing_at s.adapters (adapter_for s.model.layout place)) d port ops writes)))
+
+-- a check leaves the bit where it is stuck, or of another register
+abbrev pub Lasts : Setup → (reg b : ℕ) → Bool → (n : ℕ) → Type 0
+Lasts t reg b v n = (stuck_at t reg b ≡ Some v) ⊎ (n ≡ reg → ⊥)
+
+bit_lasts : (t : Setup) (d : State) (reg b : ℕ) (v : Bool) (n port : ℕ) (ops : List BusOp) (words : List ℕ) → IsReadOver d port n ops words → d.setup ≡ t → b < 64
+    → Lasts t reg b v n → bit (slice_index d.bits reg) b ≡ v → bit (slice_index (ops_after d port ops).bits reg) b ≡ v
+bit_lasts t d reg b v n port ops words over at low lasts so = by lasts (cases_eq n reg)
+  where
+    apart : (n ≡ reg → ⊥) → bit (slice_index (ops_after d port ops).bits reg) b ≡ v
+    apart other = ap (λ x. bit x b) (over.others reg (λ same. other (sym same))) ∙ so
+
+    by : Lasts t reg b v n → (n ≡ reg) ⊎ (n ≡ reg → ⊥) → bit (slice_index (ops_after d port ops).bits reg) b ≡ v
+    by (inr other) at = apart other
+    by (inl stuck) (inr other) = apart other
+    by (inl stuck) (inl same) =
+        let after = λ (q : ℕ). bit (slice_index (ops_after d port ops).bits q) b in
+        ap after (sym same) ∙ sym (over.stuck b low)
+        ∙ ap (λ o. or_else o (after n)) (ap (λ (u : Setup). stuck_at u n b) at ∙ ap (λ q. stuck_at t q b) same ∙ stuck)
 
 checked : (s new : Scene) (t : Setup) (reg b : ℕ) (v : Bool) (n : ℕ) (map : Option ℕ) (place : ℕ) (e : Event) → IsStuckSetup s.model.chip s.model.layout t reg b v
-    → (h : Holding s.model.chip s.model.layout t reg b v s) → HasNumbers s.model.chip (length s.model.layout.maps) (op.Check n map)
+    → Lasts t reg b v n → (h : Holding s.model.chip s.model.layout t reg b v s) → HasNumbers s.model.chip (length s.model.layout.maps) (op.Check n map)
     → grant s.model (op.Check n map) ≡ Ok place → IsDone s new (op.Check n map) place e
     → IsBashed s new t reg b v (op.Check n map) place n e h.device
-checked s new t reg b v n map place e is h numbers granted done =
+checked s new t reg b v n map place e is lasts h numbers granted done =
+    let m = s.model in
     let d = h.device in
-    bashed s new t reg b v (op.Check n map) place n e is h tt numbers refl numbers.0 granted done
-    (reads_plain t d reg b v (port_for s.model.layout place) (sends s.model (op.Check n map) place) is.alone h.setup (subst (λ q. reg < q) (sym h.bits) is.reg_in) h.here
-    (all_reads s.model.layout place 0 _))
-    refl (λ x k. refl)
+    let port = port_for m.layout place in
+    let ops = sends m (op.Check n map) place in
+    let way = way_found m (Reg n) map false place granted in
+    let holds = firm_holds t reg b v n (slice_index d.bits n) is.alone (λ same. ap (λ q. bit (slice_index d.bits q) b) same ∙ h.here) in
+    let read : IsReadAlike d port n ops =
+    subst (λ k. IsReadAlike d port n (ops_of m.layout place 0 (all_bytes k) 0 false)) (place_size m (Reg n) place h.model way.there)
+    (read_alike m.chip m.layout d place n (place_for m n place false h.model way) (ap unstuck h.setup ∙ is.plain) h.beats (subst (λ q. n < q) (sym h.bits) numbers.0)
+    (subst (λ (u : Setup). HoldsStuck u n (slice_index d.bits n)) (sym h.setup) holds)) in
+    let fine = subst (All (λ a. a.failed ≡ false)) (sym read.over.answers) (none_failed read.words) in
+    let after : state_after_all d e.trace ≡ ops_after d port ops =
+    ap (state_after_all d) (done.answers d h.told) ∙ (answered (standing_at s.adapters (adapter_for m.layout place)) d port ops fine).state in
+    bashed s new t reg b v (op.Check n map) place n e is h tt numbers refl numbers.0 granted done read.alike refl (λ x k. refl)
     (ap (λ (m : ModelData). m.gathered) done.model ∙ kept_gathered (failed_at e.trace) (forgetting s.model place) _ refl)
+    (record {
+      bits = ap (λ (x : State). length x.bits) after ∙ read.over.bits;
+      marks = ap (λ (x : State). length x.marks) after ∙ ap length read.over.marks;
+      here = λ inside so. ap (λ (x : State). bit (slice_index x.bits reg) b) after ∙ bit_lasts t d reg b v n port ops read.words read.over h.setup is.alone.low lasts so;
+    })
 
 -- ---- of any chip and layout
 
@@ -252,13 +311,13 @@ pub record IsChecked (c : ChipData) (l : LayoutData) (t : Setup) (reg b : ℕ) (
   pub checks : ChecksRegister e.op n
 
 pub check_done : (c : ChipData) (l : LayoutData) (s new : Scene) (t : Setup) (reg b : ℕ) (v : Bool) (n : ℕ) (map : Option ℕ) (place : ℕ) (e : Event)
-    → IsStuckSetup c l t reg b v → Holding c l t reg b v s → HasNumbers c (length l.maps) (op.Check n map) → grant s.model (op.Check n map) ≡ Ok place
+    → IsStuckSetup c l t reg b v → Lasts t reg b v n → Holding c l t reg b v s → HasNumbers c (length l.maps) (op.Check n map) → grant s.model (op.Check n map) ≡ Ok place
     → Performs s new (op.Check n map) e → IsChecked c l t reg b v s new n e
-check_done c l s new t reg b v n map place e is h numbers granted performs =
+check_done c l s new t reg b v n map place e is lasts h numbers granted performs =
     from_own c l s.model
     (λ x y. IsStuckSetup x y t reg b v → Holding x y t reg b v s → HasNumbers x (length y.maps) (op.Check n map) → IsChecked x y t reg b v s new n e) h.chip h.layout
     (λ is h numbers.
-    let st = checked s new t reg b v n map place e is h numbers granted (done_of s new (op.Check n map) place e granted performs) in
+    let st = checked s new t reg b v n map place e is lasts h numbers granted (done_of s new (op.Check n map) place e granted performs) in
     record {
       stands = st.stands;
       bits = slice_index h.device.bits n;
@@ -282,12 +341,12 @@ write_stays c l t reg b v n map value is numbers s new e h performs =
     after_grant c l t reg b v s new (op.Write n map value) e (grant s.model (op.Write n map value)) refl h
     (λ place granted. (write_done c l s new t reg b v n map value place e is h numbers granted performs).stands) performs
 
-pub check_stays : (c : ChipData) (l : LayoutData) (t : Setup) (reg b : ℕ) (v : Bool) (n : ℕ) (map : Option ℕ) → IsStuckSetup c l t reg b v
+pub check_stays : (c : ChipData) (l : LayoutData) (t : Setup) (reg b : ℕ) (v : Bool) (n : ℕ) (map : Option ℕ) → IsStuckSetup c l t reg b v → Lasts t reg b v n
     → HasNumbers c (length l.maps) (op.Check n map) → (s new : Scene) (e : Event) → Holding c l t reg b v s → Performs s new (op.Check n map) e
     → Holding c l t reg b v new
-check_stays c l t reg b v n map is numbers s new e h performs =
+check_stays c l t reg b v n map is lasts numbers s new e h performs =
     after_grant c l t reg b v s new (op.Check n map) e (grant s.model (op.Check n map)) refl h
-    (λ place granted. (check_done c l s new t reg b v n map place e is h numbers granted performs).stands) performs
+    (λ place granted. (check_done c l s new t reg b v n map place e is lasts h numbers granted performs).stands) performs
 
 -- ---- the mirrored bit
 
@@ -337,6 +396,10 @@ answered_there fs k b bits low at readable =
 
 -- ---- the word that is written
 
+either_false : (x : Bool) → either_alone x false ≡ x
+either_false true = refl
+either_false false = refl
+
 either_true : (x : Bool) → either_alone x true ≡ not x
 either_true true = refl
 either_true false = refl
@@ -347,3 +410,10 @@ pow_bit b = ap (λ n. eqb n 1) (bit_at-pow_same b)
 
 pub turned_bit : (x b : ℕ) → bit (bit_xor x (2 ^ b)) b ≡ not (bit x b)
 turned_bit x b = bit-xor x (2 ^ b) b ∙ ap (either_alone (bit x b)) (pow_bit b) ∙ either_true (bit x b)
+
+no_pow_bit : (j b : ℕ) → j ≢ b → bit (2 ^ j) b ≡ false
+unfolding bit
+no_pow_bit j b other = ap (λ n. eqb n 1) (bit_at-pow_other j b (λ same. other (sym same)))
+
+pub other_bit : (x j b : ℕ) → j ≢ b → bit (bit_xor x (2 ^ j)) b ≡ bit x b
+other_bit x j b other = bit-xor x (2 ^ j) b ∙ ap (either_alone (bit x b)) (no_pow_bit j b other) ∙ either_false (bit x b)

@@ -1,4 +1,5 @@
--- A bit that is turned round twice: after the first check it is believed as it is stuck, and the second finds it other than written.
+-- A bit of the register is turned round twice: after the first check the stuck bit is believed as a read leaves it, and the second
+-- finds it other than it was written.
 use Rattle.std.proofs.Common.{◌≡◌, ◌≢◌, ◌⊎◌, ℕ, zero, suc, ◌+◌, ◌-◌, ◌*◌, ◌^◌, ◌<◌, ◌≤◌, ◌==◌, bit_xor, Bool, true, false, not, ◌&&◌, List, [], ◌∷◌, ◌++◌, length}
 use Rattle.std.proofs.Common.{Option, None, Some, option_map, Ok, if◌then◌else◌, refl, sym, ap, ◌∙◌, subst, inl, inr, eqb-true, eq-eqb, arith}
 use Rattle.std.proofs.lemmas.Bool.{and_parts, cases_lt, false_from_ne_true}
@@ -7,7 +8,8 @@ use Rattle.rl_policy.specs.Bits.{bit, is_within}
 use Rattle.rl_policy.specs.Table.{after_write, after_read, is_write_only}
 use Rattle.rl_bus.specs.declared.table.FieldRow.{FieldRow}
 use Rattle.rl_bus.specs.declared.table.StuckRow.{StuckRow}
-use Rattle.rl_bus.specs.Setup.{Setup, field_of as row_of_field, field_at, policy_of, stuck_at}
+use Rattle.rl_bus.specs.Setup.{Setup, field_of as row_of_field, stuck_at}
+use Rattle.rl_bus.specs.State.{State}
 use Rattle.rl_model.specs.Rows.{FieldSeen, ChipData}
 use Rattle.rl_model.specs.Fields.{field_of, first_of, count_of, fields_of, field_in, policy_in, size_of, place_at}
 use Rattle.rl_model.specs.Chip.{IsSound as IsChip}
@@ -39,17 +41,17 @@ use Rattle.rl_seq.specs.Plan.{Plan, stop, step, look, followed_by, only_if, each
 use Rattle.rl_seq.specs.Sequences.{map_at, bash_once, bash_bit, items_of, is_chosen, is_visited, at_place, visit, visit_all, walk}
 use Rattle.rl_seq.proofs.Choosing.{any_found}
 use Rattle.rl_finds.specs.Resets.{IsNamedBy}
-use Rattle.rl_finds.specs.Stuck.{stuck_bit, bit_of, IsTurned, IsBitOfTurned, StuckBitIsNamed}
-use Rattle.rl_finds.specs.Visited.{HasEvent, IsVisited}
-use Rattle.rl_finds.proofs.Bashing.{IsStuckSetup, Holding, unmarked_bits, write_done, check_done, write_stays, check_stays, written_there, read_there, answered_there, turned_bit}
+use Rattle.rl_finds.specs.Stuck.{stuck_bit, bit_of, HasStuckBit, IsComparedBit, IsShownTurned, IsShownBeside, StuckBitIsNamed, StuckBitBesideIsNamed}
+use Rattle.rl_finds.specs.Visited.{RunsAll, HasEvent, IsVisited}
+use Rattle.rl_finds.proofs.Bashing.{IsStuckSetup, Holding, unmarked_bits, write_done, check_done, write_stays, check_stays, written_there, read_there, answered_there, turned_bit, other_bit}
 use Rattle.rl_finds.proofs.Reaching.{IsPlaceOf, is_place, check_is, bash_granted}
-use Rattle.rl_finds.proofs.StuckBit.{unstuck, IsFirm}
-use Rattle.rl_finds.proofs.Wrong.{IsBitOf, bit_of as own_bit, covered, row_is, field_found}
+use Rattle.rl_finds.proofs.StuckBit.{unstuck}
+use Rattle.rl_finds.proofs.Wrong.{IsBitOf, bit_of as own_bit, covered, row_is}
 
 -- ---- the stuck bit, in its register
 
--- it is bit b of the register, and belongs to its k-th field, which is compared and turned by its policy
-pub record IsBit (c : ChipData) (field reg k b i : ℕ) (v : Bool) : Type 0 where
+-- it is bit b of the register, and belongs to its k-th field, which is compared
+pub record IsBit (c : ChipData) (field reg k b i : ℕ) : Type 0 where
   pub low : b < 64
   pub at : place_at (fields_of c reg) b ≡ Some k
   pub inside : k < length (fields_of c reg)
@@ -57,43 +59,36 @@ pub record IsBit (c : ChipData) (field reg k b i : ℕ) (v : Bool) : Type 0 wher
   pub offset : (field_of c field).shape.lsb + i ≡ b
   pub within : i < (field_of c field).shape.width
   pub compared : IsComparedField (field_of c field).shape
-  pub turned : IsTurned (field_of c field).shape.policy v
   pub reg_in : reg < length c.regs
 
-pub readable_there : (c : ChipData) (field reg k b i : ℕ) (v : Bool) → IsBit c field reg k b i v → is_write_only (policy_in (fields_of c reg) k) ≡ false
-readable_there c field reg k b i v is = subst (λ (f : FieldSeen). is_write_only f.shape.policy ≡ false) (sym is.field_is) is.compared.readable
-
-kept_there : (c : ChipData) (field reg k b i : ℕ) (v : Bool) → IsBit c field reg k b i v → after_read (policy_in (fields_of c reg) k) v ≡ v
-kept_there c field reg k b i v is = subst (λ (f : FieldSeen). after_read f.shape.policy v ≡ v) (sym is.field_is) is.turned.kept
-
-pub lost_there : (c : ChipData) (field reg k b i : ℕ) (v spent : Bool) → IsBit c field reg k b i v → after_write (policy_in (fields_of c reg) k) v (not v) spent ≢ v
-lost_there c field reg k b i v spent is = subst (λ (f : FieldSeen). after_write f.shape.policy v (not v) spent ≢ v) (sym is.field_is) (is.turned.lost spent)
+pub readable_there : (c : ChipData) (field reg k b i : ℕ) → IsBit c field reg k b i → is_write_only (policy_in (fields_of c reg) k) ≡ false
+readable_there c field reg k b i is = subst (λ (f : FieldSeen). is_write_only f.shape.policy ≡ false) (sym is.field_is) is.compared.readable
 
 part_bit : (f : Field) (x i : ℕ) → i < f.width → bit (part_of f x) i ≡ bit x (f.lsb + i)
 part_bit f x i low = bit-from_bits f.width (λ i. bit x (f.lsb + i)) i low
 
-pub parts_apart : (c : ChipData) (field reg k b i : ℕ) (v : Bool) (x y : ℕ) → IsBit c field reg k b i v → bit x b ≢ bit y b
+pub parts_apart : (c : ChipData) (field reg k b i x y : ℕ) → IsBit c field reg k b i → bit x b ≢ bit y b
     → part_of (field_of c field).shape x ≢ part_of (field_of c field).shape y
-parts_apart c field reg k b i v x y is apart same =
+parts_apart c field reg k b i x y is apart same =
     let f = (field_of c field).shape in
     apart (ap (bit x) (sym is.offset) ∙ sym (part_bit f x i is.within) ∙ ap (λ n. bit n i) same ∙ part_bit f y i is.within ∙ ap (bit y) is.offset)
 
 -- ---- a check of the register
 
 -- where the bit is believed to be another one, it names the field
-named_by : (c : ChipData) (l : LayoutData) (t : Setup) (field reg k b i : ℕ) (v : Bool) (s new : Scene) (map : Option ℕ) (place : ℕ) (e : Event)
-    → IsBit c field reg k b i v → IsStuckSetup c l t reg b v → Holding c l t reg b v s → reg_of c field ≡ reg → k ≡ field - first_of c reg
+pub named_by : (c : ChipData) (l : LayoutData) (t : Setup) (field reg k b i : ℕ) (v : Bool) (s new : Scene) (map : Option ℕ) (place : ℕ) (e : Event)
+    → IsBit c field reg k b i → IsStuckSetup c l t reg b v → stuck_at t reg b ≡ Some v → Holding c l t reg b v s → reg_of c field ≡ reg → k ≡ field - first_of c reg
     → HasNumbers c (length l.maps) (op.Check reg map) → grant s.model (op.Check reg map) ≡ Ok place → Performs s new (op.Check reg map) e
     → bit (mirrored_of s.model.mirror reg) b ≢ v → IsNamedBy c field e
-named_by c l t field reg k b i v s new map place e is setup h own number numbers granted performs other =
+named_by c l t field reg k b i v s new map place e is setup stuck h own number numbers granted performs other =
     let fs = fields_of c reg in
-    let done = check_done c l s new t reg b v reg map place e setup h numbers granted performs in
+    let done = check_done c l s new t reg b v reg map place e setup (inl stuck) h numbers granted performs in
     let read = ranswer fs every (unmarked_bits done.bits) in
-    let read_so : bit read b ≡ v = answered_there fs k b done.bits is.low is.at (readable_there c field reg k b i v is) ∙ done.held refl in
+    let read_so : bit read b ≡ v = answered_there fs k b done.bits is.low is.at (readable_there c field reg k b i is) ∙ done.held refl in
     let apart : bit read b ≢ bit (mirrored_of s.model.mirror reg) b = λ same. other (sym same ∙ read_so) in
     let found : IsFoundOther (field_of c field).shape read (mirrored_of s.model.mirror reg) = record {
       compared = is.compared;
-      other = parts_apart c field reg k b i v read (mirrored_of s.model.mirror reg) is apart;
+      other = parts_apart c field reg k b i read (mirrored_of s.model.mirror reg) is apart;
     } in
     let here : (k < length fs) × IsFoundOther (field_in fs k).shape read (mirrored_of s.model.mirror reg) =
     (is.inside, subst (λ (f : FieldSeen). IsFoundOther f.shape read (mirrored_of s.model.mirror reg)) (sym is.field_is) found) in
@@ -104,61 +99,73 @@ named_by c l t field reg k b i v s new map place e is setup h own number numbers
       names = subst (NamesField e) (number ∙ ap (λ r. field - first_of c r) (sym own)) ((check_names s new (op.Check reg map) e reg read k performs refl done.ends).1 there);
     }
 
--- ---- the bit turned round once
+-- ---- one bit turned round once
 
-record IsBashedOnce (c : ChipData) (l : LayoutData) (t : Setup) (field reg b : ℕ) (v : Bool) (s new : Scene) (told : List Told) : Type 0 where
+-- a read of the stuck bit leaves it so
+abbrev left_by : ChipData → (reg k : ℕ) → Bool → Bool
+left_by c reg k v = after_read (policy_in (fields_of c reg) k) v
+
+-- this bit of the register is turned round, which does this to what is written of the stuck one, and shows it
+record IsTry (c : ChipData) (reg k b : ℕ) (v : Bool) (j : ℕ) : Type 0 where
+  size : j < 8 * size_of c reg
+  compared : is_bit_compared c reg j ≡ true
+  turn : Bool → Bool
+  turns : (x : ℕ) → bit (bit_xor x (2 ^ j)) b ≡ turn (bit x b)
+  lost : (spent : Bool) → after_write (policy_in (fields_of c reg) k) (left_by c reg k v) (turn (left_by c reg k v)) spent ≢ v
+
+record IsBashedOnce (c : ChipData) (l : LayoutData) (t : Setup) (field reg k b j : ℕ) (v : Bool) (s new : Scene) (told : List Told) : Type 0 where
   stands : Holding c l t reg b v new
-  believed : bit (mirrored_of new.model.mirror reg) b ≡ v
-  named : bit (mirrored_of s.model.mirror reg) b ≡ v → HasEvent (IsNamedBy c field) told
+  believed : bit (mirrored_of new.model.mirror reg) b ≡ left_by c reg k v
+  named : IsTry c reg k b v j → bit (mirrored_of s.model.mirror reg) b ≡ left_by c reg k v → HasEvent (IsNamedBy c field) told
 
 -- what a visit of the register needs
 record IsVisit (c : ChipData) (l : LayoutData) (t : Setup) (field reg k b i : ℕ) (v : Bool) (place : ℕ) : Type 0 where
-  is : IsBit c field reg k b i v
+  is : IsBit c field reg k b i
   setup : IsStuckSetup c l t reg b v
+  stuck : stuck_at t reg b ≡ Some v
   own : reg_of c field ≡ reg
   number : k ≡ field - first_of c reg
-  size : b < 8 * size_of c reg
   at : IsPlaceOf c l place (Reg reg)
   reads : may_read l place ≡ true
   writes : may_write l place ≡ true
   map_in : map_at l place < length l.maps
 
-bashed_once : (c : ChipData) (l : LayoutData) (t : Setup) (field reg k b i : ℕ) (v : Bool) (place : ℕ) → IsVisit c l t field reg k b i v place
-    → (s new : Scene) (told : List Told) → Holding c l t reg b v s → Runs (bash_once reg (map_at l place) b) s told new → IsBashedOnce c l t field reg b v s new told
-bashed_once c l t field reg k b i v place w s new [] h run = absurd run
-bashed_once c l t field reg k b i v place w s new (x ∷ []) h (mid, first, rest) = absurd rest
-bashed_once c l t field reg k b i v place w s new (x ∷ y ∷ []) h (mid, first, (last, second, same)) =
+bashed_once : (c : ChipData) (l : LayoutData) (t : Setup) (field reg k b i : ℕ) (v : Bool) (place j : ℕ) → IsVisit c l t field reg k b i v place → j < 8 * size_of c reg
+    → (s new : Scene) (told : List Told) → Holding c l t reg b v s → Runs (bash_once reg (map_at l place) j) s told new → IsBashedOnce c l t field reg k b j v s new told
+bashed_once c l t field reg k b i v place j w size s new [] h run = absurd run
+bashed_once c l t field reg k b i v place j w size s new (x ∷ []) h (mid, first, rest) = absurd rest
+bashed_once c l t field reg k b i v place j w size s new (x ∷ y ∷ []) h (mid, first, (last, second, same)) =
     let map = Some (map_at l place) in
-    let value = bit_xor (mirrored_of s.model.mirror reg) (2 ^ b) in
+    let m = mirrored_of s.model.mirror reg in
+    let value = bit_xor m (2 ^ j) in
     let numbers : (reg < length c.regs) × (map_at l place < length l.maps) = (w.is.reg_in, w.map_in) in
     let own_numbers : reg < length s.model.chip.regs = subst (λ (x : ChipData). reg < length x.regs) (sym h.chip) w.is.reg_in in
-    let own_size : b < 8 * size_of s.model.chip reg = subst (λ (x : ChipData). b < 8 * size_of x reg) (sym h.chip) w.size in
+    let own_size : j < 8 * size_of s.model.chip reg = subst (λ (x : ChipData). j < 8 * size_of x reg) (sym h.chip) size in
     let wrote = write_done c l s mid t reg b v reg map value place x.event w.setup h numbers
-    (bash_granted c l reg place b w.at w.writes s.model h.model h.chip h.layout own_numbers own_size) first.performs in
+    (bash_granted c l reg place j w.at w.writes s.model h.model h.chip h.layout own_numbers own_size) first.performs in
     let granted = (check_is c l reg place w.at w.reads).granted mid.model wrote.stands.chip wrote.stands.layout in
-    let done = check_done c l mid last t reg b v reg map place y.event w.setup wrote.stands numbers granted second.performs in
-    let readable = readable_there c field reg k b i v w.is in
+    let done = check_done c l mid last t reg b v reg map place y.event w.setup (inl w.stuck) wrote.stands numbers granted second.performs in
+    let readable = readable_there c field reg k b i w.is in
     let fs = fields_of c reg in
+    let p = policy_in fs k in
     let read = ranswer fs every (unmarked_bits done.bits) in
     let read_so : bit read b ≡ v = answered_there fs k b done.bits w.is.low w.is.at readable ∙ done.held refl in
     let built = subst (λ (x : ChipData). IsMirrorOf x s.model.mirror) h.chip h.model.mirror in
     let mid_built = subst (λ (x : ChipData). IsMirrorOf x mid.model.mirror) wrote.stands.chip wrote.stands.model.mirror in
     let spent = (believed c s.model.mirror reg).spent k in
-    let after : bit (mirrored_of last.model.mirror reg) b ≡ v =
-    read_there c reg k b read mid.model.mirror last.model.mirror w.is.reg_in mid_built w.is.low w.is.at readable done.predicted
-    ∙ ap (after_read (policy_in fs k)) read_so ∙ kept_there c field reg k b i v w.is in
+    let after : bit (mirrored_of last.model.mirror reg) b ≡ left_by c reg k v =
+    read_there c reg k b read mid.model.mirror last.model.mirror w.is.reg_in mid_built w.is.low w.is.at readable done.predicted ∙ ap (after_read p) read_so in
     record {
       stands = subst (Holding c l t reg b v) (sym same) done.stands;
       believed = ap (λ (z : Scene). bit (mirrored_of z.model.mirror reg) b) same ∙ after;
-      named = λ so.
-          let written : bit (mirrored_of mid.model.mirror reg) b ≡ after_write (policy_in fs k) v (not v) spent =
+      named = λ try so.
+          let written : bit (mirrored_of mid.model.mirror reg) b ≡ after_write p (left_by c reg k v) (try.turn (left_by c reg k v)) spent =
           written_there c reg k b value s.model.mirror mid.model.mirror (subst IsChip h.chip h.model.chip) w.is.reg_in built w.is.low w.is.at wrote.predicted
-          ∙ ap (λ n. after_write (policy_in fs k) (bit (mirrored_of s.model.mirror reg) b) n spent) (turned_bit (mirrored_of s.model.mirror reg) b)
-          ∙ ap (λ n. after_write (policy_in fs k) n (not n) spent) so in
-          inr (inl (named_by c l t field reg k b i v mid last map place y.event w.is w.setup wrote.stands w.own w.number numbers granted second.performs
-          (λ same. lost_there c field reg k b i v spent w.is (sym written ∙ same))));
+          ∙ ap (λ n. after_write p (bit m b) n spent) (try.turns m) ∙ ap (λ n. after_write p n (try.turn n) spent) so in
+          inr (inl (named_by c l t field reg k b i v mid last map place y.event w.is w.setup w.stuck wrote.stands w.own w.number numbers granted second.performs
+          (λ same. try.lost spent (sym written ∙ same))));
     }
-bashed_once c l t field reg k b i v place w s new (x ∷ y ∷ z ∷ told) h (mid, first, (last, second, more)) = absurd more
+bashed_once c l t field reg k b i v place j w size s new (x ∷ y ∷ z ∷ told) h (mid, first, (last, second, more)) = absurd more
 
 -- ---- plans
 
@@ -247,66 +254,66 @@ finds_each Stands IsSo (suc n) k f low keeps finds =
 
 -- ---- the plan of the sequence
 
-bash_keeps : (c : ChipData) (l : LayoutData) (t : Setup) (reg b : ℕ) (v : Bool) (q map j : ℕ) → IsStuckSetup c l t reg b v → q < length c.regs → map < length l.maps
-    → Keeps (Holding c l t reg b v) (bash_once q map j)
-bash_keeps c l t reg b v q map j is inside in_map s new told h run =
+bash_keeps : (c : ChipData) (l : LayoutData) (t : Setup) (reg b : ℕ) (v : Bool) (q map j : ℕ) → IsStuckSetup c l t reg b v → stuck_at t reg b ≡ Some v
+    → q < length c.regs → map < length l.maps → Keeps (Holding c l t reg b v) (bash_once q map j)
+bash_keeps c l t reg b v q map j is stuck inside in_map s new told h run =
     let numbers : (q < length c.regs) × (map < length l.maps) = (inside, in_map) in
     let value = bit_xor (mirrored_of s.model.mirror q) (2 ^ j) in
     let stands = Holding c l t reg b v in
     keeps_step stands (op.Write q (Some map) value) (step (op.Check q (Some map)) stop) (write_stays c l t reg b v q (Some map) value is numbers)
-    (keeps_step stands (op.Check q (Some map)) stop (check_stays c l t reg b v q (Some map) is numbers) (keeps_stop stands)) s new told h run
+    (keeps_step stands (op.Check q (Some map)) stop (check_stays c l t reg b v q (Some map) is (inl stuck) numbers) (keeps_stop stands)) s new told h run
 
-visit_keeps : (m : ModelData) (t : Setup) (reg b : ℕ) (v : Bool) (q place : ℕ) → IsModel m → IsStuckSetup m.chip m.layout t reg b v → q < length m.chip.regs
-    → place < length m.layout.places → Keeps (Holding m.chip m.layout t reg b v) (visit BitBash m.chip m.layout q place)
-visit_keeps m t reg b v q place ok is inside there =
+visit_keeps : (m : ModelData) (t : Setup) (reg b : ℕ) (v : Bool) (q place : ℕ) → IsModel m → IsStuckSetup m.chip m.layout t reg b v → stuck_at t reg b ≡ Some v
+    → q < length m.chip.regs → place < length m.layout.places → Keeps (Holding m.chip m.layout t reg b v) (visit BitBash m.chip m.layout q place)
+visit_keeps m t reg b v q place ok is stuck inside there =
     let c = m.chip in
     let l = m.layout in
     let stands = Holding c l t reg b v in
     let map = map_at l place in
-    let once = λ (j : ℕ). bash_keeps c l t reg b v q map j is inside (ok.layout.each_place place there).map in
+    let once = λ (j : ℕ). bash_keeps c l t reg b v q map j is stuck inside (ok.layout.each_place place there).map in
     keeps_if stands (is_visited BitBash l q place) (at_place BitBash c l q place)
     (λ visited. keeps_each stands (8 * size_of c q) (bash_bit c q map)
     (λ j low. keeps_if stands (is_bit_compared c q j) (followed_by (bash_once q map j) (bash_once q map j))
     (λ compared. keeps_both stands (bash_once q map j) (bash_once q map j) (once j) (once j))))
 
-all_keep : (m : ModelData) (block : Option ℕ) (t : Setup) (reg b : ℕ) (v : Bool) (q : ℕ) → IsModel m → IsStuckSetup m.chip m.layout t reg b v → q < length m.chip.regs
-    → Keeps (Holding m.chip m.layout t reg b v) (visit_all BitBash m.chip m.layout block q)
-all_keep m block t reg b v q ok is inside =
+all_keep : (m : ModelData) (block : Option ℕ) (t : Setup) (reg b : ℕ) (v : Bool) (q : ℕ) → IsModel m → IsStuckSetup m.chip m.layout t reg b v
+    → stuck_at t reg b ≡ Some v → q < length m.chip.regs → Keeps (Holding m.chip m.layout t reg b v) (visit_all BitBash m.chip m.layout block q)
+all_keep m block t reg b v q ok is stuck inside =
     let c = m.chip in
     let l = m.layout in
     let stands = Holding c l t reg b v in
     keeps_if stands (is_chosen BitBash c l block q) (each_below (length l.places) (visit BitBash c l q))
-    (λ chosen. keeps_each stands (length l.places) (visit BitBash c l q) (λ place there. visit_keeps m t reg b v q place ok is inside there))
+    (λ chosen. keeps_each stands (length l.places) (visit BitBash c l q) (λ place there. visit_keeps m t reg b v q place ok is stuck inside there))
 
 -- twice: the second finds it
-bit_finds : (c : ChipData) (l : LayoutData) (t : Setup) (field reg k b i : ℕ) (v : Bool) (place : ℕ) → IsVisit c l t field reg k b i v place
-    → Finds (Holding c l t reg b v) (IsNamedBy c field) (followed_by (bash_once reg (map_at l place) b) (bash_once reg (map_at l place) b))
-bit_finds c l t field reg k b i v place w s new told h run =
-    let once = bash_once reg (map_at l place) b in
+bit_finds : (c : ChipData) (l : LayoutData) (t : Setup) (field reg k b i : ℕ) (v : Bool) (place j : ℕ) → IsVisit c l t field reg k b i v place → IsTry c reg k b v j
+    → Finds (Holding c l t reg b v) (IsNamedBy c field) (followed_by (bash_once reg (map_at l place) j) (bash_once reg (map_at l place) j))
+bit_finds c l t field reg k b i v place j w try s new told h run =
+    let once = bash_once reg (map_at l place) j in
     let both = split once once s told new run in
-    let first = bashed_once c l t field reg k b i v place w s both.mid both.front h both.first in
-    let second = bashed_once c l t field reg k b i v place w both.mid new both.back first.stands both.second in
-    subst (HasEvent (IsNamedBy c field)) (sym both.is) (in_back (IsNamedBy c field) both.front both.back (second.named first.believed))
+    let first = bashed_once c l t field reg k b i v place j w try.size s both.mid both.front h both.first in
+    let second = bashed_once c l t field reg k b i v place j w try.size both.mid new both.back first.stands both.second in
+    subst (HasEvent (IsNamedBy c field)) (sym both.is) (in_back (IsNamedBy c field) both.front both.back (second.named try first.believed))
 
-walk_finds : (m : ModelData) (block : Option ℕ) (t : Setup) (field reg k b i : ℕ) (v : Bool) (place : ℕ) → IsModel m → IsVisit m.chip m.layout t field reg k b i v place
-    → IsVisited BitBash m.chip m.layout block reg place → is_bit_compared m.chip reg b ≡ true
+walk_finds : (m : ModelData) (block : Option ℕ) (t : Setup) (field reg k b i : ℕ) (v : Bool) (place j : ℕ) → IsModel m → IsVisit m.chip m.layout t field reg k b i v place
+    → IsTry m.chip reg k b v j → IsVisited BitBash m.chip m.layout block reg place
     → Finds (Holding m.chip m.layout t reg b v) (IsNamedBy m.chip field) (walk BitBash m.chip m.layout block)
-walk_finds m block t field reg k b i v place ok w at compared =
+walk_finds m block t field reg k b i v place j ok w try at =
     let c = m.chip in
     let l = m.layout in
     let stands = Holding c l t reg b v in
     let named = IsNamedBy c field in
     let map = map_at l place in
-    let once = λ (j : ℕ). bash_keeps c l t reg b v reg map j w.setup at.number_in w.map_in in
-    finds_each stands named (items_of BitBash c) reg (visit_all BitBash c l block) at.number_in (λ q inside. all_keep m block t reg b v q ok w.setup inside)
+    let once = λ (j : ℕ). bash_keeps c l t reg b v reg map j w.setup w.stuck at.number_in w.map_in in
+    finds_each stands named (items_of BitBash c) reg (visit_all BitBash c l block) at.number_in (λ q inside. all_keep m block t reg b v q ok w.setup w.stuck inside)
     (finds_if stands named (is_chosen BitBash c l block reg) (each_below (length l.places) (visit BitBash c l reg)) at.chosen
-    (finds_each stands named (length l.places) place (visit BitBash c l reg) at.place_in (λ q there. visit_keeps m t reg b v reg q ok w.setup at.number_in there)
+    (finds_each stands named (length l.places) place (visit BitBash c l reg) at.place_in (λ q there. visit_keeps m t reg b v reg q ok w.setup w.stuck at.number_in there)
     (finds_if stands named (is_visited BitBash l reg place) (at_place BitBash c l reg place) at.visited
-    (finds_each stands named (8 * size_of c reg) b (bash_bit c reg map) w.size
+    (finds_each stands named (8 * size_of c reg) j (bash_bit c reg map) try.size
     (λ j low. keeps_if stands (is_bit_compared c reg j) (followed_by (bash_once reg map j) (bash_once reg map j))
     (λ so. keeps_both stands (bash_once reg map j) (bash_once reg map j) (once j) (once j)))
-    (finds_if stands named (is_bit_compared c reg b) (followed_by (bash_once reg map b) (bash_once reg map b)) compared
-    (bit_finds c l t field reg k b i v place w))))))
+    (finds_if stands named (is_bit_compared c reg j) (followed_by (bash_once reg map j) (bash_once reg map j)) try.compared
+    (bit_finds c l t field reg k b i v place j w try))))))
 
 -- ---- the law
 
@@ -315,8 +322,8 @@ both_true true b so h = h
 both_true false b so h = absurd (cc)
 
 -- the stuck bit as one of its register
-pub the_bit : (c : ChipData) (s : StuckRow) → IsChip c → IsBitOfTurned c s
-    → IsBit c s.field (reg_of c s.field) (s.field - first_of c (reg_of c s.field)) (bit_of c s) s.bit s.value
+pub the_bit : (c : ChipData) (s : StuckRow) → IsChip c → IsComparedBit c s
+    → IsBit c s.field (reg_of c s.field) (s.field - first_of c (reg_of c s.field)) (bit_of c s) s.bit
 the_bit c s sound is =
     let reg = reg_of c s.field in
     let k = s.field - first_of c reg in
@@ -334,11 +341,10 @@ the_bit c s sound is =
       offset = refl;
       within = is.bit_in;
       compared = is.compared;
-      turned = is.turned;
       reg_in = seat.reg;
     }
 
-is_compared_bit : (c : ChipData) (s : StuckRow) → IsChip c → IsBitOfTurned c s → is_bit_compared c (reg_of c s.field) (bit_of c s) ≡ true
+is_compared_bit : (c : ChipData) (s : StuckRow) → IsChip c → IsComparedBit c s → is_bit_compared c (reg_of c s.field) (bit_of c s) ≡ true
 is_compared_bit c s sound is =
     let reg = reg_of c s.field in
     let k = s.field - first_of c reg in
@@ -370,57 +376,59 @@ not_both r reg k b other =
     false_from_ne_true ((reg == r) && (b == k))
     (λ yes. let both = and_parts (reg == r) (b == k) yes in other (sym (eqb-true reg r both.0), sym (eqb-true b k both.1)))
 
-policy_is : (c : ChipData) (l : LayoutData) (s : StuckRow) (field : ℕ) → policy_of (setup_of c l (stuck_bit s)) field ≡ (row_of_field (setup_of c l (stuck_bit s)) field).policy
-unfolding setup_of
-policy_is c l s field = refl
-
 without_it : (c : ChipData) (l : LayoutData) (s : StuckRow) → unstuck (setup_of c l (stuck_bit s)) ≡ setup_of c l no_flaws
 unfolding setup_of
 without_it c l s = refl
 
-alone_in : (c : ChipData) (l : LayoutData) (s : StuckRow) → IsChip c → IsBitOfTurned c s
-    → IsFirm (setup_of c l (stuck_bit s)) (reg_of c s.field) (bit_of c s) s.value
-alone_in c l s sound is =
-    let t = setup_of c l (stuck_bit s) in
+pub stuck_there : (c : ChipData) (l : LayoutData) (s : StuckRow) → s.field < length c.fields
+    → stuck_at (setup_of c l (stuck_bit s)) (reg_of c s.field) (bit_of c s) ≡ Some s.value
+stuck_there c l s inside =
     let reg = reg_of c s.field in
     let b = bit_of c s in
-    let k = s.field - first_of c reg in
+    one_stuck c l s reg b inside ∙ ap (λ x. if x then Some s.value else None) (both_true (reg == reg) (b == b) (eq-eqb reg reg refl) (eq-eqb b b refl))
+
+pub stuck_setup : (c : ChipData) (l : LayoutData) (s : StuckRow) → IsChip c → IsComparedBit c s
+    → IsStuckSetup c l (setup_of c l (stuck_bit s)) (reg_of c s.field) (bit_of c s) s.value
+stuck_setup c l s sound is =
+    let reg = reg_of c s.field in
+    let b = bit_of c s in
     let own = the_bit c s sound is in
-    let at = place_of c s.field sound is.field_in in
-    let owner : field_at t reg b ≡ Some s.field = field_found c l (stuck_bit s) reg b k sound own.reg_in own.at ∙ ap Some at.number in
     record {
-      low = own.low;
-      here = inl (one_stuck c l s reg b is.field_in ∙ ap (λ x. if x then Some s.value else None) (both_true (reg == reg) (b == b) (eq-eqb reg reg refl) (eq-eqb b b refl)));
-      others = λ r k other. one_stuck c l s r k is.field_in ∙ ap (λ x. if x then Some s.value else None) (not_both r reg k b other);
-      policy = (field_of c s.field).shape.policy;
-      has = ap (option_map (policy_of t)) owner ∙ ap Some (policy_is c l s s.field ∙ ap (λ (f : FieldRow). f.policy) (row_is c l (stuck_bit s) s.field is.field_in));
-      kept = is.turned.kept;
+      plain = without_it c l s;
+      alone = record {
+        low = own.low;
+        here = inl (stuck_there c l s is.field_in);
+        others = λ r k other. one_stuck c l s r k is.field_in ∙ ap (λ x. if x then Some s.value else None) (not_both r reg k b other);
+      };
+      reg_in = own.reg_in;
     }
 
-pub stuck_bit_is_named : StuckBitIsNamed
-stuck_bit_is_named s new d block told stuck place ok is has turned v run =
+named_by_try : (s new : Scene) (d : State) (block : Option ℕ) (told : List Told) (stuck : StuckRow) (place j : ℕ) → IsModel s.model → s.device ≡ Some d
+    → HasStuckBit s.model.chip s.model.layout d stuck → IsComparedBit s.model.chip stuck
+    → IsTry s.model.chip (reg_of s.model.chip stuck.field) (stuck.field - first_of s.model.chip (reg_of s.model.chip stuck.field)) (bit_of s.model.chip stuck) stuck.value j
+    → IsVisited BitBash s.model.chip s.model.layout block (reg_of s.model.chip stuck.field) place → RunsAll BitBash block s told new
+    → HasEvent (IsNamedBy s.model.chip stuck.field) told
+named_by_try s new d block told stuck place j ok is has compared try v run =
     let c = s.model.chip in
     let l = s.model.layout in
     let t = setup_of c l (stuck_bit stuck) in
     let reg = reg_of c stuck.field in
     let k = stuck.field - first_of c reg in
     let b = bit_of c stuck in
-    let own = the_bit c stuck ok.chip turned in
-    let seat = seated c stuck.field ok.chip turned.field_in in
     let both = and_parts (is_of l place (Reg reg)) (may_read l place && may_write l place) v.visited in
     let rights = and_parts (may_read l place) (may_write l place) both.1 in
     let w : IsVisit c l t stuck.field reg k b stuck.bit stuck.value place = record {
-      is = own;
-      setup = record { plain = without_it c l stuck; alone = alone_in c l stuck ok.chip turned; reg_in = own.reg_in };
+      is = the_bit c stuck ok.chip compared;
+      setup = stuck_setup c l stuck ok.chip compared;
+      stuck = stuck_there c l stuck compared.field_in;
       own = refl;
       number = refl;
-      size = omega (arith, seat.inside, turned.bit_in);
       at = is_place c l place (Reg reg) ok.layout ok.built v.place_in both.0;
       reads = rights.0;
       writes = rights.1;
       map_in = (ok.layout.each_place place v.place_in).map;
     } in
-    walk_finds s.model block t stuck.field reg k b stuck.bit stuck.value place ok w v (is_compared_bit c stuck ok.chip turned) s new told (record {
+    walk_finds s.model block t stuck.field reg k b stuck.bit stuck.value place j ok w try v s new told (record {
       model = ok;
       chip = refl;
       layout = refl;
@@ -432,3 +440,28 @@ stuck_bit_is_named s new d block told stuck place ok is has turned v run =
       marks = has.marks;
       here = has.holds;
     }) run
+
+pub stuck_bit_is_named : StuckBitIsNamed
+stuck_bit_is_named s new d block told stuck place ok is has compared shown v run =
+    let c = s.model.chip in
+    let seat = seated c stuck.field ok.chip compared.field_in in
+    let own = the_bit c stuck ok.chip compared in
+    named_by_try s new d block told stuck place (bit_of c stuck) ok is has compared (record {
+      size = omega (arith, seat.inside, compared.bit_in);
+      compared = is_compared_bit c stuck ok.chip compared;
+      turn = not;
+      turns = λ x. turned_bit x (bit_of c stuck);
+      lost = subst (λ (f : FieldSeen). IsShownTurned f.shape.policy stuck.value) (sym own.field_is) shown;
+    }) v run
+
+pub stuck_bit_beside_is_named : StuckBitBesideIsNamed
+stuck_bit_beside_is_named s new d block told stuck other place ok is has compared shown beside v run =
+    let c = s.model.chip in
+    let own = the_bit c stuck ok.chip compared in
+    named_by_try s new d block told stuck place other ok is has compared (record {
+      size = beside.bit_in;
+      compared = beside.compared;
+      turn = λ b. b;
+      turns = λ x. other_bit x other (bit_of c stuck) beside.other;
+      lost = subst (λ (f : FieldSeen). IsShownBeside f.shape.policy stuck.value) (sym own.field_is) shown;
+    }) v run

@@ -265,7 +265,7 @@ memory_step m s new t mem x o e ok deaf is numbers h performs =
 
 -- ---- the check of the first location
 
-pub all_reads : (l : LayoutData) (place index chosen : ℕ) → All (λ (o : BusOp). o.write ≡ false) (ops_of l place index chosen 0 false)
+all_reads : (l : LayoutData) (place index chosen : ℕ) → All (λ (o : BusOp). o.write ≡ false) (ops_of l place index chosen 0 false)
 unfolding ops_of
 all_reads l place index chosen = All-map (λ (o : BusOp). o.write ≡ false) (op_of l place chosen 0 false) (sent_of l place index chosen) (λ k d low. refl)
 

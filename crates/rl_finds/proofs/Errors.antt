@@ -19,9 +19,8 @@ use Rattle.rl_seq.specs.declared.sequence.Sequence.TheVariants.{HwReset, BitBash
 use Rattle.rl_seq.specs.Choice.{is_of, may_read, may_write, is_bit_compared, is_tested, no_mem_walk_test, turned_round}
 use Rattle.rl_seq.specs.Plan.{Plan, followed_by, each_below}
 use Rattle.rl_seq.specs.Sequences.{map_at, check_at, bash_once, bash_bit, check_other, fill, settle_before, check_last, walk_location}
-use Rattle.rl_seq.specs.Sequences.{items_of, item_of, is_chosen, has_rights, is_visited, at_place, visit, visit_all, walk}
+use Rattle.rl_seq.specs.Sequences.{items_of, item_of, is_chosen, has_rights, is_visited, at_place, visit, visit_all, walk, plan_of}
 use Rattle.rl_finds.specs.Errors.{HasError, EndsByError, SendsSome, VisitedErrorIsFound, SharedErrorIsFound}
-use Rattle.rl_plain.specs.Fronts.{plan_of}
 use Rattle.rl_finds.specs.Visited.{RunsAll, HasEvent, IsVisited}
 use Rattle.rl_finds.proofs.Failing.{IsAccessAt, access_fails}
 use Rattle.rl_finds.proofs.Holding.{HoldsOne, in_first, in_chosen, in_each, held_found}

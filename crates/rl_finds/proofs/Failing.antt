@@ -30,11 +30,11 @@ use Rattle.rl_finds.proofs.Standing.{Stands}
 
 -- ---- one item
 
-or_left : (a b : Bool) → a ≡ true → (a || b) ≡ true
+pub or_left : (a b : Bool) → a ≡ true → (a || b) ≡ true
 or_left true b so = refl
 or_left false b so = absurd (cc)
 
-or_right : (a b : Bool) → b ≡ true → (a || b) ≡ true
+pub or_right : (a b : Bool) → b ≡ true → (a || b) ≡ true
 or_right true b so = refl
 or_right false b so = so
 
@@ -42,7 +42,7 @@ faulty_fails : (b : Bool) (x y : Answer) → b ≡ true → x.failed ≡ true �
 faulty_fails true x y so h = h
 faulty_fails false x y so h = absurd (cc)
 
-at_fails : (d : State) (port : ℕ) (op : BusOp) (w : Option WordRow) → is_faulty d port op ≡ true → (answer_at d port op w).failed ≡ true
+pub at_fails : (d : State) (port : ℕ) (op : BusOp) (w : Option WordRow) → is_faulty d port op ≡ true → (answer_at d port op w).failed ≡ true
 at_fails d port op None faulty = refl
 at_fails d port op (Some w) faulty = faulty_fails (is_faulty d port op) _ _ faulty refl
 
@@ -111,7 +111,7 @@ pub error_end : (o : Option ℕ) (m : ModelData) (good : Outcome) → (o ≡ Non
 error_end None m good some = absurd (some refl)
 error_end (Some k) m good some = refl
 
-end_is : (r : Option ℕ) (op : Op) (items : List TraceItem) (o : Outcome) → (event_at r op items o).end ≡ o.end
+pub end_is : (r : Option ℕ) (op : Op) (items : List TraceItem) (o : Outcome) → (event_at r op items o).end ≡ o.end
 end_is None op items o = refl
 end_is (Some reg) op items o = refl
 

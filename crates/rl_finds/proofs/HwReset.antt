@@ -49,20 +49,20 @@ use Rattle.rl_finds.proofs.Wrong.{read_part, described_part, taken_part}
 -- ---- the plan
 
 -- a check of another register
-record IsOtherCheck (c : ChipData) (l : LayoutData) (reg : ℕ) (o : Op) : Type 0 where
-  checked : ℕ
-  map : Option ℕ
-  is : o ≡ op.Check checked map
-  numbers : HasNumbers c (length l.maps) (op.Check checked map)
-  other : reg ≡ checked → ⊥
+pub record IsOtherCheck (c : ChipData) (l : LayoutData) (reg : ℕ) (o : Op) : Type 0 where
+  pub checked : ℕ
+  pub map : Option ℕ
+  pub is : o ≡ op.Check checked map
+  pub numbers : HasNumbers c (length l.maps) (op.Check checked map)
+  pub other : reg ≡ checked → ⊥
 
 -- a check of this one, which is granted from any model of the chip and the layout
-record IsOwnCheck (c : ChipData) (l : LayoutData) (reg : ℕ) (o : Op) : Type 0 where
-  map : Option ℕ
-  is : o ≡ op.Check reg map
-  numbers : HasNumbers c (length l.maps) (op.Check reg map)
-  place : ℕ
-  granted : (m : ModelData) → m.chip ≡ c → m.layout ≡ l → grant m (op.Check reg map) ≡ Ok place
+pub record IsOwnCheck (c : ChipData) (l : LayoutData) (reg : ℕ) (o : Op) : Type 0 where
+  pub map : Option ℕ
+  pub is : o ≡ op.Check reg map
+  pub numbers : HasNumbers c (length l.maps) (op.Check reg map)
+  pub place : ℕ
+  pub granted : (m : ModelData) → m.chip ≡ c → m.layout ≡ l → grant m (op.Check reg map) ≡ Ok place
 
 abbrev EitherCheck : (c : ChipData) (l : LayoutData) (reg : ℕ) → Plan → Type 0
 EitherCheck c l reg p = Either (IsOtherCheck c l reg) (IsOwnCheck c l reg) p
@@ -109,7 +109,7 @@ either_visit s reg q place ok inside there = by (is_visited HwReset s.layout q p
     by false so which =
         subst (λ b. EitherCheck s.chip s.layout reg (if b then at_place HwReset s.chip s.layout q place else stop)) (sym so) (inl tt)
 
-comes : (s : ModelData) (block : Option ℕ) (reg place : ℕ) → IsModel s → IsVisited HwReset s.chip s.layout block reg place
+pub comes : (s : ModelData) (block : Option ℕ) (reg place : ℕ) → IsModel s → IsVisited HwReset s.chip s.layout block reg place
     → ComesToCheck s.chip s.layout reg (walk HwReset s.chip s.layout block)
 comes s block reg place ok v =
     let c = s.chip in
@@ -127,7 +127,7 @@ comes s block reg place ok v =
 
 -- ---- the reset
 
-reset_setup : (d : State) → (reset_by d 0).setup ≡ d.setup
+pub reset_setup : (d : State) → (reset_by d 0).setup ≡ d.setup
 unfolding reset_by
 reset_setup d = refl
 
@@ -152,7 +152,7 @@ bits_again : (c : ChipData) (l : LayoutData) (d : State) (q : ℕ) → HasWrongR
 unfolding reset_by
 bits_again c l d q w inside = get_or-map-range_with_len (reg_reset d 0) 0 (length d.bits) q q 0 (subst (λ n. q < n) (sym w.bits) inside) (omega arith)
 
-believed_again : (c : ChipData) (m : MirrorData) (q : ℕ) → q < length m.mirrored → mirrored_of (reset c 0 m) q ≡ after_reset (fields_of c q) 0 (mirrored_of m q)
+pub believed_again : (c : ChipData) (m : MirrorData) (q : ℕ) → q < length m.mirrored → mirrored_of (reset c 0 m) q ≡ after_reset (fields_of c q) 0 (mirrored_of m q)
 unfolding reset
 believed_again c m q inside =
     get_or-map-range_with_len (λ reg. after_reset (fields_of c reg) 0 (get_or m.mirrored reg 0)) 0 (length m.mirrored) q q 0 inside (omega arith)
@@ -167,25 +167,39 @@ model_again m ok = record {
   predictor = ok.predictor;
 }
 
--- what stands after it
+-- model and device after it
+pub record IsResetTo (s new : Scene) (d : State) : Type 0 where
+  pub model : IsModel new.model
+  pub chip : new.model.chip ≡ s.model.chip
+  pub layout : new.model.layout ≡ s.model.layout
+  pub told : new.device ≡ Some (reset_by d 0)
+
+pub reset_to : (s new : Scene) (e : Event) (d : State) → IsModel s.model → s.device ≡ Some d → IsDone s new (op.Reset 0) 0 e → IsResetTo s new d
+reset_to s new e d ok told done = record {
+  model = subst IsModel (sym done.model) (model_again s.model ok);
+  chip = ap (λ (x : ModelData). x.chip) done.model;
+  layout = ap (λ (x : ModelData). x.layout) done.model;
+  told = done.goes ∙ ap (option_map (λ (x : State). reset_by x 0)) told;
+}
+
+-- what stands then
 reset_leaves : (s new : Scene) (e : Event) (d : State) (reg : ℕ) → IsModel s.model → s.device ≡ Some d → HasWrongResets s.model.chip s.model.layout d
     → reg < length s.model.chip.regs → IsDone s new (op.Reset 0) 0 e
     → Holding s.model.chip s.model.layout reg (reg_reset d 0 reg) (after_reset (fields_of s.model.chip reg) 0 (mirrored_of s.model.mirror reg)) new
 reset_leaves s new e d reg ok told w inside done =
     let m = s.model in
-    let c = m.chip in
-    let l = m.layout in
+    let scene_is = reset_to s new e d ok told done in
     record {
-      model = subst IsModel (sym done.model) (model_again m ok);
-      chip = ap (λ (x : ModelData). x.chip) done.model;
-      layout = ap (λ (x : ModelData). x.layout) done.model;
+      model = scene_is.model;
+      chip = scene_is.chip;
+      layout = scene_is.layout;
       device = reset_by d 0;
-      told = done.goes ∙ ap (option_map (λ (x : State). reset_by x 0)) told;
-      ready = ready_again c l d w;
-      unmarked = λ q low. no_marks c l d q w low;
-      bits_are = bits_again c l d reg w inside;
+      told = scene_is.told;
+      ready = ready_again m.chip m.layout d w;
+      unmarked = λ q low. no_marks m.chip m.layout d q w low;
+      bits_are = bits_again m.chip m.layout d reg w inside;
       believed = ap (λ (x : ModelData). mirrored_of x.mirror reg) done.model
-          ∙ believed_again c m.mirror reg (subst (λ n. reg < n) (sym ok.mirror.registers) inside);
+          ∙ believed_again m.chip m.mirror reg (subst (λ n. reg < n) (sym ok.mirror.registers) inside);
     }
 
 -- ---- the check

@@ -14,9 +14,12 @@ pub mod Twins
 pub mod Untouched
 pub mod DeafWalk
 pub mod StuckBit
+pub mod ReadsAlike
 pub mod Bashing
 pub mod BitBash
 pub mod Turned
 pub mod AccessTest
 pub mod DeafRegister
 pub mod NewDeaf
+pub mod StuckReset
+pub mod NthError

@@ -1,5 +1,5 @@
 -- The plain machine's checks name no field, and so those of a sequence that is the machine's.
-use Rattle.std.proofs.Common.{◌≡◌, ℕ, zero, suc, false, List, [], ◌∷◌, length, map, All, Ok, Err, Option, refl, sym, subst, inl, inr}
+use Rattle.std.proofs.Common.{◌≡◌, ℕ, zero, suc, false, List, [], ◌∷◌, length, map, All, Ok, Err, refl, sym, subst, inl, inr}
 use Rattle.std.specs.Prelude.{slice_index}
 use Rattle.std.proofs.lemmas.List.Elements.{All-nil, All-cons, All-head, All-tail}
 use Rattle.rl_bus.specs.Setup.{location}
@@ -14,10 +14,9 @@ use Rattle.rl_access.specs.HandsOver.{Told}
 use Rattle.rl_access.specs.Model.{ModelData, IsModel}
 use Rattle.rl_access.specs.Operation.{is_on_memory}
 use Rattle.rl_access.specs.Rules.{Grant, grant, named}
-use Rattle.rl_seq.specs.declared.sequence.Sequence.{Sequence}
-use Rattle.rl_seq.specs.declared.sequence.Sequence.TheVariants.{HwReset, BitBash, Access, Shared, MemWalk}
 use Rattle.rl_seq.specs.Plan.{Plan, stop, step, look}
-use Rattle.rl_plain.specs.Calls.{without_items, IsMachineOf, PlanHasNumbers, HaveNumbers}
+use Rattle.rl_seq.specs.Sequences.{plan_of}
+use Rattle.rl_plain.specs.Calls.{without_items, IsMachineOf}
 use Rattle.rl_plain.specs.Courses.{along, first_along}
 use Rattle.rl_plain.specs.EachCall.{AgreeWithMemories}
 use Rattle.rl_plain.specs.Machine.{Machine, seen, machine_differ, done_by, machine_step}
@@ -26,7 +25,6 @@ use Rattle.rl_plain.proofs.Machines.{none_of, seen_is}
 use Rattle.rl_plain.proofs.PlainCourses.{plan_is_plain}
 use Rattle.rl_plain.proofs.PlanNumbers.{plans_have_numbers}
 use Rattle.rl_finds.specs.Named.{NamesNoField, NothingIsNamed}
-use Rattle.rl_plain.specs.Fronts.{plan_of}
 
 -- ---- the machine
 
@@ -93,25 +91,18 @@ is_machine s ok w =
 
 -- ---- the sequences
 
-numbers_of : (which : Sequence) (c : ChipData) (l : LayoutData) (block : Option ℕ) → HaveNumbers c l block → PlanHasNumbers c l (plan_of which c l block)
-numbers_of HwReset c l block h = h.hw_reset
-numbers_of BitBash c l block h = h.bit_bash
-numbers_of Access c l block h = h.access
-numbers_of Shared c l block h = h.shared_access
-numbers_of MemWalk c l block h = h.mem_walk
-
 pub nothing_is_named : NothingIsNamed
 nothing_is_named s new which block told ok w (inl all) =
     let c = s.model.chip in
     let l = s.model.layout in
     let p = machine_of s.model w.agree.device in
     let plan = plan_of which c l block in
-    let course = plan_is_plain s new plan told p (numbers_of which c l block (plans_have_numbers c l block ok.chip ok.layout)) ok (is_machine s ok w) all in
+    let course = plan_is_plain s new plan told p (plans_have_numbers which c l block ok.chip ok.layout) ok (is_machine s ok w) all in
     each_told NamesNoField (λ e h. h) told (subst (All NamesNoField) (sym course.events) (along_names c l p plan))
 nothing_is_named s new which block told ok w (inr some) =
     let c = s.model.chip in
     let l = s.model.layout in
     let p = machine_of s.model w.agree.device in
     let plan = plan_of which c l block in
-    let course = broken_plan_is_plain s new plan told p (numbers_of which c l block (plans_have_numbers c l block ok.chip ok.layout)) ok (is_machine s ok w) some in
+    let course = broken_plan_is_plain s new plan told p (plans_have_numbers which c l block ok.chip ok.layout) ok (is_machine s ok w) some in
     each_told NamesNoField (λ e h. h) told (subst (All NamesNoField) (sym course.events) (first_names c l p (length told) plan))

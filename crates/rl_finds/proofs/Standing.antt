@@ -47,7 +47,7 @@ outcome_of m _ place sampled items = (refl, refl)
 
 -- ---- the device
 
-setup_after : (m : ModelData) (op : Op) (sampled : ℕ) (items : List TraceItem) (d : State) → (device_after m op sampled items d).setup ≡ d.setup
+pub setup_after : (m : ModelData) (op : Op) (sampled : ℕ) (items : List TraceItem) (d : State) → (device_after m op sampled items d).setup ≡ d.setup
 unfolding poked hw_set reset_by
 setup_after m (op.BackWrite reg value) sampled items d = refl
 setup_after m (op.BackRead reg) sampled items d = refl

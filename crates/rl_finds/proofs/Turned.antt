@@ -1,15 +1,16 @@
--- Which policies turn a stuck bit, and that a new device with one holds it.
-use Rattle.std.proofs.Common.{◌≡◌, ℕ, ◌<◌, ◌==◌, Bool, true, false, [], ◌∷◌, length, replicate, All, None, Some, if◌then◌else◌}
-use Rattle.std.proofs.Common.{refl, sym, ap, ◌∙◌, subst, eq-eqb, arith}
+-- Which policies show a stuck bit, which a deaf register, and that a new device with a stuck bit holds it.
+use Rattle.std.proofs.Common.{◌≡◌, ◌≢◌, ℕ, ◌<◌, Bool, true, false, not, ◌&&◌, List, [], ◌∷◌, length, replicate, All, Some}
+use Rattle.std.proofs.Common.{refl, sym, ap, ◌∙◌, subst, arith}
 use Rattle.std.specs.Prelude.{slice_index}
 use Rattle.std.proofs.lemmas.List.{length-map, length-replicate}
+use Rattle.std.proofs.lemmas.Bool.{and_parts}
 use Rattle.std.proofs.lemmas.List.Elements.{All-nil, All-cons}
 use Rattle.std.proofs.lemmas.List.FromFn.{get_or-map-range_with_len, length-map-range_with_len}
 use Rattle.rl_policy.proofs.BitLemmas.{bit-from_bits}
 use Rattle.rl_policy.specs.Bits.{bit}
-use Rattle.rl_policy.specs.Table.{after_write, after_read}
+use Rattle.rl_policy.specs.Table.{either_alone, after_write, after_read}
 use Rattle.rl_policy.specs.declared.policy.Policy.{Policy}
-use Rattle.rl_policy.specs.declared.policy.Policy.TheVariants.{Rw, Wrc, Wrs, Wc, Ws, Wsrc, Wcrs, W1s, W1t, W0c, W0t, W1src, W0crs}
+use Rattle.rl_policy.specs.declared.policy.Policy.TheVariants.{W1}
 use Rattle.rl_bus.specs.declared.table.StuckRow.{StuckRow}
 use Rattle.rl_bus.specs.Setup.{Setup, stuck_at, or_else, held}
 use Rattle.rl_bus.specs.State.{State, reg_reset, reset_by, first_state}
@@ -18,47 +19,58 @@ use Rattle.rl_map.specs.Layout.{LayoutData}
 use Rattle.rl_map.specs.Tables.{setup_of}
 use Rattle.rl_mirror.proofs.FieldLemmas.{seated}
 use Rattle.rl_access.specs.Operation.{reg_of}
-use Rattle.rl_finds.specs.Stuck.{stuck_bit, bit_of, IsTurned, turned_from_0, turned_from_1, PoliciesTurn, NewOneHasStuckBit}
-use Rattle.rl_finds.proofs.BitBash.{both_true, one_stuck}
+use Rattle.rl_finds.specs.Deaf.{IsTurned, turned_from_0, turned_from_1, PoliciesTurn}
+use Rattle.rl_finds.specs.Stuck.{stuck_bit, bit_of, turned_at_0, turned_at_1, beside_at_0, beside_at_1, PoliciesShowTurned, PoliciesShowBeside, NewOneHasStuckBit}
+use Rattle.rl_finds.proofs.BitBash.{stuck_there}
 
 -- ---- the policies
 
-from_0 : (p : Policy) → after_read p false ≡ false → ((spent : Bool) → after_write p false true spent ≡ true) → IsTurned p false
-from_0 p kept turns = record { kept = kept; lost = λ spent same. let both : true ≡ false = sym (turns spent) ∙ same in absurd (cc) }
+-- with either mark, a step leaves something else than this
+abbrev leaves_other : (Bool → Bool) → Bool → Bool
+leaves_other step v = either_alone (step false) v && either_alone (step true) v
 
-from_1 : (p : Policy) → after_read p true ≡ true → ((spent : Bool) → after_write p true false spent ≡ false) → IsTurned p true
-from_1 p kept turns = record { kept = kept; lost = λ spent same. let both : false ≡ true = sym (turns spent) ∙ same in absurd (cc) }
+apart : (x v : Bool) → either_alone x v ≡ true → x ≢ v
+apart true true so same = let both : false ≡ true = so in absurd (cc)
+apart false false so same = let both : false ≡ true = so in absurd (cc)
+apart true false so same = cc
+apart false true so same = cc
 
-abbrev At0 : Policy → Type 0
-At0 p = IsTurned p false
+other_left : (step : Bool → Bool) (v : Bool) → leaves_other step v ≡ true → (spent : Bool) → step spent ≢ v
+other_left step v so false = apart (step false) v (and_parts (either_alone (step false) v) (either_alone (step true) v) so).0
+other_left step v so true = apart (step true) v (and_parts (either_alone (step false) v) (either_alone (step true) v) so).1
 
-abbrev At1 : Policy → Type 0
-At1 p = IsTurned p true
+abbrev all_of : (Policy → Bool) → List Policy → Bool
+all_of test [] = true
+all_of test (p ∷ ps) = test p && all_of test ps
 
-all_from_0 : All At0 turned_from_0
-all_from_0 =
-    All-cons At0 Rw (Wrc ∷ Ws ∷ Wsrc ∷ W1s ∷ W1t ∷ W1src ∷ []) (from_0 Rw refl (λ s. refl))
-    (All-cons At0 Wrc (Ws ∷ Wsrc ∷ W1s ∷ W1t ∷ W1src ∷ []) (from_0 Wrc refl (λ s. refl))
-    (All-cons At0 Ws (Wsrc ∷ W1s ∷ W1t ∷ W1src ∷ []) (from_0 Ws refl (λ s. refl))
-    (All-cons At0 Wsrc (W1s ∷ W1t ∷ W1src ∷ []) (from_0 Wsrc refl (λ s. refl))
-    (All-cons At0 W1s (W1t ∷ W1src ∷ []) (from_0 W1s refl (λ s. refl))
-    (All-cons At0 W1t (W1src ∷ []) (from_0 W1t refl (λ s. refl))
-    (All-cons At0 W1src [] (from_0 W1src refl (λ s. refl))
-    (All-nil At0)))))))
+all_leave_other : (step : Policy → Bool → Bool) (v : Bool) (ps : List Policy) → all_of (λ p. leaves_other (step p) v) ps ≡ true
+    → All (λ p. (spent : Bool) → step p spent ≢ v) ps
+all_leave_other step v [] so = All-nil (λ (p : Policy). (spent : Bool) → step p spent ≢ v)
+all_leave_other step v (p ∷ ps) so =
+    let both = and_parts (leaves_other (step p) v) (all_of (λ p. leaves_other (step p) v) ps) so in
+    All-cons (λ (p : Policy). (spent : Bool) → step p spent ≢ v) p ps (other_left (step p) v both.0) (all_leave_other step v ps both.1)
 
-all_from_1 : All At1 turned_from_1
-all_from_1 =
-    All-cons At1 Rw (Wrs ∷ Wc ∷ Wcrs ∷ W0c ∷ W0t ∷ W0crs ∷ []) (from_1 Rw refl (λ s. refl))
-    (All-cons At1 Wrs (Wc ∷ Wcrs ∷ W0c ∷ W0t ∷ W0crs ∷ []) (from_1 Wrs refl (λ s. refl))
-    (All-cons At1 Wc (Wcrs ∷ W0c ∷ W0t ∷ W0crs ∷ []) (from_1 Wc refl (λ s. refl))
-    (All-cons At1 Wcrs (W0c ∷ W0t ∷ W0crs ∷ []) (from_1 Wcrs refl (λ s. refl))
-    (All-cons At1 W0c (W0t ∷ W0crs ∷ []) (from_1 W0c refl (λ s. refl))
-    (All-cons At1 W0t (W0crs ∷ []) (from_1 W0t refl (λ s. refl))
-    (All-cons At1 W0crs [] (from_1 W0crs refl (λ s. refl))
-    (All-nil At1)))))))
+-- the other value is written, or the same, once a read left the bit
+abbrev write_turned : Bool → Policy → Bool → Bool
+write_turned v p spent = after_write p (after_read p v) (not (after_read p v)) spent
+
+abbrev write_same : Bool → Policy → Bool → Bool
+write_same v p spent = after_write p (after_read p v) (after_read p v) spent
+
+pub policies_show_turned : PoliciesShowTurned
+policies_show_turned = (all_leave_other (write_turned false) false turned_at_0 refl, all_leave_other (write_turned true) true turned_at_1 refl)
+
+pub policies_show_beside : PoliciesShowBeside
+policies_show_beside = (all_leave_other (write_same false) false beside_at_0 refl, all_leave_other (write_same true) true beside_at_1 refl)
+
+-- those of a deaf register
+turned_first : (value : Bool) → IsTurned W1 value false
+turned_first true same = cc
+turned_first false same = cc
 
 pub policies_turn : PoliciesTurn
-policies_turn = (all_from_0, all_from_1)
+policies_turn =
+    (all_leave_other (λ p. after_write p false true) false turned_from_0 refl, all_leave_other (λ p. after_write p true false) true turned_from_1 refl, turned_first)
 
 -- ---- a new device
 
@@ -98,7 +110,5 @@ new_one_has_stuck_bit c l s count sound inside within =
     let reg = reg_of c s.field in
     let b = bit_of c s in
     let seat = seated c s.field sound inside in
-    let stuck : stuck_at t reg b ≡ Some s.value =
-    one_stuck c l s reg b inside ∙ ap (λ x. if x then Some s.value else None) (both_true (reg == reg) (b == b) (eq-eqb reg reg refl) (eq-eqb b b refl)) in
-    let new = fresh_ones t (length c.regs) count reg b s.value (regs_of c l s) seat.reg (omega (arith, seat.inside, seat.bytes, within)) stuck in
+    let new = fresh_ones t (length c.regs) count reg b s.value (regs_of c l s) seat.reg (omega (arith, seat.inside, seat.bytes, within)) (stuck_there c l s inside) in
     record { setup = new.setup; beats = new.beats; bits = new.bits; marks = new.marks; holds = new.here }

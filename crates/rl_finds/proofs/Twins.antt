@@ -57,9 +57,9 @@ is_other d e a =
 -- ---- one item
 
 -- a word changes what a device holds, and nothing else
-record IsSameBut (x y : State) : Type 0 where
-  setup : y.setup ≡ x.setup
-  items : y.items ≡ x.items
+pub record IsSameBut (x y : State) : Type 0 where
+  pub setup : y.setup ≡ x.setup
+  pub items : y.items ≡ x.items
 
 by_test : (b : Bool) (s x y : State) → IsSameBut s x → IsSameBut s y → IsSameBut s (if b then x else y)
 by_test true s x y h k = h
@@ -73,7 +73,7 @@ writing : (s : State) (word lanes : ℕ → Bool) (c : Cell) → IsSameBut s (af
 writing s word lanes (Reg r) = record { setup = refl; items = refl }
 writing s word lanes (Loc m i) = by_test (mem_of s.setup m).writable s _ s (record { setup = refl; items = refl }) (record { setup = refl; items = refl })
 
-word : (s : State) (op : BusOp) (w : WordRow) → IsSameBut s (after_word s op w)
+pub word : (s : State) (op : BusOp) (w : WordRow) → IsSameBut s (after_word s op w)
 word s op w =
     by_test (not op.write) s _ _ (reading s (lane_bit (lanes_in w.lanes op.lanes)) w.cell)
     (by_test (is_deaf s.setup w.cell) s s _ (record { setup = refl; items = refl })
@@ -100,7 +100,7 @@ state_other : (d : State) (deaf : List ItemRow) (stuck : List StuckRow) (b m xs 
 unfolding state_after
 state_other d deaf stuck b m xs port op = touched (counted d) deaf stuck b m xs port op (word_at d port op)
 
-goes_alike : (d e : State) (port : ℕ) (op : BusOp) → AreAlike d e → AreAlike (state_after d port op) (state_after e port op)
+pub goes_alike : (d e : State) (port : ℕ) (op : BusOp) → AreAlike d e → AreAlike (state_after d port op) (state_after e port op)
 goes_alike d e port op a =
     subst (λ (x : State). AreAlike (state_after d port op) (state_after x port op)) (sym (is_other d e a)) (state_other d a.deaf a.stuck e.bits e.marks e.locations port op)
 

@@ -234,5 +234,5 @@ no_location_differs s new block told ok w all =
     let l = s.model.layout in
     let p = machine_of s.model w.agree.device in
     let plan = walk MemWalk c l block in
-    let course = plan_is_plain s new plan told p (plans_have_numbers c l block ok.chip ok.layout).mem_walk ok (is_machine s ok w) all in
+    let course = plan_is_plain s new plan told p (plans_have_numbers MemWalk c l block ok.chip ok.layout) ok (is_machine s ok w) all in
     each_told FindsNothing (λ e h. h) told (subst (All FindsNothing) (sym course.events) (walk_finds_nothing s.model block p ok))

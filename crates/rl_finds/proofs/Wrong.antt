@@ -81,18 +81,21 @@ read_part bits fs k r list inside readable =
 value_bits : (f : FieldSeen) (v b i : ℕ) (kept : Bool) → value_for 0 f.resets ≡ Some v → b - f.shape.lsb ≡ i → reset_bit f 0 b kept ≡ bit v i
 value_bits f v b i kept says at = ap (λ o. option_map_or (λ v. bit v (b - f.shape.lsb)) o kept) says ∙ ap (bit v) at
 
+pub described_bit : (bits : ℕ) (fs : List FieldSeen) (k v kept i : ℕ) → IsFieldList bits fs → k < length fs → value_for 0 (field_in fs k).resets ≡ Some v
+    → i < (field_in fs k).shape.width → bit (after_reset fs 0 kept) ((field_in fs k).shape.lsb + i) ≡ bit v i
+unfolding after_reset
+described_bit bits fs k v kept i list inside says l =
+    let b = (field_in fs k).shape.lsb + i in
+    let here = bit_of bits fs k i list inside l in
+    bit-word_by_field fs (λ k b. reset_bit (field_in fs k) 0 b (bit kept b)) b here.low
+    ∙ ap (λ o. option_map_or (λ k. reset_bit (field_in fs k) 0 b (bit kept b)) o false) here.at
+    ∙ value_bits (field_in fs k) v b i (bit kept b) says (omega arith)
+
 pub described_part : (bits : ℕ) (fs : List FieldSeen) (k v kept : ℕ) → IsFieldList bits fs → k < length fs → value_for 0 (field_in fs k).resets ≡ Some v
     → v < 2 ^ (field_in fs k).shape.width → part_of (field_in fs k).shape (after_reset fs 0 kept) ≡ v
-unfolding after_reset
 described_part bits fs k v kept list inside says fits =
     let f = (field_in fs k).shape in
-    sym (is_from_bits f.width v (λ i. bit (after_reset fs 0 kept) (f.lsb + i)) fits
-    (λ i l.
-    let b = f.lsb + i in
-    let here = bit_of bits fs k i list inside l in
-    sym (bit-word_by_field fs (λ k b. reset_bit (field_in fs k) 0 b (bit kept b)) b here.low
-    ∙ ap (λ o. option_map_or (λ k. reset_bit (field_in fs k) 0 b (bit kept b)) o false) here.at
-    ∙ value_bits (field_in fs k) v b i (bit kept b) says (omega arith))))
+    sym (is_from_bits f.width v (λ i. bit (after_reset fs 0 kept) (f.lsb + i)) fits (λ i l. sym (described_bit bits fs k v kept i list inside says l)))
 
 -- ---- in the device: the value that its flaw says
 
@@ -165,7 +168,8 @@ taken_bit c l resets field v x i sound inside takes low =
     subst (λ (f : FieldSeen). i < f.shape.width → IsBitOf fs k (f.shape.lsb + i)) at.field
     (λ l. bit_of (8 * size_of c reg) fs k i (field_list c reg sound there) at.place l) low in
     let owner : field_at t reg b ≡ Some field = field_found c l (wrong_resets resets) reg b k sound there bits.at ∙ ap Some at.number in
-    let lsb : b - (row_of_field t field).lsb ≡ i = ap (λ (f : FieldRow). b - f.lsb) (row_is c l (wrong_resets resets) field inside) ∙ (let e : b - (field_of c field).shape.lsb ≡ i = omega arith in e) in
+    let lsb : b - (row_of_field t field).lsb ≡ i = ap (λ (f : FieldRow). b - f.lsb) (row_is c l (wrong_resets resets) field inside)
+    ∙ (let e : b - (field_of c field).shape.lsb ≡ i = omega arith in e) in
     bit-from_bits 64 (λ b. or_else (stuck_at t reg b) (device_bit t 0 (field_at t reg b) b (bit x b))) b bits.low
     ∙ none_stuck c l resets reg b (device_bit t 0 (field_at t reg b) b (bit x b))
     ∙ ap (λ o. device_bit t 0 o b (bit x b)) owner

@@ -1,5 +1,5 @@
--- Which sequences find an address that answers errors: each that reaches it.
-use Rattle.std.specs.Prelude.{◌≡◌, ◌⊎◌, ℕ, ◌*◌, ◌<◌, ◌==◌, nat_le, ◌&&◌, Bool, true, List, length, Option, Some}
+-- Which sequences find an address that answers errors, or an item that fails by its number: each that reaches it.
+use Rattle.std.specs.Prelude.{◌≡◌, ◌⊎◌, ℕ, ◌*◌, ◌<◌, ◌≤◌, ◌==◌, nat_le, ◌&&◌, Bool, true, List, length, Option, Some}
 use Rattle.std.specs.List.{list_any}
 use Rattle.rl_bus.specs.Setup.{Setup}
 use Rattle.rl_bus.specs.State.{State}
@@ -58,3 +58,14 @@ SharedErrorIsFound =
     → IsModel s.model → s.device ≡ Some d → IsVisited Shared s.model.chip s.model.layout block reg written
     → IsPlaceWithRight s.model.layout reg place → HasError s.model.layout d.setup place index → RunsAll Shared block s told new
     → HasEvent EndsByError told
+
+-- by a flaw the item with this number fails
+abbrev pub is_failing : Setup → (number : ℕ) → Bool
+is_failing t number = list_any (λ nth. nth == number) t.flaws.nths
+
+-- Where the device took such an item while a sequence ran, some event ends by a bus error, whatever else is wrong with the device.
+abbrev pub NthErrorIsFound : Type 0
+NthErrorIsFound =
+    (s new : Scene) (d after : State) (which : Sequence) (block : Option ℕ) (told : List Told) (number : ℕ)
+    → s.device ≡ Some d → new.device ≡ Some after → is_failing d.setup number ≡ true → d.items < number → number ≤ after.items
+    → RunsAll which block s told new → HasEvent EndsByError told

@@ -7,8 +7,7 @@ use Rattle.rl_access.specs.Call.{Scene}
 use Rattle.rl_access.specs.HandsOver.{Told}
 use Rattle.rl_seq.specs.declared.sequence.Sequence.{Sequence}
 use Rattle.rl_seq.specs.Plan.{Runs, Breaks}
-use Rattle.rl_seq.specs.Sequences.{items_of, is_chosen, is_visited}
-use Rattle.rl_plain.specs.Fronts.{plan_of}
+use Rattle.rl_seq.specs.Sequences.{items_of, is_chosen, is_visited, plan_of}
 
 -- the sequence ran from the first scene to the new one, and told these events: all of them
 abbrev pub RunsAll : Sequence → Option ℕ → Scene → List Told → Scene → Type 0
