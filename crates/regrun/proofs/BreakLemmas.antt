@@ -46,17 +46,14 @@ use Rattle.rl_report.specs.Opening.{FindsHead, TakesNoHead, is_separator, separa
 use Rattle.rl_report.specs.Reading.{Reading, input_of}
 use Rattle.rl_report.proofs.OpeningLemmas.{no_ten}
 use Rattle.rl_report.proofs.TakenLemmas.{begins_later}
-use Rattle.rl_log.specs.declared.status.Status.{Status}
-use Rattle.rl_log.specs.declared.status.Status.TheVariants.{SourceFault}
-use Rattle.rl_log.specs.Causes.{IsCaused}
-use Rattle.regrun.specs.Output.{run_lines, woven_lines, BreaksOff, LinesBreak}
+use Rattle.rl_play.specs.Played.{LinesBreak}
+use Rattle.rl_opening.specs.Output.{run_lines}
+use Rattle.regrun.specs.Output.{woven_lines, BreaksOff}
 use Rattle.rl_session.specs.Judged.{taken_by, taken_text, first_world}
 use Rattle.rl_session.specs.Session.{behind, opening_of}
-use Rattle.rl_log.specs.Log.{lines_text}
 use Rattle.rl_log.specs.declared.counts.Counts.{Counts}
 use Rattle.rl_log.specs.Recording.{no_counts}
 use Rattle.rl_play.specs.Moment.{moment}
-use Rattle.rl_play.specs.Played.{Breaks}
 use Rattle.rl_woven_log.specs.Judged.{woven_taken_by, woven_taken_text}
 use Rattle.rl_woven_log.specs.Turns.{BreaksWeave}
 use Rattle.rl_woven_log.specs.WeaveLog.{closed_text, counting}
@@ -64,7 +61,7 @@ use Rattle.rl_access.specs.World.{IsAt, world}
 use Rattle.rl_play.proofs.BufferLemmas.{keeps_then_appends}
 use Rattle.rl_play.proofs.EndingLemmas.{appends_keeps, keeps_nothing}
 use Rattle.rl_session.proofs.SessionLemmas.{found_head, opening_found}
-use Rattle.rl_play.proofs.FaultLemmas.{nothing_from, breaks_at}
+use Rattle.rl_play.proofs.FaultLemmas.{nothing_from}
 
 -- ---- what is behind a separator
 
@@ -242,15 +239,6 @@ module _ (log : List ℕ → List Standing → List ℕ) (lines : DescData → L
 
 some_is : {x y : State} → Some x ≡ Some y → x ≡ y
 some_is e = cc
-
-pub breaks_first : (input : Option (List ℕ)) (desc : DescData) (adapters : List Standing) (m : ModelData) (st : State)
-    (left old new : Option (List ℕ)) → IsAt m adapters (Some st) (first_world desc adapters)
-    → Breaks 1 m adapters (Some st) input left old new
-    → IfSome input (λ bytes. LinesBreak (run_lines desc adapters) bytes left old new)
-breaks_first None desc adapters m st left old new here h = tt
-breaks_first (Some bytes) desc adapters m st left old new here h =
-    let b = breaks_at 1 m adapters (Some st) (first_world desc adapters) (Some bytes) left old new bytes here refl h in
-    record { taken = b.taken; others = b.others; split = b.split; is_left = b.is_left; text = b.text }
 
 woven_first : (n : ℕ) (desc : DescData) (adapters : List Standing) (m : ModelData) (st : State) (counts : Counts)
     → counts ≡ no_counts → IsAt m adapters (Some st) (first_world desc adapters)

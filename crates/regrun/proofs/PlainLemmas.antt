@@ -5,8 +5,9 @@ use Rattle.rl_bus.specs.Standing.{Standing, kinds_of}
 use Rattle.rl_log.specs.declared.status.Status.{Status}
 use Rattle.rl_log.specs.declared.status.Status.TheVariants.{SinkFault}
 use Rattle.rl_session.specs.Judged.{judged}
-use Rattle.regrun.specs.Output.{IsJudged}
-use Rattle.regrun.specs.Telling.{Stops}
+use Rattle.rl_opening.specs.Output.{IsJudged}
+use Rattle.rl_opening.specs.Telling.{Stops}
+use Rattle.rl_opening.proofs.StopLemmas.{stops_refused}
 use Rattle.rl_session.specs.Session.{opening_of, refusal_of}
 use Rattle.rl_plain_log.specs.PlainLog.{IsSteadyOpening, IsPlainLog, WritesPlainLog}
 use Rattle.rl_log.specs.Statuses.{is_complete}
@@ -18,7 +19,9 @@ use Rattle.rl_plain_log.proofs.PlainSession.{log_of_refused}
 pub plain_stopped : (left : Option (List ℕ)) (adapters : List Standing) (status : Status) (old new : Option (List ℕ)) → is_complete status ≡ true
     → IfSome left (λ bytes. Stops (opening_of bytes (kinds_of adapters)) status old new) → IfSome left (λ bytes. IsPlainLog bytes adapters)
 plain_stopped None adapters status old new whole h = tt
-plain_stopped (Some bytes) adapters status old new whole h = log_of_refused bytes adapters (refusal_of (opening_of bytes (kinds_of adapters))) (h.refused whole)
+plain_stopped (Some bytes) adapters status old new whole h =
+    let opening = opening_of bytes (kinds_of adapters) in
+    log_of_refused bytes adapters (refusal_of opening) (stops_refused opening status old new whole h)
 
 -- the status of a run that came to its last line, before it was written out
 pub same_complete : (status result : Status) → (result ≢ SinkFault → result ≡ status) → is_complete result ≡ true → is_complete status ≡ true

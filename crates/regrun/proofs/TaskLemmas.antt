@@ -8,16 +8,17 @@ use Rattle.rl_log.specs.Statuses.{is_complete}
 use Rattle.rl_play.specs.Earlier.{KeepsEarlier}
 use Rattle.rl_play.proofs.FaultLemmas.{same_status}
 use Rattle.rl_plain_log.specs.PlainLog.{IsPlainLog}
+use Rattle.rl_opening.specs.Opening.{LeavesScript}
 use Rattle.rl_report.specs.Opening.{TakesNoHead}
 use Rattle.rl_session.specs.Judged.{judged, map_judged, soak_judged, taken_text}
 use Rattle.regrun.specs.declared.words.Task.{Task}
 use Rattle.regrun.specs.declared.words.Task.TheVariants.{Run, Map, Soak, Weave}
 use Rattle.rl_woven_log.specs.Judged.{woven_judged, woven_taken_text}
-use Rattle.regrun.specs.Opening.{LeavesScript}
-use Rattle.regrun.specs.Output.{Output, WritesJudged, BreaksOff}
+use Rattle.rl_opening.specs.Output.{Output, WritesJudged}
+use Rattle.rl_opening.proofs.JudgedLemmas.{judged_written, all_written}
+use Rattle.regrun.specs.Output.{BreaksOff}
 use Rattle.regrun.specs.Task.{Does}
 use Rattle.regrun.proofs.BreakLemmas.{off_written}
-use Rattle.regrun.proofs.JudgedLemmas.{judged_written, all_written}
 use Rattle.regrun.proofs.LawLemmas.{errors_keep, checks_name}
 use Rattle.regrun.proofs.PlainLemmas.{same_complete, plain_written, plain_later}
 

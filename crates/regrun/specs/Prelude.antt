@@ -1,7 +1,5 @@
 -- The words that the contracts of this crate use, passed on from one place. Declares nothing.
-pub use Rattle.regrun.specs.Opening.{LeavesScript}
-pub use Rattle.regrun.specs.Output.{output_of, run_lines, woven_lines, BreaksOff, LinesBreak, WritesJudged}
-pub use Rattle.regrun.specs.Telling.{Stays, Stops}
+pub use Rattle.regrun.specs.Output.{woven_lines, BreaksOff}
 pub use Rattle.regrun.specs.Task.{Does}
 pub use Rattle.regrun.specs.Words.{asked_by}
 pub use Rattle.rl_access.specs.Model.{IsModel, IsReady, IsSameChip}
@@ -16,8 +14,11 @@ pub use Rattle.rl_log.specs.Telling.{Tells}
 pub use Rattle.rl_map.specs.LayoutText.{layout_text}
 pub use Rattle.rl_map.specs.Maps.{IsBuiltWith}
 pub use Rattle.rl_plain_log.specs.PlainLog.{IsPlainLog, IsSteadyOpening, WritesPlainLog}
+pub use Rattle.rl_opening.specs.Opening.{LeavesScript}
+pub use Rattle.rl_opening.specs.Output.{output_of, WritesJudged}
+pub use Rattle.rl_opening.specs.Stays.{Stays}
 pub use Rattle.rl_play.specs.Earlier.{KeepsEarlier}
-pub use Rattle.rl_play.specs.Played.{coming, IsPlayed}
+pub use Rattle.rl_play.specs.Played.{coming, IsPlayed, LinesBreak}
 pub use Rattle.rl_play.specs.Told.{told}
 pub use Rattle.rl_report.specs.Opening.{separator_at, FindsHead, TakesNoHead}
 pub use Rattle.rl_report.specs.Reading.{input_of}

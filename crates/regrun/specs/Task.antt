@@ -5,6 +5,8 @@ use Rattle.rl_log.specs.declared.status.Status.{Status}
 use Rattle.rl_log.specs.declared.status.Status.TheVariants.{Found, Memory, SourceFault}
 use Rattle.rl_log.specs.Events.{ErrorKeepsBeliefs, CheckNamesDiffering}
 use Rattle.rl_log.specs.Statuses.{is_complete}
+use Rattle.rl_opening.specs.Opening.{LeavesScript}
+use Rattle.rl_opening.specs.Output.{Output, WritesJudged}
 use Rattle.rl_plain_log.specs.PlainLog.{IsSteadyOpening, WritesPlainLog}
 use Rattle.rl_report.specs.Opening.{TakesNoHead}
 use Rattle.rl_session.specs.Judged.{judged, judged_events, map_judged, soak_judged, taken_text}
@@ -12,8 +14,7 @@ use Rattle.rl_session.specs.Session.{opening_of}
 use Rattle.rl_woven_log.specs.Judged.{woven_judged, woven_taken_text}
 use Rattle.regrun.specs.declared.words.Task.{Task}
 use Rattle.regrun.specs.declared.words.Task.TheVariants.{Run, Map, Soak, Weave}
-use Rattle.regrun.specs.Opening.{LeavesScript}
-use Rattle.regrun.specs.Output.{Output, WritesJudged, BreaksOff}
+use Rattle.regrun.specs.Output.{BreaksOff}
 
 -- `input` and `left` are the bytes that the source has before and after the call, where it tells them.
 pub record Does (task : Task) (status : Status) (input left : Option (List ℕ)) (before after : Output) : Type 0 where

@@ -1,7 +1,6 @@
 //! Runs a session of the register layer: reads a description and a script, drives the bus and writes the log.
 #![tactic(auto)]
 
-mod opening;
 mod running;
 mod showing;
 mod soaking;

@@ -3,10 +3,10 @@ ghost use Rattle.std.specs.Prelude.{◌≡◌, ◌≢◌, ◌≤◌, ◌<◌, �
 ghost use Rattle.regrun.specs.Prelude.{IsBuiltWith, IsCaused, LeavesScript, Stays, TakesNoHead, Tells, WritesJudged};
 ghost use Rattle.regrun.specs.Prelude.{layout_text, map_judged, output_of};
 
-use crate::opening::{fresh_lines, open_session};
 use rl_bus::{Adapter, Adapters};
 use rl_desc::Desc;
 use rl_log::Status;
+use rl_opening::open_session;
 use rl_play::Log;
 use rl_report::{Failed, Source};
 use rl_session::put_layout;
@@ -48,11 +48,8 @@ pub(crate) fn show_layout<S: Source, L: Log>(
     ensures cause { IsCaused result (S.faults source.old) (S.faults source.new) (L.faults out.old) (L.faults out.new) }
     ensures stays { Stays L.faults L.ends L.target out.old out.new }
 {
-    let Ok(mut lines) = fresh_lines(alloc) else {
-        return Status::Memory;
-    };
-    let desc = match open_session(alloc, &mut lines, source, out, adapters) {
-        Ok(desc) => desc,
+    let desc = match open_session(alloc, source, out, adapters) {
+        Ok((desc, _)) => desc,
         Err(status) => return status,
     };
     put_description(&desc, out)

@@ -4,14 +4,14 @@ ghost use Rattle.std.specs.Prelude.{drop, vec_len};
 ghost use Rattle.regrun.specs.Prelude.{IsCaused, IsPlayed, IsReady, IsSameChip, Stays, Tells, WritesJudged};
 ghost use Rattle.regrun.specs.Prelude.{bench_state, coming, input_of, is_complete, kinds_of, output_of};
 ghost use Rattle.regrun.specs.Prelude.{soak_judged, soak_line_text, soak_script_judged};
-ghost use Rattle.regrun.specs.Opening.{IsBehindHead, IsRunnable};
+ghost use Rattle.rl_opening.specs.Opening.{IsBehindHead, IsRunnable};
 
-use crate::opening::{fresh_lines, open_session};
 use rl_access::{Event, Model};
 use rl_bench::Bench;
 use rl_bus::{Adapter, Adapters};
 use rl_desc::Desc;
 use rl_log::{Counts, Status};
+use rl_opening::open_session;
 use rl_play::{Log, play_lines};
 use rl_report::{Failed, LineReader, Sink, Source};
 use rl_session::{mirror_sum, open, put_soak_line, soak_session};
@@ -183,12 +183,9 @@ pub(crate) fn put_soak<L: Log>(
     let Ok(bytes) = soak_session(alloc, n) else {
         return Status::Memory;
     };
-    let Ok(mut lines) = fresh_lines(alloc) else {
-        return Status::Memory;
-    };
     let mut source = Text { bytes, at: 0 };
-    match open_session(alloc, &mut lines, &mut source, out, adapters) {
-        Ok(desc) => soak_desc(alloc, n, desc, &mut lines, &mut source, out, adapters),
+    match open_session(alloc, &mut source, out, adapters) {
+        Ok((desc, mut lines)) => soak_desc(alloc, n, desc, &mut lines, &mut source, out, adapters),
         Err(status) => status,
     }
 }

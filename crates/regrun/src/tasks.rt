@@ -1,8 +1,6 @@
 // What each task does, written out.
-ghost use Rattle.std.specs.Prelude.{◌≡◌, ◌≢◌, ℕ, ◌≤◌, ◌<◌, ◌^◌, map, length, true, false};
-ghost use Rattle.std.specs.Io.KnownBytes.{Keeps};
-ghost use Rattle.regrun.specs.Prelude.{Does, IsCaused, KeepsEarlier, NoneFailed, Rose, Stays, is_complete, output_of};
-ghost use Rattle.regrun.specs.Prelude.{told};
+ghost use Rattle.std.specs.Prelude.{◌≡◌, ℕ, ◌≤◌, ◌<◌, ◌^◌, map, length, true, false};
+ghost use Rattle.regrun.specs.Prelude.{Does, IsCaused, KeepsEarlier, Rose, Stays, is_complete, output_of};
 
 use crate::running::run;
 use crate::showing::show_layout;
@@ -11,41 +9,10 @@ use crate::weaving::weave;
 use crate::words::Task;
 use rl_bus::{Adapter, Adapters};
 use rl_log::Status;
+use rl_opening::end_buffered;
 use rl_play::{Buffered, Earlier, Log};
-use rl_report::{Failed, Sink, Source};
+use rl_report::{Sink, Source};
 use std::alloc::Global;
-
-// Writes what is kept back, and ends the output of a run that came to its last line.
-fn finish<K: Sink, E: Earlier>(status: Status, out: &mut Buffered<'_, K, E>) -> Status
-    requires { status ≢ Status.Words }
-    ensures sink_later { K.faults out.old.sink.now ≤ K.faults out.new.sink.now }
-    ensures kept { result ≢ Status.SinkFault → result ≡ status }
-    ensures given_up { is_complete status ≡ false → result ≡ status }
-    ensures cause { result ≡ Status.SinkFault → status ≢ Status.SinkFault
-        → Rose (K.faults out.old.sink.now) (K.faults out.new.sink.now) }
-    ensures ended { is_complete result ≡ true → Rose (K.ends out.old.sink.now) (K.ends out.new.sink.now) }
-    ensures not_ended { is_complete result ≡ false → K.ends out.new.sink.now ≡ K.ends out.old.sink.now }
-    ensures told { Keeps (told K.written out.old) (told K.written out.new) }
-    ensures whole { is_complete result ≡ true → Keeps (told K.written out.old) (K.written out.new.sink.now) }
-    ensures at_fault { status ≡ Status.SourceFault → out.old.end ≡ 0
-        → Keeps (told K.written out.old) (K.written out.new.sink.now) }
-    ensures unwritten { status ≡ Status.SourceFault → out.new ≡ out.old }
-    ensures at_memory { result ≡ Status.Memory → NoneFailed (K.faults out.old.sink.now) (K.faults out.new.sink.now)
-        → Keeps (told K.written out.old) (K.written out.new.sink.now) }
-    ensures same_sink { out.new.sink.ghost_name ≡ out.old.sink.ghost_name }
-{
-    if status.is_complete() {
-        return match out.close() {
-            Ok(()) => status,
-            Err(Failed) => Status::SinkFault,
-        };
-    }
-    if status == Status::Memory {
-        // What was written before is the log as far as it went.
-        let _ = out.flush();
-    }
-    status
-}
 
 // Does what the words ask for. What is kept back isn't written yet.
 fn perform_task<S: Source, L: Log>(
@@ -101,5 +68,5 @@ pub(crate) fn run_task<S: Source, K: Sink, E: Earlier>(
 {
     let mut out = Buffered::<K, E>::new(sink);
     let status = perform_task(alloc, task, source, &mut out, adapters);
-    finish(status, &mut out)
+    end_buffered(status, &mut out)
 }

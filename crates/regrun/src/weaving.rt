@@ -2,12 +2,12 @@
 ghost use Rattle.std.specs.Prelude.{◌≡◌, ◌≤◌, ◌<◌, ◌^◌, length, map, false, IfSome};
 ghost use Rattle.regrun.specs.Prelude.{BreaksOff, IsCaused, LinesBreak, Stays, WritesJudged, input_of, kinds_of};
 ghost use Rattle.regrun.specs.Prelude.{output_of, woven_judged, woven_lines, woven_script_judged, woven_taken_text};
-ghost use Rattle.regrun.specs.Opening.{IsBehindHead, IsRunnable};
+ghost use Rattle.rl_opening.specs.Opening.{IsBehindHead, IsRunnable};
 
-use crate::opening::{fresh_lines, open_session};
 use rl_bus::{Adapter, Adapters};
 use rl_desc::Desc;
 use rl_log::{Counts, Status};
+use rl_opening::open_session;
 use rl_play::Log;
 use rl_report::{LineReader, Source};
 use rl_session::open;
@@ -77,11 +77,8 @@ pub(crate) fn weave<S: Source, L: Log>(
     ensures cause { IsCaused result (S.faults source.old) (S.faults source.new) (L.faults out.old) (L.faults out.new) }
     ensures stays { Stays L.faults L.ends L.target out.old out.new }
 {
-    let Ok(mut lines) = fresh_lines(alloc) else {
-        return Status::Memory;
-    };
-    match open_session(alloc, &mut lines, source, out, adapters) {
-        Ok(desc) => weave_session(alloc, n, desc, &mut lines, source, out, adapters),
+    match open_session(alloc, source, out, adapters) {
+        Ok((desc, mut lines)) => weave_session(alloc, n, desc, &mut lines, source, out, adapters),
         Err(status) => status,
     }
 }

@@ -1,4 +1,1 @@
 mod BackdoorLemmas
-mod OpeningLemmas
-mod SessionLemmas
-mod StaysLemmas

@@ -2,4 +2,3 @@ pub mod Opening
 pub mod Prelude
 pub mod Refusals
 pub mod Session
-pub mod Stays

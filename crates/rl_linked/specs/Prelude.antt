@@ -1,11 +1,11 @@
 -- The words that the contracts of this crate use, passed on from one place. Declares nothing.
-pub use Rattle.rl_linked.specs.Stays.{StaysOpen}
 pub use Rattle.rl_bus.specs.Causes.{Rose}
 pub use Rattle.rl_bus.specs.Standing.{Standing, kinds_of}
 pub use Rattle.rl_log.specs.Causes.{IsCaused}
 pub use Rattle.rl_log.specs.Statuses.{is_complete}
-pub use Rattle.rl_map.specs.Maps.{IsBuiltWith}
+pub use Rattle.rl_opening.specs.Opening.{IsBehindHead, IsRunnable}
+pub use Rattle.rl_opening.specs.Script.{PlaysRest}
+pub use Rattle.rl_opening.specs.Stays.{StaysOpen}
+pub use Rattle.rl_opening.specs.Telling.{Stops}
 pub use Rattle.rl_play.specs.Earlier.{KeepsEarlier}
 pub use Rattle.rl_report.specs.Reading.{input_of}
-pub use Rattle.rl_session.specs.Judged.{first_world}
-pub use Rattle.rl_session.specs.Session.{head_of, opening_after}

@@ -1,7 +1,6 @@
-//! Runs a session on a device over a link: refuses what a link can't have, plays the script, and says how the link broke.
+//! Runs a session on a device over a link: refuses what a link can't have, plays the script, and says how it broke.
 #![tactic(auto)]
 
-mod opening;
 mod playing;
 mod ran;
 mod refusal;

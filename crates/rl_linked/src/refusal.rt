@@ -1,12 +1,16 @@
 // What a session over a link can't have.
-ghost use Rattle.std.specs.Prelude.{◌≡◌};
+ghost use Rattle.std.specs.Prelude.{◌≡◌, Ok, OnOk, IfErr};
 ghost use Rattle.rl_bus.specs.Causes.{HasCause};
 ghost use Rattle.rl_report.specs.Pieces.{Puts};
+ghost use Rattle.rl_linked.specs.Prelude.{IsCaused, StaysOpen, Stops};
+ghost use Rattle.rl_linked.specs.Opening.{over_link};
 ghost use Rattle.rl_linked.specs.Refusals.{backdoor_reg, backdoor_mem, backdoor_text, refusal_of, refusal_text};
 
 use itoa::Buffer;
 use rl_desc::Desc;
+use rl_log::Status;
 use rl_model::{Chip, Item};
+use rl_opening::refused;
 use rl_report::{Failed, Sink, put_all};
 
 /// Why a description that can be run on a device model can't be run over a link.
@@ -83,5 +87,20 @@ pub fn put_refusal<Q: Sink>(log: &mut Q, refusal: Refusal) -> Result<(), Failed>
         Refusal::Flaw => put_all(log, b"refused description flaw 1: no flaws over a link\n"),
         Refusal::Reg(reg) => put_backdoor(log, b"reg ", reg),
         Refusal::Mem(mem) => put_backdoor(log, b"mem ", mem),
+    }
+}
+
+// Ends the session where its description asks of a link what this can't have.
+pub(crate) fn check_link<Q: Sink>(desc: &Desc, log: &mut Q) -> Result<(), Status>
+    ensures allowed { OnOk result (over_link (Ok desc.now) ≡ Ok desc.now) }
+    ensures unwritten { OnOk result (log.new ≡ log.old) }
+    ensures stops { IfErr result (λ status. Stops (over_link (Ok desc.now))
+        status (Q.written log.old) (Q.written log.new)) }
+    ensures cause { IfErr result (λ status. IsCaused status 0 0 (Q.faults log.old) (Q.faults log.new)) }
+    ensures stays { StaysOpen Q.written Q.faults Q.ends log.old log.new }
+{
+    match refusal_of(desc) {
+        Some(refusal) => Err(refused(put_refusal(log, refusal))),
+        None => Ok(()),
     }
 }

@@ -1,36 +1,16 @@
 // A session on a device over a link.
-ghost use Rattle.std.specs.Prelude.{◌≡◌, ◌≢◌, ◌≤◌, ◌<◌, ◌^◌, List, ℕ, Err, map, length, true, false, IfSome, IsNone};
-ghost use Rattle.std.specs.Io.KnownBytes.{Keeps};
+ghost use Rattle.std.specs.Prelude.{◌≡◌, ◌≤◌, ◌<◌, ◌^◌, List, ℕ, Err, map, length, true, false, IfSome, IsNone};
 ghost use Rattle.rl_linked.specs.Prelude.{IsCaused, KeepsEarlier, Rose, StaysOpen, is_complete, kinds_of};
 ghost use Rattle.rl_linked.specs.Opening.{linked_opening};
 ghost use Rattle.rl_linked.specs.Session.{RunsLinked};
 
-use crate::opening::{fresh_lines, open_desc};
 use crate::playing::play_over;
 use crate::ran::Ran;
+use crate::refusal::check_link;
 use rl_bus::{Adapter, Adapters};
-use rl_log::Status;
-use rl_report::{Failed, Sink, Source};
+use rl_opening::{end_log, open_session};
+use rl_report::{Sink, Source};
 use std::alloc::Global;
-
-// Ends the log where its last line was written.
-fn finished<Q: Sink>(status: Status, log: &mut Q) -> Status
-    ensures kept { result ≢ Status.SinkFault → result ≡ status }
-    ensures told { Keeps (Q.written log.old) (Q.written log.new) }
-    ensures later { Q.faults log.old ≤ Q.faults log.new }
-    ensures cause { result ≡ Status.SinkFault → status ≢ Status.SinkFault
-        → Rose (Q.faults log.old) (Q.faults log.new) }
-    ensures ended { is_complete result ≡ true → Rose (Q.ends log.old) (Q.ends log.new) }
-    ensures not_ended { is_complete result ≡ false → Q.ends log.new ≡ Q.ends log.old }
-{
-    if !status.is_complete() {
-        return status;
-    }
-    match log.finish() {
-        Ok(()) => status,
-        Err(Failed) => Status::SinkFault,
-    }
-}
 
 // Runs a session, and leaves its log open.
 fn run<P: Source, Q: Sink, S: Source + Drop, K: Sink + Drop>(
@@ -52,14 +32,12 @@ fn run<P: Source, Q: Sink, S: Source + Drop, K: Sink + Drop>(
         (P.faults session.old) (P.faults session.new) (Q.faults log.old) (Q.faults log.new) }
     ensures stays { StaysOpen Q.written Q.faults Q.ends log.old log.new }
 {
-    let Ok(mut lines) = fresh_lines(alloc) else {
-        return Ran {
-            status: Status::Memory,
-            link: None,
-        };
+    let (desc, mut lines) = match open_session(alloc, session, log, adapters) {
+        Ok(opened) => opened,
+        Err(status) => return Ran { status, link: None },
     };
-    match open_desc(alloc, &mut lines, session, log, adapters) {
-        Ok(desc) => play_over(
+    match check_link(&desc, log) {
+        Ok(()) => play_over(
             alloc, desc, &mut lines, session, log, source, sink, adapters,
         ),
         Err(status) => Ran { status, link: None },
@@ -105,7 +83,7 @@ pub fn run_linked<P: Source, Q: Sink, S: Source + Drop, K: Sink + Drop>(
 {
     let ran = run(alloc, session, log, source, sink, adapters);
     Ran {
-        status: finished(ran.status, log),
+        status: end_log(ran.status, log),
         link: ran.link,
     }
 }

@@ -1,8 +1,7 @@
 -- What was told when a source failed.
-use Rattle.std.proofs.Common.{◌≡◌, ◌≢◌, ℕ, ◌+◌, ◌≤◌, Bool, true, false, if◌then◌else◌, List, [], ◌∷◌, ◌++◌, slice_range}
-use Rattle.std.proofs.Common.{Option, Some, None, IfSome, Result, refl, sym, ap, subst, ◌∙◌, append_assoc, arith}
-use Rattle.std.specs.Io.KnownBytes.{Appends, Keeps, append_known, prepend_known}
-use Rattle.std.proofs.KnownBytes.{Appends-trans}
+use Rattle.std.proofs.Common.{◌≡◌, ◌≢◌, ℕ, ◌+◌, ◌≤◌, Bool, true, false, List, [], ◌∷◌, ◌++◌, slice_range}
+use Rattle.std.proofs.Common.{Option, Some, None, IfSome, Result, refl, sym, ap, subst, ◌∙◌, arith}
+use Rattle.std.specs.Io.KnownBytes.{Keeps, append_known}
 use Rattle.std.proofs.lemmas.Bool.{true≢false}
 use Rattle.rl_bus.specs.Standing.{Standing}
 use Rattle.rl_bus.specs.State.{State}
@@ -12,7 +11,7 @@ use Rattle.rl_report.specs.declared.lines.Got.TheVariants as got
 use Rattle.rl_report.specs.Got.{Hands}
 use Rattle.rl_report.specs.Lines.{first_line, after_line, whole_lines}
 use Rattle.rl_report.specs.Reading.{Reading, input_of}
-use Rattle.rl_report.proofs.LineLemmas.{whole_none, whole_first}
+use Rattle.rl_report.proofs.LineLemmas.{whole_first}
 use Rattle.rl_script.specs.declared.line.Line.{Line}
 use Rattle.rl_log.specs.declared.counts.Counts.{Counts}
 use Rattle.rl_play.specs.declared.playing.Turn.TheVariants.{Next}
@@ -24,8 +23,9 @@ use Rattle.rl_log.specs.Log.{comes_of, lines_text, said, text_on}
 use Rattle.rl_log.specs.Causes.{IsCaused}
 use Rattle.rl_play.specs.Played.{BreaksAfter, Breaks, IsTurn, RanOn}
 use Rattle.rl_access.specs.World.{World, world, IsAt}
-use Rattle.rl_play.proofs.BufferLemmas.{keeps_refl, keeps_then_appends}
-use Rattle.rl_play.proofs.EndingLemmas.{appends_keeps, incomplete, keeps_nothing, keeps_when_empty, none_kept}
+use Rattle.rl_play.proofs.BufferLemmas.{keeps_refl}
+use Rattle.rl_play.proofs.CutLemmas.{cut_behind, cut_here}
+use Rattle.rl_play.proofs.EndingLemmas.{appends_keeps, incomplete, keeps_when_empty, none_kept}
 use Rattle.rl_play.proofs.PlayLemmas.{heard_said}
 
 pub still_going : (old new : Bool) → (old ≡ true → new ≡ true) → new ≡ false → old ≡ false
@@ -37,19 +37,6 @@ pub nothing_from : (number : ℕ) (w : World) (lines : List (List ℕ)) → line
 unfolding lines_text
 nothing_from number w lines none = ap (lines_text number w) none
 
-breaks_now : (number : ℕ) (w : World) (bytes pending : List ℕ) (left old new : Option (List ℕ)) → Keeps (Some bytes)
-    (prepend_known pending left) → first_line pending ≡ pending → Keeps old new
-    → BreaksAfter number w bytes left old new
-breaks_now number w bytes pending None old new kept none same = absurd kept
-breaks_now number w bytes pending (Some others) old new kept none same = record {
-  taken = pending;
-  others = others;
-  split = kept;
-  is_left = refl;
-  text = subst (Appends old new) (sym (nothing_from number w (whole_lines pending) (whole_none pending none)))
-      (keeps_nothing old new same);
-}
-
 pub breaks_here : (number : ℕ) (m : ModelData) (a : List Standing) (st : Option State)
     (input left old new : Option (List ℕ)) (reading : Reading) → Keeps input (input_of reading left)
     → (first_line reading.pending ≡ reading.pending) × (reading.ended ≡ false) → Keeps old new
@@ -57,9 +44,8 @@ pub breaks_here : (number : ℕ) (m : ModelData) (a : List Standing) (st : Optio
 breaks_here number m a None input left old new reading kept none same = tt
 breaks_here number m a (Some d) None left old new reading kept none same = tt
 breaks_here number m a (Some d) (Some bytes) left old new reading kept none same =
-    let going : Keeps (Some bytes) (if false then Some reading.pending else prepend_known reading.pending left) =
-    subst (λ b. Keeps (Some bytes) (if b then Some reading.pending else prepend_known reading.pending left)) none.1 kept in
-    breaks_now number (world m a d) bytes reading.pending left old new going none.0 same
+    let w = world m a d in
+    cut_here (lines_text number w) bytes left old new reading (nothing_from number w [] refl) kept none same
 
 -- ---- a fault behind a line
 
@@ -91,20 +77,10 @@ breaks_behind : (number : ℕ) (counts now : Counts) (w : World) (bytes : List �
     (after_line bytes) → Keeps old mid → RanOn (comes_of w s) mid new counts now m a st
     → Breaks (number + 1) m a st input left new last → BreaksAfter number w bytes left old last
 breaks_behind number counts now w bytes s old mid new left last m a st input is whole rest same r h =
-    let b = breaks_at (number + 1) m a st r.entry.course.world input left new last (after_line bytes) r.after rest h in
-    let more = lines_text (number + 1) r.entry.course.world (whole_lines b.taken) in
-    let all : lines_text number w (whole_lines (first_line bytes ++ 10 ∷ b.taken)) ≡ r.entry.text ++ more =
-    first_text number w bytes b.taken s is ∙ ap
-    (λ c. text_on c (λ w. lines_text (number + 1) w (whole_lines b.taken))) r.is in
-    record {
-      taken = first_line bytes ++ 10 ∷ b.taken;
-      others = b.others;
-      split = append_assoc (first_line bytes) (10 ∷ b.taken) b.others ∙ ap (λ l. first_line bytes ++ 10 ∷ l) b.split
-          ∙ sym whole;
-      is_left = b.is_left;
-      text = subst (Appends old last) (sym all) (Appends-trans old new last r.entry.text more
-          (keeps_then_appends old mid new r.entry.text same r.text) b.text);
-    }
+    let more = λ (taken : List ℕ). λ (w : World). lines_text (number + 1) w (whole_lines taken) in
+    cut_behind (lines_text number w) (lines_text (number + 1) r.entry.course.world) r.entry.text bytes old mid new left last
+    (λ taken. first_text number w bytes taken s is ∙ ap (λ c. text_on c (more taken)) r.is) whole same r.text
+    (breaks_at (number + 1) m a st r.entry.course.world input left new last (after_line bytes) r.after rest h)
 
 pub breaks_later : (number : ℕ) (counts now : Counts) (m n : ModelData) (a b : List Standing)
     (before after : Option State) (input : Option (List ℕ)) (g : Got) (line : List ℕ) (reading : Reading)

@@ -75,7 +75,7 @@ course_of w (planned p) = along w p
 course_of w (sequence which over p) = along w p
 course_of w (burst granted op ops) = burst_course w granted op ops
 
-abbrev entry_with : World → Work → Entry
+abbrev pub entry_with : World → Work → Entry
 entry_with w work = record { text = text_of work (course_of w work).told; course = course_of w work }
 
 abbrev IsSame : World → Line → Type 0
@@ -134,12 +134,12 @@ not_there : (w : World) (o : Option Work) (why : LineRefusal) → ok_or o NoSuch
 not_there w None why is = let same : NoSuchName ≡ why = cc in ap Err same
 not_there w (Some x) why is = absurd cc
 
-comes : (w : World) (s : Result Line LineRefusal) (work : Work) → asked w.model s ≡ Ok work
+pub comes : (w : World) (s : Result Line LineRefusal) (work : Work) → asked w.model s ≡ Ok work
     → comes_of w s ≡ Ok (entry_with w work)
 comes w (Ok l) work is = ap there (entry_is w l) ∙ there_is w (work_of w.model l) work is
 comes w (Err why) work is = absurd cc
 
-comes_not : (w : World) (s : Result Line LineRefusal) (why : LineRefusal) → asked w.model s ≡ Err why
+pub comes_not : (w : World) (s : Result Line LineRefusal) (why : LineRefusal) → asked w.model s ≡ Err why
     → comes_of w s ≡ Err why
 comes_not w (Ok l) why is = ap there (entry_is w l) ∙ not_there w (work_of w.model l) why is
 comes_not w (Err other) why is = let same : other ≡ why = cc in ap Err same
@@ -170,14 +170,14 @@ refused_front s new w o why told h r =
       leads = λ v. course.world;
     }
 
-does_course : (work : Work) (told : List Told) (s new : Scene) (w : World) → IsWorld s w → Does work s told new
+pub does_course : (work : Work) (told : List Told) (s new : Scene) (w : World) → IsWorld s w → Does work s told new
     → IsCourse told new (course_of w work)
 does_course (planned p) told s new w h d = runs_along p told s new w h d
 does_course (sequence which over p) told s new w h d = runs_along p told s new w h d
 does_course (burst (Ok place) o ops) told s new w h d = runs_through ops told s new w h d
 does_course (burst (Err why) o ops) told s new w h d = refused_told s new w o why told h d
 
-breaks_course : (work : Work) (told : List Told) (s new : Scene) (w : World) → IsWorld s w → BreaksOff work s told new
+pub breaks_course : (work : Work) (told : List Told) (s new : Scene) (w : World) → IsWorld s w → BreaksOff work s told new
     → IsFrontOf told new (course_of w work)
 breaks_course (planned p) told s new w h d = breaks_along p told s new w h d
 breaks_course (sequence which over p) told s new w h d = breaks_along p told s new w h d
@@ -218,7 +218,7 @@ part_of_text work told rest all old new is h =
 
 -- ---- a turn
 
-abbrev here : (m : ModelData) (a : List Standing) (errors : ℕ) (d : State) → IsWorld (scene m a errors (Some d))
+abbrev pub here : (m : ModelData) (a : List Standing) (errors : ℕ) (d : State) → IsWorld (scene m a errors (Some d))
     (world m a d)
 here m a errors d = record { model_is = refl; adapters_are = refl; device_is = refl }
 

@@ -1,10 +1,12 @@
 pub mod AnyLemmas
 pub mod BufferLemmas
 pub mod Courses
+pub mod CutLemmas
 pub mod DoneLemmas
 pub mod EndingLemmas
 pub mod FaultLemmas
 pub mod Judging
+pub mod LeavesLemmas
 pub mod LineLemmas
 pub mod NamedLemmas
 pub mod PlayLemmas

@@ -4,9 +4,11 @@ pub mod Done
 pub mod Earlier
 pub mod Heard
 pub mod Job
+pub mod Leaves
 pub mod Moment
 pub mod Played
 pub mod Prelude
 pub mod Recording
+pub mod Texts
 pub mod Told
 pub mod Work

@@ -1,5 +1,5 @@
 -- What was written and done of a line, and of a script, against what they come to.
-use Rattle.std.specs.Prelude.{◌≡◌, ℕ, ◌+◌, List, ◌++◌, true, false, Option, Some, None, IfSome, Result, Ok, Err, Bool}
+use Rattle.std.specs.Prelude.{◌≡◌, ℕ, ◌+◌, ◌≤◌, List, ◌++◌, true, false, Option, Some, None, IfSome, Result, Ok, Err, Bool}
 use Rattle.std.specs.Io.KnownBytes.{Appends, Keeps}
 use Rattle.rl_access.specs.Model.{ModelData}
 use Rattle.rl_bus.specs.Standing.{Standing}
@@ -12,12 +12,13 @@ use Rattle.rl_play.specs.declared.playing.Turn.TheVariants.{Next, Stop}
 use Rattle.rl_log.specs.declared.status.Status.{Status}
 use Rattle.rl_log.specs.declared.status.Status.TheVariants.{SourceFault}
 use Rattle.rl_log.specs.declared.refusal.LineRefusal.{LineRefusal}
-use Rattle.rl_log.specs.Endings.{added}
+use Rattle.rl_log.specs.Endings.{added, IsCounted}
 use Rattle.rl_log.specs.Recording.{no_counts, with_events}
 use Rattle.rl_log.specs.Entry.{Entry}
 use Rattle.rl_log.specs.Log.{Ending, script_from, lines_text, after_text, stops}
 use Rattle.rl_play.specs.Done.{DoesFrom, DoesWithRest}
 use Rattle.rl_play.specs.AnyDevice.{Point, PlaysInput, moment_at}
+use Rattle.rl_play.specs.Leaves.{stop_of}
 use Rattle.rl_play.specs.Moment.{Moment}
 use Rattle.rl_play.specs.Recording.{IsDone}
 use Rattle.rl_log.specs.Statuses.{is_complete}
@@ -119,12 +120,16 @@ PlaysScript before input after status = IfSome (coming 1 no_counts before.model 
 -- ---- a script whose source failed
 
 -- Bytes were taken from the front of an input, and exactly the log of the lines whose 10 is among them was written.
-pub record BreaksAfter (number : ℕ) (w : World) (bytes : List ℕ) (left old new : Option (List ℕ)) : Type 0 where
+pub record LinesBreak (log : List (List ℕ) → List ℕ) (bytes : List ℕ) (left old new : Option (List ℕ)) : Type 0 where
   pub taken : List ℕ
   pub others : List ℕ
   pub split : taken ++ others ≡ bytes
   pub is_left : left ≡ Some others
-  pub text : Appends old new (lines_text number w (whole_lines taken))
+  pub text : Appends old new (log (whole_lines taken))
+
+-- of the lines of a script, from that number on
+abbrev pub BreaksAfter : (number : ℕ) → World → (bytes : List ℕ) → (left old new : Option (List ℕ)) → Type 0
+BreaksAfter number w bytes left old new = LinesBreak (lines_text number w) bytes left old new
 
 -- where the device tells its state and the source its bytes
 abbrev pub Breaks : (number : ℕ) → ModelData → List Standing → Option State → (input left old new : Option (List ℕ))
@@ -162,6 +167,9 @@ pub record PlaysLine (number : ℕ) (before : Point) (input : Option (List ℕ))
   pub later_fault : turn ≡ Next → ended ≡ false → BreaksAsRest number (moment_at before) input (moment_at after) rest
   pub done_next : turn ≡ Next → DoesWithRest number (moment_at before) input (moment_at after) rest
   pub done_stop : (status : Status) → turn ≡ Stop status → DoesFrom number (moment_at before) input (moment_at after)
+  -- at most so many lines are run, and a status that goes by the counts goes by these
+  pub last : turn ≡ Next → number ≤ 1000000
+  pub counted : IfSome (stop_of turn) (λ status. IsCounted status after.counts)
 
 -- ---- the lines that are left
 
@@ -172,3 +180,5 @@ pub record PlaysThrough (before : Point) (input left : Option (List ℕ)) (after
   pub log : Ends 1 (moment_at before) input (moment_at after) status
   pub at_fault : status ≡ SourceFault → BreaksFrom 1 (moment_at before) input left after.text
   pub done : DoesFrom 1 (moment_at before) input (moment_at after)
+  -- a status that goes by the counts goes by these
+  pub counted : IsCounted status after.counts

@@ -8,17 +8,18 @@ pub use Rattle.rl_log.specs.Telling.{Tells}
 pub use Rattle.rl_log.specs.Entry.{plan_of}
 pub use Rattle.rl_log.specs.Log.{said_by}
 pub use Rattle.rl_log.specs.Texts.{refused_text, end_text}
-pub use Rattle.rl_play.specs.AnyDevice.{spot, LogsTallied, RunsOn, Turns, PlaysInput, PlaysOnAnyDevice}
+pub use Rattle.rl_play.specs.AnyDevice.{spot, LogsTallied, RunsOn, Turns, PlaysOnAnyDevice}
 pub use Rattle.rl_play.specs.Work.{asked, one_op, planned}
-pub use Rattle.rl_play.specs.Done.{DoesFrom, DoesFirstEvents}
+pub use Rattle.rl_play.specs.Done.{DoesFirstEvents}
 pub use Rattle.rl_play.specs.Earlier.{KeepsEarlier}
 pub use Rattle.rl_play.specs.Heard.{heard}
 pub use Rattle.rl_play.specs.Job.{job_work, JobHasNumbers}
+pub use Rattle.rl_play.specs.Leaves.{stop_of, fault_of, NotByCounts, StaysReady, Leaves, ReadsOn, CanGoOn, CutsLine}
 pub use Rattle.rl_play.specs.Moment.{moment_of}
-pub use Rattle.rl_play.specs.Played.{BreaksFrom, Ends, PlaysLine, PlaysScript, PlaysThrough}
+pub use Rattle.rl_play.specs.Played.{BreaksFrom, PlaysLine, PlaysScript, PlaysThrough}
 pub use Rattle.rl_play.specs.Told.{told}
 pub use Rattle.rl_report.specs.Got.{Hands}
-pub use Rattle.rl_report.specs.Lines.{first_line}
+pub use Rattle.rl_report.specs.Pieces.{SinkStays}
 pub use Rattle.rl_report.specs.Reading.{input_of, HoldsLine}
 pub use Rattle.rl_script.specs.Reading.{read_of}
 pub use Rattle.rl_script.specs.Said.{line_said}

@@ -1,7 +1,7 @@
 // What a line does, and its log.
 ghost use Rattle.std.specs.Prelude.{◌≡◌, ◌<◌, ◌∷◌, [], length, map as each, IfSome, Ok};
 ghost use Rattle.rl_play.specs.Prelude.{HasCause, IsReady, IsSameChip, line_said, plan_of, JobHasNumbers, asked};
-ghost use Rattle.rl_play.specs.Prelude.{job_work, one_op, planned, spot, LogsTallied, RunsOn};
+ghost use Rattle.rl_play.specs.Prelude.{job_work, one_op, planned, spot, LogsTallied, RunsOn, SinkStays, StaysReady};
 ghost use Rattle.rl_script.specs.declared.line.Line.TheVariants as say;
 
 use crate::log::Log;
@@ -123,14 +123,11 @@ fn log_job<D: Device, K: Log>(
 ) -> Result<Tally, Failed>
     requires ready { IsReady model.old (each standing adapters.old.items) (D.state device.old) }
     requires numbers { JobHasNumbers model.old.chip (length model.old.layout.maps) job }
-    ensures ready { IsReady model.new (each standing adapters.new.items) (D.state device.new) }
-    ensures parts { IsSameChip model.old model.new }
+    ensures ready { StaysReady model.old model.new (each standing adapters.new.items) (D.state device.new) }
     ensures logs { LogsTallied (job_work job.entry model.old)
         (spot standing D.errors D.state K.written model.old adapters.old.items device.old out.old counts.old)
         (spot standing D.errors D.state K.written model.new adapters.new.items device.new out.new counts.new) result }
-    ensures cause { HasCause (K.faults out.old) (K.faults out.new) result }
-    ensures ends_kept { K.ends out.new ≡ K.ends out.old }
-    ensures same_target { K.target out.new ≡ K.target out.old }
+    ensures stays { SinkStays K.Sink out.old out.new result }
 {
     let mut rec = Writing {
         sink: out,
@@ -155,14 +152,11 @@ fn write_burst<D: Device, K: Log>(
     counts: &mut Counts,
 ) -> Result<Option<LineRefusal>, Failed>
     requires ready { IsReady model.old (each standing adapters.old.items) (D.state device.old) }
-    ensures ready { IsReady model.new (each standing adapters.new.items) (D.state device.new) }
-    ensures parts { IsSameChip model.old model.new }
+    ensures ready { StaysReady model.old model.new (each standing adapters.new.items) (D.state device.new) }
     ensures run { RunsOn (asked model.old (Ok (say.BurstWrite mem.now first values.now name.now)))
         (spot standing D.errors D.state K.written model.old adapters.old.items device.old out.old counts.old)
         (spot standing D.errors D.state K.written model.new adapters.new.items device.new out.new counts.new) result }
-    ensures cause { HasCause (K.faults out.old) (K.faults out.new) result }
-    ensures ends_kept { K.ends out.new ≡ K.ends out.old }
-    ensures same_target { K.target out.new ≡ K.target out.old }
+    ensures stays { SinkStays K.Sink out.old out.new result }
 {
     let Some(mem) = mem_at(model, mem) else {
         return Ok(Some(LineRefusal::NoSuchName));
@@ -191,15 +185,12 @@ fn read_burst<D: Device, K: Log>(
     counts: &mut Counts,
 ) -> Result<Option<LineRefusal>, Failed>
     requires ready { IsReady model.old (each standing adapters.old.items) (D.state device.old) }
-    ensures ready { IsReady model.new (each standing adapters.new.items) (D.state device.new) }
-    ensures parts { IsSameChip model.old model.new }
+    ensures ready { StaysReady model.old model.new (each standing adapters.new.items) (D.state device.new) }
     ensures run { RunsOn
         (asked model.old (Ok (say.BurstRead line.now.path line.now.first line.now.second line.now.map)))
         (spot standing D.errors D.state K.written model.old adapters.old.items device.old out.old counts.old)
         (spot standing D.errors D.state K.written model.new adapters.new.items device.new out.new counts.new) result }
-    ensures cause { HasCause (K.faults out.old) (K.faults out.new) result }
-    ensures ends_kept { K.ends out.new ≡ K.ends out.old }
-    ensures same_target { K.target out.new ≡ K.target out.old }
+    ensures stays { SinkStays K.Sink out.old out.new result }
 {
     let Some(mem) = mem_at(model, &line.path) else {
         return Ok(Some(LineRefusal::NoSuchName));
@@ -229,14 +220,11 @@ fn sequence<D: Device, K: Log>(
     counts: &mut Counts,
 ) -> Result<Option<LineRefusal>, Failed>
     requires ready { IsReady model.old (each standing adapters.old.items) (D.state device.old) }
-    ensures ready { IsReady model.new (each standing adapters.new.items) (D.state device.new) }
-    ensures parts { IsSameChip model.old model.new }
+    ensures ready { StaysReady model.old model.new (each standing adapters.new.items) (D.state device.new) }
     ensures run { RunsOn (asked model.old (Ok (say.Seq which path.now)))
         (spot standing D.errors D.state K.written model.old adapters.old.items device.old out.old counts.old)
         (spot standing D.errors D.state K.written model.new adapters.new.items device.new out.new counts.new) result }
-    ensures cause { HasCause (K.faults out.old) (K.faults out.new) result }
-    ensures ends_kept { K.ends out.new ≡ K.ends out.old }
-    ensures same_target { K.target out.new ≡ K.target out.old }
+    ensures stays { SinkStays K.Sink out.old out.new result }
 {
     let Some(block) = block_asked(model, path) else {
         return Ok(Some(LineRefusal::NoSuchName));
@@ -265,14 +253,11 @@ fn operation<D: Device, K: Log>(
     counts: &mut Counts,
 ) -> Result<Option<LineRefusal>, Failed>
     requires ready { IsReady model.old (each standing adapters.old.items) (D.state device.old) }
-    ensures ready { IsReady model.new (each standing adapters.new.items) (D.state device.new) }
-    ensures parts { IsSameChip model.old model.new }
+    ensures ready { StaysReady model.old model.new (each standing adapters.new.items) (D.state device.new) }
     ensures run { RunsOn (one_op model.old (line_said line.now))
         (spot standing D.errors D.state K.written model.old adapters.old.items device.old out.old counts.old)
         (spot standing D.errors D.state K.written model.new adapters.new.items device.new out.new counts.new) result }
-    ensures cause { HasCause (K.faults out.old) (K.faults out.new) result }
-    ensures ends_kept { K.ends out.new ≡ K.ends out.old }
-    ensures same_target { K.target out.new ≡ K.target out.old }
+    ensures stays { SinkStays K.Sink out.old out.new result }
 {
     let Some(op) = op_of(model, line) else {
         return Ok(Some(LineRefusal::NoSuchName));
@@ -291,14 +276,11 @@ pub(crate) fn run_line<D: Device, K: Log>(
     counts: &mut Counts,
 ) -> Result<Option<LineRefusal>, Failed>
     requires ready { IsReady model.old (each standing adapters.old.items) (D.state device.old) }
-    ensures ready { IsReady model.new (each standing adapters.new.items) (D.state device.new) }
-    ensures parts { IsSameChip model.old model.new }
+    ensures ready { StaysReady model.old model.new (each standing adapters.new.items) (D.state device.new) }
     ensures run { RunsOn (asked model.old (Ok (line_said line.now)))
         (spot standing D.errors D.state K.written model.old adapters.old.items device.old out.old counts.old)
         (spot standing D.errors D.state K.written model.new adapters.new.items device.new out.new counts.new) result }
-    ensures cause { HasCause (K.faults out.old) (K.faults out.new) result }
-    ensures ends_kept { K.ends out.new ≡ K.ends out.old }
-    ensures same_target { K.target out.new ≡ K.target out.old }
+    ensures stays { SinkStays K.Sink out.old out.new result }
 {
     match line {
         LineRef::Blank => Ok(None),

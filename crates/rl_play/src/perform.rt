@@ -1,9 +1,10 @@
 // One operation, and its log.
 ghost use Rattle.std.specs.Prelude.{◌≡◌, true, length, map as each};
-ghost use Rattle.rl_bus.specs.Causes.{HasCause};
-ghost use Rattle.rl_access.specs.Model.{IsReady, IsSameChip};
+ghost use Rattle.rl_access.specs.Model.{IsReady};
 ghost use Rattle.rl_access.specs.Operation.{HasNumbers, is_single};
+ghost use Rattle.rl_report.specs.Pieces.{SinkStays};
 ghost use Rattle.rl_play.specs.AnyDevice.{Logs, spot};
+ghost use Rattle.rl_play.specs.Leaves.{StaysReady};
 ghost use Rattle.rl_play.specs.Work.{single};
 
 use crate::log::Log;
@@ -25,14 +26,11 @@ pub(crate) fn perform<D: Device, K: Log>(
     requires ready { IsReady model.old (each standing adapters.old.items) (D.state device.old) }
     requires numbers { HasNumbers model.old.chip (length model.old.layout.maps) op }
     requires single { is_single op ≡ true }
-    ensures ready { IsReady model.new (each standing adapters.new.items) (D.state device.new) }
-    ensures parts { IsSameChip model.old model.new }
+    ensures ready { StaysReady model.old model.new (each standing adapters.new.items) (D.state device.new) }
     ensures logs { Logs (single op)
         (spot standing D.errors D.state K.written model.old adapters.old.items device.old out.old counts.old)
         (spot standing D.errors D.state K.written model.new adapters.new.items device.new out.new counts.new) result }
-    ensures cause { HasCause (K.faults out.old) (K.faults out.new) result }
-    ensures ends_kept { K.ends out.new ≡ K.ends out.old }
-    ensures same_target { K.target out.new ≡ K.target out.old }
+    ensures stays { SinkStays K.Sink out.old out.new result }
 {
     let event = rl_access::perform(model, device, adapters, op);
     record(&event, model, out, counts)

@@ -1,11 +1,13 @@
 // The lines of a script, one after another.
 ghost use Rattle.std.specs.Prelude.{◌≡◌, ◌≢◌, ◌≤◌, map, true, false, Ok, Err, MatchResult, IfOk, IfErr, IfSome, OnOk};
+ghost use Rattle.std.specs.Prelude.{Some};
 ghost use Rattle.std.specs.Io.KnownBytes.{Keeps};
-ghost use Rattle.rl_play.specs.Prelude.{Rose, IsReady, IsSameChip, IsCaused, NoneFailed, DoesFrom, DoesFirstEvents};
+ghost use Rattle.rl_play.specs.Prelude.{Rose, IsReady, IsSameChip, IsCaused, NoneFailed, DoesFirstEvents};
 ghost use Rattle.rl_play.specs.Prelude.{KeepsEarlier, end_status, IsCounted, PlayEnds, said_by, moment_of};
-ghost use Rattle.rl_play.specs.Prelude.{BreaksFrom, Ends, PlaysLine, PlaysScript, PlaysThrough, asked, spot, Turns};
-ghost use Rattle.rl_play.specs.Prelude.{PlaysInput, PlaysOnAnyDevice, heard, is_complete, Tells, refused_text};
-ghost use Rattle.rl_play.specs.Prelude.{end_text, told, Hands, read_of, line_said, first_line, input_of, HoldsLine};
+ghost use Rattle.rl_play.specs.Prelude.{BreaksFrom, PlaysLine, PlaysScript, PlaysThrough, asked, spot, Turns};
+ghost use Rattle.rl_play.specs.Prelude.{PlaysOnAnyDevice, heard, is_complete, Tells, refused_text};
+ghost use Rattle.rl_play.specs.Prelude.{end_text, told, Hands, read_of, line_said, input_of, HoldsLine};
+ghost use Rattle.rl_play.specs.Prelude.{stop_of, fault_of, NotByCounts, StaysReady, Leaves, ReadsOn, CanGoOn, CutsLine};
 
 use crate::buffered::{Buffered, Earlier};
 use crate::line::run_line;
@@ -47,22 +49,13 @@ pub fn take_line<S: Source, L: Log>(
     ensures broken { IfErr result (λ status. is_complete status ≡ false) }
 
     // A source that fails loses no byte, and nothing is kept back of what was written.
-    ensures none_lost { result ≡ Err Status.SourceFault
-        → Keeps (input_of lines.old (S.left source.old)) (input_of lines.new (S.left source.new)) }
-    ensures none_whole { result ≡ Err Status.SourceFault
-        → (first_line lines.new.pending ≡ lines.new.pending) × (lines.new.ended ≡ false) }
-    ensures flushed { result ≡ Err Status.SourceFault → L.is_out out.new }
-    ensures again { result ≡ Err Status.SourceFault → lines.new.refused ≡ false }
+    ensures at_fault { result ≡ Err Status.SourceFault
+        → CutsLine lines.old (S.left source.old) lines.new (S.left source.new) (L.is_out out.new) }
 
     // Where no whole line was here, nothing is kept back of what was written before, and nothing is written since.
     ensures out_first { OnOk result ((HoldsLine lines.old → ⊥) → L.is_out out.new) }
 
-    ensures source_later { S.faults source.old ≤ S.faults source.new }
-    ensures sink_later { L.faults out.old ≤ L.faults out.new }
-    ensures cause { IfErr result (λ status.
-        IsCaused status (S.faults source.old) (S.faults source.new) (L.faults out.old) (L.faults out.new)) }
-    ensures ends_kept { L.ends out.new ≡ L.ends out.old }
-    ensures same_target { L.target out.new ≡ L.target out.old }
+    ensures leaves { Leaves L.Sink (S.faults source.old) (S.faults source.new) out.old out.new (fault_of result) }
 {
     if !lines.holds_line() && out.flush().is_err() {
         return Err(Status::SinkFault);
@@ -88,10 +81,7 @@ fn status_at_end(counts: &Counts) -> Status
 pub fn end<L: Log>(counts: &Counts, out: &mut L) -> Status
     ensures tells { Tells result (end_status counts.now) (L.written out.old) (L.written out.new) (end_text counts.now) }
     ensures counted { IsCounted result counts.now }
-    ensures sink_later { L.faults out.old ≤ L.faults out.new }
-    ensures cause { IsCaused result 0 0 (L.faults out.old) (L.faults out.new) }
-    ensures ends_kept { L.ends out.new ≡ L.ends out.old }
-    ensures same_target { L.target out.new ≡ L.target out.old }
+    ensures leaves { Leaves L.Sink 0 0 out.old out.new (Some result) }
 {
     match put_end(out, counts) {
         Ok(()) => status_at_end(counts),
@@ -102,11 +92,8 @@ pub fn end<L: Log>(counts: &Counts, out: &mut L) -> Status
 // Ends a script at a line that is refused.
 fn refuse<L: Log>(number: u64, refusal: LineRefusal, out: &mut L) -> Status
     ensures tells { Tells result Status.Refused (L.written out.old) (L.written out.new) (refused_text number refusal) }
-    ensures counted { (result ≢ Status.Passed) × (result ≢ Status.Found) }
-    ensures sink_later { L.faults out.old ≤ L.faults out.new }
-    ensures cause { IsCaused result 0 0 (L.faults out.old) (L.faults out.new) }
-    ensures ends_kept { L.ends out.new ≡ L.ends out.old }
-    ensures same_target { L.target out.new ≡ L.target out.old }
+    ensures counted { NotByCounts (Some result) }
+    ensures leaves { Leaves L.Sink 0 0 out.old out.new (Some result) }
 {
     match put_line_refused(out, number, refusal) {
         Ok(()) => Status::Refused,
@@ -129,18 +116,12 @@ fn run_read<D: Device, L: Log>(
     requires read { MatchResult read.now
         (λ l. read_of line.now ≡ Ok (line_said l))
         (λ fault. fault ≢ LineFault.Memory → read_of line.now ≡ Err fault) }
-    ensures ready { IsReady model.new (map standing adapters.new.items) (D.state device.new) }
-    ensures parts { IsSameChip model.old model.new }
+    ensures ready { StaysReady model.old model.new (map standing adapters.new.items) (D.state device.new) }
     ensures turn { Turns number (asked model.old (said_by (read_of line.now)))
         (spot standing D.errors D.state L.written model.old adapters.old.items device.old out.old counts.old)
         (spot standing D.errors D.state L.written model.new adapters.new.items device.new out.new counts.new) result }
-    ensures counted { (status : Status) → result ≡ Turn.Stop status
-        → (status ≢ Status.Passed) × (status ≢ Status.Found) }
-    ensures sink_later { L.faults out.old ≤ L.faults out.new }
-    ensures cause { (status : Status) → result ≡ Turn.Stop status
-        → IsCaused status 0 0 (L.faults out.old) (L.faults out.new) }
-    ensures ends_kept { L.ends out.new ≡ L.ends out.old }
-    ensures same_target { L.target out.new ≡ L.target out.old }
+    ensures counted { NotByCounts (stop_of result) }
+    ensures leaves { Leaves L.Sink 0 0 out.old out.new (stop_of result) }
 {
     match read {
         Ok(line) => match run_line(model, device, adapters, line, out, counts) {
@@ -168,20 +149,14 @@ fn run_taken<D: Device, L: Log>(
     counts: &mut Counts,
 ) -> Turn
     requires ready { IsReady model.old (map standing adapters.old.items) (D.state device.old) }
-    ensures ready { IsReady model.new (map standing adapters.new.items) (D.state device.new) }
-    ensures parts { IsSameChip model.old model.new }
+    ensures ready { StaysReady model.old model.new (map standing adapters.new.items) (D.state device.new) }
     ensures short { result ≡ Turn.Next → got ≢ Got.TooLong }
     ensures last { result ≡ Turn.Next → number ≤ 1000000 }
     ensures turn { Turns number (asked model.old (heard number got line.now))
         (spot standing D.errors D.state L.written model.old adapters.old.items device.old out.old counts.old)
         (spot standing D.errors D.state L.written model.new adapters.new.items device.new out.new counts.new) result }
-    ensures counted { (status : Status) → result ≡ Turn.Stop status
-        → (status ≢ Status.Passed) × (status ≢ Status.Found) }
-    ensures sink_later { L.faults out.old ≤ L.faults out.new }
-    ensures cause { (status : Status) → result ≡ Turn.Stop status
-        → IsCaused status 0 0 (L.faults out.old) (L.faults out.new) }
-    ensures ends_kept { L.ends out.new ≡ L.ends out.old }
-    ensures same_target { L.target out.new ≡ L.target out.old }
+    ensures counted { NotByCounts (stop_of result) }
+    ensures leaves { Leaves L.Sink 0 0 out.old out.new (stop_of result) }
 {
     if number > MOST_LINES {
         return Turn::Stop(refuse(number, LineRefusal::TooManyLines, out));
@@ -228,27 +203,15 @@ fn play_line<S: Source, D: Device, L: Log>(
     requires ready { IsReady model.old (map standing adapters.old.items) (D.state device.old) }
     requires found { lines.old.found ≡ true }
     requires going { lines.old.refused ≡ false }
-    ensures ready { IsReady model.new (map standing adapters.new.items) (D.state device.new) }
-    ensures parts { IsSameChip model.old model.new }
-    ensures found { lines.new.found ≡ true }
-    ensures going { result ≡ Turn.Next → lines.new.refused ≡ false }
-    ensures again { result ≡ Turn.Stop Status.SourceFault → lines.new.refused ≡ false }
-    ensures last { result ≡ Turn.Next → number ≤ 1000000 }
+    ensures ready { StaysReady model.old model.new (map standing adapters.new.items) (D.state device.new) }
     ensures plays { PlaysLine number
         (spot standing D.errors D.state L.written model.old adapters.old.items device.old out.old counts.old)
         (input_of lines.old (S.left source.old))
         (spot standing D.errors D.state L.written model.new adapters.new.items device.new out.new counts.new)
         (input_of lines.new (S.left source.new)) (S.left source.new) lines.new.ended result }
-    ensures ended { lines.old.ended ≡ true → lines.new.ended ≡ true }
-    ensures unended { result ≡ Turn.Stop Status.SourceFault → lines.old.ended ≡ false }
-    ensures flushed { result ≡ Turn.Stop Status.SourceFault → L.is_out out.new }
-    ensures counted { (status : Status) → result ≡ Turn.Stop status → IsCounted status counts.new }
-    ensures source_later { S.faults source.old ≤ S.faults source.new }
-    ensures sink_later { L.faults out.old ≤ L.faults out.new }
-    ensures cause { (status : Status) → result ≡ Turn.Stop status
-        → IsCaused status (S.faults source.old) (S.faults source.new) (L.faults out.old) (L.faults out.new) }
-    ensures ends_kept { L.ends out.new ≡ L.ends out.old }
-    ensures same_target { L.target out.new ≡ L.target out.old }
+    ensures reads { ReadsOn lines.old lines.new result }
+    ensures goes_on { result ≡ Turn.Stop Status.SourceFault → CanGoOn lines.old lines.new (L.is_out out.new) }
+    ensures leaves { Leaves L.Sink (S.faults source.old) (S.faults source.new) out.old out.new (stop_of result) }
 {
     let got = match take_line(lines, source, out) {
         Ok(got) => got,
@@ -279,31 +242,13 @@ pub fn play_lines<S: Source, D: Device, L: Log>(
     requires going { lines.old.refused ≡ false }
     ensures ready { IsReady model.new (map standing adapters.new.items) (D.state device.new) }
     ensures parts { IsSameChip model.old model.new }
-    ensures log { Ends 1
-        (moment_of standing D.state L.written model.old adapters.old.items device.old out.old counts.old)
-        (input_of lines.old (S.left source.old))
-        (moment_of standing D.state L.written model.new adapters.new.items device.new out.new counts.new) result }
-    ensures plays { PlaysInput 1
+    ensures plays { PlaysThrough
         (spot standing D.errors D.state L.written model.old adapters.old.items device.old out.old counts.old)
-        (input_of lines.old (S.left source.old))
+        (input_of lines.old (S.left source.old)) (S.left source.new)
         (spot standing D.errors D.state L.written model.new adapters.new.items device.new out.new counts.new) result }
-    ensures at_fault { result ≡ Status.SourceFault → BreaksFrom 1
-        (moment_of standing D.state L.written model.old adapters.old.items device.old out.old counts.old)
-        (input_of lines.old (S.left source.old)) (S.left source.new) (L.written out.new) }
-    ensures found { lines.new.found ≡ true }
-    ensures again { result ≡ Status.SourceFault → lines.new.refused ≡ false }
-    ensures unended { result ≡ Status.SourceFault → lines.old.ended ≡ false }
-    ensures done { DoesFrom 1
-        (moment_of standing D.state L.written model.old adapters.old.items device.old out.old counts.old)
-        (input_of lines.old (S.left source.old))
-        (moment_of standing D.state L.written model.new adapters.new.items device.new out.new counts.new) }
-    ensures flushed { result ≡ Status.SourceFault → L.is_out out.new }
-    ensures counted { IsCounted result counts.new }
-    ensures source_later { S.faults source.old ≤ S.faults source.new }
-    ensures sink_later { L.faults out.old ≤ L.faults out.new }
-    ensures cause { IsCaused result (S.faults source.old) (S.faults source.new) (L.faults out.old) (L.faults out.new) }
-    ensures ends_kept { L.ends out.new ≡ L.ends out.old }
-    ensures same_target { L.target out.new ≡ L.target out.old }
+    ensures reads { ReadsOn lines.old lines.new (Turn.Stop result) }
+    ensures goes_on { result ≡ Status.SourceFault → CanGoOn lines.old lines.new (L.is_out out.new) }
+    ensures leaves { Leaves L.Sink (S.faults source.old) (S.faults source.new) out.old out.new (Some result) }
 {
     let mut number = 1u64;
     loop {
@@ -365,7 +310,6 @@ fn play_through<S: Source, K: Sink, D: Device, E: Earlier>(
     ensures found { lines.new.found ≡ true }
     ensures again { result ≡ Status.SourceFault → lines.new.refused ≡ false }
     ensures keeps_earlier { KeepsEarlier (K.written sink.old) (K.written sink.new) }
-    ensures counted { IsCounted result counts.new }
     ensures source_later { S.faults source.old ≤ S.faults source.new }
     ensures sink_later { K.faults sink.old ≤ K.faults sink.new }
     ensures cause { IsCaused result

@@ -1,7 +1,7 @@
 // Events, counted and written as they come.
-ghost use Rattle.std.specs.Prelude.{◌≡◌, OnOk, OnErr};
-ghost use Rattle.rl_bus.specs.Causes.{HasCause};
+ghost use Rattle.std.specs.Prelude.{OnOk, OnErr};
 ghost use Rattle.rl_access.specs.Event.{EventFits};
+ghost use Rattle.rl_report.specs.Pieces.{SinkStays};
 ghost use Rattle.rl_play.specs.Recording.{IsWritten, IsBegun};
 
 use crate::log::Log;
@@ -21,9 +21,7 @@ pub(crate) fn record<K: Log>(
         (IsWritten (K.written out.old) (K.written out.new) counts.old counts.new model.now event.now) }
     ensures part { OnErr result
         (IsBegun (K.written out.old) (K.written out.new) counts.old counts.new model.now event.now) }
-    ensures cause { HasCause (K.faults out.old) (K.faults out.new) result }
-    ensures ends_kept { K.ends out.new ≡ K.ends out.old }
-    ensures same_target { K.target out.new ≡ K.target out.old }
+    ensures stays { SinkStays K.Sink out.old out.new result }
 {
     counts.count(event);
     out.event(model, event)

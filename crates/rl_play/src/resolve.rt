@@ -68,20 +68,15 @@ fn other_op(model: &Model, line: &ItemLine<'_>) -> Option<Op>
     ensures single { IfSome result (λ op. is_single op ≡ true) }
 {
     match line.item {
-        Item::OtherWrite => {
-            let reg = reg_at(model, &line.path)?;
-            let map = map_asked(model, &line.map)?;
-            Some(Op::OtherWrite {
-                reg,
-                map,
-                value: line.first,
-            })
-        }
-        Item::OtherRead => {
-            let reg = reg_at(model, &line.path)?;
-            let map = map_asked(model, &line.map)?;
-            Some(Op::OtherRead { reg, map })
-        }
+        Item::OtherWrite => Some(Op::OtherWrite {
+            reg: reg_at(model, &line.path)?,
+            map: map_asked(model, &line.map)?,
+            value: line.first,
+        }),
+        Item::OtherRead => Some(Op::OtherRead {
+            reg: reg_at(model, &line.path)?,
+            map: map_asked(model, &line.map)?,
+        }),
         _ => None,
     }
 }
@@ -95,36 +90,26 @@ fn back_op(model: &Model, line: &ItemLine<'_>) -> Option<Op>
     ensures single { IfSome result (λ op. is_single op ≡ true) }
 {
     match line.item {
-        Item::Show => {
-            let reg = reg_at(model, &line.path)?;
-            Some(Op::Show { reg })
-        }
-        Item::BackRead => {
-            let reg = reg_at(model, &line.path)?;
-            Some(Op::BackRead { reg })
-        }
-        Item::BackCheck => {
-            let reg = reg_at(model, &line.path)?;
-            Some(Op::BackCheck { reg })
-        }
-        Item::Peek => {
-            let reg = reg_at(model, &line.path)?;
-            Some(Op::Peek { reg })
-        }
-        Item::BackWrite => {
-            let reg = reg_at(model, &line.path)?;
-            Some(Op::BackWrite {
-                reg,
-                value: line.first,
-            })
-        }
-        Item::Poke => {
-            let reg = reg_at(model, &line.path)?;
-            Some(Op::Poke {
-                reg,
-                value: line.first,
-            })
-        }
+        Item::Show => Some(Op::Show {
+            reg: reg_at(model, &line.path)?,
+        }),
+        Item::BackRead => Some(Op::BackRead {
+            reg: reg_at(model, &line.path)?,
+        }),
+        Item::BackCheck => Some(Op::BackCheck {
+            reg: reg_at(model, &line.path)?,
+        }),
+        Item::Peek => Some(Op::Peek {
+            reg: reg_at(model, &line.path)?,
+        }),
+        Item::BackWrite => Some(Op::BackWrite {
+            reg: reg_at(model, &line.path)?,
+            value: line.first,
+        }),
+        Item::Poke => Some(Op::Poke {
+            reg: reg_at(model, &line.path)?,
+            value: line.first,
+        }),
         _ => other_op(model, line),
     }
 }
@@ -137,21 +122,15 @@ fn mem_back_op(model: &Model, line: &ItemLine<'_>) -> Option<Op>
     ensures single { IfSome result (λ op. is_single op ≡ true) }
 {
     match line.item {
-        Item::MemPeek => {
-            let mem = mem_at(model, &line.path)?;
-            Some(Op::MemPeek {
-                mem,
-                index: line.first,
-            })
-        }
-        Item::MemPoke => {
-            let mem = mem_at(model, &line.path)?;
-            Some(Op::MemPoke {
-                mem,
-                index: line.first,
-                value: line.second,
-            })
-        }
+        Item::MemPeek => Some(Op::MemPeek {
+            mem: mem_at(model, &line.path)?,
+            index: line.first,
+        }),
+        Item::MemPoke => Some(Op::MemPoke {
+            mem: mem_at(model, &line.path)?,
+            index: line.first,
+            value: line.second,
+        }),
         _ => back_op(model, line),
     }
 }
@@ -164,35 +143,23 @@ fn mem_op(model: &Model, line: &ItemLine<'_>) -> Option<Op>
     ensures single { IfSome result (λ op. is_single op ≡ true) }
 {
     match line.item {
-        Item::MemWrite => {
-            let mem = mem_at(model, &line.path)?;
-            let map = map_asked(model, &line.map)?;
-            Some(Op::MemWrite {
-                mem,
-                map,
-                index: line.first,
-                value: line.second,
-            })
-        }
-        Item::MemCheck => {
-            let mem = mem_at(model, &line.path)?;
-            let map = map_asked(model, &line.map)?;
-            Some(Op::MemCheck {
-                mem,
-                map,
-                index: line.first,
-                value: line.second,
-            })
-        }
-        Item::MemRead => {
-            let mem = mem_at(model, &line.path)?;
-            let map = map_asked(model, &line.map)?;
-            Some(Op::MemRead {
-                mem,
-                map,
-                index: line.first,
-            })
-        }
+        Item::MemWrite => Some(Op::MemWrite {
+            mem: mem_at(model, &line.path)?,
+            map: map_asked(model, &line.map)?,
+            index: line.first,
+            value: line.second,
+        }),
+        Item::MemCheck => Some(Op::MemCheck {
+            mem: mem_at(model, &line.path)?,
+            map: map_asked(model, &line.map)?,
+            index: line.first,
+            value: line.second,
+        }),
+        Item::MemRead => Some(Op::MemRead {
+            mem: mem_at(model, &line.path)?,
+            map: map_asked(model, &line.map)?,
+            index: line.first,
+        }),
         _ => mem_back_op(model, line),
     }
 }
@@ -204,34 +171,23 @@ fn field_op(model: &Model, line: &ItemLine<'_>) -> Option<Op>
     ensures single { IfSome result (λ op. is_single op ≡ true) }
 {
     match line.item {
-        Item::FieldWrite => {
-            let field = field_at(model, &line.path)?;
-            let map = map_asked(model, &line.map)?;
-            Some(Op::FieldWrite {
-                field,
-                map,
-                value: line.first,
-            })
-        }
-        Item::FieldRead => {
-            let field = field_at(model, &line.path)?;
-            let map = map_asked(model, &line.map)?;
-            Some(Op::FieldRead { field, map })
-        }
-        Item::Set => {
-            let field = field_at(model, &line.path)?;
-            Some(Op::Set {
-                field,
-                value: line.first,
-            })
-        }
-        Item::Hw => {
-            let field = field_at(model, &line.path)?;
-            Some(Op::Hw {
-                field,
-                value: line.first,
-            })
-        }
+        Item::FieldWrite => Some(Op::FieldWrite {
+            field: field_at(model, &line.path)?,
+            map: map_asked(model, &line.map)?,
+            value: line.first,
+        }),
+        Item::FieldRead => Some(Op::FieldRead {
+            field: field_at(model, &line.path)?,
+            map: map_asked(model, &line.map)?,
+        }),
+        Item::Set => Some(Op::Set {
+            field: field_at(model, &line.path)?,
+            value: line.first,
+        }),
+        Item::Hw => Some(Op::Hw {
+            field: field_at(model, &line.path)?,
+            value: line.first,
+        }),
         _ => mem_op(model, line),
     }
 }
@@ -244,35 +200,27 @@ fn item_op(model: &Model, line: &ItemLine<'_>) -> Option<Op>
     ensures single { IfSome result (λ op. is_single op ≡ true) }
 {
     match line.item {
-        Item::Write => {
-            let reg = reg_at(model, &line.path)?;
-            let map = map_asked(model, &line.map)?;
-            Some(Op::Write {
-                reg,
-                map,
-                value: line.first,
-            })
-        }
-        Item::Read => {
-            let reg = reg_at(model, &line.path)?;
-            let map = map_asked(model, &line.map)?;
-            Some(Op::Read { reg, map })
-        }
-        Item::Mirror => {
-            let reg = reg_at(model, &line.path)?;
-            let map = map_asked(model, &line.map)?;
-            Some(Op::Mirror { reg, map })
-        }
-        Item::Check => {
-            let reg = reg_at(model, &line.path)?;
-            let map = map_asked(model, &line.map)?;
-            Some(Op::Check { reg, map })
-        }
-        Item::Update => {
-            let reg = reg_at(model, &line.path)?;
-            let map = map_asked(model, &line.map)?;
-            Some(Op::Update { reg, map })
-        }
+        Item::Write => Some(Op::Write {
+            reg: reg_at(model, &line.path)?,
+            map: map_asked(model, &line.map)?,
+            value: line.first,
+        }),
+        Item::Read => Some(Op::Read {
+            reg: reg_at(model, &line.path)?,
+            map: map_asked(model, &line.map)?,
+        }),
+        Item::Mirror => Some(Op::Mirror {
+            reg: reg_at(model, &line.path)?,
+            map: map_asked(model, &line.map)?,
+        }),
+        Item::Check => Some(Op::Check {
+            reg: reg_at(model, &line.path)?,
+            map: map_asked(model, &line.map)?,
+        }),
+        Item::Update => Some(Op::Update {
+            reg: reg_at(model, &line.path)?,
+            map: map_asked(model, &line.map)?,
+        }),
         _ => field_op(model, line),
     }
 }

@@ -1,10 +1,10 @@
 // The last lines of a log.
 ghost use Rattle.std.specs.Prelude.{◌≡◌, ◌≢◌, Some, None};
-ghost use Rattle.rl_bus.specs.Causes.{HasCause};
-ghost use Rattle.rl_report.specs.Pieces.{Puts};
-ghost use Rattle.rl_log.specs.Entry.{over_text, sequence_text, begin_text, tally_text, closing_text};
+ghost use Rattle.rl_report.specs.Pieces.{Puts, SinkStays};
+ghost use Rattle.rl_log.specs.Entry.{over_text, sequence_text, begin_text, closing_text};
 ghost use Rattle.rl_log.specs.Log.{refused_by};
 ghost use Rattle.rl_log.specs.Texts.{reason_text, refused_text, end_text};
+ghost use Rattle.rl_play.specs.Texts.{counts_text, refused_so_text};
 ghost use Rattle.rl_script.specs.Commands.{sequence_name};
 
 use itoa::Buffer;
@@ -47,6 +47,22 @@ pub fn refusal_of(fault: LineFault) -> Option<LineRefusal>
     }
 }
 
+/// Writes that a line was refused, for a reason that is given as text.
+pub fn put_refused_so<K: Sink>(sink: &mut K, number: u64, reason: &[u8]) -> Result<(), Failed>
+    ensures bytes { Puts (K.written sink.old) (K.written sink.new) (refused_so_text number reason.now) result }
+    ensures stays { SinkStays K.Sink sink.old sink.new result }
+{
+    let mut buffer = Buffer::new();
+    let pieces: [&[u8]; 5] = [
+        b"refused line ",
+        buffer.format(number).as_bytes(),
+        b": ",
+        reason,
+        b"\n",
+    ];
+    put_pieces(sink, &pieces)
+}
+
 /// Writes that a line was refused.
 pub fn put_line_refused<K: Sink>(
     sink: &mut K,
@@ -54,17 +70,33 @@ pub fn put_line_refused<K: Sink>(
     refusal: LineRefusal,
 ) -> Result<(), Failed>
     ensures bytes { Puts (K.written sink.old) (K.written sink.new) (refused_text number refusal) result }
-    ensures cause { HasCause (K.faults sink.old) (K.faults sink.new) result }
-    ensures ends_kept { K.ends sink.new ≡ K.ends sink.old }
-    ensures same_target { K.target sink.new ≡ K.target sink.old }
+    ensures stays { SinkStays K.Sink sink.old sink.new result }
 {
-    let mut buffer = Buffer::new();
-    let pieces: [&[u8]; 5] = [
-        b"refused line ",
-        buffer.format(number).as_bytes(),
-        b": ",
-        reason(refusal),
-        b"\n",
+    put_refused_so(sink, number, reason(refusal))
+}
+
+// Writes what was counted, behind a beginning, with a word for the events.
+fn put_counts<K: Sink>(
+    sink: &mut K,
+    begin: &[u8],
+    events: &[u8],
+    counts: &Counts,
+) -> Result<(), Failed>
+    ensures bytes { Puts (K.written sink.old) (K.written sink.new)
+        (counts_text begin.now events.now counts.now) result }
+    ensures stays { SinkStays K.Sink sink.old sink.new result }
+{
+    let mut count = Buffer::new();
+    let mut differences = Buffer::new();
+    let mut errors = Buffer::new();
+    let pieces: [&[u8]; 7] = [
+        begin,
+        count.format(counts.events).as_bytes(),
+        events,
+        differences.format(counts.differences).as_bytes(),
+        b" differences, ",
+        errors.format(counts.errors).as_bytes(),
+        b" bus errors\n",
     ];
     put_pieces(sink, &pieces)
 }
@@ -72,23 +104,9 @@ pub fn put_line_refused<K: Sink>(
 // Writes the last line of a whole log.
 pub(crate) fn put_end<K: Sink>(sink: &mut K, counts: &Counts) -> Result<(), Failed>
     ensures bytes { Puts (K.written sink.old) (K.written sink.new) (end_text counts.now) result }
-    ensures cause { HasCause (K.faults sink.old) (K.faults sink.new) result }
-    ensures ends_kept { K.ends sink.new ≡ K.ends sink.old }
-    ensures same_target { K.target sink.new ≡ K.target sink.old }
+    ensures stays { SinkStays K.Sink sink.old sink.new result }
 {
-    let mut events = Buffer::new();
-    let mut differences = Buffer::new();
-    let mut errors = Buffer::new();
-    let pieces: [&[u8]; 7] = [
-        b"end: ",
-        events.format(counts.events).as_bytes(),
-        b" events, ",
-        differences.format(counts.differences).as_bytes(),
-        b" differences, ",
-        errors.format(counts.errors).as_bytes(),
-        b" bus errors\n",
-    ];
-    put_pieces(sink, &pieces)
+    put_counts(sink, b"end: ", b" events, ", counts)
 }
 
 fn sequence_name(which: Sequence) -> &'static [u8]
@@ -120,9 +138,7 @@ fn put_sequence<K: Sink>(
     block: &Option<PathRef<'_>>,
 ) -> Result<(), Failed>
     ensures bytes { Puts (K.written sink.old) (K.written sink.new) (sequence_text which block.now) result }
-    ensures cause { HasCause (K.faults sink.old) (K.faults sink.new) result }
-    ensures ends_kept { K.ends sink.new ≡ K.ends sink.old }
-    ensures same_target { K.target sink.new ≡ K.target sink.old }
+    ensures stays { SinkStays K.Sink sink.old sink.new result }
 {
     put_all(sink, b"seq ")?;
     put_all(sink, sequence_name(which))?;
@@ -137,35 +153,10 @@ pub(crate) fn put_sequence_begin<K: Sink>(
     block: &Option<PathRef<'_>>,
 ) -> Result<(), Failed>
     ensures bytes { Puts (K.written sink.old) (K.written sink.new) (begin_text which block.now) result }
-    ensures cause { HasCause (K.faults sink.old) (K.faults sink.new) result }
-    ensures ends_kept { K.ends sink.new ≡ K.ends sink.old }
-    ensures same_target { K.target sink.new ≡ K.target sink.old }
+    ensures stays { SinkStays K.Sink sink.old sink.new result }
 {
     put_sequence(sink, which, block)?;
     put_all(sink, b": begin\n")
-}
-
-// Writes what a sequence counted.
-fn put_tally<K: Sink>(sink: &mut K, counts: &Counts) -> Result<(), Failed>
-    ensures bytes { Puts (K.written sink.old) (K.written sink.new)
-        (tally_text counts.now.events counts.now.differences counts.now.errors) result }
-    ensures cause { HasCause (K.faults sink.old) (K.faults sink.new) result }
-    ensures ends_kept { K.ends sink.new ≡ K.ends sink.old }
-    ensures same_target { K.target sink.new ≡ K.target sink.old }
-{
-    let mut steps = Buffer::new();
-    let mut differences = Buffer::new();
-    let mut errors = Buffer::new();
-    let pieces: [&[u8]; 7] = [
-        b": ",
-        steps.format(counts.events).as_bytes(),
-        b" steps, ",
-        differences.format(counts.differences).as_bytes(),
-        b" differences, ",
-        errors.format(counts.errors).as_bytes(),
-        b" bus errors\n",
-    ];
-    put_pieces(sink, &pieces)
 }
 
 // Writes the line after the events of a sequence.
@@ -177,10 +168,8 @@ pub(crate) fn put_sequence_end<K: Sink>(
 ) -> Result<(), Failed>
     ensures bytes { Puts (K.written sink.old) (K.written sink.new)
         (closing_text which block.now counts.now.events counts.now.differences counts.now.errors) result }
-    ensures cause { HasCause (K.faults sink.old) (K.faults sink.new) result }
-    ensures ends_kept { K.ends sink.new ≡ K.ends sink.old }
-    ensures same_target { K.target sink.new ≡ K.target sink.old }
+    ensures stays { SinkStays K.Sink sink.old sink.new result }
 {
     put_sequence(sink, which, block)?;
-    put_tally(sink, counts)
+    put_counts(sink, b": ", b" steps, ", counts)
 }

@@ -1,11 +1,11 @@
 ghost use Rattle.std.specs.Prelude.{Option, None};
-ghost use Rattle.rl_bus.specs.Device.{IsPortOf};
 
 use rl_apb::*;
 use rl_bus::{
-    Adapter, Adapters, Answer, ApbResponse, ApbTransfer, BusOp, Cell, Device, Exchanged,
-    PlainAdapter, Response, Transfer, exchange, kind_of, response_to,
+    Adapter, Adapters, Answer, ApbResponse, ApbTransfer, BusOp, Cell, Device, PlainAdapter,
+    Response, Transfer, exchange, kind_of, response_to,
 };
+use std::alloc::{AllocError, Global};
 use std::test::Fail;
 
 // A device that fails every second transfer, and doesn't tell its state.
@@ -40,19 +40,18 @@ impl Device for Wavering {
     fn hw(&mut self, _field: u32, _value: u64) {}
 }
 
-// Sends an operation that the adapter carries.
-fn try_exchange<D: Device>(
-    device: &mut D,
+// Sends an operation that the adapter carries: its tag, and whether the device failed.
+fn try_exchange(
+    device: &mut Wavering,
     adapters: &mut Adapters,
     which: u32,
     op: &BusOp,
-) -> Option<Exchanged>
-    requires { IsPortOf (D.state device.old) 0 }
-{
+) -> Option<(u64, bool)> {
     if which as usize >= adapters.len() || !kind_of(adapters, which).fits(op) {
         return None;
     }
-    Some(exchange(device, adapters, which, 0, op))
+    let exchanged = exchange(device, adapters, which, 0, op);
+    Some((exchanged.tag, exchanged.answer.failed))
 }
 
 fn word_op(write: bool, address: u64, lanes: u8) -> BusOp {
@@ -65,95 +64,122 @@ fn word_op(write: bool, address: u64, lanes: u8) -> BusOp {
     }
 }
 
+fn both_adapters(alloc: Global) -> Result<Adapters, AllocError> {
+    let mut adapters: Adapters = Vec::new(alloc);
+    let plain = PlainAdapter {
+        next_tag: 7,
+        trail: 0,
+    };
+    adapters.push(Box::new(alloc, plain)?)?;
+    let apb = ApbAdapter {
+        next_serial: u64::MAX,
+        trail: 0,
+    };
+    adapters.push(Box::new(alloc, apb)?)?;
+    Ok(adapters)
+}
+
+// Which adapter, whether it writes, the address and the lanes; and the tag and whether the device failed, where the
+// adapter carries the operation.
+type Row = ((u32, bool, u64, u8), Option<(u64, bool)>);
+
+const ROWS: [Row; 5] = [
+    ((0, false, 4, 1), Some((7, false))),
+    ((1, false, 4, 1), None),
+    ((1, true, 5, 1), None),
+    ((1, true, 4, 1), Some((u64::MAX, true))),
+    ((1, false, 4, 15), Some((0, false))),
+];
+
 #[test]
 fn both_adapters_in_one_list(rt: HostRuntime) -> Result<(), Fail> {
-    let alloc = rt.alloc();
-    let mut adapters: Adapters = Vec::new(alloc);
-    adapters.push(Box::new(
-        alloc,
-        PlainAdapter {
-            next_tag: 7,
-            trail: 0,
-        },
-    )?)?;
-    adapters.push(Box::new(
-        alloc,
-        ApbAdapter {
-            next_serial: u64::MAX,
-            trail: 0,
-        },
-    )?)?;
+    let mut adapters = both_adapters(rt.alloc())?;
     let mut device = Wavering {
         fails_next: false,
         failures: 0,
     };
-    let narrow = word_op(false, 4, 1);
-    let plain = try_exchange(&mut device, &mut adapters, 0, &narrow).ok_or("plain")?;
-    assert_eq!(rt; plain.tag, 7);
-    assert!(rt; !plain.answer.failed);
-    assert_eq!(rt; try_exchange(&mut device, &mut adapters, 1, &narrow), None);
-    assert_eq!(rt;
-        try_exchange(&mut device, &mut adapters, 1, &word_op(true, 5, 1)),
-        None
-    );
-    let apb = try_exchange(&mut device, &mut adapters, 1, &word_op(true, 4, 1)).ok_or("apb")?;
-    assert_eq!(rt; apb.tag, u64::MAX);
-    assert!(rt; apb.answer.failed);
-    let next = try_exchange(&mut device, &mut adapters, 1, &word_op(false, 4, 15)).ok_or("apb")?;
-    assert_eq!(rt; next.tag, 0);
+    for ((which, write, address, lanes), want) in &ROWS {
+        let op = word_op(*write, *address, *lanes);
+        assert_eq!(rt;
+            try_exchange(&mut device, &mut adapters, *which, &op),
+            *want
+        );
+    }
     Ok(())
 }
 
+const WRITE: ApbTransfer = ApbTransfer {
+    write: true,
+    paddr: 4,
+    pwdata: 5,
+    pstrb: 15,
+    bytes: 4,
+    serial: 0,
+};
+
+const READ: ApbTransfer = ApbTransfer {
+    write: false,
+    ..WRITE
+};
+
+// With one wait cycle, and an error.
+const RESPONSE: ApbResponse = ApbResponse {
+    prdata: 6,
+    pslverr: true,
+    waits: 1,
+    serial: 0,
+};
+
+const SETUP: Pins = Pins {
+    psel: true,
+    penable: false,
+    pwrite: true,
+    pprot: 0,
+    paddr: 4,
+    pwdata: 5,
+    pstrb: 15,
+    pready: false,
+    prdata: 0,
+    pslverr: false,
+};
+
+const WAITING: Pins = Pins {
+    penable: true,
+    ..SETUP
+};
+
+const READY: Pins = Pins {
+    pready: true,
+    prdata: 6,
+    pslverr: true,
+    ..WAITING
+};
+
+const READ_READY: Pins = Pins {
+    pwrite: false,
+    pwdata: 0,
+    pstrb: 0,
+    ..READY
+};
+
+// The pins in a cycle of the transfer.
+fn pins_in(transfer: &ApbTransfer, cycle: u32) -> Option<Pins> {
+    if cycle > u32::from(RESPONSE.waits) + 1 {
+        return None;
+    }
+    Some(cycles(transfer, &RESPONSE, cycle))
+}
+
+const PINS: [(ApbTransfer, u32, Pins); 4] = [
+    (WRITE, 0, SETUP),
+    (WRITE, 1, WAITING),
+    (WRITE, 2, READY),
+    (READ, 2, READ_READY),
+];
+
 #[test]
-fn pins_of_a_write_with_a_wait(rt: HostRuntime) {
-    let write = ApbTransfer {
-        write: true,
-        paddr: 4,
-        pwdata: 5,
-        pstrb: 15,
-        bytes: 4,
-        serial: 0,
-    };
-    let response = ApbResponse {
-        prdata: 6,
-        pslverr: true,
-        waits: 1,
-        serial: 0,
-    };
-    let setup = Pins {
-        psel: true,
-        penable: false,
-        pwrite: true,
-        pprot: 0,
-        paddr: 4,
-        pwdata: 5,
-        pstrb: 15,
-        pready: false,
-        prdata: 0,
-        pslverr: false,
-    };
-    let waiting = Pins {
-        penable: true,
-        ..setup
-    };
-    let ready = Pins {
-        pready: true,
-        prdata: 6,
-        pslverr: true,
-        ..waiting
-    };
-    assert_eq!(rt; cycles(&write, &response, 0), setup);
-    assert_eq!(rt; cycles(&write, &response, 1), waiting);
-    assert_eq!(rt; cycles(&write, &response, 2), ready);
-    let read = ApbTransfer {
-        write: false,
-        ..write
-    };
-    let read_ready = Pins {
-        pwrite: false,
-        pwdata: 0,
-        pstrb: 0,
-        ..ready
-    };
-    assert_eq!(rt; cycles(&read, &response, 2), read_ready);
+fn pins_of_transfers_with_a_wait(rt: HostRuntime) {
+    for (transfer, cycle, pins) in &PINS {
+        assert_eq!(rt; pins_in(transfer, *cycle), Some(*pins));
+    }
 }

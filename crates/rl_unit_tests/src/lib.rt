@@ -10,6 +10,8 @@ mod bus;
 #[cfg(test)]
 mod desc;
 #[cfg(test)]
+mod fixture;
+#[cfg(test)]
 mod map;
 #[cfg(test)]
 mod mirror;
@@ -19,3 +21,7 @@ mod model;
 mod policy;
 #[cfg(test)]
 mod report;
+#[cfg(test)]
+mod script;
+#[cfg(test)]
+mod script_bounds;

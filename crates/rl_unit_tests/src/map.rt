@@ -1,15 +1,12 @@
-ghost use Rattle.std.specs.Prelude.{◌<◌, length};
-ghost use Rattle.rl_map.specs.Layout.{IsSound};
-
+use crate::fixture::{kinds, name, number, word};
 use bitflags::Flags;
-use rl_bus::{AdapterKind, ShortName};
 use rl_map::MapCause::{
     AddressOverflow, BadBytes, BadName, DuplicateName, MemInFifo, NoSuchAdapter, NoSuchItem,
     NoSuchMap, PlacedTwice, SharedAddress, TooDeep, TooMany, Unaligned,
 };
 use rl_map::{Kind, Layout, MapCause, MapFault, MapNode, PlacePart, Word};
 use rl_model::Array::{Map, Place};
-use rl_model::{Array, Chip, MemPart, Name, Parts, RegPart, Rights, Skip, Spot};
+use rl_model::{Array, Chip, MemPart, ModelFault, Parts, RegPart, Rights, Skip, Spot};
 use std::alloc::{AllocError, AllocGlobal, Global};
 use std::process::Abort;
 use std::str::SplitWhitespace;
@@ -19,18 +16,6 @@ use std::test::Fail;
 // ADAPTER` for a root, `sub NAME BYTES KIND UNIT PARENT OFFSET` for another map, and `at MAP ITEM OFFSET
 // RIGHTS` for a place. Numbers are decimal. Registers `r1` to `r8` have as many bytes as their name says, and
 // so have the memories `m2`, of 3 locations, and `m8`, of 65,536.
-
-fn name(alloc: Global, text: &str) -> Result<Name, AllocError> {
-    Ok(Name::of(Vec::from_slice(alloc, text.as_bytes())?))
-}
-
-fn word<'a>(words: &mut SplitWhitespace<'a>) -> &'a str {
-    words.next().unwrap_or("")
-}
-
-fn number(text: &str) -> u64 {
-    text.parse::<u64>().unwrap_or(0)
-}
 
 fn reg(alloc: Global, own: &str, bytes: u64) -> Result<RegPart, AllocError> {
     Ok(RegPart {
@@ -55,32 +40,29 @@ fn mem(alloc: Global, own: &str, bytes: u64, size: u64) -> Result<MemPart, Alloc
     })
 }
 
-fn chip(alloc: Global) -> Result<Chip, Fail> {
+fn regs(alloc: Global) -> Result<Vec<RegPart>, AllocError> {
     let mut regs = Vec::new(alloc);
     for (own, bytes) in [("r1", 1), ("r2", 2), ("r3", 3), ("r4", 4), ("r8", 8)] {
         regs.push(reg(alloc, own, bytes)?)?;
     }
+    Ok(regs)
+}
+
+fn mems(alloc: Global) -> Result<Vec<MemPart>, AllocError> {
     let mut mems = Vec::new(alloc);
     mems.push(mem(alloc, "m2", 2, 3)?)?;
     mems.push(mem(alloc, "m8", 8, 65533)?)?;
+    Ok(mems)
+}
+
+fn chip(alloc: Global) -> Result<Chip, ModelFault> {
     let parts = Parts {
         blocks: Vec::new(alloc),
         files: Vec::new(alloc),
-        regs,
-        mems,
+        regs: regs(alloc)?,
+        mems: mems(alloc)?,
     };
-    Ok(Chip::build(alloc, &parts)?)
-}
-
-fn adapter(name: &[u8], most_bytes: u8, most_address: u64, apb: bool) -> Result<AdapterKind, Fail> {
-    Ok(AdapterKind {
-        name: ShortName::of(name).ok_or("a name")?,
-        most_bytes,
-        most_address,
-        aligned: apb,
-        write_lanes: true,
-        read_lanes: !apb,
-    })
+    Chip::build(alloc, &parts)
 }
 
 fn kind(text: &str) -> Kind {
@@ -135,7 +117,8 @@ fn place(alloc: Global, words: &mut SplitWhitespace) -> Result<PlacePart, AllocE
     })
 }
 
-fn layout(alloc: Global, text: &str) -> Result<Result<Layout, MapFault>, Fail> {
+// The maps and the places of a text.
+fn rows(alloc: Global, text: &str) -> Result<(Vec<MapNode>, Vec<PlacePart>), AllocError> {
     let mut maps = Vec::new(alloc);
     let mut places = Vec::new(alloc);
     for row in text.split(';') {
@@ -146,11 +129,22 @@ fn layout(alloc: Global, text: &str) -> Result<Result<Layout, MapFault>, Fail> {
             _ => places.push(place(alloc, &mut words)?)?,
         }
     }
-    let kinds = [
-        adapter(b"plain", 8, u64::MAX, false)?,
-        adapter(b"apb", 4, 0xffff_ffff, true)?,
-    ];
-    Ok(Layout::build(alloc, &chip(alloc)?, &maps, &places, &kinds))
+    Ok((maps, places))
+}
+
+fn layout_of(
+    alloc: Global,
+    chip: &Chip,
+    maps: &[MapNode],
+    places: &[PlacePart],
+) -> Result<Layout, MapFault> {
+    Layout::build(alloc, chip, maps, places, &kinds())
+}
+
+fn layout(alloc: Global, text: &str) -> Result<Result<Layout, MapFault>, Fail> {
+    let (maps, places) = rows(alloc, text)?;
+    let chip = chip(alloc)?;
+    Ok(layout_of(alloc, &chip, &maps, &places))
 }
 
 /// What refuses maps or places: a cause and a row of an array.
@@ -183,7 +177,7 @@ const BAD_MAPS: &[(&str, Refusal)] = &[
 
 const BASE: &str =
     "map a 4 little byte 0 apb; map f 4 big-fifo byte 0 plain; map p 1 little byte 0 plain;
-    map q 1 little-fifo byte 0 plain; map w 2 little word 0 plain; sub s 4 little byte w 0";
+    map q 1 little-fifo byte 0 plain; map w 2 little word 0 plain; sub s 4 little byte w 0;";
 
 const BAD_PLACES: &[(&str, Refusal)] = &[
     ("at x y 0 rw", Refusal(NoSuchMap, Place, 0)),
@@ -243,34 +237,59 @@ const BAD_PLACES: &[(&str, Refusal)] = &[
     ),
 ];
 
-fn refuse<R: Abort + AllocGlobal>(
-    rt: &R,
+fn fault_of(refusal: &Refusal) -> MapFault {
+    let Refusal(cause, array, row) = *refusal;
+    MapFault::Bad {
+        cause,
+        spot: Spot {
+            array,
+            row,
+            field: None,
+        },
+    }
+}
+
+// The fault of maps and places behind others.
+fn refusal_of(alloc: Global, base: &str, text: &str) -> Result<Option<MapFault>, Fail> {
+    let mut whole = String::from_str(alloc, base)?;
+    whole.push_str(text)?;
+    Ok(layout(alloc, whole.as_str())?.err())
+}
+
+fn refuse(
+    rt: &(impl Abort + AllocGlobal),
     base: &str,
     rows: &[(&str, Refusal)],
 ) -> Result<(), Fail> {
     for (text, refusal) in rows {
-        let Refusal(cause, array, row) = *refusal;
-        let spot = Spot {
-            array,
-            row,
-            field: None,
-        };
-        let whole = format!(in rt.alloc(); "{base}{text}")?;
-        let answer = layout(rt.alloc(), whole.as_str())?;
-        assert_eq!(rt; answer.err(), Some(MapFault::Bad { cause, spot }), "{text}");
+        let got = refusal_of(rt.alloc(), base, text)?;
+        assert_eq!(rt; got, Some(fault_of(refusal)), "{text}");
     }
     Ok(())
 }
 
 #[test]
-fn refuses_the_first_fault(rt: HostRuntime) -> Result<(), Fail> {
-    refuse(&rt, "", BAD_MAPS)?;
-    let base = format!(in rt.alloc(); "{BASE};")?;
-    refuse(&rt, base.as_str(), BAD_PLACES)?;
-    let mut many = String::new(rt.alloc());
-    for k in 0..64 {
+fn refuses_the_first_map(rt: HostRuntime) -> Result<(), Fail> {
+    refuse(&rt, "", BAD_MAPS)
+}
+
+#[test]
+fn refuses_the_first_place(rt: HostRuntime) -> Result<(), Fail> {
+    refuse(&rt, BASE, BAD_PLACES)
+}
+
+// So many maps, each with a name of its own.
+fn many_maps(alloc: Global, count: u32) -> Result<String, AllocError> {
+    let mut many = String::new(alloc);
+    for k in 0..count {
         write!(many, "map m{k} 1 little byte 0 plain;")?;
     }
+    Ok(many)
+}
+
+#[test]
+fn refuses_too_many_maps(rt: HostRuntime) -> Result<(), Fail> {
+    let many = many_maps(rt.alloc(), 64)?;
     let more = [("map 9 3 little byte 0 other", Refusal(TooMany, Map, 64))];
     refuse(&rt, many.as_str(), &more)
 }
@@ -283,16 +302,15 @@ fn write_word(text: &mut String, word: &Word) -> Result<(), AllocError> {
             write!(text, " {lane}={}", word.bytes[lane])?;
         }
     }
-    text.push_str("; ")?;
-    Ok(())
+    text.push_str("; ")
 }
 
 // The words of the first place.
-fn first_words(alloc: Global, layout: &Layout) -> Result<String, AllocError>
-    requires some { 0 < length layout.now.places }
-    requires sound { IsSound layout.now }
-{
+fn first_words(alloc: Global, layout: &Layout) -> Result<String, AllocError> {
     let mut text = String::new(alloc);
+    if layout.places() == 0 {
+        return Ok(text);
+    }
     for k in 0..layout.words(0) {
         write_word(&mut text, &layout.word(0, 0, k))?;
     }
@@ -346,9 +364,6 @@ const WORDS: &[(&str, &str)] = &[
 fn words_stand_where_the_seats_say(rt: HostRuntime) -> Result<(), Fail> {
     for (plan, want) in WORDS {
         let layout = layout(rt.alloc(), plan)??;
-        if layout.places() == 0 {
-            return Err("no place".into());
-        }
         let got = first_words(rt.alloc(), &layout)?;
         assert_eq!(rt; got.as_str(), *want, "{plan}");
     }
@@ -361,10 +376,11 @@ fn words_found(
     layout: &Layout,
     address: u64,
     write: bool,
-) -> Result<String, AllocError>
-    requires { 0 < length layout.now.ports }
-{
+) -> Result<String, AllocError> {
     let mut text = String::new(alloc);
+    if layout.ports() == 0 {
+        return Ok(text);
+    }
     if let Some(here) = layout.find(0, address, write) {
         write!(text, "{}.{}: ", here.place, here.index)?;
         for beat in 0..here.count {
@@ -401,9 +417,6 @@ const FOUND: &[(&str, u64, bool, &str)] = &[
 fn finds_what_stands_at_an_address(rt: HostRuntime) -> Result<(), Fail> {
     for (plan, address, write, want) in FOUND {
         let layout = layout(rt.alloc(), plan)??;
-        if layout.ports() == 0 {
-            return Err("no port".into());
-        }
         let got = words_found(rt.alloc(), &layout, *address, *write)?;
         assert_eq!(rt; got.as_str(), *want, "{plan} {address:x} {write}");
     }

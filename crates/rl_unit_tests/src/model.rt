@@ -1,3 +1,4 @@
+use crate::fixture::{name, number, word};
 use bitflags::Flags;
 use rl_model::Array::{Block, File, Mem, Reg};
 use rl_model::ModelCause::{
@@ -17,18 +18,6 @@ use std::test::Fail;
 // Parts are written as text, one item after another with `;` between: `block OF NAME`, `file OF NAME`,
 // `mem OF NAME BYTES SIZE`, and `reg OF NAME BYTES` with a word `NAME/LSB/WIDTH/KIND=VALUE/..` for each
 // field. OF is `-` at the top.
-
-fn name(alloc: Global, text: &str) -> Result<Name, AllocError> {
-    Ok(Name::of(Vec::from_slice(alloc, text.as_bytes())?))
-}
-
-fn word<'a>(words: &mut SplitWhitespace<'a>) -> &'a str {
-    words.next().unwrap_or("")
-}
-
-fn number(text: &str) -> u64 {
-    text.parse::<u64>().unwrap_or(0)
-}
 
 fn parent(alloc: Global, text: &str) -> Result<Option<Name>, AllocError> {
     if text == "-" {
@@ -133,37 +122,88 @@ const WHOLE: &str = "block - top; block top low; file top.low bank; mem top m 2 
     reg top.low.bank r 1 b/4/4/warm=3 a/0/4/HARD=15/cold=1;
     reg - top_r 8 all/0/64/HARD=18446744073709551615";
 
+// These functions have no clauses, so that the proofs above them know nothing of a chip.
+
+fn built(alloc: Global, text: &str) -> Result<Chip, ModelFault> {
+    Chip::build(alloc, &parts(alloc, text)?)
+}
+
+/// What is looked up by a name or a path.
+enum Sought {
+    Reg,
+    Mem,
+    Block,
+    Field,
+    ResetKind,
+}
+
+fn found(chip: &Chip, sought: &Sought, name: &[u8]) -> Option<u32> {
+    match sought {
+        Sought::Reg => chip.reg_by_path(name),
+        Sought::Mem => chip.mem_by_path(name),
+        Sought::Block => chip.block_by_path(name),
+        Sought::Field => chip.field_by_path(name),
+        Sought::ResetKind => chip.kind_by_name(name),
+    }
+}
+
+const LOOKUPS: &[(Sought, &str, Option<u32>)] = &[
+    (Sought::Reg, "top.low.bank.r", Some(0)),
+    (Sought::Reg, "top.m", None),
+    (Sought::Mem, "top.m", Some(0)),
+    (Sought::Block, "top.low.bank", None),
+    (Sought::Field, "top.low.bank.r.a", Some(1)),
+    (Sought::Field, "top_r", None),
+    (Sought::ResetKind, "SOFT", Some(1)),
+    (Sought::ResetKind, "cold", Some(3)),
+];
+
 #[test]
 fn looks_up_what_is_there(rt: HostRuntime) -> Result<(), Fail> {
-    let chip = Chip::build(rt.alloc(), &parts(rt.alloc(), WHOLE)?)?;
-    assert_eq!(rt; chip.reg_by_path(b"top.low.bank.r"), Some(0));
-    assert_eq!(rt; chip.reg_by_path(b"top.m"), None);
-    assert_eq!(rt; chip.mem_by_path(b"top.m"), Some(0));
-    assert_eq!(rt; chip.block_by_path(b"top.low.bank"), None);
-    assert_eq!(rt; chip.field_by_path(b"top.low.bank.r.a"), Some(1));
-    assert_eq!(rt; chip.field_by_path(b"top_r"), None);
-    assert_eq!(rt; chip.kind_by_name(b"SOFT"), Some(1));
-    assert_eq!(rt; chip.kind_by_name(b"cold"), Some(3));
+    let chip = built(rt.alloc(), WHOLE)?;
+    for (sought, name, number) in LOOKUPS {
+        assert_eq!(rt; found(&chip, sought, name.as_bytes()), *number, "{name}");
+    }
     Ok(())
+}
+
+// Where there are two registers and three fields: the first field of the second register, how many fields the first
+// one has, and how wide the last field is.
+fn numbering(chip: &Chip) -> Option<(u32, u32, u32)> {
+    if chip.fields() != 3 || chip.regs() != 2 {
+        return None;
+    }
+    Some((
+        chip.first_field(1),
+        chip.field_count(0),
+        chip.field(2).width,
+    ))
 }
 
 #[test]
 fn numbers_fields_through_all_registers(rt: HostRuntime) -> Result<(), Fail> {
-    let chip = Chip::build(rt.alloc(), &parts(rt.alloc(), WHOLE)?)?;
-    assert_eq!(rt; chip.fields(), 3);
-    assert_eq!(rt; chip.regs(), 2);
-    assert_eq!(rt; chip.first_field(1), 2);
-    assert_eq!(rt; chip.field_count(0), 2);
-    assert_eq!(rt; chip.field(2).width, 64);
+    let chip = built(rt.alloc(), WHOLE)?;
+    assert_eq!(rt; numbering(&chip), Some((2, 2, 64)));
     Ok(())
+}
+
+fn path_of_first(chip: &Chip) -> Option<&[u8]> {
+    if chip.regs() != 2 {
+        return None;
+    }
+    Some(chip.path(Item::Reg(0)))
+}
+
+fn first_is_skipped(chip: &Chip) -> bool {
+    chip.regs() == 2 && chip.skips(Item::Reg(0)).contains(Skip::NO_REG_TESTS)
 }
 
 #[test]
 fn tells_an_item_by_its_number(rt: HostRuntime) -> Result<(), Fail> {
-    let chip = Chip::build(rt.alloc(), &parts(rt.alloc(), WHOLE)?)?;
-    assert_eq!(rt; chip.regs(), 2);
-    assert_eq!(rt; chip.path(Item::Reg(0)), b"top.low.bank.r".as_slice());
-    assert!(rt; chip.skips(Item::Reg(0)).contains(Skip::NO_REG_TESTS));
+    let chip = built(rt.alloc(), WHOLE)?;
+    let path = path_of_first(&chip).ok_or("two registers")?;
+    assert_eq!(rt; path, b"top.low.bank.r".as_slice());
+    assert!(rt; first_is_skipped(&chip));
     Ok(())
 }
 
@@ -267,25 +307,25 @@ const BAD_FIELDS: &[(&str, Refusal)] = &[
     ),
 ];
 
-fn refuse<R: Abort + AllocGlobal>(rt: &R, rows: &[(&str, Refusal)]) -> Result<(), AllocError> {
-    for (text, refusal) in rows {
-        let Refusal(cause, array, row, field) = *refusal;
-        let spot = Spot { array, row, field };
-        let answer = Chip::build(rt.alloc(), &parts(rt.alloc(), text)?);
-        assert_eq!(rt;
-            answer.err(),
-            Some(ModelFault::Bad { cause, spot }),
-            "{text}"
-        );
+fn fault_of(refusal: &Refusal) -> ModelFault {
+    let Refusal(cause, array, row, field) = *refusal;
+    ModelFault::Bad {
+        cause,
+        spot: Spot { array, row, field },
     }
-    Ok(())
+}
+
+fn refuse(rt: &(impl Abort + AllocGlobal), rows: &[(&str, Refusal)]) {
+    for (text, refusal) in rows {
+        let got = built(rt.alloc(), text).err();
+        assert_eq!(rt; got, Some(fault_of(refusal)), "{text}");
+    }
 }
 
 #[test]
-fn refuses_the_first_fault(rt: HostRuntime) -> Result<(), Fail> {
-    refuse(&rt, BAD_PATHS)?;
-    refuse(&rt, BAD_FIELDS)?;
-    Ok(())
+fn refuses_the_first_fault(rt: HostRuntime) {
+    refuse(&rt, BAD_PATHS);
+    refuse(&rt, BAD_FIELDS);
 }
 
 /// Paths of 8 names, names of 32 bytes, fields that touch, all reset kinds, values of all bits and all
@@ -301,7 +341,7 @@ const AT_LIMITS: &[&str] = &[
 #[test]
 fn builds_at_the_limits(rt: HostRuntime) -> Result<(), Fail> {
     for text in AT_LIMITS {
-        Chip::build(rt.alloc(), &parts(rt.alloc(), text)?)?;
+        built(rt.alloc(), text)?;
     }
     Ok(())
 }
@@ -317,29 +357,34 @@ fn crowd(alloc: Global, sort: &str, count: u32, rest: &str) -> Result<String, Al
     Ok(text)
 }
 
+// The array, the sort, what stands behind a name, and the most of them.
+const CROWDS: [(Array, &str, &str, u32); 4] = [
+    (Block, "block", "", 256),
+    (File, "file", "", 256),
+    (Reg, "reg", "1", 1024),
+    (Mem, "mem", "1 1024", 64),
+];
+
+// The fault of so many items.
+fn crowd_refused(
+    alloc: Global,
+    sort: &str,
+    count: u32,
+    rest: &str,
+) -> Result<Option<ModelFault>, AllocError> {
+    let text = crowd(alloc, sort, count, rest)?;
+    Ok(built(alloc, text.as_str()).err())
+}
+
 #[test]
 fn counts_rows(rt: HostRuntime) -> Result<(), Fail> {
-    for (array, sort, rest, most) in [
-        (Block, "block", "", 256),
-        (File, "file", "", 256),
-        (Reg, "reg", "1", 1024),
-        (Mem, "mem", "1 1024", 64),
-    ] {
-        let text = crowd(rt.alloc(), sort, most, rest)?;
-        Chip::build(rt.alloc(), &parts(rt.alloc(), text.as_str())?)?;
-        let text = crowd(rt.alloc(), sort, most + 1, rest)?;
-        let answer = Chip::build(rt.alloc(), &parts(rt.alloc(), text.as_str())?);
-        let spot = Spot {
-            array,
-            row: most,
-            field: None,
-        };
+    for (array, sort, rest, most) in &CROWDS {
+        let none = crowd_refused(rt.alloc(), sort, *most, rest)?;
+        assert_eq!(rt; none, None, "{sort}");
+        let got = crowd_refused(rt.alloc(), sort, most.saturating_add(1), rest)?;
         assert_eq!(rt;
-            answer.err(),
-            Some(ModelFault::Bad {
-                cause: TooMany,
-                spot
-            }),
+            got,
+            Some(fault_of(&Refusal(TooMany, *array, *most, None))),
             "{sort}"
         );
     }

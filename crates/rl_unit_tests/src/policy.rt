@@ -1,6 +1,5 @@
 //! The policy table, and numbers at their edges.
 use rl_policy::*;
-use std::test::Fail;
 
 /// For each policy its name and, for the stored bits 1100 and the written bits 1010: the bits after a
 /// write, after a write of a spent field, after a read, and those that a read answers; and for the desired
@@ -44,15 +43,22 @@ fn effects_of(policy: Policy) -> [u64; 6] {
     ]
 }
 
+// The name and the effects of the policy of a name.
+fn named(name: &[u8]) -> Option<(&'static str, [u64; 6])> {
+    let policy = Policy::of_name(name)?;
+    Some((policy.name(), effects_of(policy)))
+}
+
 #[test]
-fn effects_are_those_of_the_table(rt: HostRuntime) -> Result<(), Fail> {
+fn effects_are_those_of_the_table(rt: HostRuntime) {
     for (name, effects) in &TABLE {
-        let policy = Policy::of_name(name.as_bytes()).ok_or("a policy")?;
-        assert_eq!(rt; policy.name(), *name);
-        assert_eq!(rt; effects_of(policy), *effects);
+        assert_eq!(rt; named(name.as_bytes()), Some((*name, *effects)));
     }
-    assert_eq!(rt; Policy::of_name(b"w1src"), None);
-    Ok(())
+}
+
+#[test]
+fn policies_are_named_in_capitals(rt: HostRuntime) {
+    assert_eq!(rt; named(b"w1src"), None);
 }
 
 const NUMBERS: [(&[u8], NumberText); 12] = [
@@ -70,16 +76,47 @@ const NUMBERS: [(&[u8], NumberText); 12] = [
     (b"", NumberText::Bad),
 ];
 
+fn number_of(text: &[u8]) -> NumberText {
+    read_number(text)
+}
+
 #[test]
 fn numbers_at_their_edges(rt: HostRuntime) {
     for (text, number) in &NUMBERS {
-        assert_eq!(rt; read_number(text), *number);
+        assert_eq!(rt; number_of(text), *number);
     }
-    let mut buf = [b'.'; 16];
-    hex_text(&mut buf, 0xabc, 4);
-    assert_eq!(rt; buf, *b"0abc............");
-    assert_eq!(rt; spell(&mut buf, u64::MAX), 16);
-    assert_eq!(rt; buf, *b"ffffffffffffffff");
-    assert_eq!(rt; take(0x7712ff, 8, 8), 0x12);
-    assert_eq!(rt; put(0x7700ff, 8, 8, 0x12), 0x7712ff);
+}
+
+// Four digits of a number before points.
+fn four_digits(number: u16) -> [u8; 16] {
+    let mut digits = [b'.'; 16];
+    hex_text(&mut digits, u64::from(number), 4);
+    digits
+}
+
+fn spelling(number: u64) -> (usize, [u8; 16]) {
+    let mut digits = [b'.'; 16];
+    let count = spell(&mut digits, number);
+    (count, digits)
+}
+
+#[test]
+fn digits_of_numbers(rt: HostRuntime) {
+    assert_eq!(rt; four_digits(0xabc), *b"0abc............");
+    assert_eq!(rt; spelling(u64::MAX), (16, *b"ffffffffffffffff"));
+}
+
+fn byte_taken(from: u64) -> u64 {
+    take(from, 8, 8)
+}
+
+fn byte_put(into: u64, byte: u8) -> u64 {
+    put(into, 8, 8, u64::from(byte))
+}
+
+// The byte at bit 8.
+#[test]
+fn bits_in_place(rt: HostRuntime) {
+    assert_eq!(rt; byte_taken(0x7712ff), 0x12);
+    assert_eq!(rt; byte_put(0x7700ff, 0x12), 0x7712ff);
 }

@@ -1,9 +1,8 @@
 -- What was written of a woven script when its source failed.
-use Rattle.std.proofs.Common.{◌≡◌, ◌≢◌, ℕ, ◌+◌, false, if◌then◌else◌, List, [], ◌∷◌, ◌++◌, Some, None, IfSome, refl, sym, ap, subst, ◌∙◌, append_assoc}
+use Rattle.std.proofs.Common.{◌≡◌, ◌≢◌, ℕ, ◌+◌, false, List, [], ◌∷◌, ◌++◌, Some, None, IfSome, refl, sym, ap, subst, ◌∙◌}
 use Rattle.std.specs.declared.option.Option.{Option}
 use Rattle.std.specs.declared.result.Result.{Result}
-use Rattle.std.specs.Io.KnownBytes.{Appends, Keeps, prepend_known}
-use Rattle.std.proofs.KnownBytes.{Appends-trans}
+use Rattle.std.specs.Io.KnownBytes.{Keeps}
 use Rattle.rl_access.specs.Model.{ModelData}
 use Rattle.rl_access.specs.World.{world}
 use Rattle.rl_bus.specs.Standing.{Standing}
@@ -13,15 +12,14 @@ use Rattle.rl_log.specs.declared.refusal.LineRefusal.{LineRefusal}
 use Rattle.rl_log.specs.Log.{said}
 use Rattle.rl_play.specs.declared.playing.Turn.TheVariants.{Next}
 use Rattle.rl_play.specs.Heard.{heard}
-use Rattle.rl_play.proofs.BufferLemmas.{keeps_then_appends}
-use Rattle.rl_play.proofs.EndingLemmas.{keeps_nothing}
+use Rattle.rl_play.proofs.CutLemmas.{cut_behind, cut_here}
 use Rattle.rl_play.proofs.PlayLemmas.{heard_said}
 use Rattle.rl_report.specs.declared.lines.Got.{Got}
 use Rattle.rl_report.specs.declared.lines.Got.TheVariants as got
 use Rattle.rl_report.specs.Got.{Hands}
 use Rattle.rl_report.specs.Lines.{first_line, after_line, whole_lines}
 use Rattle.rl_report.specs.Reading.{Reading, input_of}
-use Rattle.rl_report.proofs.LineLemmas.{whole_none, whole_first}
+use Rattle.rl_report.proofs.LineLemmas.{whole_first}
 use Rattle.rl_script.specs.declared.line.Line.{Line}
 use Rattle.rl_weave.specs.Weave.{WeaveData}
 use Rattle.rl_woven_log.specs.Setting.{Setting, IsAtWeaving, weaving_at}
@@ -31,22 +29,9 @@ use Rattle.rl_woven_log.proofs.Words.{set, weaving, weaving_is}
 
 -- ---- a fault
 
-none_closed : (number : ℕ) (g : Weaving) (lines : List (List ℕ)) → lines ≡ [] → closed_text number g lines ≡ []
+none_closed : (number : ℕ) (g : Weaving) → closed_text number g [] ≡ []
 unfolding closed_text
-none_closed number g lines none = ap (closed_text number g) none
-
-breaks_now : (number : ℕ) (g : Weaving) (bytes pending : List ℕ) (left old new : Option (List ℕ))
-    → Keeps (Some bytes) (prepend_known pending left) → first_line pending ≡ pending → Keeps old new
-    → BreaksAfter number g bytes left old new
-breaks_now number g bytes pending None old new kept none same = absurd kept
-breaks_now number g bytes pending (Some others) old new kept none same = record {
-  taken = pending;
-  others = others;
-  split = kept;
-  is_left = refl;
-  text = subst (Appends old new) (sym (none_closed number g (whole_lines pending) (whole_none pending none)))
-      (keeps_nothing old new same);
-}
+none_closed number g = refl
 
 pub breaks_here : (st : Option State) (number : ℕ) (w : WeaveData) (m : ModelData) (a : List Standing) (x : ℕ)
     (text new : Option (List ℕ)) (counts : Counts) (input left : Option (List ℕ)) (reading : Reading)
@@ -55,9 +40,8 @@ pub breaks_here : (st : Option State) (number : ℕ) (w : WeaveData) (m : ModelD
 breaks_here None number w m a x text new counts input left reading kept none same = tt
 breaks_here (Some d) number w m a x text new counts None left reading kept none same = tt
 breaks_here (Some d) number w m a x text new counts (Some bytes) left reading kept none same =
-    let going : Keeps (Some bytes) (if false then Some reading.pending else prepend_known reading.pending left) =
-    subst (λ b. Keeps (Some bytes) (if b then Some reading.pending else prepend_known reading.pending left)) none.1 kept in
-    breaks_now number (weaving w (world m a d) x counts) bytes reading.pending left text new going none.0 same
+    let g = weaving w (world m a d) x counts in
+    cut_here (closed_text number g) bytes left text new reading (none_closed number g) kept none same
 
 -- ---- a fault behind a line
 
@@ -84,20 +68,10 @@ breaks_behind : (number : ℕ) (g : Weaving) (bytes : List ℕ) (says : Result L
     → bytes ≡ first_line bytes ++ 10 ∷ after_line bytes → rest ≡ Some (after_line bytes) → Keeps old mid
     → WentOn (comes_of g says) mid s → Breaks (number + 1) s s.device rest left last → BreaksAfter number g bytes left old last
 breaks_behind number g bytes says old mid s rest left last is whole after same r h =
-    let b = breaks_at (number + 1) s r.part.after rest left last (after_line bytes) r.left after h in
-    let more = closed_text (number + 1) r.part.after (whole_lines b.taken) in
-    let all : closed_text number g (whole_lines (first_line bytes ++ 10 ∷ b.taken)) ≡ r.part.text ++ more =
-    first_text number g bytes b.taken says is
-    ∙ ap (λ c. text_on c (λ g. closed_text (number + 1) g (whole_lines b.taken))) r.is in
-    record {
-      taken = first_line bytes ++ 10 ∷ b.taken;
-      others = b.others;
-      split = append_assoc (first_line bytes) (10 ∷ b.taken) b.others ∙ ap (λ l. first_line bytes ++ 10 ∷ l) b.split
-          ∙ sym whole;
-      is_left = b.is_left;
-      text = subst (Appends old last) (sym all)
-          (Appends-trans old s.text last r.part.text more (keeps_then_appends old mid s.text r.part.text same r.text) b.text);
-    }
+    let more = λ (taken : List ℕ). λ (g : Weaving). closed_text (number + 1) g (whole_lines taken) in
+    cut_behind (closed_text number g) (closed_text (number + 1) r.part.after) r.part.text bytes old mid s.text left last
+    (λ taken. first_text number g bytes taken says is ∙ ap (λ c. text_on c (more taken)) r.is) whole same r.text
+    (breaks_at (number + 1) s r.part.after rest left last (after_line bytes) r.left after h)
 
 pub breaks_later : (st : Option State) (number : ℕ) (w v : WeaveData) (m n : ModelData) (a b : List Standing)
     (after : Option State) (x y : ℕ) (text mid new : Option (List ℕ)) (counts now : Counts) (input : Option (List ℕ))

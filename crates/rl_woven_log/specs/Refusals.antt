@@ -1,7 +1,7 @@
 -- The last line of a woven script that is refused.
-use Rattle.std.specs.Prelude.{ℕ, List, [], ◌∷◌, codes, decimal}
+use Rattle.std.specs.Prelude.{ℕ, List, codes}
 use Rattle.rl_log.specs.Texts.{refused_text}
-use Rattle.rl_report.specs.Pieces.{joined}
+use Rattle.rl_play.specs.Texts.{refused_so_text}
 use Rattle.rl_weave.specs.declared.access.WeaveFault.{WeaveFault}
 use Rattle.rl_weave.specs.declared.access.WeaveFault.TheVariants.{TooMany, NotPlaced, NotObserved, NoRight, TooWide, SameRegister}
 use Rattle.rl_woven_log.specs.declared.refusal.WovenRefusal.{WovenRefusal}
@@ -14,10 +14,6 @@ further_reason NotObserved = codes "not observed"
 further_reason NoRight = codes "no right"
 further_reason TooWide = codes "too wide"
 further_reason (SameRegister other) = codes "same register"
-
-abbrev pub refused_so_text : ℕ → (reason : List ℕ) → List ℕ
-refused_so_text number reason =
-    joined (codes "refused line " ∷ decimal number ∷ codes ": " ∷ reason ∷ codes "\n" ∷ [])
 
 -- a line is refused as in any script, or for a further reason
 abbrev pub refused_woven_text : ℕ → WovenRefusal → List ℕ

@@ -1,5 +1,5 @@
 -- What was written of a line and of a script, against what they come to.
-use Rattle.std.specs.Prelude.{◌≡◌, ℕ, ◌+◌, List, ◌++◌, Bool, true, false, Option, Some, None, IfSome, Result, Ok, Err}
+use Rattle.std.specs.Prelude.{◌≡◌, ℕ, ◌+◌, ◌≤◌, List, Bool, true, false, Option, Some, None, IfSome, Result, Ok, Err}
 use Rattle.std.specs.Io.KnownBytes.{Appends}
 use Rattle.rl_access.specs.Model.{ModelData}
 use Rattle.rl_access.specs.World.{World, world}
@@ -7,14 +7,15 @@ use Rattle.rl_bus.specs.State.{State}
 use Rattle.rl_log.specs.declared.refusal.LineRefusal.{LineRefusal}
 use Rattle.rl_log.specs.declared.status.Status.{Status}
 use Rattle.rl_log.specs.declared.status.Status.TheVariants.{SourceFault}
+use Rattle.rl_log.specs.Endings.{IsCounted}
 use Rattle.rl_log.specs.Log.{Ending}
 use Rattle.rl_log.specs.Statuses.{is_complete}
 use Rattle.rl_play.specs.declared.playing.Turn.{Turn}
 use Rattle.rl_play.specs.declared.playing.Turn.TheVariants.{Next, Stop}
-use Rattle.rl_play.specs.Played.{EndsAs, PassesTo}
-use Rattle.rl_report.specs.Lines.{lines_of, whole_lines}
+use Rattle.rl_play.specs.Leaves.{stop_of}
+use Rattle.rl_play.specs.Played.{EndsAs, LinesBreak, PassesTo}
+use Rattle.rl_report.specs.Lines.{lines_of}
 use Rattle.rl_report.specs.Pieces.{AppendsFront}
-use Rattle.rl_report.specs.Reading.{Reading}
 use Rattle.rl_script.specs.declared.line.Line.{Line}
 use Rattle.rl_weave.specs.Weave.{WeaveData, IsWeaveOn, empty}
 use Rattle.rl_woven_log.specs.declared.refusal.WovenRefusal.{WovenRefusal}
@@ -81,12 +82,8 @@ Ends number before input after status =
 
 -- Bytes were taken from the front of an input. Exactly the log of the groups was written whose blank line, with its 10, is
 -- among them.
-pub record BreaksAfter (number : ℕ) (g : Weaving) (bytes : List ℕ) (left old new : Option (List ℕ)) : Type 0 where
-  pub taken : List ℕ
-  pub others : List ℕ
-  pub split : taken ++ others ≡ bytes
-  pub is_left : left ≡ Some others
-  pub text : Appends old new (closed_text number g (whole_lines taken))
+abbrev pub BreaksAfter : (number : ℕ) → Weaving → (bytes : List ℕ) → (left old new : Option (List ℕ)) → Type 0
+BreaksAfter number g bytes left old new = LinesBreak (closed_text number g) bytes left old new
 
 -- where the device tells its state and the source its bytes
 abbrev pub Breaks : (number : ℕ) → Setting → (device : Option State) → (input left last : Option (List ℕ)) → Type 0
@@ -112,14 +109,9 @@ pub record WeavesLine (number : ℕ) (before : Setting) (input : Option (List �
   pub stop : (status : Status) → turn ≡ Stop status → Ends number before input after status
   pub at_fault : turn ≡ Stop SourceFault → BreaksFrom number before input left after.text
   pub later_fault : turn ≡ Next → ended ≡ false → BreaksAsRest number before input after rest
-
--- the reader may be asked for the next line, and after a source that failed for the one that was cut
-pub record ReadsOn (old new : Reading) (turn : Turn) : Type 0 where
-  pub found : new.found ≡ true
-  pub going : turn ≡ Next → new.refused ≡ false
-  pub again : turn ≡ Stop SourceFault → new.refused ≡ false
-  pub ended : old.ended ≡ true → new.ended ≡ true
-  pub unended : turn ≡ Stop SourceFault → old.ended ≡ false
+  -- at most so many lines are taken in, and a status that goes by the counts goes by these
+  pub last : turn ≡ Next → number ≤ 1000000
+  pub counted : IfSome (stop_of turn) (λ status. IsCounted status after.counts)
 
 -- ---- the end
 
@@ -148,3 +140,13 @@ WeavesScript n before input after status = IfSome (to_come 1 (first_setting n be
 -- a source failed in it: exactly the log of the groups that were closed was written
 abbrev pub BreaksWeave : (n : ℕ) → (before : Moment) → (input left last : Option (List ℕ)) → Type 0
 BreaksWeave n before input left last = BreaksFrom 1 (first_setting n before) input left last
+
+-- The lines that are left were woven, from a generator that begins at n, and this is left of the input.
+pub record WeavesThrough (n : ℕ) (before : Moment) (input left : Option (List ℕ)) (after : Moment) (status : Status) : Type 0 where
+  -- Where the device tells its state and the source its bytes: what is written is the log of the lines that are left, with its
+  -- status and its counts. After any fault, and where memory ran out, it is a front of that log.
+  pub log : WeavesScript n before input after status
+  -- After a source that failed, what is written is exactly the log of the groups whose closing blank line was taken.
+  pub at_fault : status ≡ SourceFault → BreaksWeave n before input left after.text
+  -- a status that goes by the counts goes by these
+  pub counted : IsCounted status after.counts

@@ -1,9 +1,8 @@
 //! The words of a group.
 ghost use Rattle.std.specs.Prelude.{◌≡◌, ◌<◌, true, map as each, length, IfSome, OnOk};
-ghost use Rattle.rl_woven_log.specs.Prelude.{EventFits, HasCause, IsGathering, IsReady, IsSameChip, IsWeave};
-ghost use Rattle.rl_woven_log.specs.Prelude.{IsWeaveOn, ItemFits, Puts, Writes, counted_at_end, group, setting_of};
-ghost use Rattle.rl_woven_log.specs.Prelude.{step_text};
-ghost use Rattle.rl_woven_log.specs.Prelude.{word_drawn, words, words_left};
+ghost use Rattle.rl_woven_log.specs.Prelude.{EventFits, IsGathering, IsReady, IsWeave, IsWeaveOn, StaysReady};
+ghost use Rattle.rl_woven_log.specs.Prelude.{ItemFits, Puts, SinkStays, Writes, counted_at_end, group, setting_of};
+ghost use Rattle.rl_woven_log.specs.Prelude.{step_text, word_drawn, words, words_left};
 
 use crate::script::WovenScript;
 use rl_access::Model;
@@ -22,9 +21,7 @@ fn put_step<L: Log>(model: &Model, step: &Step, out: &mut L) -> Result<(), Faile
     requires event { IfSome step.now.end (EventFits model.now) }
     ensures bytes { Puts (L.written out.old) (L.written out.new)
         (step_text model.now step.now.item step.now.end) result }
-    ensures cause { HasCause (L.faults out.old) (L.faults out.new) result }
-    ensures ends_kept { L.ends out.new ≡ L.ends out.old }
-    ensures same_target { L.target out.new ≡ L.target out.old }
+    ensures stays { SinkStays L.Sink out.old out.new result }
 {
     write_item(out, model, &step.item)?;
     match &step.end {
@@ -54,8 +51,7 @@ fn run_word<D: Device, L: Log>(
     requires open { 0 < length script.old.weave.still_open }
     requires ready { IsReady model.old (each standing adapters.old.items) (D.state device.old) }
     requires weave { IsWeaveOn model.old script.old.weave }
-    ensures ready { IsReady model.new (each standing adapters.new.items) (D.state device.new) }
-    ensures parts { IsSameChip model.old model.new }
+    ensures ready { StaysReady model.old model.new (each standing adapters.new.items) (D.state device.new) }
     ensures weave { IsWeaveOn model.new script.new.weave }
     ensures sound { IsWeave script.new.weave }
     ensures fewer { words_left script.new.weave < words_left script.old.weave }
@@ -63,9 +59,7 @@ fn run_word<D: Device, L: Log>(
         (setting_of standing D.state L.written script.old model.old adapters.old.items device.old out.old counts.old)
         (setting_of standing D.state L.written script.new model.new adapters.new.items device.new out.new counts.new)
         result }
-    ensures cause { HasCause (L.faults out.old) (L.faults out.new) result }
-    ensures ends_kept { L.ends out.new ≡ L.ends out.old }
-    ensures same_target { L.target out.new ≡ L.target out.old }
+    ensures stays { SinkStays L.Sink out.old out.new result }
 {
     let drawn = script.draws.draw(script.weave.open_count());
     let which = script.weave.nth_open(drawn);
@@ -85,8 +79,7 @@ fn run_words<D: Device, L: Log>(
 ) -> Result<(), Failed>
     requires ready { IsReady model.old (each standing adapters.old.items) (D.state device.old) }
     requires weave { IsWeaveOn model.old script.old.weave }
-    ensures ready { IsReady model.new (each standing adapters.new.items) (D.state device.new) }
-    ensures parts { IsSameChip model.old model.new }
+    ensures ready { StaysReady model.old model.new (each standing adapters.new.items) (D.state device.new) }
     ensures weave { IsWeaveOn model.new script.new.weave }
     // So many words are enough.
     ensures closed { OnOk result (length script.new.weave.still_open ≡ 0) }
@@ -94,9 +87,7 @@ fn run_words<D: Device, L: Log>(
         (setting_of standing D.state L.written script.old model.old adapters.old.items device.old out.old counts.old)
         (setting_of standing D.state L.written script.new model.new adapters.new.items device.new out.new counts.new)
         result }
-    ensures cause { HasCause (L.faults out.old) (L.faults out.new) result }
-    ensures ends_kept { L.ends out.new ≡ L.ends out.old }
-    ensures same_target { L.target out.new ≡ L.target out.old }
+    ensures stays { SinkStays L.Sink out.old out.new result }
 {
     // The call tells that the model is sound.
     let _ = model.layout();
@@ -120,16 +111,13 @@ pub(crate) fn run_group<D: Device, L: Log>(
 ) -> Result<(), Failed>
     requires ready { IsReady model.old (each standing adapters.old.items) (D.state device.old) }
     requires weave { IsWeaveOn model.old script.old.weave }
-    ensures ready { IsReady model.new (each standing adapters.new.items) (D.state device.new) }
-    ensures parts { IsSameChip model.old model.new }
+    ensures ready { StaysReady model.old model.new (each standing adapters.new.items) (D.state device.new) }
     ensures group { OnOk result (IsGathering model.new script.new.weave) }
     ensures writes { Writes group
         (setting_of standing D.state L.written script.old model.old adapters.old.items device.old out.old counts.old)
         (setting_of standing D.state L.written script.new model.new adapters.new.items device.new out.new counts.new)
         result }
-    ensures cause { HasCause (L.faults out.old) (L.faults out.new) result }
-    ensures ends_kept { L.ends out.new ≡ L.ends out.old }
-    ensures same_target { L.target out.new ≡ L.target out.old }
+    ensures stays { SinkStays L.Sink out.old out.new result }
 {
     run_words(script, model, device, adapters, out, counts)?;
     script.weave.clear();

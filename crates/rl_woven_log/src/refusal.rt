@@ -1,13 +1,11 @@
 //! Why a line of a woven script is refused.
 ghost use Rattle.std.specs.Prelude.{◌≡◌};
-ghost use Rattle.rl_bus.specs.Causes.{HasCause};
-ghost use Rattle.rl_report.specs.Pieces.{Puts};
-ghost use Rattle.rl_woven_log.specs.Refusals.{further_reason, refused_so_text, refused_woven_text};
+ghost use Rattle.rl_report.specs.Pieces.{Puts, SinkStays};
+ghost use Rattle.rl_woven_log.specs.Refusals.{further_reason, refused_woven_text};
 
-use itoa::Buffer;
 use rl_log::LineRefusal;
-use rl_play::put_line_refused;
-use rl_report::{Failed, Sink, put_pieces};
+use rl_play::{put_line_refused, put_refused_so};
+use rl_report::{Failed, Sink};
 use rl_weave::WeaveFault;
 
 /// Why a line of a woven script is refused, in the order in which the causes are tested.
@@ -34,24 +32,6 @@ fn further_reason(fault: WeaveFault) -> &'static [u8]
     }
 }
 
-/// Writes that a line was refused for this reason.
-fn put_refused_so<K: Sink>(sink: &mut K, number: u64, reason: &[u8]) -> Result<(), Failed>
-    ensures bytes { Puts (K.written sink.old) (K.written sink.new) (refused_so_text number reason.now) result }
-    ensures cause { HasCause (K.faults sink.old) (K.faults sink.new) result }
-    ensures ends_kept { K.ends sink.new ≡ K.ends sink.old }
-    ensures same_target { K.target sink.new ≡ K.target sink.old }
-{
-    let mut buffer = Buffer::new();
-    let pieces: [&[u8]; 5] = [
-        b"refused line ",
-        buffer.format(number).as_bytes(),
-        b": ",
-        reason,
-        b"\n",
-    ];
-    put_pieces(sink, &pieces)
-}
-
 /// Writes that a line was refused.
 pub(crate) fn put_woven_refused<K: Sink>(
     sink: &mut K,
@@ -59,9 +39,7 @@ pub(crate) fn put_woven_refused<K: Sink>(
     refusal: WovenRefusal,
 ) -> Result<(), Failed>
     ensures bytes { Puts (K.written sink.old) (K.written sink.new) (refused_woven_text number refusal) result }
-    ensures cause { HasCause (K.faults sink.old) (K.faults sink.new) result }
-    ensures ends_kept { K.ends sink.new ≡ K.ends sink.old }
-    ensures same_target { K.target sink.new ≡ K.target sink.old }
+    ensures stays { SinkStays K.Sink sink.old sink.new result }
 {
     match refusal {
         WovenRefusal::Line(refusal) => put_line_refused(sink, number, refusal),

@@ -1,8 +1,8 @@
 //! What comes of a line of a woven script that was read.
-ghost use Rattle.std.specs.Prelude.{◌≡◌, ◌≢◌, ◌≤◌, map as each, true, Ok, Err, MatchResult};
-ghost use Rattle.rl_woven_log.specs.Prelude.{EndsGroup, IsCaused, IsCounted, IsGathering, IsReady, IsSameChip};
-ghost use Rattle.rl_woven_log.specs.Prelude.{IsWeaveOn, Takes, Tells, heard, is_blank, line_said, read_of};
-ghost use Rattle.rl_woven_log.specs.Prelude.{refused_woven_text, said_by, setting_of};
+ghost use Rattle.std.specs.Prelude.{◌≡◌, ◌≢◌, ◌≤◌, map as each, true, Some, Ok, Err, MatchResult};
+ghost use Rattle.rl_woven_log.specs.Prelude.{EndsGroup, IsCounted, IsGathering, IsReady, IsWeaveOn, StaysReady};
+ghost use Rattle.rl_woven_log.specs.Prelude.{Leaves, NotByCounts, Takes, Tells, heard, is_blank, line_said, read_of};
+ghost use Rattle.rl_woven_log.specs.Prelude.{refused_woven_text, said_by, setting_of, stop_of};
 
 use crate::adding::add_line;
 use crate::group::run_group;
@@ -22,11 +22,8 @@ const MOST_LINES: u64 = 1_000_000;
 fn refuse<L: Log>(number: u64, refusal: WovenRefusal, out: &mut L) -> Status
     ensures tells { Tells result Status.Refused
         (L.written out.old) (L.written out.new) (refused_woven_text number refusal) }
-    ensures counted { (result ≢ Status.Passed) × (result ≢ Status.Found) }
-    ensures sink_later { L.faults out.old ≤ L.faults out.new }
-    ensures cause { IsCaused result 0 0 (L.faults out.old) (L.faults out.new) }
-    ensures ends_kept { L.ends out.new ≡ L.ends out.old }
-    ensures same_target { L.target out.new ≡ L.target out.old }
+    ensures counted { NotByCounts (Some result) }
+    ensures leaves { Leaves L.Sink 0 0 out.old out.new (Some result) }
 {
     match put_woven_refused(out, number, refusal) {
         Ok(()) => Status::Refused,
@@ -45,17 +42,13 @@ pub(crate) fn end_script<D: Device, L: Log>(
 ) -> Status
     requires ready { IsReady model.old (each standing adapters.old.items) (D.state device.old) }
     requires weave { IsWeaveOn model.old script.old.weave }
-    ensures ready { IsReady model.new (each standing adapters.new.items) (D.state device.new) }
-    ensures parts { IsSameChip model.old model.new }
+    ensures ready { StaysReady model.old model.new (each standing adapters.new.items) (D.state device.new) }
     ensures ends { EndsGroup
         (setting_of standing D.state L.written script.old model.old adapters.old.items device.old out.old counts.old)
         (setting_of standing D.state L.written script.new model.new adapters.new.items device.new out.new counts.new)
         result }
     ensures counted { IsCounted result counts.new }
-    ensures sink_later { L.faults out.old ≤ L.faults out.new }
-    ensures cause { IsCaused result 0 0 (L.faults out.old) (L.faults out.new) }
-    ensures ends_kept { L.ends out.new ≡ L.ends out.old }
-    ensures same_target { L.target out.new ≡ L.target out.old }
+    ensures leaves { Leaves L.Sink 0 0 out.old out.new (Some result) }
 {
     match run_group(script, model, device, adapters, out, counts) {
         Ok(()) => end(counts, out),
@@ -82,20 +75,14 @@ fn take_in<D: Device, L: Log>(
 ) -> Turn
     requires ready { IsReady model.old (each standing adapters.old.items) (D.state device.old) }
     requires group { IsGathering model.old script.old.weave }
-    ensures ready { IsReady model.new (each standing adapters.new.items) (D.state device.new) }
-    ensures parts { IsSameChip model.old model.new }
+    ensures ready { StaysReady model.old model.new (each standing adapters.new.items) (D.state device.new) }
     ensures group { result ≡ Turn.Next → IsGathering model.new script.new.weave }
     ensures turn { Takes number (Ok (line_said line.now))
         (setting_of standing D.state L.written script.old model.old adapters.old.items device.old out.old counts.old)
         (setting_of standing D.state L.written script.new model.new adapters.new.items device.new out.new counts.new)
         result }
-    ensures counted { (status : Status) → result ≡ Turn.Stop status
-        → (status ≢ Status.Passed) × (status ≢ Status.Found) }
-    ensures sink_later { L.faults out.old ≤ L.faults out.new }
-    ensures cause { (status : Status) → result ≡ Turn.Stop status
-        → IsCaused status 0 0 (L.faults out.old) (L.faults out.new) }
-    ensures ends_kept { L.ends out.new ≡ L.ends out.old }
-    ensures same_target { L.target out.new ≡ L.target out.old }
+    ensures counted { NotByCounts (stop_of result) }
+    ensures leaves { Leaves L.Sink 0 0 out.old out.new (stop_of result) }
 {
     if is_blank(line) {
         return match run_group(script, model, device, adapters, out, counts) {
@@ -126,20 +113,14 @@ fn take_in_read<D: Device, L: Log>(
     requires read { MatchResult read.now
         (λ l. read_of line.now ≡ Ok (line_said l))
         (λ fault. fault ≢ LineFault.Memory → read_of line.now ≡ Err fault) }
-    ensures ready { IsReady model.new (each standing adapters.new.items) (D.state device.new) }
-    ensures parts { IsSameChip model.old model.new }
+    ensures ready { StaysReady model.old model.new (each standing adapters.new.items) (D.state device.new) }
     ensures group { result ≡ Turn.Next → IsGathering model.new script.new.weave }
     ensures turn { Takes number (said_by (read_of line.now))
         (setting_of standing D.state L.written script.old model.old adapters.old.items device.old out.old counts.old)
         (setting_of standing D.state L.written script.new model.new adapters.new.items device.new out.new counts.new)
         result }
-    ensures counted { (status : Status) → result ≡ Turn.Stop status
-        → (status ≢ Status.Passed) × (status ≢ Status.Found) }
-    ensures sink_later { L.faults out.old ≤ L.faults out.new }
-    ensures cause { (status : Status) → result ≡ Turn.Stop status
-        → IsCaused status 0 0 (L.faults out.old) (L.faults out.new) }
-    ensures ends_kept { L.ends out.new ≡ L.ends out.old }
-    ensures same_target { L.target out.new ≡ L.target out.old }
+    ensures counted { NotByCounts (stop_of result) }
+    ensures leaves { Leaves L.Sink 0 0 out.old out.new (stop_of result) }
 {
     match read {
         Ok(line) => take_in(number, line, script, model, device, adapters, out, counts),
@@ -165,8 +146,7 @@ pub(crate) fn take_in_handed<D: Device, L: Log>(
 ) -> Turn
     requires ready { IsReady model.old (each standing adapters.old.items) (D.state device.old) }
     requires group { IsGathering model.old script.old.weave }
-    ensures ready { IsReady model.new (each standing adapters.new.items) (D.state device.new) }
-    ensures parts { IsSameChip model.old model.new }
+    ensures ready { StaysReady model.old model.new (each standing adapters.new.items) (D.state device.new) }
     ensures group { result ≡ Turn.Next → IsGathering model.new script.new.weave }
     ensures short { result ≡ Turn.Next → got ≢ Got.TooLong }
     ensures last { result ≡ Turn.Next → number ≤ 1000000 }
@@ -174,13 +154,8 @@ pub(crate) fn take_in_handed<D: Device, L: Log>(
         (setting_of standing D.state L.written script.old model.old adapters.old.items device.old out.old counts.old)
         (setting_of standing D.state L.written script.new model.new adapters.new.items device.new out.new counts.new)
         result }
-    ensures counted { (status : Status) → result ≡ Turn.Stop status
-        → (status ≢ Status.Passed) × (status ≢ Status.Found) }
-    ensures sink_later { L.faults out.old ≤ L.faults out.new }
-    ensures cause { (status : Status) → result ≡ Turn.Stop status
-        → IsCaused status 0 0 (L.faults out.old) (L.faults out.new) }
-    ensures ends_kept { L.ends out.new ≡ L.ends out.old }
-    ensures same_target { L.target out.new ≡ L.target out.old }
+    ensures counted { NotByCounts (stop_of result) }
+    ensures leaves { Leaves L.Sink 0 0 out.old out.new (stop_of result) }
 {
     if number > MOST_LINES {
         let refusal = WovenRefusal::Line(LineRefusal::TooManyLines);

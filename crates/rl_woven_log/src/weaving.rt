@@ -1,7 +1,7 @@
 //! The lines of a woven script, one after another.
-ghost use Rattle.std.specs.Prelude.{◌≡◌, ◌≤◌, map as each, true, false};
-ghost use Rattle.rl_woven_log.specs.Prelude.{BreaksWeave, IsCaused, IsCounted, IsGathering, IsReady, IsSameChip};
-ghost use Rattle.rl_woven_log.specs.Prelude.{ReadsOn, WeavesLine, WeavesScript, input_of, moment_of, setting_of};
+ghost use Rattle.std.specs.Prelude.{◌≡◌, map as each, true, false, Some};
+ghost use Rattle.rl_woven_log.specs.Prelude.{CanGoOn, IsGathering, IsReady, IsSameChip, Leaves, ReadsOn, StaysReady};
+ghost use Rattle.rl_woven_log.specs.Prelude.{WeavesLine, WeavesThrough, input_of, moment_of, setting_of, stop_of};
 
 use crate::script::WovenScript;
 use crate::taking::{end_script, take_in_handed};
@@ -29,24 +29,16 @@ fn weave_line<S: Source, D: Device, L: Log>(
     requires group { IsGathering model.old script.old.weave }
     requires found { lines.old.found ≡ true }
     requires going { lines.old.refused ≡ false }
-    ensures ready { IsReady model.new (each standing adapters.new.items) (D.state device.new) }
-    ensures parts { IsSameChip model.old model.new }
+    ensures ready { StaysReady model.old model.new (each standing adapters.new.items) (D.state device.new) }
     ensures group { result ≡ Turn.Next → IsGathering model.new script.new.weave }
-    ensures last { result ≡ Turn.Next → number ≤ 1000000 }
-    ensures reads { ReadsOn lines.old lines.new result }
     ensures weaves { WeavesLine number
         (setting_of standing D.state L.written script.old model.old adapters.old.items device.old out.old counts.old)
         (input_of lines.old (S.left source.old))
         (setting_of standing D.state L.written script.new model.new adapters.new.items device.new out.new counts.new)
         (input_of lines.new (S.left source.new)) (S.left source.new) lines.new.ended result }
-    ensures flushed { result ≡ Turn.Stop Status.SourceFault → L.is_out out.new }
-    ensures counted { (status : Status) → result ≡ Turn.Stop status → IsCounted status counts.new }
-    ensures source_later { S.faults source.old ≤ S.faults source.new }
-    ensures sink_later { L.faults out.old ≤ L.faults out.new }
-    ensures cause { (status : Status) → result ≡ Turn.Stop status
-        → IsCaused status (S.faults source.old) (S.faults source.new) (L.faults out.old) (L.faults out.new) }
-    ensures ends_kept { L.ends out.new ≡ L.ends out.old }
-    ensures same_target { L.target out.new ≡ L.target out.old }
+    ensures reads { ReadsOn lines.old lines.new result }
+    ensures goes_on { result ≡ Turn.Stop Status.SourceFault → CanGoOn lines.old lines.new (L.is_out out.new) }
+    ensures leaves { Leaves L.Sink (S.faults source.old) (S.faults source.new) out.old out.new (stop_of result) }
 {
     let got = match take_line(lines, source, out) {
         Ok(got) => got,
@@ -80,44 +72,22 @@ pub fn weave_lines<S: Source, D: Device, L: Log>(
     requires going { lines.old.refused ≡ false }
     ensures ready { IsReady model.new (each standing adapters.new.items) (D.state device.new) }
     ensures parts { IsSameChip model.old model.new }
-
-    // Where the device tells its state and the source its bytes: what is written is the log of the lines that are left,
-    // with its status and its counts. After any fault, and where memory ran out, it is a front of that log.
-    ensures log { WeavesScript n
+    ensures weaves { WeavesThrough n
         (moment_of standing D.state L.written model.old adapters.old.items device.old out.old counts.old)
-        (input_of lines.old (S.left source.old))
+        (input_of lines.old (S.left source.old)) (S.left source.new)
         (moment_of standing D.state L.written model.new adapters.new.items device.new out.new counts.new) result }
-
-    // After a source that failed, what is written is exactly the log of the groups whose closing blank line was taken.
-    ensures at_fault { result ≡ Status.SourceFault → BreaksWeave n
-        (moment_of standing D.state L.written model.old adapters.old.items device.old out.old counts.old)
-        (input_of lines.old (S.left source.old)) (S.left source.new) (L.written out.new) }
-
     ensures reads { ReadsOn lines.old lines.new (Turn.Stop result) }
-    ensures flushed { result ≡ Status.SourceFault → L.is_out out.new }
-    ensures counted { IsCounted result counts.new }
-    ensures source_later { S.faults source.old ≤ S.faults source.new }
-    ensures sink_later { L.faults out.old ≤ L.faults out.new }
-    ensures cause { IsCaused result (S.faults source.old) (S.faults source.new) (L.faults out.old) (L.faults out.new) }
-    ensures ends_kept { L.ends out.new ≡ L.ends out.old }
-    ensures same_target { L.target out.new ≡ L.target out.old }
+    ensures goes_on { result ≡ Status.SourceFault → CanGoOn lines.old lines.new (L.is_out out.new) }
+    ensures leaves { Leaves L.Sink (S.faults source.old) (S.faults source.new) out.old out.new (Some result) }
 {
-    let Ok(mut script) = WovenScript::build(alloc, n) else {
+    let Ok(mut built) = WovenScript::build(alloc, n) else {
         return Status::Memory;
     };
+    let script = &mut built;
     let mut number = 1u64;
     loop {
         match weave_line(
-            alloc,
-            number,
-            &mut script,
-            model,
-            device,
-            adapters,
-            lines,
-            source,
-            out,
-            counts,
+            alloc, number, script, model, device, adapters, lines, source, out, counts,
         ) {
             Turn::Next => number += 1,
             Turn::Stop(status) => return status,

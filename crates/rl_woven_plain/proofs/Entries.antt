@@ -26,7 +26,8 @@ use Rattle.rl_weave.specs.declared.access.WeaveFault.{WeaveFault}
 use Rattle.rl_weave.specs.declared.access.WeaveFault.TheVariants.{TooMany, NotPlaced, NotObserved, NoRight, TooWide, SameRegister}
 use Rattle.rl_woven_log.specs.declared.refusal.WovenRefusal.{WovenRefusal}
 use Rattle.rl_woven_log.specs.declared.refusal.WovenRefusal.TheVariants as refusal
-use Rattle.rl_woven_log.specs.Refusals.{further_reason, refused_so_text, refused_woven_text}
+use Rattle.rl_play.specs.Texts.{refused_so_text}
+use Rattle.rl_woven_log.specs.Refusals.{further_reason, refused_woven_text}
 use Rattle.rl_woven_plain.specs.Groups.{event_lines}
 use Rattle.rl_woven_plain.proofs.Texts.{line_same}
 

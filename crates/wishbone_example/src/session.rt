@@ -1,147 +1,66 @@
 // A session on a device of one's own, from its bytes to its log.
-ghost use Rattle.std.specs.Prelude.{◌≡◌, ◌<◌, ◌^◌, [], map, length, true, false, OnOk, IfOk};
-ghost use Rattle.rl_bus.specs.Standing.{kinds_of};
-ghost use Rattle.rl_map.specs.Maps.{IsBuiltWith};
+ghost use Rattle.std.specs.Prelude.{◌≡◌, ◌≤◌, ◌<◌, ◌^◌, Ok, map, length, true, false, OnOk, IfErr, IfSome};
+ghost use Rattle.wishbone_example.specs.Prelude.{IsCaused, KeepsEarlier, Rose, RunsOnTimer, StaysOpen, Stops};
+ghost use Rattle.wishbone_example.specs.Prelude.{has_flaws, is_complete, on_timer};
 
 use crate::timer::Timer;
-use rl_access::Model;
 use rl_bus::{Adapter, Adapters};
-use rl_desc::{Desc, DescFault};
-use rl_log::{Counts, Status};
-use rl_play::play;
-use rl_report::{Failed, Head, HeadFault, LineReader, Sink, Source, put_all};
-use rl_session::{described, put_description_refused};
-use std::alloc::{AllocError, Global};
+use rl_desc::Desc;
+use rl_log::Status;
+use rl_opening::{end_log, open_session, play_described, refused};
+use rl_report::{Sink, Source, put_all};
+use std::alloc::Global;
 
-// The status of a session that ends with its refusal.
-fn refused(written: Result<(), Failed>) -> Status {
-    match written {
-        Ok(()) => Status::Refused,
-        Err(Failed) => Status::SinkFault,
+// Whether a description declares a flaw.
+fn has_flaws(desc: &Desc) -> bool
+    ensures { result ≡ has_flaws desc.now.flaws }
+{
+    !desc.flaws.is_empty()
+}
+
+// Ends the session where its description declares a flaw: that is one of the device model, which this device isn't.
+fn check_flaws<Q: Sink>(desc: &Desc, log: &mut Q) -> Result<(), Status>
+    ensures allowed { OnOk result (on_timer (Ok desc.now) ≡ Ok desc.now) }
+    ensures unwritten { OnOk result (log.new ≡ log.old) }
+    ensures stops { IfErr result (λ status. Stops (on_timer (Ok desc.now))
+        status (Q.written log.old) (Q.written log.new)) }
+    ensures cause { IfErr result (λ status. IsCaused status 0 0 (Q.faults log.old) (Q.faults log.new)) }
+    ensures stays { StaysOpen Q.written Q.faults Q.ends log.old log.new }
+{
+    if !has_flaws(desc) {
+        return Ok(());
     }
+    Err(refused(put_all(
+        log,
+        b"refused description flaw 1: no flaws on this device\n",
+    )))
 }
 
-// Reads the bytes before the separator, or ends the session.
-fn read_head<P: Source, Q: Sink>(
-    lines: &mut LineReader,
-    session: &mut P,
-    head: &mut Vec<u8>,
-    log: &mut Q,
-) -> Result<(), Status>
-    requires empty { head.old.items ≡ [] }
-    requires first { lines.old.asked ≡ false }
-    requires going { lines.old.refused ≡ false }
-    ensures found { OnOk result ((lines.new.found ≡ true) × (lines.new.refused ≡ false)) }
-{
-    let answer = match lines.read_head(session, head) {
-        Ok(answer) => answer,
-        Err(HeadFault::Source) => return Err(Status::SourceFault),
-        Err(HeadFault::Memory) => return Err(Status::Memory),
-    };
-    match answer {
-        Head::Found => Ok(()),
-        Head::Missing => Err(refused(put_all(log, b"refused session: no separator\n"))),
-        Head::TooLong => Err(refused(put_all(log, b"refused session: description too long\n"))),
-    }
-}
-
-// Reads the description for the adapters at hand, or ends the session. A flaw is one of the device model, which this
-// device isn't.
-fn read_desc<Q: Sink>(
+// Runs a session, and leaves its log open.
+fn run<P: Source, Q: Sink>(
     alloc: Global,
-    head: &[u8],
-    adapters: &Adapters,
-    log: &mut Q,
-) -> Result<Desc, Status>
-    requires few { length (map standing adapters.now.items) < 2 ^ 32 }
-    ensures kinds { IfOk result (λ desc. desc.layout.kinds ≡ kinds_of (map standing adapters.now.items)) }
-    ensures built_with { IfOk result (λ desc. IsBuiltWith desc.layout desc.chip) }
-{
-    match described(alloc, head, adapters) {
-        Ok(desc) if desc.flaws.is_empty() => Ok(desc),
-        Ok(_) => Err(refused(put_all(
-            log,
-            b"refused description flaw 1: no flaws on this device\n",
-        ))),
-        Err(DescFault::Memory) => Err(Status::Memory),
-        Err(fault) => Err(refused(put_description_refused(log, &fault))),
-    }
-}
-
-// Reads all that comes before the script.
-fn open<P: Source, Q: Sink>(
-    alloc: Global,
-    lines: &mut LineReader,
-    session: &mut P,
-    log: &mut Q,
-    adapters: &Adapters,
-) -> Result<Desc, Status>
-    requires few { length (map standing adapters.now.items) < 2 ^ 32 }
-    requires first { lines.old.asked ≡ false }
-    requires going { lines.old.refused ≡ false }
-    ensures found { OnOk result ((lines.new.found ≡ true) × (lines.new.refused ≡ false)) }
-    ensures kinds { IfOk result (λ desc. desc.layout.kinds ≡ kinds_of (map standing adapters.now.items)) }
-    ensures built_with { IfOk result (λ desc. IsBuiltWith desc.layout desc.chip) }
-{
-    let mut head = Vec::new(alloc);
-    read_head(lines, session, &mut head, log)?;
-    read_desc(alloc, &head, adapters, log)
-}
-
-// The register model of a description.
-fn model_of(alloc: Global, desc: Desc) -> Result<Model, AllocError>
-    requires built_with { IsBuiltWith desc.layout desc.chip }
-    ensures chip { IfOk result (λ model. model.chip ≡ desc.chip) }
-    ensures layout { IfOk result (λ model. model.layout ≡ desc.layout) }
-{
-    let Desc {
-        chip,
-        layout,
-        flaws: _,
-    } = desc;
-    let model = Model::build(alloc, chip, layout)?;
-    Ok(model)
-}
-
-// Runs the script on a new timer.
-fn play_on_timer<P: Source, Q: Sink>(
-    alloc: Global,
-    desc: Desc,
-    lines: &mut LineReader,
     session: &mut P,
     log: &mut Q,
     adapters: &mut Adapters,
 ) -> Status
-    requires kinds { desc.layout.kinds ≡ kinds_of (map standing adapters.old.items) }
-    requires built_with { IsBuiltWith desc.layout desc.chip }
-    requires found { lines.old.found ≡ true }
-    requires going { lines.old.refused ≡ false }
+    requires few { length (map standing adapters.old.items) < 2 ^ 32 }
+    ensures does { IfSome (P.left session.old) (λ bytes. RunsOnTimer bytes result
+        (Q.written log.old) (Q.written log.new) (map standing adapters.old.items) (map standing adapters.new.items)) }
+    ensures source_later { P.faults session.old ≤ P.faults session.new }
+    ensures cause { IsCaused result
+        (P.faults session.old) (P.faults session.new) (Q.faults log.old) (Q.faults log.new) }
+    ensures stays { StaysOpen Q.written Q.faults Q.ends log.old log.new }
 {
-    let Ok(mut model) = model_of(alloc, desc) else {
-        return Status::Memory;
+    let (desc, mut lines) = match open_session(alloc, session, log, adapters) {
+        Ok(opened) => opened,
+        Err(status) => return status,
     };
-    let mut timer = Timer::new();
-    let mut counts = Counts::new();
-    play(
-        alloc,
-        &mut model,
-        &mut timer,
-        adapters,
-        lines,
-        session,
-        log,
-        &mut counts,
-    )
-}
-
-// Ends the log where its last line was written.
-fn finished<Q: Sink>(status: Status, log: &mut Q) -> Status {
-    if !status.is_complete() {
-        return status;
-    }
-    match log.finish() {
-        Ok(()) => status,
-        Err(Failed) => Status::SinkFault,
+    match check_flaws(&desc, log) {
+        Ok(()) => {
+            let mut timer = Timer::new();
+            play_described(alloc, desc, &mut timer, &mut lines, session, log, adapters)
+        }
+        Err(status) => status,
     }
 }
 
@@ -153,13 +72,23 @@ pub(crate) fn run_session<P: Source, Q: Sink>(
     adapters: &mut Adapters,
 ) -> Status
     requires few { length (map standing adapters.old.items) < 2 ^ 32 }
+
+    // Which sessions are refused and in what words, what is written of the others, and the statuses, one fact a field.
+    ensures does { IfSome (P.left session.old) (λ bytes. RunsOnTimer bytes result
+        (Q.written log.old) (Q.written log.new) (map standing adapters.old.items) (map standing adapters.new.items)) }
+
+    // However it ends, the log keeps the bytes that it had before.
+    ensures keeps_earlier { KeepsEarlier (Q.written log.old) (Q.written log.new) }
+
+    // No fault is made up, and the status is never that of other words.
+    ensures source_later { P.faults session.old ≤ P.faults session.new }
+    ensures cause { IsCaused result
+        (P.faults session.old) (P.faults session.new) (Q.faults log.old) (Q.faults log.new) }
+
+    // The log is ended exactly where its last line was written.
+    ensures ended { is_complete result ≡ true → Rose (Q.ends log.old) (Q.ends log.new) }
+    ensures not_ended { is_complete result ≡ false → Q.ends log.new ≡ Q.ends log.old }
 {
-    let Ok(mut lines) = LineReader::build(alloc) else {
-        return Status::Memory;
-    };
-    let status = match open(alloc, &mut lines, session, log, adapters) {
-        Ok(desc) => play_on_timer(alloc, desc, &mut lines, session, log, adapters),
-        Err(status) => status,
-    };
-    finished(status, log)
+    let status = run(alloc, session, log, adapters);
+    end_log(status, log)
 }

@@ -156,7 +156,9 @@ pub(crate) struct Timer {
 
 impl Timer {
     /// The timer after a reset.
-    pub(crate) fn new() -> Timer {
+    pub(crate) fn new() -> Timer
+        ensures { result.errors ≡ 0 }
+    {
         Timer {
             registers: AFTER_RESET,
             errors: 0,

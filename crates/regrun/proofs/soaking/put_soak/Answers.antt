@@ -1,22 +1,20 @@
 use Rattle.std.proofs.Common.{refl}
 use Rattle.rl_session.specs.Soak.{soak_text}
 use Rattle.rl_play.proofs.BufferLemmas.{keeps_refl}
-use Rattle.regrun.proofs.JudgedLemmas.{told_early, soaks_stopped, soaks_opened}
-use Rattle.regrun.proofs.OpeningLemmas.{opens_text, stops_text}
-use Rattle.regrun.proofs.StopLemmas.{stays_then}
+use Rattle.regrun.proofs.JudgedLemmas.{soaks_stopped, soaks_opened}
+use Rattle.regrun.proofs.TextLemmas.{opens_text, stops_text}
+use Rattle.rl_opening.proofs.JudgedLemmas.{told_early}
+use Rattle.rl_opening.proofs.StaysLemmas.{keeps_same, stays_then}
 use Rattle.regrun.proofs.soaking.put_soak.Goals as goal
 
 pub returns-in_default-clause-tells : goal.returns-in_default-clause-tells
 returns-in_default-clause-tells g c = told_early _ _ _ _ _ refl (keeps_refl _)
 
-pub returns-in_default-fresh_lines-clause-tells : goal.returns-in_default-fresh_lines-clause-tells
-returns-in_default-fresh_lines-clause-tells g c = told_early _ _ _ _ _ refl (keeps_refl _)
-
 pub returns-in-Ok-open_session-clause-tells : goal.returns-in-Ok-open_session-clause-tells
 returns-in-Ok-open_session-clause-tells g c =
     let e = c.in-Ok-open_session.ensures in
     let opens = opens_text c.in-Ok.bytes.items (soak_text c.args.n) _ _ _ _ c.in-Ok.ensures e.opens in
-    soaks_opened _ _ _ _ _ _ _ _ _ opens.opening opens.reads.rest e.told c.soak_desc.ensures.tells
+    soaks_opened _ _ _ _ _ _ _ _ _ opens.opening opens.reads.rest (keeps_same g.L.Sink.written _ _ e.unwritten) c.soak_desc.ensures.tells
 
 pub returns-clause-tells : goal.returns-clause-tells
 returns-clause-tells g c =

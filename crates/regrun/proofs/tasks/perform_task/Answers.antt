@@ -1,6 +1,6 @@
 use Rattle.std.proofs.Common.{refl}
 use Rattle.rl_play.proofs.FaultLemmas.{no_source}
-use Rattle.regrun.proofs.StopLemmas.{still_out}
+use Rattle.rl_opening.proofs.StaysLemmas.{still_out}
 use Rattle.regrun.proofs.TaskLemmas.{run_does, map_does, soak_does, weave_does}
 use Rattle.regrun.proofs.tasks.perform_task.Goals as goal
 

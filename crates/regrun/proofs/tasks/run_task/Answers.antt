@@ -5,14 +5,14 @@ use Rattle.regrun.proofs.tasks.run_task.Goals as goal
 
 pub returns-clause-keeps_earlier : goal.returns-clause-keeps_earlier
 returns-clause-keeps_earlier g c =
-    let w = rw (← c.requires.earlier) at c.finish.new.out.keeps_earlier in
+    let w = rw (← c.requires.earlier) at c.end_buffered.new.log.keeps_earlier in
     search (rules, w)
 
 pub returns-clause-does : goal.returns-clause-does
 returns-clause-does g c =
-    let f = c.finish.ensures in
+    let f = c.end_buffered.ensures in
     let p = c.perform_task-status.ensures in
-    let keeps = rw (← c.requires.earlier) at c.finish.new.out.keeps_earlier in
+    let keeps = rw (← c.requires.earlier) at c.end_buffered.new.log.keeps_earlier in
     let w = does_written _ _ _ _ _ _ _ _ _ _ _ f.kept f.given_up keeps f.told f.whole
     (λ fault. f.at_fault fault (p.flushed fault c.new-out.ensures.empty))
     (rw c.new-out.ensures.told at p.does) in
@@ -20,7 +20,7 @@ returns-clause-does g c =
 
 pub returns-clause-unwritten : goal.returns-clause-unwritten
 returns-clause-unwritten g c = λ map is.
-    let f = c.finish.ensures in
+    let f = c.end_buffered.ensures in
     let fault = same_status _ _ f.kept is in
     let all = f.unwritten fault ∙ c.perform_task-status.ensures.unwritten map fault in
     let w = ap (λ b. b.sink.now) all ∙ c.new-out.ensures.sink in

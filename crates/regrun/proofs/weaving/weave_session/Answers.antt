@@ -1,5 +1,4 @@
-use Rattle.std.proofs.Common.{map, refl, ap}
-use Rattle.rl_play.specs.declared.playing.Turn.TheVariants.{Stop}
+use Rattle.std.proofs.Common.{map, refl}
 use Rattle.rl_log.specs.declared.status.Status.TheVariants.{Memory}
 use Rattle.rl_play.proofs.BufferLemmas.{keeps_refl}
 use Rattle.regrun.proofs.BreakLemmas.{weave_breaks}
@@ -14,12 +13,12 @@ returns-in_default-clause-tells g c =
 
 pub returns-clause-tells : goal.returns-clause-tells
 returns-clause-tells g c =
-    weave_told c.args.n _ c.args.desc _ _ _ _ _ _ _ _ _ _ _ c.new-counts.ensures (c.in-Ok.ensures.first _) c.weave_lines.ensures.log
+    weave_told c.args.n _ c.args.desc _ _ _ _ _ _ _ _ _ _ _ c.new-counts.ensures (c.in-Ok.ensures.first _) c.weave_lines.ensures.weaves.log
 
 pub returns-clause-at_fault : goal.returns-clause-at_fault
 returns-clause-at_fault g c = λ is.
-    weave_breaks c.args.n _ c.args.desc _ _ _ _ _ _ _ c.new-counts.ensures (c.in-Ok.ensures.first _) (c.weave_lines.ensures.at_fault is)
+    weave_breaks c.args.n _ c.args.desc _ _ _ _ _ _ _ c.new-counts.ensures (c.in-Ok.ensures.first _) (c.weave_lines.ensures.weaves.at_fault is)
 
 pub returns-clause-unended : goal.returns-clause-unended
 returns-clause-unended g c = λ is.
-    let e = c.weave_lines.ensures in (e.reads.unended (ap Stop is), e.flushed is)
+    let e = c.weave_lines.ensures.goes_on is in (e.unended, e.out)

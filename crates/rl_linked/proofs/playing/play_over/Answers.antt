@@ -1,17 +1,10 @@
-use Rattle.std.proofs.Common.{[], refl}
-use Rattle.rl_linked.proofs.SessionLemmas.{input_cut, plays_linked}
-use Rattle.rl_linked.proofs.StaysLemmas.{stays_same}
+use Rattle.std.proofs.Common.{refl}
+use Rattle.rl_opening.proofs.ScriptLemmas.{rest_cut}
+use Rattle.rl_opening.proofs.StaysLemmas.{open_same}
 use Rattle.rl_linked.proofs.playing.play_over.Goals as goal
 
 pub returns-in_default-clause-plays : goal.returns-in_default-clause-plays
-returns-in_default-clause-plays g c = input_cut _ _ _ _ _ refl
+returns-in_default-clause-plays g c = rest_cut _ _ _ _ _ refl
 
-pub returns-in_default-linked-clause-plays : goal.returns-in_default-linked-clause-plays
-returns-in_default-linked-clause-plays g c = input_cut _ _ _ _ _ refl
-
-pub returns-in_default-linked-clause-stays : goal.returns-in_default-linked-clause-stays
-returns-in_default-linked-clause-stays g c = stays_same _ _ _ _ _ refl
-
-pub returns-clause-plays : goal.returns-clause-plays
-returns-clause-plays g c =
-    plays_linked c.args.desc _ _ _ _ _ _ _ _ (c.in-Ok.ensures.first []) c.in-Ok-linked.ensures.whole c.play-status.ensures.any_device
+pub returns-in_default-clause-stays : goal.returns-in_default-clause-stays
+returns-in_default-clause-stays g c = open_same _ _ _ _ _ refl

@@ -1,23 +1,45 @@
-use Rattle.std.proofs.Common.{refl, ap}
-use Rattle.rl_linked.proofs.SessionLemmas.{runs_early, runs_stopped, runs_played, unsent_none, unsent_opened}
+use Rattle.std.proofs.Common.{refl, ◌∙◌}
+use Rattle.rl_opening.proofs.ScriptLemmas.{checked_opens, checked_stops, over_stops, runs_played, runs_stopped, unsent, never_refused}
+use Rattle.rl_opening.proofs.StaysLemmas.{open_then, stays_open}
+use Rattle.rl_linked.specs.Opening.{over_link}
 use Rattle.rl_linked.proofs.session.run.Goals as goal
 
-pub returns-in_default-clause-does : goal.returns-in_default-clause-does
-returns-in_default-clause-does g c = runs_early _ _ _ _ refl
-
-pub returns-in-Ok-open_desc-clause-does : goal.returns-in-Ok-open_desc-clause-does
-returns-in-Ok-open_desc-clause-does g c =
-    let e = c.in-Ok-open_desc.ensures in
-    runs_played _ _ _ _ _ _ _ _ _ _ e.opens (ap g.Q.Sink.written e.told) c.play_over.ensures.plays
-
 pub returns-in-Err-clause-does : goal.returns-in-Err-clause-does
-returns-in-Err-clause-does g c = runs_stopped _ _ _ _ _ c.in-Err.ensures.stops
+returns-in-Err-clause-does g c =
+    runs_stopped _ _ _ _ _ _ (over_stops over_link (λ line. refl) _ _ _ _ _ c.in-Err.ensures.stops)
 
-pub returns-in_default-clause-unsent : goal.returns-in_default-clause-unsent
-returns-in_default-clause-unsent g c = unsent_none _ _ _ refl
+pub returns-in-Ok-check_link-clause-does : goal.returns-in-Ok-check_link-clause-does
+returns-in-Ok-check_link-clause-does g c =
+    let e = c.in-Ok.ensures in
+    let k = c.in-Ok-check_link.ensures in
+    runs_played g.Q.Sink.written _ _ _ _ _ _ _ _ _ _ _ (checked_opens over_link _ _ _ _ _ e.opens k.allowed) (k.unwritten ∙ e.unwritten)
+    c.play_over.ensures.plays
+
+pub returns-in-Err-check_link-clause-does : goal.returns-in-Err-check_link-clause-does
+returns-in-Err-check_link-clause-does g c =
+    let e = c.in-Ok.ensures in
+    runs_stopped _ _ _ _ _ _ (checked_stops over_link g.Q.Sink.written _ _ _ _ _ _ _ _ _ e.opens e.unwritten c.in-Err-check_link.ensures.stops)
+
+pub returns-in-Ok-check_link-clause-unsent : goal.returns-in-Ok-check_link-clause-unsent
+returns-in-Ok-check_link-clause-unsent g c =
+    never_refused _ _ _ _ _ _ (checked_opens over_link _ _ _ _ _ c.in-Ok.ensures.opens c.in-Ok-check_link.ensures.allowed)
 
 pub returns-in-Err-clause-unsent : goal.returns-in-Err-clause-unsent
-returns-in-Err-clause-unsent g c = unsent_none _ _ _ refl
+returns-in-Err-clause-unsent g c = unsent _ _ _ refl
 
-pub returns-in-Ok-open_desc-clause-unsent : goal.returns-in-Ok-open_desc-clause-unsent
-returns-in-Ok-open_desc-clause-unsent g c = unsent_opened _ _ _ _ _ _ c.in-Ok-open_desc.ensures.opens
+pub returns-in-Err-check_link-clause-unsent : goal.returns-in-Err-check_link-clause-unsent
+returns-in-Err-check_link-clause-unsent g c = unsent _ _ _ refl
+
+pub returns-in-Err-clause-stays : goal.returns-in-Err-clause-stays
+returns-in-Err-clause-stays g c = stays_open _ _ _ _ _ _ c.open_session.ensures.keeps_earlier c.open_session.ensures.stays
+
+pub returns-in-Ok-check_link-clause-stays : goal.returns-in-Ok-check_link-clause-stays
+returns-in-Ok-check_link-clause-stays g c =
+    let e = c.open_session.ensures in
+    open_then _ _ _ _ _ _ (open_then _ _ _ _ _ _ (stays_open _ _ _ _ _ _ e.keeps_earlier e.stays) c.check_link.ensures.stays)
+    c.play_over.ensures.stays
+
+pub returns-in-Err-check_link-clause-stays : goal.returns-in-Err-check_link-clause-stays
+returns-in-Err-check_link-clause-stays g c =
+    let e = c.open_session.ensures in
+    open_then _ _ _ _ _ _ (stays_open _ _ _ _ _ _ e.keeps_earlier e.stays) c.check_link.ensures.stays

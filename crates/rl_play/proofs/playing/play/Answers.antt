@@ -7,7 +7,7 @@ pub returns-clause-ends : goal.returns-clause-ends
 returns-clause-ends g c = record {
   own = c.play_through-status.new.counts;
   risen = c.add.ensures;
-  counted = c.play_through-status.ensures.counted;
+  counted = c.play_through-status.ensures.plays.counted;
 }
 
 pub returns-clause-log : goal.returns-clause-log

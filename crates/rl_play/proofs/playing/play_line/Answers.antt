@@ -1,31 +1,51 @@
-use Rattle.std.proofs.Common.{◌≡◌, ◌≢◌, false, Err, refl, ap, subst, ◌∙◌}
+use Rattle.std.proofs.Common.{◌≡◌, ◌≢◌, false, Err, refl, ap, ◌∙◌}
 use Rattle.rl_report.specs.declared.lines.Got.TheVariants as got
 use Rattle.rl_play.specs.declared.playing.Turn.TheVariants.{Next, Stop}
 use Rattle.rl_log.specs.declared.status.Status.TheVariants.{SourceFault}
-use Rattle.rl_log.specs.Statuses.{is_complete}
-use Rattle.rl_play.proofs.EndingLemmas.{counted_none, counted_other}
-use Rattle.rl_play.proofs.FaultLemmas.{still_going, breaks_here, breaks_later, no_source}
+use Rattle.rl_play.proofs.EndingLemmas.{counted_none}
+use Rattle.rl_play.proofs.FaultLemmas.{breaks_here, breaks_later, no_source}
+use Rattle.rl_play.proofs.LeavesLemmas.{counted_turn, leaves_written, no_source_turn}
 use Rattle.rl_play.proofs.DoneLemmas.{does_none, does_next, does_stop}
 use Rattle.rl_play.proofs.Judging.{judged_turn}
 use Rattle.rl_play.proofs.AnyLemmas.{plays_cut, plays_end, plays_next, plays_stop}
 use Rattle.rl_play.proofs.PlayLemmas.{early_stops, ends_at_end, next_passes, stop_ends}
 use Rattle.rl_play.proofs.playing.play_line.Goals as goal
 
-pub returns-in-Err-clause-counted : goal.returns-in-Err-clause-counted
-returns-in-Err-clause-counted g c =
-    λ status e. let same : c.in-Err.status ≡ status = cc in counted_none status _
-    (subst (λ s. is_complete s ≡ false) same c.in-Err.ensures.broken)
-
-pub returns-clause-counted : goal.returns-clause-counted
-returns-clause-counted g c = λ status is.
-    let n = c.run_taken.ensures.counted status is in
-    counted_other status _ n.0 n.1
-
-pub returns-in-Err-clause-unended : goal.returns-in-Err-clause-unended
-returns-in-Err-clause-unended g c =
-    λ is. let fault : c.in-Err.status ≡ SourceFault = cc in
+pub returns-in-Err-clause-reads : goal.returns-in-Err-clause-reads
+returns-in-Err-clause-reads g c =
     let e = c.take_line.ensures in
-    still_going _ _ e.ended (e.none_whole (c.in-Err.is ∙ ap Err fault)).1
+    record { found = e.found; going = λ is. absurd (cc); ended = e.ended }
+
+pub returns-then-is_end-clause-reads : goal.returns-then-is_end-clause-reads
+returns-then-is_end-clause-reads g c =
+    let e = c.take_line.ensures in
+    record { found = e.found; going = λ is. absurd (cc); ended = e.ended }
+
+pub returns-clause-reads : goal.returns-clause-reads
+returns-clause-reads g c =
+    let e = c.take_line.ensures in
+    record { found = e.found; going = λ is. c.in-Ok.ensures.going (c.run_taken.ensures.short is); ended = e.ended }
+
+pub returns-in-Err-clause-goes_on : goal.returns-in-Err-clause-goes_on
+returns-in-Err-clause-goes_on g c =
+    λ is. let fault : c.in-Err.status ≡ SourceFault = cc in
+    (c.take_line.ensures.at_fault (c.in-Err.is ∙ ap Err fault)).goes_on
+
+pub returns-then-is_end-clause-goes_on : goal.returns-then-is_end-clause-goes_on
+returns-then-is_end-clause-goes_on g c =
+    λ is. let fault : c.end.result ≡ SourceFault = cc in absurd (no_source _ _ _ c.end.ensures.leaves.cause fault)
+
+pub returns-clause-goes_on : goal.returns-clause-goes_on
+returns-clause-goes_on g c = λ is. absurd (no_source_turn c.run_taken.result _ _ c.run_taken.ensures.leaves.cause is)
+
+pub returns-in-Err-clause-leaves : goal.returns-in-Err-clause-leaves
+returns-in-Err-clause-leaves g c = c.in-Err.ensures.leaves
+
+pub returns-then-is_end-clause-leaves : goal.returns-then-is_end-clause-leaves
+returns-then-is_end-clause-leaves g c = leaves_written g.L.Sink _ _ _ _ _ _ _ c.in-Ok.ensures.leaves c.end.ensures.leaves
+
+pub returns-clause-leaves : goal.returns-clause-leaves
+returns-clause-leaves g c = leaves_written g.L.Sink _ _ _ _ _ _ _ c.in-Ok.ensures.leaves c.run_taken.ensures.leaves
 
 pub returns-in-Err-clause-plays : goal.returns-in-Err-clause-plays
 returns-in-Err-clause-plays g c =
@@ -38,11 +58,13 @@ returns-in-Err-clause-plays g c =
       stop = λ status is. let same : c.in-Err.status ≡ status = cc in
           early_stops _ c.in-Err.status status _ _ _ _ _ _ same c.in-Err.ensures.broken c.in-Err.ensures.told;
       at_fault = λ is. let fault : c.in-Err.status ≡ SourceFault = cc in
-          let err = c.in-Err.is ∙ ap Err fault in
-          breaks_here _ _ _ _ _ _ _ _ c.take_line.new.lines (e.none_lost err) (e.none_whole err) c.in-Err.ensures.told;
+          let cut = e.at_fault (c.in-Err.is ∙ ap Err fault) in
+          breaks_here _ _ _ _ _ _ _ _ c.take_line.new.lines cut.none_lost (cut.none_whole, cut.still) c.in-Err.ensures.told;
       later_fault = λ is. absurd (cc);
       done_next = λ is. absurd (cc);
       done_stop = λ status is. does_none _ _ _ _ _ _;
+      last = λ is. absurd (cc);
+      counted = counted_none c.in-Err.status _ c.in-Err.ensures.broken;
     }
 
 pub returns-then-is_end-clause-plays : goal.returns-then-is_end-clause-plays
@@ -53,14 +75,16 @@ returns-then-is_end-clause-plays g c =
       plays_next = λ is. absurd (cc);
       plays_stop = λ status is. let same : c.end.result ≡ status = cc in
           plays_end _ _ _ _ _ c.in-Ok.got c.take_line.new.lines _ c.end.result status is_end same
-          c.in-Ok.ensures.handed c.in-Ok.ensures.told (no_source _ _ _ c.end.ensures.cause) c.end.ensures.tells;
+          c.in-Ok.ensures.handed c.in-Ok.ensures.told (no_source _ _ _ c.end.ensures.leaves.cause) c.end.ensures.tells;
       stop = λ status is. let same : c.end.result ≡ status = cc in
           ends_at_end _ _ _ _ _ _ c.in-Ok.got c.take_line.new.lines _ c.end.result status _ _ _ is_end same
           c.in-Ok.ensures.handed c.in-Ok.ensures.told c.end.ensures.tells;
-      at_fault = λ is. let fault : c.end.result ≡ SourceFault = cc in absurd (no_source _ _ _ c.end.ensures.cause fault);
+      at_fault = λ is. let fault : c.end.result ≡ SourceFault = cc in absurd (no_source _ _ _ c.end.ensures.leaves.cause fault);
       later_fault = λ is. absurd (cc);
       done_next = λ is. absurd (cc);
       done_stop = λ status is. does_none _ _ _ _ _ _;
+      last = λ is. absurd (cc);
+      counted = c.end.ensures.counted;
     }
 
 pub returns-clause-plays : goal.returns-clause-plays
@@ -73,16 +97,18 @@ returns-clause-plays g c =
       plays_next = λ is last status p. plays_next _ _ _ _ last _ c.in-Ok.got _ c.take_line.new.lines _ _ status not_end
           (r.short is) handed c.line-line.ensures refl told (rw is at r.turn) p;
       plays_stop = λ status is. plays_stop _ _ _ _ _ c.in-Ok.got _ c.take_line.new.lines _ _ status not_end handed
-          c.line-line.ensures refl told (no_source _ _ _ (r.cause status is)) (rw is at r.turn);
+          c.line-line.ensures refl told (no_source status _ _ (rw is at r.leaves.cause)) (rw is at r.turn);
       next = λ is. next_passes _ _ _ _ _ _ _ _ _ _ c.in-Ok.got _ c.take_line.new.lines _ _ _ _ _ not_end
           (r.short is) handed c.line-line.ensures refl told (judged_turn c.args.number _ _ _ _ _ _ _ _ _ _ _ _ _ Next (rw is at r.turn));
       stop = λ status is. stop_ends _ _ _ _ _ _ _ _ _ _ c.in-Ok.got _ c.take_line.new.lines _ _ status _ _ _ not_end
           handed c.line-line.ensures refl told (judged_turn c.args.number _ _ _ _ _ _ _ _ _ _ _ _ _ (Stop status) (rw is at r.turn));
-      at_fault = λ is. absurd (no_source _ _ _ (r.cause _ is) refl);
+      at_fault = λ is. absurd (no_source_turn c.run_taken.result _ _ r.leaves.cause is);
       later_fault = λ is going left last f. breaks_later _ _ _ _ _ _ _ _ _ _ c.in-Ok.got _ c.take_line.new.lines
           _ _ _ _ _ left last not_end (r.short is) handed c.line-line.ensures refl told (judged_turn c.args.number _ _ _ _ _ _ _ _ _ _ _ _ _ Next (rw is at r.turn)) going f;
       done_next = λ is total last standings state f. does_next _ _ _ total _ _ last _ _ standings _ _ state _ c.in-Ok.got
           _ c.take_line.new.lines _ _ _ _ not_end (r.short is) handed c.line-line.ensures refl (judged_turn c.args.number _ _ _ _ _ _ _ _ _ _ _ _ _ Next (rw is at r.turn)) f;
       done_stop = λ status is. does_stop _ _ _ _ _ _ _ _ _ _ c.in-Ok.got _ c.take_line.new.lines _ _ status _ _ not_end
           handed c.line-line.ensures refl (judged_turn c.args.number _ _ _ _ _ _ _ _ _ _ _ _ _ (Stop status) (rw is at r.turn));
+      last = r.last;
+      counted = counted_turn c.run_taken.result _ r.counted;
     }

@@ -1,6 +1,7 @@
 -- The counts of faults don't fall, and the reader may be asked for more lines.
 use Rattle.std.proofs.Common.{◌≡◌, ◌-◌, ◌≤◌, ℕ, List, map, true, false, IfSome}
 use Rattle.std.specs.declared.option.Option.{Option}
+use Rattle.std.specs.declared.option.Option.TheVariants.{None}
 use Rattle.rl_access.specs.Model.{ModelData, IsReady, IsSameChip}
 use Rattle.rl_bus.specs.Standing.{Standing}
 use Rattle.rl_bus.specs.State.{State}
@@ -10,6 +11,7 @@ use Rattle.rl_log.specs.declared.status.Status.{Status}
 use Rattle.rl_access.specs.Call.{scene}
 use Rattle.rl_play.specs.AnyDevice.{Point, PlaysInput}
 use Rattle.rl_play.specs.Done.{Does}
+use Rattle.rl_play.specs.Leaves.{Leaves}
 use Rattle.rl_play.specs.Played.{coming, Breaks, PassesTo}
 use Rattle.rl_play.proofs.playing.play_lines.Given as goal
 
@@ -21,9 +23,9 @@ invariant-loop-number g l =
       parts : IsSameChip l.initial.model l.model;
       found : l.lines.found ≡ true;
       going : l.lines.refused ≡ false;
+      ended : l.initial.lines.ended ≡ true → l.lines.ended ≡ true;
       in_range : l.number ≤ 1000001;
-      source_later : g.S.Source.faults l.initial.source ≤ g.S.Source.faults l.source;
-      sink_later : g.L.Sink.faults l.initial.out ≤ g.L.Sink.faults l.out;
+      leaves : Leaves g.L.Sink (g.S.Source.faults l.initial.source) (g.S.Source.faults l.source) l.initial.out l.out None;
       going_on : IfSome (coming 1 l.initial.counts l.initial.model
           (map (λ b. (goal.Adapter-dyn g (b.vtable, b.value)).standing b.value) l.initial.adapters.items)
           (g.D.Device.state l.initial.device) (input_of l.initial.lines (g.S.Source.left l.initial.source)))
@@ -31,7 +33,6 @@ invariant-loop-number g l =
           (map (λ b. (goal.Adapter-dyn g (b.vtable, b.value)).standing b.value) l.adapters.items)
           (g.D.Device.state l.device) (input_of l.lines (g.S.Source.left l.source)))
           (g.L.Sink.written l.initial.out) (g.L.Sink.written l.out));
-      unended : l.lines.ended ≡ false → l.initial.lines.ended ≡ false;
       breaking : l.lines.ended ≡ false → (left last : Option (List ℕ)) → Breaks l.number l.model
           (map (λ b. (goal.Adapter-dyn g (b.vtable, b.value)).standing b.value) l.adapters.items)
           (g.D.Device.state l.device) (input_of l.lines (g.S.Source.left l.source)) left (g.L.Sink.written l.out) last
@@ -61,8 +62,6 @@ invariant-loop-number g l =
             text = g.L.Sink.written l.initial.out;
             counts = l.initial.counts;
           }) (input_of l.initial.lines (g.S.Source.left l.initial.source)) last status;
-      ends_kept : g.L.Sink.ends l.out ≡ g.L.Sink.ends l.initial.out;
-      same_target : g.L.Sink.target l.out ≡ g.L.Sink.target l.initial.out;
     }
 
 abbrev pub decreases-loop-number : goal.decreases-loop-number

@@ -10,28 +10,26 @@ returns-clause-keeps_earlier g c =
     let w = rw (← c.requires.earlier) at c.settle.new.out.keeps_earlier in
     search (rules, w)
 
-pub returns-clause-counted : goal.returns-clause-counted
-returns-clause-counted g c = counted_kept _ _ _ c.settle.ensures.kept c.play_lines-status.ensures.counted
-
 pub returns-clause-plays : goal.returns-clause-plays
 returns-clause-plays g c =
     let s = c.settle.ensures in
     let p = c.play_lines-status.ensures in
     let keeps = rw (← c.requires.earlier) at c.settle.new.out.keeps_earlier in
     let any = plays_written _ _ _ _ _ _ _ _ s.kept keeps s.told s.whole
-    (λ is. let fault = same_status _ _ s.kept is in s.at_fault fault (p.flushed fault))
-    (rw c.new-out.ensures.told at p.plays) in
-    let ends = ends_written _ _ _ _ _ _ _ _ _ _ _ s.kept keeps s.told s.whole (rw c.new-out.ensures.told at p.log) in
+    (λ is. let fault = same_status _ _ s.kept is in s.at_fault fault (p.goes_on fault).out)
+    (rw c.new-out.ensures.told at p.plays.on_any_device) in
+    let ends = ends_written _ _ _ _ _ _ _ _ _ _ _ s.kept keeps s.told s.whole (rw c.new-out.ensures.told at p.plays.log) in
     record {
       on_any_device = search (rules, any);
       log = search (rules, ends);
       at_fault = λ is.
           let fault = same_status _ _ s.kept is in
-          let w = breaks_written _ _ _ _ _ _ _ _ _ (rw c.new-out.ensures.told at (p.at_fault fault))
-          (s.at_fault fault (p.flushed fault)) in
+          let w = breaks_written _ _ _ _ _ _ _ _ _ (rw c.new-out.ensures.told at (p.plays.at_fault fault))
+          (s.at_fault fault (p.goes_on fault).out) in
           search (rules, w);
-      done = p.done;
+      done = p.plays.done;
+      counted = counted_kept _ _ _ s.kept p.plays.counted;
     }
 
 pub returns-clause-again : goal.returns-clause-again
-returns-clause-again g c = λ is. c.play_lines-status.ensures.again (same_status _ _ c.settle.ensures.kept is)
+returns-clause-again g c = λ is. (c.play_lines-status.ensures.goes_on (same_status _ _ c.settle.ensures.kept is)).again

@@ -7,4 +7,4 @@ returns-in_err-put_sequence-clause-bytes g c =
 
 pub returns-clause-bytes : goal.returns-clause-bytes
 returns-clause-bytes g c =
-    puts_more _ _ _ _ _ _ c.in_ok-put_sequence.ensures.bytes.whole (puts_last _ _ _ _ c.put_tally.ensures.bytes)
+    puts_more _ _ _ _ _ _ c.in_ok-put_sequence.ensures.bytes.whole (puts_last _ _ _ _ c.put_counts.ensures.bytes)

@@ -21,16 +21,16 @@ loop-k-preserved g c =
     let i = c.loop-k.invariant in
     let e = c.in_ok-run_word.ensures in
     record {
-      ready = e.ready;
-      parts = record { chip = e.parts.chip ∙ i.parts.chip; layout = e.parts.layout ∙ i.parts.layout };
+      ready = e.ready.ready;
+      parts = record { chip = e.ready.parts.chip ∙ i.parts.chip; layout = e.ready.parts.layout ∙ i.parts.layout };
       weave = e.weave;
       sound = λ some. e.sound;
       left = λ ok. omega (arith, e.fewer, i.left c.open_count.ensures.weave);
       sent = words_next _ _ _ _ _ _ _ _ 512 (512 - c.loop-k.k) (512 - (c.loop-k.k + 1)) _ (set _ _ _ _ _ _ _) _ _ (omega arith) i.sent
           (some_open _ _ c.open_count.ensures.count (omega (arith, c.if-open_count-eq0.false))) e.writes;
-      later = omega (arith, e.cause.later);
-      ends_kept = e.ends_kept ∙ i.ends_kept;
-      same_target = e.same_target ∙ i.same_target;
+      later = omega (arith, e.stays.cause.later);
+      ends_kept = e.stays.ends ∙ i.ends_kept;
+      same_target = e.stays.target ∙ i.same_target;
     }
 
 pub returns-then-open_count-eq0-clause-writes : goal.returns-then-open_count-eq0-clause-writes

@@ -1,7 +1,9 @@
 -- The counts of faults don't fall, and the reader may be asked for more lines.
 use Rattle.std.proofs.Common.{◌≡◌, ◌-◌, ◌+◌, ◌≤◌, ℕ, List, map, true, false, IfSome}
 use Rattle.std.specs.declared.option.Option.{Option}
+use Rattle.std.specs.declared.option.Option.TheVariants.{None}
 use Rattle.rl_access.specs.Model.{IsReady, IsSameChip}
+use Rattle.rl_play.specs.Leaves.{Leaves}
 use Rattle.rl_play.specs.Played.{PassesTo}
 use Rattle.rl_report.specs.Reading.{input_of}
 use Rattle.rl_weave.specs.Weave.{empty}
@@ -24,19 +26,15 @@ invariant-loop-number g l =
       group : IsGathering l.model l.script.weave;
       found : l.lines.found ≡ true;
       going : l.lines.refused ≡ false;
+      ended : l.initial.lines.ended ≡ true → l.lines.ended ≡ true;
       in_range : l.number ≤ 1000001;
-      source_later : g.S.Source.faults l.initial.source ≤ g.S.Source.faults l.source;
-      sink_later : g.L.Sink.faults l.initial.out ≤ g.L.Sink.faults l.out;
+      leaves : Leaves g.L.Sink (g.S.Source.faults l.initial.source) (g.S.Source.faults l.source) l.initial.out l.out None;
       going_on : IfSome (coming 1 first (state l.initial.device) (input_of l.initial.lines (left l.initial.source)))
           (λ e. PassesTo e (coming l.number now (state l.device) (input_of l.lines (left l.source)))
           (written l.initial.out) (written l.out));
-      unended : l.lines.ended ≡ false → l.initial.lines.ended ≡ false;
       breaking : l.lines.ended ≡ false → (rest last : Option (List ℕ))
           → Breaks l.number now (state l.device) (input_of l.lines (left l.source)) rest last
           → Breaks 1 first (state l.initial.device) (input_of l.initial.lines (left l.initial.source)) rest last;
-      ended : l.initial.lines.ended ≡ true → l.lines.ended ≡ true;
-      ends_kept : g.L.Sink.ends l.out ≡ g.L.Sink.ends l.initial.out;
-      same_target : g.L.Sink.target l.out ≡ g.L.Sink.target l.initial.out;
     }
 
 abbrev pub decreases-loop-number : goal.decreases-loop-number

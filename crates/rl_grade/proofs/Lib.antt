@@ -1,0 +1,6 @@
+mod Driving
+mod Finding
+mod Listed
+mod Pushed
+mod Complete
+mod Made

@@ -1,0 +1,22 @@
+-- What hands over the tasks that are left from here on hands over all of them from the beginning on.
+use Rattle.std.proofs.Common.{map, drop, Some}
+use Rattle.rl_access.specs.Model.{IsReady, IsSameChip}
+use Rattle.rl_access.specs.World.{world}
+use Rattle.rl_bench.specs.State.{bench_state}
+use Rattle.rl_grade.specs.Drive.{LeadsTo}
+use Rattle.rl_grade.specs.Job.{heard_by}
+use Rattle.rl_grade.proofs.drive.do_tasks.Given as goal
+
+abbrev pub invariant-loop-task : goal.invariant-loop-task
+invariant-loop-task g l = record {
+  ready : IsReady l.model (map (λ b. (goal.Adapter-dyn g (b.vtable, b.value)).standing b.value) l.adapters.items)
+      (Some (bench_state l.bench));
+  parts : IsSameChip l.initial.model l.model;
+  going_on : LeadsTo g.R.Recorder.takes g.R.Recorder.breaks l.initial.recorder
+      (heard_by (world l.initial.model
+      (map (λ b. (goal.Adapter-dyn g (b.vtable, b.value)).standing b.value) l.initial.adapters.items)
+      (bench_state l.initial.bench)) l.tasks)
+      l.recorder
+      (heard_by (world l.model (map (λ b. (goal.Adapter-dyn g (b.vtable, b.value)).standing b.value) l.adapters.items)
+      (bench_state l.bench)) (drop l.task-index l.tasks));
+}

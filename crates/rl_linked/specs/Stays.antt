@@ -1,9 +1,0 @@
--- What a part of a session leaves of its log.
-use Rattle.std.specs.Prelude.{◌≡◌, ℕ, ◌≤◌, List, Option}
-use Rattle.rl_play.specs.Earlier.{KeepsEarlier}
-
--- It keeps the log's earlier bytes, doesn't end it, and the count of its faults only rises.
-pub record StaysOpen {K : Type 0} (written : K → Option (List ℕ)) (faults ends : K → ℕ) (old new : K) : Type 0 where
-  pub earlier : KeepsEarlier (written old) (written new)
-  pub later : faults old ≤ faults new
-  pub ends_kept : ends new ≡ ends old

@@ -1,0 +1,5 @@
+pub mod JudgedLemmas
+pub mod OpeningLemmas
+pub mod ScriptLemmas
+pub mod StaysLemmas
+pub mod StopLemmas

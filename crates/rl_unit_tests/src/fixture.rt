@@ -1,0 +1,33 @@
+// What tables of texts are read by, and the kinds of the two adapters.
+use rl_apb::ApbAdapter;
+use rl_bus::{Adapter, AdapterKind, PlainAdapter};
+use rl_model::Name;
+use std::alloc::{AllocError, Global};
+use std::str::SplitWhitespace;
+
+pub(crate) fn name(alloc: Global, text: &str) -> Result<Name, AllocError> {
+    Ok(Name::of(Vec::from_slice(alloc, text.as_bytes())?))
+}
+
+/// The next word, which is empty behind the last one.
+pub(crate) fn word<'a>(words: &mut SplitWhitespace<'a>) -> &'a str {
+    words.next().unwrap_or("")
+}
+
+/// A decimal number, which is 0 where there is none.
+pub(crate) fn number(text: &str) -> u64 {
+    text.parse::<u64>().unwrap_or(0)
+}
+
+/// Those of a plain adapter and of one of APB.
+pub(crate) fn kinds() -> [AdapterKind; 2] {
+    let plain = PlainAdapter {
+        next_tag: 0,
+        trail: 0,
+    };
+    let apb = ApbAdapter {
+        next_serial: 0,
+        trail: 0,
+    };
+    [plain.kind(), apb.kind()]
+}

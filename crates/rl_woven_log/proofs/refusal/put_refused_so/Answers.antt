@@ -1,4 +1,0 @@
-use Rattle.rl_woven_log.proofs.refusal.put_refused_so.Goals as goal
-
-pub returns-clause-bytes : goal.returns-clause-bytes
-returns-clause-bytes g c = rw (c.as_bytes.ensures.value, c.format.ensures.text) at c.put_pieces.ensures.bytes
