@@ -13,7 +13,7 @@ pub mod word;
 
 pub use number::{NumberText, hex_text, read_number, spell};
 pub use policy::{
-    Policy, neutral_word, read_effect, read_value, set_value, spends, update_word, write_effect,
-    write_only,
+    POLICIES, Policy, neutral_word, read_effect, read_value, set_value, spends, update_word,
+    write_effect, write_only,
 };
 pub use word::{mask, put, take};

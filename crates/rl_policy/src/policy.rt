@@ -74,8 +74,8 @@ pub enum Policy {
     Wo1,
 }
 
-/// The policies in the order of the table.
-const ALL: [Policy; 25] = [
+/// The policies in the order of IEEE 1800.2's table.
+pub const POLICIES: [Policy; 25] = [
     Policy::Ro,
     Policy::Rw,
     Policy::Rc,
@@ -105,9 +105,12 @@ const ALL: [Policy; 25] = [
 
 // The first policy of this name.
 fn first_named(name: &[u8]) -> Option<Policy>
-    ensures { result ≡ find (λ p. bytes_eq (name_of p) name.now) ALL }
+    ensures { result ≡ find (λ p. bytes_eq (name_of p) name.now) POLICIES }
 {
-    ALL.iter().copied().find(|p| p.name().as_bytes() == name)
+    POLICIES
+        .iter()
+        .copied()
+        .find(|p| p.name().as_bytes() == name)
 }
 
 impl Policy {

@@ -11,41 +11,13 @@ use crate::digits::front;
 use itoa::Buffer;
 use rl_log::Counts;
 use rl_mirror::Mirror;
-use rl_policy::{Policy, spell};
+use rl_policy::{POLICIES, Policy, spell};
 use rl_report::{Failed, Sink, put_pieces};
 use std::alloc::{AllocError, Global};
 
 const REGISTERS: u32 = 64;
 
 const LINES: u32 = 20_000;
-
-const POLICIES: [Policy; 25] = [
-    Policy::Ro,
-    Policy::Rw,
-    Policy::Rc,
-    Policy::Rs,
-    Policy::Wrc,
-    Policy::Wrs,
-    Policy::Wc,
-    Policy::Ws,
-    Policy::Wsrc,
-    Policy::Wcrs,
-    Policy::W1c,
-    Policy::W1s,
-    Policy::W1t,
-    Policy::W0c,
-    Policy::W0s,
-    Policy::W0t,
-    Policy::W1src,
-    Policy::W1crs,
-    Policy::W0src,
-    Policy::W0crs,
-    Policy::Wo,
-    Policy::Woc,
-    Policy::Wos,
-    Policy::W1,
-    Policy::Wo1,
-];
 
 // What a line of the script does.
 #[derive(Clone, Copy, Debug, PartialEq, Eq)]
@@ -181,7 +153,8 @@ fn push_description(text: &mut Vec<u8>) -> Result<(), AllocError>
 {
     push_regs(text)?;
     text.extend_from_slice(
-        b"[[map]]\nname = 'bus'\nbytes = 2\nendian = 'big'\nadapter = 'plain'\n[[map]]\nname = 'per'\nbytes = 4\nendian = 'little'\nadapter = 'apb'\n",
+        b"[[map]]\nname = 'bus'\nbytes = 2\nendian = 'big'\nadapter = 'plain'\n\
+        [[map]]\nname = 'per'\nbytes = 4\nendian = 'little'\nadapter = 'apb'\n",
     )?;
     push_places(text)
 }
