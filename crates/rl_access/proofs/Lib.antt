@@ -2,6 +2,7 @@ pub mod Alone
 pub mod BackPerforms
 pub mod Beliefs
 pub mod Bytes
+pub mod Concluded
 pub mod Seated
 pub mod Gathers
 pub mod Granted

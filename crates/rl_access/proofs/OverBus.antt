@@ -36,6 +36,23 @@ watched_way_is m reg map place write found there is = is ∙ ap (λ p. with_righ
 pub map_is : (m : ModelData) (i : Item) (map place used : Option ℕ) → place ≡ place_of m.layout i map → used ≡ map_of_place m.layout place map → used ≡ map_used m i map
 map_is m i map place used there is = is ∙ ap (λ p. map_of_place m.layout p map) there
 
+-- a way and a named map, from the place that was looked up
+pub record IsFound (m : ModelData) (i : Item) (asked used : Option ℕ) (found there : Grant) : Type 0 where
+  pub way : there ≡ found
+  pub named : used ≡ map_used m i asked
+
+pub found_by : (m : ModelData) (i : Item) (map place used : Option ℕ) (write : Bool) (there : Grant) → place ≡ place_of m.layout i map →
+    used ≡ map_of_place m.layout place map → there ≡ with_right m.layout write (placed place) → IsFound m i map used (way m i map write) there
+found_by m i map place used write there at names is = record { way = way_is m i map place write there at is; named = map_is m i map place used at names }
+
+pub watched_by : (m : ModelData) (reg : ℕ) (map place used : Option ℕ) (write : Bool) (there : Grant) → place ≡ place_of m.layout (item.Reg reg) map →
+    used ≡ map_of_place m.layout place map → there ≡ with_right m.layout write (with_watch m.layout (placed place)) →
+    IsFound m (item.Reg reg) map used (watched_way m reg map write) there
+watched_by m reg map place used write there at names is = record {
+  way = watched_way_is m reg map place write there at is;
+  named = map_is m (item.Reg reg) map place used at names;
+}
+
 -- the place of a field's register
 pub field_place_is : (m : ModelData) (field : ℕ) (shape : Field) (map place : Option ℕ) → shape ≡ (field_of m.chip field).shape → place ≡ place_of m.layout (item.Reg shape.reg) map →
     place ≡ place_of m.layout (item.Reg (reg_of m.chip field)) map

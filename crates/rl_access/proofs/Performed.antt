@@ -76,37 +76,45 @@ sent_there m entry new a write place items before now errors later state after l
     subst (λ p. AreSent (adapter_for m.layout p) (port_for m.layout p) (access_ops entry a write) items before now errors later state after) place_is
     (subst (λ l. AreSent (adapter_for l a.place) (port_for l a.place) (access_ops entry a write) items before now errors later state after) layout_is sent)
 
--- the operation is this write, begun from this model
-pub record IsWriteOf (m : ModelData) (op : Op) (place : ℕ) (entry : ModelData) (a : Access) (good : End) : Type 0 where
-  pub over_bus : IsOverBus m op place a.reg (access_ops entry a true) (λ items. write_outcome entry good a items)
+-- the operation is this access, begun from this model, and what is made of its items is this
+pub record IsAccessOf (m : ModelData) (op : Op) (place : ℕ) (entry : ModelData) (a : Access) (write : Bool) (o : List TraceItem → Outcome) : Type 0 where
+  pub over_bus : IsOverBus m op place a.reg (access_ops entry a write) o
   pub layout_is : entry.layout ≡ m.layout
   pub place_is : a.place ≡ place
+
+access_performs : {before now : List Standing} {errors later : ℕ} {state after : Option State} (m entry new : ModelData) (op told : Op) (place : ℕ)
+    (a : Access) (write : Bool) (o : List TraceItem → Outcome) (event : Event) →
+    grant m op ≡ Ok place → told ≡ named m op → IsAccessOf m op place entry a write o →
+    WereSent (scene entry before errors state) (scene new now later after) a write event.trace →
+    event ≡ register_event told a.reg event.trace (o event.trace) → new ≡ (o event.trace).model →
+    Performs (scene m before errors state) (scene new now later after) op event
+access_performs {before} {now} {errors} {later} {state} {after} m entry new op told place a write o event granted names is sent event_is model =
+    sent_over_bus m new op told place a.reg (access_ops entry a write) o event before now errors later state after granted names is.over_bus
+    (sent_there m entry new a write place event.trace before now errors later state after is.layout_is is.place_is sent) event_is model
+
+-- a write that ends so where no item failed
+abbrev pub IsWriteOf : ModelData → Op → (place : ℕ) → (entry : ModelData) → Access → (good : End) → Type 0
+IsWriteOf m op place entry a good = IsAccessOf m op place entry a true (write_outcome entry good a)
 
 pub write_performs : {before now : List Standing} {errors later : ℕ} {state after : Option State} (m entry new : ModelData) (op told : Op) (place : ℕ)
     (a : Access) (good : End) (event : Event) →
     grant m op ≡ Ok place → told ≡ named m op → IsWriteOf m op place entry a good →
     IsWrittenBy (scene entry before errors state) (scene new now later after) told a good event →
     Performs (scene m before errors state) (scene new now later after) op event
-write_performs {before} {now} {errors} {later} {state} {after} m entry new op told place a good event granted names is done =
-    sent_over_bus m new op told place a.reg (access_ops entry a true) (λ items. write_outcome entry good a items) event before now errors later
-    state after granted names is.over_bus
-    (sent_there m entry new a true place event.trace before now errors later state after is.layout_is is.place_is done.sent) done.event_is done.model
+write_performs m entry new op told place a good event granted names is done =
+    access_performs m entry new op told place a true (write_outcome entry good a) event granted names is done.sent done.event_is done.model
 
--- the operation is this read, begun from this model
-pub record IsReadOf (m : ModelData) (op : Op) (place : ℕ) (entry : ModelData) (a : Access) (check : Bool) : Type 0 where
-  pub over_bus : IsOverBus m op place a.reg (access_ops entry a false) (λ items. read_outcome entry check a items)
-  pub layout_is : entry.layout ≡ m.layout
-  pub place_is : a.place ≡ place
+-- a read, or a check
+abbrev pub IsReadOf : ModelData → Op → (place : ℕ) → (entry : ModelData) → Access → (check : Bool) → Type 0
+IsReadOf m op place entry a check = IsAccessOf m op place entry a false (read_outcome entry check a)
 
 pub read_performs : {before now : List Standing} {errors later : ℕ} {state after : Option State} (m entry new : ModelData) (op told : Op) (place : ℕ)
     (a : Access) (check : Bool) (event : Event) →
     grant m op ≡ Ok place → told ≡ named m op → IsReadOf m op place entry a check →
     IsReadBy (scene entry before errors state) (scene new now later after) told a check event →
     Performs (scene m before errors state) (scene new now later after) op event
-read_performs {before} {now} {errors} {later} {state} {after} m entry new op told place a check event granted names is done =
-    sent_over_bus m new op told place a.reg (access_ops entry a false) (λ items. read_outcome entry check a items) event before now errors later
-    state after granted names is.over_bus
-    (sent_there m entry new a false place event.trace before now errors later state after is.layout_is is.place_is done.sent) done.event_is done.model
+read_performs m entry new op told place a check event granted names is done =
+    access_performs m entry new op told place a false (read_outcome entry check a) event granted names is done.sent done.event_is done.model
 
 -- ---- the same from an equal model, by an equal access
 

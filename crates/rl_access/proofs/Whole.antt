@@ -14,19 +14,9 @@ use Rattle.rl_map.specs.Layout.{LayoutData, place_at, words_of, IsSound, IsLocat
 use Rattle.rl_map.specs.Maps.{IsBuiltWith}
 use Rattle.rl_map.specs.Words.{no_word}
 use Rattle.rl_split.specs.Access.{all_bytes, chosen_lanes, has_chosen, sent_words, op_of, ops_of, sent_of}
-use Rattle.rl_split.proofs.Sending.{all_numbered, filter_all, chosen-lt, small_lanes, byte_in, IsHere, is_here}
+use Rattle.rl_split.proofs.Sending.{all_numbered, filter_all, all_chosen, small_lanes, byte_in, IsHere, is_here}
 use Rattle.rl_access.specs.Gathering.{IsRegister, IsRegisterPlace}
 use Rattle.rl_access.specs.Observed.{reg_in}
-
--- where all bytes are chosen, so are all lanes
-lanes_all : (w : Word) (bytes : ℕ) → w.lanes < 2 ^ 8 → ((l : ℕ) → l < 8 → bit w.lanes l ≡ true → slice_index w.bytes l < bytes) → chosen_lanes (all_bytes bytes) w ≡ w.lanes
-lanes_all w bytes small inside =
-    same_from_bits 8 _ _ (chosen-lt (all_bytes bytes) w) small
-    (λ l low. bit-from_bits 8 _ l low ∙ ap (λ t. bit w.lanes l && t) (bit-mask bytes (slice_index w.bytes l)) ∙ by (bit w.lanes l) (slice_index w.bytes l) (inside l low))
-  where
-    by : (on : Bool) (j : ℕ) → (on ≡ true → j < bytes) → (on && ltb j bytes) ≡ on
-    by true j h = let l = h refl in grind (arith, nat_tests)
-    by false j h = refl
 
 -- each word has a byte
 pub all_sent : (l : LayoutData) (place index : ℕ) → IsHere l place index → sent_words (all_bytes (place_at l place).bytes) (words_of l place index) ≡ words_of l place index
@@ -34,7 +24,7 @@ all_sent l place index here =
     let words = words_of l place index in
     let bytes = (place_at l place).bytes in
     let whole : (k : ℕ) → k < length words → chosen_lanes (all_bytes bytes) (get_or words k no_word) ≡ (get_or words k no_word).lanes =
-    λ k inside. lanes_all (get_or words k no_word) bytes (small_lanes _ _ here.port.width (here.words.on k no_word inside).enabled) (λ j low on. byte_in words bytes k j here.words.reach inside low
+    λ k inside. all_chosen (get_or words k no_word) bytes (small_lanes _ _ here.port.width (here.words.on k no_word inside).enabled) (λ j low on. byte_in words bytes k j here.words.reach inside low
     on) in
     filter_all (has_chosen (all_bytes bytes)) words
     (all_numbered (λ w. has_chosen (all_bytes bytes) w ≡ true) words no_word (λ k inside. some_chosen (chosen_lanes (all_bytes bytes) (get_or words k no_word)) (omega (

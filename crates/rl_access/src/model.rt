@@ -87,6 +87,21 @@ impl Model {
         &self.mirror
     }
 
+    /// Its chip and its layout. What is believed and what was gathered is let go.
+    pub fn into_parts(self) -> (Chip, Layout)
+        ensures chip { result.0 ≡ self.chip }
+        ensures layout { result.1 ≡ self.layout }
+        ensures built_with { IsBuiltWith result.1 result.0 }
+    {
+        let Model {
+            chip,
+            layout,
+            mirror: _,
+            predictor: _,
+        } = self;
+        (chip, layout)
+    }
+
     /// The map that an event names: that of the place used, or the one asked for.
     pub(crate) fn map_used(&self, place: Option<u32>, map: Option<u32>) -> Option<u32>
         requires place { IfSome place (λ p. p < length self.now.layout.places) }

@@ -1,5 +1,7 @@
 -- The masks and the words of a register.
-use Rattle.std.proofs.Common.{◌≡◌, ℕ, ◌<◌, List, length, get_or, sym, subst}
+use Rattle.std.proofs.Common.{◌≡◌, ℕ, ◌<◌, List, length, get_or, sym, subst, arith}
+use Rattle.std.specs.Prelude.{slice_index}
+use Rattle.std.proofs.lemmas.List.{get_or_read}
 use Rattle.rl_bus.specs.Setup.{Setup}
 use Rattle.rl_bench.specs.declared.shape.Shape.{Shape}
 use Rattle.rl_bench.specs.Shape.{IsShapeOf}
@@ -7,3 +9,12 @@ use Rattle.rl_bench.specs.Board.{AreShapesOf}
 
 pub shape_at : (t : Setup) (shapes : List Shape) (r : ℕ) (s : Shape) → AreShapesOf t shapes → r < length t.regs → s ≡ get_or shapes r s → IsShapeOf (record { setup = t; reg = r }) s
 shape_at t shapes r s h l e = subst (λ x. IsShapeOf (record { setup = t; reg = r }) x) (sym e) (h.each r s l)
+
+-- the shape and a word of a register, as they are read
+pub record IsRead (t : Setup) (words : List ℕ) (r : ℕ) (s : Shape) (word : ℕ) : Type 0 where
+  pub shape_is : IsShapeOf (record { setup = t; reg = r }) s
+  pub word_is : word ≡ slice_index words r
+
+pub reg_read : (t : Setup) (shapes : List Shape) (words : List ℕ) (r : ℕ) (s : Shape) (word : ℕ) → AreShapesOf t shapes → r < length t.regs → length words ≡ length t.regs
+    → s ≡ get_or shapes r s → word ≡ get_or words r word → IsRead t words r s word
+reg_read t shapes words r s word h low same e f = record { shape_is = shape_at t shapes r s h low e; word_is = get_or_read words r word (omega (arith, low, same)) f 0 }

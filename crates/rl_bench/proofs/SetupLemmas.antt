@@ -20,7 +20,7 @@ use Rattle.rl_bus.specs.declared.table.FieldRow.{FieldRow}
 use Rattle.rl_bus.specs.declared.table.MemRow.{MemRow}
 use Rattle.rl_bus.specs.declared.table.WordRow.{WordRow}
 use Rattle.rl_bus.specs.Device.{IsCellIn}
-use Rattle.rl_bus.specs.Setup.{Setup, Flaws, field_of, mem_of, no_mem, no_field}
+use Rattle.rl_bus.specs.Setup.{Flaws, field_of, mem_of, no_mem, no_field}
 use Rattle.rl_map.specs.Layout.{LayoutData, IsSound as IsSoundLayout, IsRowOf, place_at, port_at, words_of, index_of, cell_of}
 use Rattle.rl_map.specs.Partition.{IsWordOn}
 use Rattle.rl_map.specs.Words.{no_word, lanes_of}
@@ -148,19 +148,9 @@ fields_rise c good i j d le l =
 
 -- ---- the whole
 
-abbrev made : ChipData → LayoutData → Flaws → Setup
-made c l flaws = record {
-  regs = map (λ r. r.bytes) c.regs;
-  fields = map field_row c.fields;
-  resets = reset_rows 0 c.fields;
-  mems = mem_rows 0 c.mems;
-  ports = map (λ p. p.bytes) l.ports;
-  words = l.rows;
-  flaws = flaws;
-}
-
 field_fits : (c : ChipData) (l : LayoutData) (flaws : Flaws) → IsSoundChip c → (k : ℕ) (d : FieldRow) → k < length (map field_row c.fields)
-    → IsFieldIn (made c l flaws) (get_or (map field_row c.fields) k d)
+    → IsFieldIn (setup_of c l flaws) (get_or (map field_row c.fields) k d)
+unfolding setup_of
 field_fits c l flaws good k d inside =
     let n = length-map c.fields field_row in
     let f = element c.fields k (subst (λ n. k < n) n inside) in
@@ -169,11 +159,12 @@ field_fits c l flaws good k d inside =
     let bytes : RegFits c r.0 = good.each_reg f.0.shape.reg r.0 r.1 in
     let long : length (map (λ r. r.bytes) c.regs) ≡ length c.regs = length-map c.regs (λ r. r.bytes) in
     let within : f.0.shape.reg < length c.regs = slice_get_within c.regs f.0.shape.reg r.0 r.1 in
-    subst (IsFieldIn (made c l flaws)) (sym (field_is c.fields k d f.0 f.1))
+    subst (IsFieldIn (setup_of c l flaws)) (sym (field_is c.fields k d f.0 f.1))
     (record { reg = omega (arith, long, within); some = fits.1; most = omega (arith, r.2.2, bytes.1) })
 
 cell_fits : (c : ChipData) (l : LayoutData) (flaws : Flaws) (i : Item) (index bytes size : ℕ) → bytes_of c i ≡ Some bytes
-    → ((m : ℕ) → i ≡ item.Mem m → option_map (λ m. m.size) (slice_get c.mems m) ≡ Some size) → index < size → IsCellIn (made c l flaws) (cell_of i index)
+    → ((m : ℕ) → i ≡ item.Mem m → option_map (λ m. m.size) (slice_get c.mems m) ≡ Some size) → index < size → IsCellIn (setup_of c l flaws) (cell_of i index)
+unfolding setup_of
 cell_fits c l flaws (item.Reg r) index bytes size b s le = record {
   reg = λ n e.
       let x = option_within (λ r. r.bytes) c.regs r bytes (slice_get c.regs r) refl b in
@@ -191,12 +182,13 @@ cell_fits c l flaws (item.Mem m) index bytes size b s le = record {
       let long : length (mem_rows 0 c.mems) ≡ length c.mems = mems_long 0 c.mems in
       let same : m ≡ n = cc in
       let at : index ≡ j = cc in
-      let row : (mem_of (made c l flaws) m).size ≡ x.0.size = ap (λ r. r.size) (mems_at 0 c.mems m x.0 no_mem x.1) in
+      let row : (mem_of (setup_of c l flaws) m).size ≡ x.0.size = ap (λ r. r.size) (mems_at 0 c.mems m x.0 no_mem x.1) in
       let low : j < x.0.size = omega (arith, at, le, x.2) in
-      (omega (arith, within, long, same), subst (λ k. j < (mem_of (made c l flaws) k).size) same (subst (λ k. j < k) (sym row) low));
+      (omega (arith, within, long, same), subst (λ k. j < (mem_of (setup_of c l flaws) k).size) same (subst (λ k. j < k) (sym row) low));
 }
 
-word_fits : (c : ChipData) (l : LayoutData) (flaws : Flaws) → IsSoundLayout l → IsBuiltWith l c → (w : WordRow) → IsRowOf l w → IsWordIn (made c l flaws) w
+word_fits : (c : ChipData) (l : LayoutData) (flaws : Flaws) → IsSoundLayout l → IsBuiltWith l c → (w : WordRow) → IsRowOf l w → IsWordIn (setup_of c l flaws) w
+unfolding setup_of
 word_fits c l flaws good built w h =
     let index = index_of w.cell in
     let place = place_at l w.place in
@@ -207,23 +199,25 @@ word_fits c l flaws good built w h =
     let on : IsWordOn (port_at l place.port).kind (port_at l place.port).bytes word =
     All-get_or (IsWordOn (port_at l place.port).kind (port_at l place.port).bytes) (words_of l w.place index) h.number no_word h.number_in (good.each_location w.place index h.location).on in
     record {
-      cell = subst (IsCellIn (made c l flaws)) (sym cell_is) (cell_fits c l flaws place.item index place.bytes place.size placed.0 placed.1 h.location.index_in);
+      cell = subst (IsCellIn (setup_of c l flaws)) (sym cell_is) (cell_fits c l flaws place.item index place.bytes place.size placed.0 placed.1 h.location.index_in);
       lanes = subst AreInCell (sym lanes_is) on.bytes;
     }
 
 -- a stuck bit is one of its field
-stuck_one : (c : ChipData) (l : LayoutData) (flaws : Flaws) (f b : ℕ) (v : Bool) → IsFlawOf c l (Stuck f b v) → IsStuckIn (made c l flaws) (record { field = f; bit = b; value = v })
+stuck_one : (c : ChipData) (l : LayoutData) (flaws : Flaws) (f b : ℕ) (v : Bool) → IsFlawOf c l (Stuck f b v) → IsStuckIn (setup_of c l flaws) (record { field = f; bit = b; value = v })
+unfolding setup_of
 stuck_one c l flaws f b v h =
     let s = element c.fields f h.0 in
     let n = length-map c.fields field_row in
-    let row : (field_of (made c l flaws) f).width ≡ s.0.shape.width = ap (λ r. r.width) (field_is c.fields f no_field s.0 s.1) in
+    let row : (field_of (setup_of c l flaws) f).width ≡ s.0.shape.width = ap (λ r. r.width) (field_is c.fields f no_field s.0 s.1) in
     let declared : width_of c f ≡ s.0.shape.width = ap (λ o. unwrap_or (option_map (λ s. s.shape.width) o) 0) s.1 in
     record { field = omega (arith, h.0, n); bit = omega (arith, h.1, row, declared) }
 
-stuck_all : (c : ChipData) (l : LayoutData) (all : Flaws) (flaws : List Flaw) → AreFlawsOf c l flaws → All (IsStuckIn (made c l all)) (filter_map stuck_row flaws)
-stuck_all c l all [] h = All-nil (IsStuckIn (made c l all))
+stuck_all : (c : ChipData) (l : LayoutData) (all : Flaws) (flaws : List Flaw) → AreFlawsOf c l flaws → All (IsStuckIn (setup_of c l all)) (filter_map stuck_row flaws)
+unfolding setup_of
+stuck_all c l all [] h = All-nil (IsStuckIn (setup_of c l all))
 stuck_all c l all (Stuck f b v ∷ flaws) h =
-    All-cons (IsStuckIn (made c l all)) (record { field = f; bit = b; value = v }) (filter_map stuck_row flaws)
+    All-cons (IsStuckIn (setup_of c l all)) (record { field = f; bit = b; value = v }) (filter_map stuck_row flaws)
     (stuck_one c l all f b v (All-head (IsFlawOf c l) (Stuck f b v) flaws h)) (stuck_all c l all flaws (All-tail (IsFlawOf c l) (Stuck f b v) flaws h))
 stuck_all c l all (OtherPolicy f p ∷ flaws) h = stuck_all c l all flaws (All-tail (IsFlawOf c l) (OtherPolicy f p) flaws h)
 stuck_all c l all (OtherReset f k v ∷ flaws) h = stuck_all c l all flaws (All-tail (IsFlawOf c l) (OtherReset f k v) flaws h)

@@ -1,7 +1,7 @@
 -- What passes a test stands in one part of a list.
 use Rattle.std.proofs.Common.{◌≡◌, ℕ, zero, suc, ◌+◌, ◌-◌, ◌*◌, ◌^◌, ◌<◌, ◌≤◌, Bool, true, false, cond, ◌&&◌, eqb, ltb, leb, List, []}
 use Rattle.std.proofs.Common.{◌∷◌, length, get_or, take, drop, refl, sym, ap, ◌∙◌, arith, Option, Some, None, subst, add-zero, ⊎_elim}
-use Rattle.std.specs.Prelude.{filter, find, position, is_some, slice_index, slice_set}
+use Rattle.std.specs.Prelude.{filter, find, position, is_some, slice_get, slice_index, slice_set}
 use Rattle.std.specs.List.{position_or_len, AllWithin}
 use Rattle.std.specs.List.Sorted.{IsNonDecreasingBy}
 use Rattle.std.proofs.lemmas.Bool.{cases_lt}
@@ -48,14 +48,17 @@ find_dropped q (x ∷ xs) (suc i) h =
     let no : q x ≡ false = h 0 x (omega arith) (omega arith) in
     rw no (find_dropped q xs i (λ k d l m. h (suc k) d (omega (arith, l)) (omega (arith, m))))
 
+-- the first that passes heads the filter
+find_first : {X : Type 0} (q : X → Bool) (xs : List X) → find q xs ≡ slice_get (filter q xs) 0
+find_first q [] = refl
+find_first q (x ∷ xs) = by (q x) (find_first q xs)
+  where
+    by : (b : Bool) → find q xs ≡ slice_get (filter q xs) 0 → cond b (Some x) (find q xs) ≡ slice_get (cond b (x ∷ filter q xs) (filter q xs)) 0
+    by true rest = refl
+    by false rest = rest
+
 pub find_taken : {X : Type 0} (q : X → Bool) (xs : List X) (j : ℕ) → ((k : ℕ) (d : X) → j ≤ k → k < length xs → q (get_or xs k d) ≡ false) → find q (take j xs) ≡ find q xs
-find_taken q [] zero h = refl
-find_taken q [] (suc j) h = refl
-find_taken q (x ∷ xs) zero h =
-    let no : q x ≡ false = h 0 x (omega arith) (omega arith) in
-    rw no (find_taken q xs zero (λ k d l m. h (suc k) d (omega arith) (omega (arith, m))))
-find_taken q (x ∷ xs) (suc j) h =
-    ap (λ o. cond (q x) (Some x) o) (find_taken q xs j (λ k d l m. h (suc k) d (omega (arith, l)) (omega (arith, m))))
+find_taken q xs j h = find_first q (take j xs) ∙ ap (λ ys. slice_get ys 0) (all_taken q xs j h) ∙ sym (find_first q xs)
 
 -- ---- first places
 

@@ -1,5 +1,6 @@
 // The dump of a session's events, and what is kept back of its text.
-ghost use Rattle.std.specs.Prelude.{◌≡◌, ◌++◌, ◌≤◌, ◌<◌, ◌-◌, ◌^◌, Ok, Err, None, Some, IsNone, IsSome, IfOk, OnOk, All};
+ghost use Rattle.std.specs.Prelude.{◌≡◌, ◌++◌, ◌≤◌, ◌<◌, ◌-◌, ◌^◌, Ok, Err, None, Some, IsNone, IsSome};
+ghost use Rattle.std.specs.Prelude.{IfOk, OnOk, All};
 ghost use Rattle.std.specs.Io.KnownBytes.{Appends, Keeps, append_known};
 ghost use Rattle.rl_bus.specs.Causes.{Rose};
 ghost use Rattle.rl_access.specs.Event.{EventFits, ItemFits};

@@ -232,3 +232,8 @@ end_some p (Some k) h = (searched p (Some k) h, h.0.high)
 pub end_none : (p : List ℕ) (at : Option ℕ) → IsFirstByte (is_byte 10) p at → IfNone at (first_line p ≡ p)
 end_none p None h = sym (line_front p (length p) (searched p None h)) ∙ take_all (length p) p (omega arith)
 end_none p (Some k) h = tt
+
+-- For `grind`: what was skipped and taken until a line stood in front, and until it was heard.
+pub ruleset by_reading = (skips_more, skips_kept, has_line, takes_more, takes_kept)
+
+pub ruleset by_hearing = (skips_more, skips_none, heard_after, takes_more)

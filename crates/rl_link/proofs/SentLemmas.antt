@@ -4,6 +4,7 @@ use Rattle.std.specs.declared.option.Option.{Option}
 use Rattle.std.specs.Io.KnownBytes.{Appends}
 use Rattle.std.proofs.KnownBytes.{Appends-nil}
 use Rattle.rl_report.specs.Pieces.{AppendsFront, Puts}
+use Rattle.rl_report.proofs.PieceLemmas.{puts_stopped}
 
 -- all of it is a front of it
 pub front_whole : (a b : Option (List ℕ)) (xs : List ℕ) → Appends a b xs → AppendsFront a b xs
@@ -17,3 +18,8 @@ front_none a xs = record { front = []; rest = xs; split = refl; appended = Appen
 pub puts_sent : {T E : Type 0} (a b : Option (List ℕ)) (xs : List ℕ) (r : Result T E) → Appends a b xs → Puts a b xs r
 puts_sent a b xs (Ok x) h = record { whole = h; part = tt }
 puts_sent a b xs (Err e) h = record { whole = tt; part = front_whole a b xs h }
+
+-- For `grind`: what was sent where a call stopped, or sent the whole and went on.
+pub ruleset by_whole = (front_whole, puts_stopped)
+
+pub ruleset by_sending = (puts_sent, front_none, puts_stopped)

@@ -27,9 +27,9 @@ pub struct Break {
 /// A device behind two streams, which doesn't tell its state.
 ///
 /// A transfer goes out as one line, and the peer's next line that says something answers it. A reset and a change
-/// by the hardware go the same way. There is no backdoor: a deposit breaks the link, and a peek, which can't fail, gives
-/// 0, so a caller refuses an item that has one. Once something went wrong, the link is broken: nothing is sent or read
-/// any more, and each transfer fails.
+/// by the hardware go the same way. There is no backdoor: a deposit breaks the link, and a peek, which can't fail,
+/// gives 0, so a caller refuses an item that has one. Once something went wrong, the link is broken: nothing is sent
+/// or read any more, and each transfer fails.
 #[derive(Drop)]
 pub struct Link<S: Source, K: Sink> {
     pub talk: Talk<S, K>,
@@ -43,7 +43,7 @@ pub struct Link<S: Source, K: Sink> {
 }
 
 // Sends what stands in the buffer, and takes the answer to a transfer.
-#[tactic(auto, using(crate::proofs::ComingLemmas::answers_here, crate::proofs::SentLemmas::front_whole, rl_report::proofs::PieceLemmas::puts_stopped))]
+#[tactic(auto, using(crate::proofs::ComingLemmas::answers_here, crate::proofs::SentLemmas::by_whole))]
 fn transfer_over<S: Source, K: Sink>(
     talk: &mut Talk<S, K>,
     request: &[u8],
@@ -65,7 +65,7 @@ fn transfer_over<S: Source, K: Sink>(
 }
 
 // Sends what stands in the buffer, and takes the line that says that it was done.
-#[tactic(auto, using(crate::proofs::ComingLemmas::done_here, crate::proofs::SentLemmas::front_whole, rl_report::proofs::PieceLemmas::puts_stopped))]
+#[tactic(auto, using(crate::proofs::ComingLemmas::done_here, crate::proofs::SentLemmas::by_whole))]
 fn done_over<S: Source, K: Sink>(talk: &mut Talk<S, K>, request: &[u8]) -> Result<(), Cause>
     ensures sent { Puts (K.written talk.old.sink) (K.written talk.new.sink) request.now result }
     ensures done { OnOk result (IfSome (coming talk.old.held (S.left talk.old.source))

@@ -100,7 +100,7 @@ fn skim(held: &mut Held, lines: &mut u64) -> Result<(), Cause>
 }
 
 // Reads until a line that says something stands in front.
-#[tactic(auto, using(crate::proofs::ComingLemmas::skips_more, crate::proofs::ComingLemmas::skips_kept, crate::proofs::ComingLemmas::has_line, crate::proofs::ComingLemmas::takes_more, crate::proofs::ComingLemmas::takes_kept))]
+#[tactic(auto, using(crate::proofs::ComingLemmas::by_reading))]
 fn hear<S: Source>(held: &mut Held, lines: &mut u64, source: &mut S) -> Result<Said, Cause>
     ensures skips { Skips (coming held.old (S.left source.old)) (coming held.new (S.left source.new)) }
     ensures lines { Takes lines.old lines.new
@@ -144,7 +144,7 @@ impl<S: Source + Drop, K: Sink + Drop> Talk<S, K> {
 
 impl<S: Source, K: Sink> Talk<S, K> {
     /// Sends a request, and then reads the line that answers it, which stays in front.
-    #[tactic(auto, using(crate::proofs::SentLemmas::puts_sent, crate::proofs::SentLemmas::front_none, rl_report::proofs::PieceLemmas::puts_stopped, crate::proofs::ComingLemmas::skips_more, crate::proofs::ComingLemmas::skips_none, crate::proofs::ComingLemmas::heard_after, crate::proofs::ComingLemmas::takes_more))]
+    #[tactic(auto, using(crate::proofs::SentLemmas::by_sending, crate::proofs::ComingLemmas::by_hearing))]
     pub fn ask(&mut self, request: &[u8]) -> Result<Said, Cause>
         ensures sent { Puts (K.written self.old.sink) (K.written self.new.sink) request.now result }
         ensures skips { Skips (coming self.old.held (S.left self.old.source))

@@ -130,6 +130,32 @@ refused_by chip parts maps maps' ports ports' old refused words a b e f h =
     h ∙ ap (λ m. own_faults chip m ports old (length words) parts) a ∙ ap (λ p. own_faults chip maps' p old (length words) parts) b
     ∙ ap (λ o. own_faults chip maps' ports' o (length words) parts) e ∙ ap (λ (w : List WordRow). own_faults chip maps' ports' [] (length w) parts) f
 
+pub placed_for : (chip : ChipData) (maps maps' : List MapRow) (ports ports' : List PortRow) (rows : List PlaceRow) (first : List WordRow)
+    → maps ≡ maps' → ports ≡ ports' → ArePlaces chip maps ports rows first → ArePlaces chip maps' ports' rows first
+placed_for chip maps maps' ports ports' rows first a b p = subst (λ m. ArePlaces chip m ports' rows first) a (subst (λ q. ArePlaces chip maps q rows first) b p)
+
+pub made_of : (chip : ChipData) (nodes : List MapNode) (parts : List PlacePart) (kinds : List AdapterKind) (maps maps' : List MapRow) (ports ports' : List PortRow)
+    (old rows rows' : List PlaceRow) (none first words words' : List WordRow) (best : Option Shared) (refused : Option MapFault)
+    → maps_fault kinds no_tables nodes ≡ None → maps' ≡ (tables_of kinds nodes).maps → ports' ≡ (tables_of kinds nodes).ports → AreTables kinds maps' ports' → length kinds < 2 ^ 32
+    → maps ≡ maps' → ports ≡ ports' → old ≡ [] → none ≡ []
+    → rows ≡ old ++ accepted chip maps ports old (length none) parts → refused ≡ own_faults chip maps ports old (length none) parts → ArePlaces chip maps ports rows first
+    → IsPermutation first words → IsAscending words → IsStableByKey key_of nat_cmp first words
+    → rows' ≡ rows → words' ≡ words → IsLeast rows' words' best → ((s : Shared) → best ≡ Some s → IsMade rows' words' s)
+    → AreMade chip nodes parts kinds maps' ports' rows first words best refused
+made_of chip nodes parts kinds maps maps' ports ports' old rows rows' none first words words' best refused fine maps_are ports_are tables few a b e f rows_are
+    fault placed moved ascending stable r w least made = record {
+      accepted = record { fine = fine; maps_are = maps_are; ports_are = ports_are; rows_are = accepted_by chip parts maps maps' ports ports' old rows none a b e f rows_are };
+      tables = tables;
+      few = few;
+      placed = placed_for chip maps maps' ports ports' rows first a b placed;
+      refused_is = refused_by chip parts maps maps' ports ports' old refused none a b e f fault;
+      moved = moved;
+      ascending = ascending;
+      stable = stable;
+      least = subst (λ x. IsLeast x words best) r (subst (λ y. IsLeast rows' y best) w least);
+      made = λ s is. subst (λ x. IsMade x words s) r (subst (λ y. IsMade rows' y s) w (made s is));
+    }
+
 pub failed : (chip : ChipData) (maps : List MapNode) (places : List PlacePart) (kinds : List AdapterKind) (r : Result LayoutData MapFault) (e y : MapFault) → r ≡ Err y → y ≡ e
     → Fails e (layout_fault chip maps places kinds) → Passes r (layout_fault chip maps places kinds) (λ l. l ≡ layout_of chip maps places kinds)
 failed chip maps places kinds r e y at same h =

@@ -83,6 +83,15 @@ pub many_kept : (l : LayoutData) (kepts : List PlaceWords) → AreKept l kepts �
 many_kept l kepts are place index there kept e =
     sym (ap length (kept_read l kepts are place index there kept e) ∙ length-map kept.words (further (index * kept.step)))
 
+-- a place has the words of its first location
+pub kept_count : (l : LayoutData) (kepts : List PlaceWords) → IsSound l → AreKept l kepts → (place : ℕ) → place < length l.places → (kept : PlaceWords) → kept ≡ get_or kepts place kept
+    → (0 < length kept.words) × (length kept.words ≤ 8)
+kept_count l kepts sound are place low kept e =
+    let there : IsLocation l place 0 = record { place_in = low; index_in = (sound.each_place place low).size } in
+    let many = many_kept l kepts are place 0 there kept e in
+    let has = sound.each_location place 0 there in
+    (omega (arith, many, has.some), omega (arith, many, has.few))
+
 pub kept_low : (l : LayoutData) (kepts : List PlaceWords) → IsSound l → AreKept l kepts → (place index : ℕ) → IsLocation l place index → (kept : PlaceWords) → kept ≡ get_or kepts place kept
     → All (λ w. w.address + index * kept.step < 2 ^ 64) kept.words
 unfolding words_of

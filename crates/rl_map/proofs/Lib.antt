@@ -31,6 +31,7 @@ pub mod Finding
 pub mod Exactly
 pub mod Even
 pub mod Keeping
+pub mod Opened
 pub mod EvenTests
 pub mod Linking
 pub mod Owner

@@ -123,6 +123,20 @@ impl Location {
         }
     }
 
+    /// A byte of the item, as one of the access that the item's own map gets.
+    fn access(&self, byte: u64) -> Access
+        ensures { result ≡ access_of self.now byte }
+    {
+        Access {
+            bytes: self.bytes,
+            word: true,
+            offset: self.offset,
+            address: u128::from(self.index),
+            byte,
+            order: 0,
+        }
+    }
+
     /// The byte of the root's access that a byte of the item is, by a path.
     pub(crate) fn climb(&self, path: &[Level], byte: u64) -> Access
         requires path { IsPath path.now }
@@ -132,14 +146,7 @@ impl Location {
         ensures address_fits { result.address < 2 ^ 100 }
         ensures lane_in { result.byte < 8 }
     {
-        let mut access = Access {
-            bytes: self.bytes,
-            word: true,
-            offset: self.offset,
-            address: u128::from(self.index),
-            byte,
-            order: 0,
-        };
+        let mut access = self.access(byte);
         for level in path {
             access = access.through(level);
         }
@@ -163,14 +170,7 @@ impl Location {
         requires size { self.now.bytes ≤ 8 }
         ensures { result ≡ is_askew (access_of self.now byte) path.now }
     {
-        let mut access = Access {
-            bytes: self.bytes,
-            word: true,
-            offset: self.offset,
-            address: u128::from(self.index),
-            byte,
-            order: 0,
-        };
+        let mut access = self.access(byte);
         for level in path {
             if !access.word && level.word && access.address % u128::from(access.bytes) != 0 {
                 return true;

@@ -194,3 +194,36 @@ field_answer c n f l is =
     let at : slice_get c.fields n ≡ Some (field_of c n) = slice_get-get_or c.fields n no_field l in
     let both : Some (field_of c n).shape ≡ Some f = ap (option_map (λ (g : FieldSeen). g.shape)) (sym at) ∙ is in
     cc
+
+-- ---- what the code answers of a register's fields
+
+-- their count, from the row's
+pub count_is : (c : ChipData) (reg n : ℕ) → IsSound c → reg < length c.regs → option_map (λ r. r.count) (slice_get c.regs reg) ≡ Some n → n ≡ length (fields_of c reg)
+count_is c reg n sound l is = sym (length-fields_of c reg sound l ∙ row_answer c reg n (λ r. r.count) is)
+
+-- the number of the k-th one, from the first one's
+pub record IsNumbered (c : ChipData) (reg k first : ℕ) : Type 0 where
+  pub number : first + k ≡ first_of c reg + k
+  pub within : first + k < length c.fields
+  pub fits : first + k < 2 ^ 32
+
+pub numbered : (c : ChipData) (reg k first : ℕ) → IsSound c → reg < length c.regs → k < length (fields_of c reg) → option_map (λ r. r.first) (slice_get c.regs reg) ≡ Some first
+    → IsNumbered c reg k first
+numbered c reg k first sound l place is =
+    let at : first_of c reg ≡ first = row_answer c reg first (λ r. r.first) is in
+    let within : first_of c reg + k < length c.fields = number_within c reg k sound l place in
+    record { number = omega arith; within = omega arith; fits = omega (arith, sound.fields) }
+
+-- the k-th one, from the field of its number
+pub record IsFieldAt (c : ChipData) (reg k : ℕ) (f : Field) : Type 0 where
+  pub field : f ≡ (field_in (fields_of c reg) k).shape
+  pub some : 1 ≤ f.width
+  pub inside : f.lsb + f.width ≤ 64
+
+pub field_at_is : (c : ChipData) (reg k n : ℕ) (f : Field) → IsSound c → reg < length c.regs → k < length (fields_of c reg) → n ≡ first_of c reg + k → n < length c.fields
+    → option_map (λ f. f.shape) (slice_get c.fields n) ≡ Some f → IsFieldAt c reg k f
+field_at_is c reg k n f sound l place number within answer =
+    let list = field_list c reg sound l in
+    let is : f ≡ (field_in (fields_of c reg) k).shape =
+    field_answer c n f within answer ∙ ap (λ n. (field_of c n).shape) number ∙ ap (λ (f : FieldSeen). f.shape) (sym (field_in-fields_of c reg k sound l place)) in
+    record { field = is; some = rw is (list.some k place); inside = rw is (omega (arith, list.inside k place, list.most)) }

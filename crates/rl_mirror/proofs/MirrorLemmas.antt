@@ -7,7 +7,7 @@ use Rattle.std.specs.List.{range_with_len}
 use Rattle.std.specs.Option.{option_map_or}
 use Rattle.std.proofs.Common.{ne_eqb}
 use Rattle.std.proofs.lemmas.Bool.{cases_eq, and_parts, leb-true, ltb-true}
-use Rattle.std.proofs.lemmas.List.{with_items_is, length-set, length-replicate, get_or-replicate, get_or-set_same, get_or-set_other}
+use Rattle.std.proofs.lemmas.List.{with_items_is, length-set, length-replicate, get_or-replicate, get_or-set_same, get_or-set_other, get_or_read_under}
 use Rattle.std.proofs.lemmas.List.FromFn.{get_or-map-range_with_len, length-map-range_with_len}
 use Rattle.std.proofs.lemmas.Nat.{pow_pos}
 use Rattle.rl_policy.specs.Bits.{bit, from_bits, put_bit, is_within}
@@ -33,6 +33,20 @@ use Rattle.rl_mirror.specs.Prediction.{update_word_of, neutral_word, neutral_aro
 abbrev pub laid_over : ChipData → (reg : ℕ) → List Bool → (fields : ℕ) → Effect → (kept : ℕ) → ℕ
 laid_over c reg spent fields effect kept =
     word_by_field (fields_of c reg) (λ k b. cond (bit fields k) (effect_bit effect (policy_in (fields_of c reg) k) (marks_in c spent reg k) b) (bit kept b))
+
+-- what the code reads of a register, before the mirror as a whole is known to be the one that it stands for
+pub record IsReadOf (reg known wish : ℕ) (m : MirrorData) : Type 0 where
+  pub mirrored : known ≡ mirrored_of m reg
+  pub desired : wish ≡ desired_of m reg
+
+pub read_of : (c : ChipData) (reg mirrored desired : ℕ) (m known : MirrorData) → m ≡ known → IsMirrorOf c known → reg < length c.regs
+    → mirrored ≡ get_or m.mirrored reg mirrored → desired ≡ get_or m.desired reg desired → IsReadOf reg mirrored desired m
+read_of c reg mirrored desired m known is built l e f =
+    let own : IsMirrorOf c m = subst (λ (m : MirrorData). IsMirrorOf c m) (sym is) built in
+    record {
+      mirrored = get_or_read_under m.mirrored reg (length m.mirrored) mirrored 0 e (omega (arith, own.registers)) refl;
+      desired = get_or_read_under m.desired reg (length m.desired) desired 0 f (omega (arith, own.wishes)) refl;
+    }
 
 pub write_is : (c : ChipData) (reg value fields : ℕ) (m : MirrorData) (mirrored desired new_mirrored new_desired : ℕ) (first second third marks : List Bool)
     → mirrored ≡ mirrored_of m reg → desired ≡ desired_of m reg → first ≡ m.spent → second ≡ m.spent → third ≡ m.spent

@@ -1,9 +1,7 @@
 -- The locations of memories in a device.
-use Rattle.std.proofs.Common.{◌≡◌, ℕ, zero, suc, ◌+◌, ◌<◌, ◌≤◌, false, List, [], ◌∷◌, length, get_or, ap, inl, inr, refl, arith}
+use Rattle.std.proofs.Common.{◌≡◌, ℕ, zero, suc, ◌+◌, ◌<◌, false, List, [], ◌∷◌, length, get_or, refl, arith}
 use Rattle.std.specs.Prelude.{slice_get, sum_by}
 use Rattle.std.specs.Option.{option_map_or}
-use Rattle.std.proofs.lemmas.Bool.{cases_order}
-use Rattle.std.proofs.lemmas.List.Sums.{sum_by-cons}
 use Rattle.rl_bus.specs.declared.table.MemRow.{MemRow}
 use Rattle.rl_bus.specs.Setup.{no_mem, mem_of, location}
 use Rattle.rl_model.specs.declared.rows.MemRow.{MemRow as Mem}
@@ -13,6 +11,7 @@ use Rattle.rl_map.specs.Tables.{mem_rows, setup_of}
 use Rattle.rl_split.specs.Law.{no_flaws}
 use Rattle.rl_access.specs.Operation.{location_size}
 use Rattle.rl_access.specs.Rules.{memory_size, is_writable}
+use Rattle.rl_access.proofs.MemoryRows.{location_within as within_all, apart as apart_there}
 
 -- ---- the rows of the memories
 
@@ -30,25 +29,6 @@ row_is n [] k l = absurd (omega (arith, l))
 row_is n (m ∷ ms) zero l = record { bytes = refl; size = refl; writable = refl }
 row_is n (m ∷ ms) (suc k) l = let rest = row_is (n + m.size) ms k (omega (arith, l)) in record { bytes = rest.bytes; size = rest.size; writable = rest.writable }
 
--- the rows begin at n
-begins : (n : ℕ) (ms : List Mem) (k : ℕ) → k < length ms → n ≤ (row_in n ms k).first
-begins n [] k l = absurd (omega (arith, l))
-begins n (m ∷ ms) zero l = omega arith
-begins n (m ∷ ms) (suc k) l = omega (arith, begins (n + m.size) ms k (omega (arith, l)))
-
--- and end where all of them have room
-ends : (n : ℕ) (ms : List Mem) (k : ℕ) → k < length ms → (row_in n ms k).first + (row_in n ms k).size ≤ n + sum_by (λ m. m.size) ms
-ends n [] k l = absurd (omega (arith, l))
-ends n (m ∷ ms) zero l = omega (arith, sum_by-cons (λ (m : Mem). m.size) m ms)
-ends n (m ∷ ms) (suc k) l = omega (arith, ends (n + m.size) ms k (omega (arith, l)), sum_by-cons (λ (m : Mem). m.size) m ms)
-
--- each stands behind those before it
-behind : (n : ℕ) (ms : List Mem) (j k : ℕ) → j < k → k < length ms → (row_in n ms j).first + (row_in n ms j).size ≤ (row_in n ms k).first
-behind n [] j k before l = absurd (omega (arith, l))
-behind n (m ∷ ms) j zero before l = absurd (omega (arith, before))
-behind n (m ∷ ms) zero (suc k) before l = omega (arith, begins (n + m.size) ms k (omega (arith, l)))
-behind n (m ∷ ms) (suc j) (suc k) before l = behind (n + m.size) ms j k (omega (arith, before)) (omega (arith, l))
-
 -- ---- in a device
 
 -- the row of a memory in the device
@@ -62,26 +42,9 @@ memory_row c l mem inside = let row = row_is 0 c.mems mem inside in record { byt
 
 -- a location stands within all of them
 pub location_within : (c : ChipData) (l : LayoutData) (mem index : ℕ) → mem < length c.mems → index < memory_size c mem → location (setup_of c l no_flaws) mem index < sum_by (λ m. m.size) c.mems
-unfolding setup_of
-location_within c l mem index inside low =
-    let size : (row_in 0 c.mems mem).size ≡ memory_size c mem = (row_is 0 c.mems mem inside).size in
-    omega (arith, ends 0 c.mems mem inside, size, low)
+location_within c l mem index inside low = within_all c l no_flaws mem index inside low
 
 -- two locations stand apart
 pub apart : (c : ChipData) (l : LayoutData) (mem index m i : ℕ) → mem < length c.mems → index < memory_size c mem → m < length c.mems → i < memory_size c m →
     location (setup_of c l no_flaws) m i ≡ location (setup_of c l no_flaws) mem index → (m ≡ mem) × (i ≡ index)
-unfolding setup_of
-apart c l mem index m i inside low within below same =
-    let size : (row_in 0 c.mems mem).size ≡ memory_size c mem = (row_is 0 c.mems mem inside).size in
-    let others : (row_in 0 c.mems m).size ≡ memory_size c m = (row_is 0 c.mems m within).size in
-    elim (cases_order m mem) [
-      | inl equal ↦ (equal, by equal)
-      | inr other ↦
-          elim other [
-            | inl before ↦ absurd (omega (arith, behind 0 c.mems m mem before inside, others, below, same))
-            | inr after ↦ absurd (omega (arith, behind 0 c.mems mem m after within, size, low, same))
-          ]
-    ]
-  where
-    by : m ≡ mem → i ≡ index
-    by equal = let first : (row_in 0 c.mems m).first ≡ (row_in 0 c.mems mem).first = ap (λ k. (row_in 0 c.mems k).first) equal in omega (arith, first, same)
+apart c l mem index m i inside low within below same = apart_there c l no_flaws mem index m i inside low within below same

@@ -27,6 +27,9 @@ steady_ends a b c d e f h = cc
 pub steady_target : (a b c d e f : ℕ) → a ∷ b ∷ c ∷ [] ≡ d ∷ e ∷ f ∷ [] → c ≡ f
 steady_target a b c d e f h = cc
 
+-- For `grind`: each of the three numbers of what stays.
+pub ruleset all_steady = (steady_name, steady_ends, steady_target)
+
 -- a number that a look-up answers is in range
 pub some_in : (r : Option ℕ) (P : ℕ → Type 0) → ((n : ℕ) → r ≡ Some n → P n) → IfSome r P
 some_in None P h = tt

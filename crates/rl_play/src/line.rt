@@ -72,7 +72,7 @@ fn run_sequence<D: Device, K: Log>(
 }
 
 // Does what is more than one operation: its events are recorded as they come.
-#[tactic(auto, using(crate::proofs::ReadyLemmas::steady_ends, crate::proofs::ReadyLemmas::steady_target, crate::proofs::ReadyLemmas::steady_name))]
+#[tactic(auto, using(crate::proofs::ReadyLemmas::all_steady))]
 fn record_job<D: Device, K: Log>(
     model: &mut Model,
     device: &mut D,

@@ -1,6 +1,6 @@
 -- What a line reader hands out, by what it holds.
 use Rattle.std.proofs.Common.{◌≡◌, ℕ, zero, suc, ◌+◌, ◌<◌, ◌≤◌, Bool, true, false, cond, eqb, List, [], ◌∷◌, ◌++◌, Some, None}
-use Rattle.std.proofs.Common.{IfSome, length, take, drop, unwrap_or, refl, sym, ap, ◌∙◌, append_assoc, length-append, arith}
+use Rattle.std.proofs.Common.{IfSome, length, slice_range, take, drop, unwrap_or, refl, sym, ap, ◌∙◌, append_assoc, length-append, arith}
 use Rattle.std.specs.declared.option.Option.{Option}
 use Rattle.std.specs.Io.KnownBytes.{prepend_known}
 use Rattle.std.specs.Io.BufRead.{strip_last}
@@ -10,6 +10,7 @@ use Rattle.std.proofs.lemmas.Bool.Decides.{nat_tests}
 use Rattle.memchr.specs.Find.{IsFirstByte, Nowhere, Passes, is_byte}
 use Rattle.rl_report.specs.Lines.{first_line, after_line, lines_of, onto_first, whole_lines, onto_whole}
 use Rattle.rl_report.specs.Reading.{Reading, input_of, HandsLine}
+use Rattle.rl_report.proofs.RangeLemmas.{grown_behind}
 
 -- where the first line isn't all, a 10 ends it
 ends_by : (b : ℕ) (bs : List ℕ) (t : Bool) → eqb b 10 ≡ t → (length (first_line bs) < length bs → bs ≡ first_line bs ++ 10 ∷ after_line bs)
@@ -182,6 +183,12 @@ searched p (Some k) h = sym (found p k h.0.high h.0.before h.1)
 pub grown_line : (old more whole : List ℕ) (size n : ℕ) → whole ≡ old ++ more → first_line old ≡ old → size ≡ length (first_line old)
     → n ≡ length (first_line more) → size + n ≡ length (first_line whole)
 grown_line old more whole size n grown none size_is n_is = omega (arith, ap length none, ap (λ l. length (first_line l)) grown, goes_on old more none)
+
+-- the same where the bytes were read behind what stood there
+pub grown_behind_line : (moved new held : List ℕ) (from to count size n : ℕ) → from ≤ to → take to new ≡ take to moved → slice_range moved from to ≡ held → first_line held ≡ held
+    → size ≡ length (first_line held) → n ≡ length (first_line (slice_range new to (to + count))) → size + n ≡ length (first_line (slice_range new from (to + count)))
+grown_behind_line moved new held from to count size n ordered before same none size_is n_is =
+    grown_line held (slice_range new to (to + count)) (slice_range new from (to + count)) size n (grown_behind moved new held from to count ordered before same) none size_is n_is
 
 -- a reader at its end hands out a last line that has no 10
 last_by : (e : Bool) (p : List ℕ) (a f r k : Bool) (left : Option (List ℕ)) (size : ℕ) → e ≡ true → size ≡ length (first_line p) → length p ≤ size → 0 < length p → size ≤ 4096

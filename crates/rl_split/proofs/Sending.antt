@@ -175,7 +175,7 @@ byte_in ws bytes k l reach inside low on =
     grind (arith, nat_tests)
 
 -- where all bytes are chosen, so are all lanes
-all_chosen : (w : Word) (bytes : ℕ) → w.lanes < 2 ^ 8 → ((l : ℕ) → l < 8 → bit w.lanes l ≡ true → slice_index w.bytes l < bytes) → chosen_lanes (all_bytes bytes) w ≡ w.lanes
+pub all_chosen : (w : Word) (bytes : ℕ) → w.lanes < 2 ^ 8 → ((l : ℕ) → l < 8 → bit w.lanes l ≡ true → slice_index w.bytes l < bytes) → chosen_lanes (all_bytes bytes) w ≡ w.lanes
 all_chosen w bytes small inside =
     same_from_bits 8 _ _ (chosen-lt (all_bytes bytes) w) small
     (λ l low. bit-from_bits 8 _ l low ∙ ap (λ t. bit w.lanes l && t) (bit-mask bytes (slice_index w.bytes l)) ∙ by (bit w.lanes l) (slice_index w.bytes l) (inside l low))

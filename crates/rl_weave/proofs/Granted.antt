@@ -17,53 +17,10 @@ use Rattle.rl_access.specs.Model.{ModelData, IsModel}
 use Rattle.rl_access.specs.Observed.{observing}
 use Rattle.rl_access.specs.Rules.{Grant, only_where, placed, with_right, with_watch, watched_way, grant}
 use Rattle.rl_access.proofs.Bytes.{zero_fits}
+use Rattle.rl_access.proofs.Granted.{only_ok, watched_way_found}
 use Rattle.rl_access.proofs.Places.{place_size}
 use Rattle.rl_weave.specs.declared.woven.Woven.{Woven}
 use Rattle.rl_weave.specs.Access.{op_with, IsWovenOn}
-
-only_ok : (g : Grant) (holds : Bool) (why : Refused) (place : ℕ) → only_where g holds why ≡ Ok place → (g ≡ Ok place) × (holds ≡ true)
-only_ok (Ok p) true why place e = (e, refl)
-only_ok (Ok p) false why place e = absurd (cc)
-only_ok (Err first) holds why place e = absurd (cc)
-
-placed_ok : (o : Option ℕ) (place : ℕ) → placed o ≡ Ok place → o ≡ Some place
-placed_ok None place e = absurd (cc)
-placed_ok (Some p) place e = cc
-
-right_ok : (l : LayoutData) (write : Bool) (g : Grant) (place : ℕ) → with_right l write g ≡ Ok place →
-    (g ≡ Ok place) × (has_right (place_at l place).rights write ≡ true)
-right_ok l write (Ok p) place e =
-    let both = only_ok (Ok p) (has_right (place_at l p).rights write) NoRight place e in
-    let first : Ok p ≡ Ok place = both.0 in
-    let same : p ≡ place = cc in
-    (first, subst (λ n. has_right (place_at l n).rights write ≡ true) same both.1)
-right_ok l write (Err first) place e = absurd (cc)
-
-watch_ok : (l : LayoutData) (g : Grant) (place : ℕ) → with_watch l g ≡ Ok place →
-    (g ≡ Ok place) × ((port_at l (place_at l place).port).explicit ≡ true)
-watch_ok l (Ok p) place e =
-    let both = only_ok (Ok p) (port_at l (place_at l p).port).explicit NotObserved place e in
-    let first : Ok p ≡ Ok place = both.0 in
-    let same : p ≡ place = cc in
-    (first, subst (λ n. (port_at l (place_at l n).port).explicit ≡ true) same both.1)
-watch_ok l (Err first) place e = absurd (cc)
-
--- ---- the place that was found
-
-same_items : (a b : Item) → same_item a b ≡ true → a ≡ b
-same_items (item.Reg a) (item.Reg b) e = ap item.Reg (eqb-true a b e)
-same_items (item.Mem a) (item.Mem b) e = ap item.Mem (eqb-true a b e)
-same_items (item.Reg a) (item.Mem b) e = absurd (cc)
-same_items (item.Mem a) (item.Reg b) e = absurd (cc)
-
-first_holds : (a b : Bool) → (a && b) ≡ true → a ≡ true
-first_holds true b e = refl
-first_holds false b e = e
-
-place_found : (l : LayoutData) (i : Item) (map : Option ℕ) (place : ℕ) → place_of l i map ≡ Some place → IsPlaceIn l i place
-place_found l i map place e =
-    let at = position-Some (λ (p : PlaceRow). same_item p.item i && is_in map p.map) l.places place no_place e in
-    record { inside = at.0; item_is = same_items (place_at l place).item i (first_holds (same_item (place_at l place).item i) (is_in map (place_at l place).map) at.1) }
 
 pub record IsGranted (m : ModelData) (reg : ℕ) (map value : Option ℕ) (place : ℕ) : Type 0 where
   pub found : place_of m.layout (item.Reg reg) map ≡ Some place
@@ -75,11 +32,8 @@ pub record IsGranted (m : ModelData) (reg : ℕ) (map value : Option ℕ) (place
 watched : (m : ModelData) (reg : ℕ) (map value : Option ℕ) (place : ℕ) → watched_way m reg map (is_some value) ≡ Ok place →
     unwrap_or value 0 < 256 ^ size_of m.chip reg → IsGranted m reg map value place
 watched m reg map value place e fits =
-    let l = m.layout in
-    let right = right_ok l (is_some value) (with_watch l (placed (place_of l (item.Reg reg) map))) place e in
-    let watch = watch_ok l (placed (place_of l (item.Reg reg) map)) place right.0 in
-    let found = placed_ok (place_of l (item.Reg reg) map) place watch.0 in
-    record { found = found; there = place_found l (item.Reg reg) map place found; explicit = watch.1; right = right.1; fits = fits }
+    let at = watched_way_found m reg map (is_some value) place e in
+    record { found = at.found; there = at.way.there; explicit = at.explicit; right = at.way.right; fits = fits }
 
 below : (a b : ℕ) → ltb a b ≡ true → a < b
 below a b e = grind (arith, nat_tests)

@@ -5,8 +5,8 @@ use Rattle.rl_access.specs.declared.event.End.TheVariants as end
 use Rattle.rl_access.specs.declared.event.Event.{Event}
 use Rattle.rl_access.specs.declared.event.Op.TheVariants as op
 use Rattle.rl_access.specs.Operation.{reg_of}
-use Rattle.rl_access.specs.Rules.{fitting_field, grant, way, register_event, write_outcome}
-use Rattle.rl_access.proofs.OverBus.{field_place_is, way_is, map_is, is_field_write}
+use Rattle.rl_access.specs.Rules.{fitting_field, grant, register_event, write_outcome}
+use Rattle.rl_access.proofs.OverBus.{field_place_is, found_by, is_field_write}
 use Rattle.rl_access.proofs.Performed.{write_performs}
 use Rattle.rl_access.proofs.fields.field_write.Goals as goal
 
@@ -17,15 +17,14 @@ returns-clause-performs g c =
     let asked = op.FieldWrite c.args.field c.args.map c.args.value in
     let there : c.place_of-place.result ≡ place_of m.layout reg c.args.map = field_place_is m c.args.field c.field-reg.result c.args.map c.place_of-place.result c.field-reg.ensures.field
     c.place_of-place.ensures.place in
-    let way : c.way.result ≡ way m reg c.args.map true = way_is m reg c.args.map c.place_of-place.result true c.way.result there c.way.ensures.grant in
-    let granted : grant m asked ≡ Ok c.in-Ok.place = sym (c.fitting_field.ensures.grant ∙ ap (fitting_field m c.args.field c.args.value) way) ∙ c.in-Ok.is in
+    let found = found_by m reg c.args.map c.place_of-place.result c.map_used.result true c.way.result there c.map_used.ensures.map c.way.ensures.grant in
+    let granted : grant m asked ≡ Ok c.in-Ok.place = sym (c.fitting_field.ensures.grant ∙ ap (fitting_field m c.args.field c.args.value) found.way) ∙ c.in-Ok.is in
     let entry = c.forget_around.new.model in
     let access = c.field_written-access.result in
     let event = c.write_as.new.event in
     let place = c.in-Ok.place in
-    let used = map_is m reg c.args.map c.place_of-place.result c.map_used.result there c.map_used.ensures.map in
     write_performs m entry c.write_as.new.model asked (op.FieldWrite c.args.field c.map_used.result c.args.value) place access end.Done event granted
-    (ap (λ u. op.FieldWrite c.args.field u c.args.value) used)
+    (ap (λ u. op.FieldWrite c.args.field u c.args.value) found.named)
     (is_field_write m c.args.field c.args.map c.args.value place entry access c.forget_around.ensures c.field_written-access.ensures.access) (record {
       sent = c.write_as.ensures.sent;
       event_is = c.write_as.ensures.event ∙ ap (λ (x : Event). register_event x.op access.reg event.trace

@@ -4,10 +4,10 @@ use Rattle.rl_mirror.specs.Prediction.{needs_update}
 use Rattle.rl_access.specs.declared.event.End.TheVariants as end
 use Rattle.rl_access.specs.declared.event.Event.{Event}
 use Rattle.rl_access.specs.declared.event.Op.TheVariants as op
-use Rattle.rl_access.specs.Rules.{forgetting, grant, named, way, whole}
+use Rattle.rl_access.specs.Rules.{forgetting, grant, named, whole}
 use Rattle.rl_model.specs.Fields.{size_of}
 use Rattle.rl_access.proofs.Bytes.{below_digits}
-use Rattle.rl_access.proofs.OverBus.{way_is, map_is, whole_update, is_no_update}
+use Rattle.rl_access.proofs.OverBus.{found_by, whole_update, is_no_update}
 use Rattle.rl_access.proofs.Wished.{brings_wishes, nothing_brought}
 use Rattle.rl_access.proofs.Performed.{write_performs, quiet_performs}
 use Rattle.rl_access.proofs.updates.update.Goals as goal
@@ -15,32 +15,24 @@ use Rattle.rl_access.proofs.updates.update.Goals as goal
 pub returns-clause-performs : goal.returns-clause-performs
 returns-clause-performs g c =
     let m = c.args.model.now in
-    let reg = item.Reg c.args.reg in
     let asked = op.Update c.args.reg c.args.map in
-    let found = c.place_of-place.ensures.place in
-    let way : c.way.result ≡ way m reg c.args.map true =
-    way_is m reg c.args.map c.place_of-place.result true c.way.result found c.way.ensures.grant in
-    let granted : grant m asked ≡ Ok c.in-Ok.place = sym way ∙ c.in-Ok.is in
-    let used = map_is m reg c.args.map c.place_of-place.result c.map_used.result found c.map_used.ensures.map in
+    let found = found_by m (item.Reg c.args.reg) c.args.map c.place_of-place.result c.map_used.result true c.way.result c.place_of-place.ensures.place c.map_used.ensures.map c.way.ensures.grant in
+    let granted : grant m asked ≡ Ok c.in-Ok.place = sym found.way ∙ c.in-Ok.is in
     let needed : needs_update m.mirror c.args.reg ≡ true = sym c.needs_update.ensures ∙ c.if-not-needs_update.false in
     let place = c.in-Ok.place in
     let word = c.update_word_of-word.result in
     write_performs m (forgetting m place) _ asked (op.Update c.args.reg c.map_used.result) place (whole m c.args.reg place word) (end.Sent word) _
-    granted (ap (λ u. op.Update c.args.reg u) used)
+    granted (ap (λ u. op.Update c.args.reg u) found.named)
     (whole_update m c.args.reg c.args.map place word needed c.update_word_of-word.ensures.word) c.write_register.ensures.written
 
 pub returns-then-not-needs_update-clause-performs : goal.returns-then-not-needs_update-clause-performs
 returns-then-not-needs_update-clause-performs g c =
     let m = c.args.model.now in
-    let reg = item.Reg c.args.reg in
     let asked = op.Update c.args.reg c.args.map in
-    let found = c.place_of-place.ensures.place in
-    let way : c.way.result ≡ way m reg c.args.map true =
-    way_is m reg c.args.map c.place_of-place.result true c.way.result found c.way.ensures.grant in
-    let granted : grant m asked ≡ Ok c.in-Ok.place = sym way ∙ c.in-Ok.is in
+    let found = found_by m (item.Reg c.args.reg) c.args.map c.place_of-place.result c.map_used.result true c.way.result c.place_of-place.ensures.place c.map_used.ensures.map c.way.ensures.grant in
+    let granted : grant m asked ≡ Ok c.in-Ok.place = sym found.way ∙ c.in-Ok.is in
     let nothing : needs_update m.mirror c.args.reg ≡ false = sym c.needs_update.ensures ∙ c.if-not-needs_update.true in
-    let used = map_is m reg c.args.map c.place_of-place.result c.map_used.result found c.map_used.ensures.map in
-    let names : op.Update c.args.reg c.map_used.result ≡ named m asked = ap (λ u. op.Update c.args.reg u) used in
+    let names : op.Update c.args.reg c.map_used.result ≡ named m asked = ap (λ u. op.Update c.args.reg u) found.named in
     quiet_performs m m asked (op.Update c.args.reg c.map_used.result) c.in-Ok.place c.args.reg c.args.reg end.Nothing [] c.event.result _
     (g.D.Device.errors c.args.device.now) (g.D.Device.state c.args.device.now) granted names
     (is_no_update m c.args.reg c.args.map c.in-Ok.place nothing) refl refl c.event.ensures.event

@@ -1,4 +1,4 @@
-use Rattle.std.proofs.Common.{◌≡◌, ℕ, ◌<◌, length, ap, sym, ◌∙◌, arith, true, refl}
+use Rattle.std.proofs.Common.{◌≡◌, ℕ, ◌<◌, ap, sym, ◌∙◌, arith, true, refl}
 use Rattle.std.specs.Prelude.{slice_set, slice_index}
 use Rattle.std.proofs.lemmas.List.{get_or_read}
 use Rattle.rl_policy.specs.Bits.{bit, from_bits}
@@ -6,36 +6,24 @@ use Rattle.rl_policy.proofs.BitLemmas.{is_from_bits, bit-from_bits}
 use Rattle.rl_bus.specs.Bits.{bit_written, mark_written}
 use Rattle.rl_bus.specs.Setup.{policy_at, held, location, mem_of, no_mem}
 use Rattle.rl_bus.specs.Spread.{spread_bit, lane_bit}
-use Rattle.rl_bench.specs.Shape.{RegOf, IsShapeOf}
 use Rattle.rl_bench.specs.Board.{state_of}
 use Rattle.rl_bench.specs.Tables.{setup_held}
-use Rattle.rl_bench.proofs.CellLemmas.{shape_at}
+use Rattle.rl_bench.proofs.CellLemmas.{reg_read}
 use Rattle.rl_bench.proofs.access.write_cell.Goals as goal
-
-pub index-requires-in-Loc : goal.index-requires-in-Loc
-index-requires-in-Loc c =
-    let l = (c.requires.cell.loc c.in-Loc.mem c.in-Loc.index c.in-Loc.is).0 in
-    omega (arith, l, c.args.board.now.tables.mems.ok.0)
-
-pub location-at-requires-clause-mem : goal.location-at-requires-clause-mem
-location-at-requires-clause-mem c = (c.requires.cell.loc c.in-Loc.mem c.in-Loc.index c.in-Loc.is).0
 
 pub returns-in-Reg-clause-state : goal.returns-in-Reg-clause-state
 returns-in-Reg-clause-state c beats items =
     let t = setup_held c.args.board.now.tables in
     let r = c.in-Reg.reg in
     let old = c.args.cells.now in
-    let l : r < length t.regs = c.requires.cell.reg r c.in-Reg.is in
-    let at : RegOf = record { setup = t; reg = r } in
-    let e : IsShapeOf at c.index.result.now = shape_at t c.args.board.now.shapes.items r c.index.result.now c.args.board.now.shaped l c.index.ensures in
-    let x : c.index-in-Reg.result.now ≡ slice_index old.bits.items r = get_or_read old.bits.items r _ (omega (arith, l, c.requires.fit.bits)) c.index-in-Reg.ensures 0 in
-    let m : c.index-in-Reg-2.result.now ≡ slice_index old.marks.items r = get_or_read old.marks.items r _ (omega (arith, l, c.requires.fit.marks)) c.index-in-Reg-2.ensures 0 in
+    let seen = reg_read t c.args.board.now.shapes.items old.bits.items r c.index.result.now _ c.args.board.now.shaped (c.requires.cell.reg c.in-Reg.reg c.in-Reg.is) c.requires.fit.bits c.index.ensures c.index-in-Reg.ensures in
+    let m : c.index-in-Reg-2.result.now ≡ slice_index old.marks.items r = get_or_read old.marks.items r _ (omega (arith, c.requires.cell.reg r c.in-Reg.is, c.requires.fit.marks)) c.index-in-Reg-2.ensures 0 in
     let word = spread_bit c.args.lanes.now (bit c.args.word) in
     let lanes = lane_bit c.args.lanes.now in
     rw c.in-Reg.is
     (ap (λ v. record (state_of t old beats items) { bits = slice_set old.bits.items r v; marks = slice_set old.marks.items r c.write-written.result.1 })
-    (c.write-written.ensures.bits at e
-    ∙ ap (λ n. held t r (λ b. bit_written (policy_at t r b) (bit n b) (bit c.index-in-Reg-2.result.now b) (word b) (lanes b))) x
+    (c.write-written.ensures.bits _ seen.shape_is
+    ∙ ap (λ n. held t r (λ b. bit_written (policy_at t r b) (bit n b) (bit c.index-in-Reg-2.result.now b) (word b) (lanes b))) seen.word_is
     ∙ ap (λ n. held t r (λ b. bit_written (policy_at t r b) (bit (slice_index old.bits.items r) b) (bit n b) (word b) (lanes b))) m)
     ∙ ap (λ v. record (state_of t old beats items) {
       bits =
@@ -43,8 +31,14 @@ returns-in-Reg-clause-state c beats items =
           (held t r (λ b. bit_written (policy_at t r b) (bit (slice_index old.bits.items r) b) (bit (slice_index old.marks.items r) b) (word b) (lanes b)));
       marks = slice_set old.marks.items r v;
     })
-    (c.write-written.ensures.marks at e
+    (c.write-written.ensures.marks _ seen.shape_is
     ∙ ap (λ n. from_bits 64 (λ b. mark_written (policy_at t r b) (bit n b) (lanes b))) m))
+
+pub index-requires-in-Loc : goal.index-requires-in-Loc
+index-requires-in-Loc c = omega (arith, (c.requires.cell.loc c.in-Loc.mem c.in-Loc.index c.in-Loc.is).0, c.args.board.now.tables.mems.ok.0)
+
+pub location-at-requires-clause-mem : goal.location-at-requires-clause-mem
+location-at-requires-clause-mem c = (c.requires.cell.loc c.in-Loc.mem c.in-Loc.index c.in-Loc.is).0
 
 pub returns-then-index-clause-state : goal.returns-then-index-clause-state
 returns-then-index-clause-state c beats items =

@@ -1,24 +1,15 @@
-use Rattle.std.proofs.Common.{◌≡◌, ◌*◌, ◌^◌, ◌%◌, ◌<◌, length, ap, ◌∙◌, arith, refl}
-use Rattle.std.specs.Prelude.{slice_set, slice_index, bit_and}
+use Rattle.std.proofs.Common.{◌≡◌, ◌*◌, ◌^◌, ◌%◌, ap, ◌∙◌, arith, refl}
+use Rattle.std.specs.Prelude.{slice_set, bit_and}
 use Rattle.std.proofs.lemmas.List.{get_or_read}
 use Rattle.std.proofs.lemmas.Nat.{and_mask}
 use Rattle.rl_bus.specs.Setup.{field_at, policy_of, location, mem_of, no_mem}
 use Rattle.rl_bus.specs.State.{poked}
-use Rattle.rl_bench.specs.Shape.{RegOf, IsShapeOf}
 use Rattle.rl_bench.specs.Board.{state_of}
 use Rattle.rl_bench.specs.Tables.{setup_held}
-use Rattle.rl_bench.proofs.CellLemmas.{shape_at}
+use Rattle.rl_bench.proofs.CellLemmas.{reg_read}
 use Rattle.rl_bench.proofs.DepositLemmas.{owned_some, pow_bytes}
 use Rattle.rl_bench.proofs.HeldLemmas.{held_same}
 use Rattle.rl_bench.proofs.backdoor.poke_cell.Goals as goal
-
-pub index-requires-in-Loc : goal.index-requires-in-Loc
-index-requires-in-Loc c =
-    let l = (c.requires.cell.loc c.in-Loc.mem c.in-Loc.index c.in-Loc.is).0 in
-    omega (arith, l, c.args.board.now.tables.mems.ok.0)
-
-pub location-at-requires-clause-mem : goal.location-at-requires-clause-mem
-location-at-requires-clause-mem c = (c.requires.cell.loc c.in-Loc.mem c.in-Loc.index c.in-Loc.is).0
 
 pub returns-in-Reg-clause-state : goal.returns-in-Reg-clause-state
 unfolding poked
@@ -26,12 +17,16 @@ returns-in-Reg-clause-state c beats items =
     let t = setup_held c.args.board.now.tables in
     let r = c.in-Reg.reg in
     let old = c.args.cells.now in
-    let l : r < length t.regs = c.requires.cell.reg r c.in-Reg.is in
-    let at : RegOf = record { setup = t; reg = r } in
-    let e : IsShapeOf at c.index.result.now = shape_at t c.args.board.now.shapes.items r c.index.result.now c.args.board.now.shaped l c.index.ensures in
-    let x : c.index-in-Reg.result.now ≡ slice_index old.bits.items r = get_or_read old.bits.items r _ (omega (arith, l, c.requires.fit.bits)) c.index-in-Reg.ensures 0 in
+    let seen = reg_read t c.args.board.now.shapes.items old.bits.items r c.index.result.now _ c.args.board.now.shaped (c.requires.cell.reg c.in-Reg.reg c.in-Reg.is) c.requires.fit.bits c.index.ensures c.index-in-Reg.ensures in
     rw c.in-Reg.is (ap (λ v. record (state_of t old beats items) { bits = slice_set old.bits.items r v })
-    (c.hold.ensures at e ∙ held_same t r _ _ (λ b k. rw (c.replaced-deposited.ensures b k, e.effects.owned b k, owned_some (policy_of t) (field_at t r b), x) refl)))
+    (c.hold.ensures _ seen.shape_is
+    ∙ held_same t r _ _ (λ b k. rw (c.replaced-deposited.ensures b k, seen.shape_is.effects.owned b k, owned_some (policy_of t) (field_at t r b), seen.word_is) refl)))
+
+pub index-requires-in-Loc : goal.index-requires-in-Loc
+index-requires-in-Loc c = omega (arith, (c.requires.cell.loc c.in-Loc.mem c.in-Loc.index c.in-Loc.is).0, c.args.board.now.tables.mems.ok.0)
+
+pub location-at-requires-clause-mem : goal.location-at-requires-clause-mem
+location-at-requires-clause-mem c = (c.requires.cell.loc c.in-Loc.mem c.in-Loc.index c.in-Loc.is).0
 
 pub returns-in-Loc-clause-state : goal.returns-in-Loc-clause-state
 unfolding poked

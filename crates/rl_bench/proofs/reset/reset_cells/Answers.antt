@@ -47,34 +47,30 @@ loop-reg-preserved c =
 abbrev made : Setup → ℕ → List ℕ → List ℕ → List ℕ → State
 made t items bits marks locations = record { setup = t; bits = bits; marks = marks; locations = locations; beats = λ p a. 0; items = items }
 
+-- cells whose registers are all reset
+whole : (t : Setup) (items n : ℕ) (word : ℕ → ℕ) (bits marks marks' locations locations' : List ℕ) → length bits ≡ n → ((k : ℕ) → k < n → slice_index bits k ≡ word k)
+    → marks ≡ marks' → locations ≡ locations' → made t items bits marks locations ≡ made t items (map word (range_with_len 0 n)) marks' locations'
+whole t items n word bits marks marks' locations locations' long done m l =
+    ap (λ x. made t items x marks locations) (fill_by_all word bits n 0 long done)
+    ∙ ap (λ x. made t items (map word (range_with_len 0 n)) x locations) m ∙ ap (made t items (map word (range_with_len 0 n)) marks') l
+
 pub returns-then-kind-eq0-clause-state : goal.returns-then-kind-eq0-clause-state
 unfolding reset_by
 returns-then-kind-eq0-clause-state c beats items =
-    let t = setup_held c.args.board.now.tables in
+    let s = state_of (setup_held c.args.board.now.tables) c.args.cells.now beats items in
     let was = c.loop-reg.invariant in
-    let old = c.args.cells.now in
-    let s : State = state_of t old beats items in
-    let bits : c.loop-reg.cells.bits.items ≡ map (reg_reset s c.args.kind) (range_with_len 0 (length old.bits.items)) =
-    fill_by_all (reg_reset s c.args.kind) c.loop-reg.cells.bits.items (length old.bits.items) 0 was.long
-    (λ k l. was.done k (omega (arith, l, c.requires.bits, c.loop-reg-test.false, c.len-reg-end.ensures, c.args.board.now.tables.regs.ok.0))) in
     let yes : eqb c.args.kind 0 ≡ true = grind (arith, nat_tests, c.if-kind-eq0.true) in
-    let marks : c.fill.new.self.items ≡ replicate (length old.marks.items) 0 =
+    let marks : c.fill.new.self.items ≡ replicate (length c.args.cells.now.marks.items) 0 =
     c.fill.ensures.items (λ y e. e) ∙ ap (λ n. replicate n 0) (c.loop-reg.cells.marks.ok.0 ∙ ap (λ v. length v.items) was.marks) in
-    rw yes (ap (λ x. made t items x c.fill.new.self.items c.loop-reg.cells.locations.items) bits
-    ∙ ap (λ m. made t items (map (reg_reset s c.args.kind) (range_with_len 0 (length old.bits.items))) m c.loop-reg.cells.locations.items) marks
-    ∙ ap (made t items (map (reg_reset s c.args.kind) (range_with_len 0 (length old.bits.items))) (replicate (length old.marks.items) 0)) (ap (λ v. v.items) was.locations))
+    rw yes (whole s.setup items (length c.args.cells.now.bits.items) (reg_reset s c.args.kind) _ _ _ _ _ was.long
+    (λ k l. was.done k (omega (arith, l, c.requires.bits, c.loop-reg-test.false, c.len-reg-end.ensures, c.args.board.now.tables.regs.ok.0))) marks (ap (λ v. v.items) was.locations))
 
 pub returns-else-kind-eq0-clause-state : goal.returns-else-kind-eq0-clause-state
 unfolding reset_by
 returns-else-kind-eq0-clause-state c beats items =
-    let t = setup_held c.args.board.now.tables in
+    let s = state_of (setup_held c.args.board.now.tables) c.args.cells.now beats items in
     let was = c.loop-reg.invariant in
-    let old = c.args.cells.now in
-    let s : State = state_of t old beats items in
-    let bits : c.loop-reg.cells.bits.items ≡ map (reg_reset s c.args.kind) (range_with_len 0 (length old.bits.items)) =
-    fill_by_all (reg_reset s c.args.kind) c.loop-reg.cells.bits.items (length old.bits.items) 0 was.long
-    (λ k l. was.done k (omega (arith, l, c.requires.bits, c.loop-reg-test.false, c.len-reg-end.ensures, c.args.board.now.tables.regs.ok.0))) in
     let no : eqb c.args.kind 0 ≡ false = grind (arith, nat_tests, c.if-kind-eq0.false) in
-    rw no (ap (λ x. made t items x c.loop-reg.cells.marks.items c.loop-reg.cells.locations.items) bits
-    ∙ ap (λ m. made t items (map (reg_reset s c.args.kind) (range_with_len 0 (length old.bits.items))) m c.loop-reg.cells.locations.items) (ap (λ v. v.items) was.marks)
-    ∙ ap (made t items (map (reg_reset s c.args.kind) (range_with_len 0 (length old.bits.items))) old.marks.items) (ap (λ v. v.items) was.locations))
+    rw no (whole s.setup items (length c.args.cells.now.bits.items) (reg_reset s c.args.kind) _ _ _ _ _ was.long
+    (λ k l. was.done k (omega (arith, l, c.requires.bits, c.loop-reg-test.false, c.len-reg-end.ensures, c.args.board.now.tables.regs.ok.0))) (ap (λ v. v.items) was.marks)
+    (ap (λ v. v.items) was.locations))

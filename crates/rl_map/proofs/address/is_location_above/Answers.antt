@@ -1,15 +1,9 @@
 use Rattle.std.proofs.Common.{sym, ◌∙◌, arith}
-use Rattle.rl_map.specs.Faults.{is_above}
-use Rattle.rl_map.specs.Building.{placed_at}
 use Rattle.rl_map.proofs.Growing.{is_none_of, is_some_of}
 use Rattle.rl_map.proofs.address.is_location_above.Goals as goal
 
 pub returns-then-is_above : goal.returns-then-is_above
-returns-then-is_above c =
-    let p = placed_at c.args.row.now c.args.path.now c.args.port.now in
-    sym (is_some_of (is_above p c.args.index) c.args.row.now.bytes c.loop-byte.byte (omega arith) (sym c.is_above.ensures ∙ c.if-is_above.true))
+returns-then-is_above c = sym (is_some_of _ c.args.row.now.bytes c.loop-byte.byte (omega arith) (sym c.is_above.ensures ∙ c.if-is_above.true))
 
 pub returns : goal.returns
-returns c =
-    let p = placed_at c.args.row.now c.args.path.now c.args.port.now in
-    sym (is_none_of (is_above p c.args.index) c.args.row.now.bytes (λ j low. c.loop-byte.invariant j (omega arith)))
+returns c = sym (is_none_of _ c.args.row.now.bytes (λ j low. c.loop-byte.invariant j (omega arith)))

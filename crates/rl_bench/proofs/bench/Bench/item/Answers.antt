@@ -7,7 +7,7 @@ use Rattle.rl_bench.proofs.QueueLemmas.{back_is, quiet_set, set_is}
 use Rattle.std.proofs.lemmas.List.{with_items_is}
 use Rattle.std.specs.Vec.{with_items}
 use Rattle.rl_bus.specs.Setup.{stands_for, stands_at}
-use Rattle.rl_bus.specs.State.{counted, word_at, is_faulty}
+use Rattle.rl_bus.specs.State.{counted, word_at, is_faulty, beats_on}
 use Rattle.rl_bench.specs.Beats.{beats_of}
 use Rattle.rl_bench.specs.Board.{state_of}
 use Rattle.rl_bench.specs.State.{bench_state}
@@ -59,18 +59,20 @@ next_beat-next-requires c =
     let s = bench_state c.args.self.now in
     omega (arith, c.find-found.ensures.count, filter_le (stands_for c.args.port c.args.op.now.address c.args.op.now.write) s.setup.words, c.args.self.now.board.sound.few_words)
 
-pub returns-clause-state : goal.returns-clause-state
-returns-clause-state c =
+-- the beats that an item leaves which reached its cell
+abbrev beats_left : (c : goal.After-self-2-1) → ℕ → ℕ → ℕ
+beats_left c = beats_of c.args.self.now.board.tables.words.value.items (with_items c.args.self.now.beats c.set_beat.new.beats).items
+
+beats_are : (c : goal.After-self-2-1) (p a : ℕ) → beats_left c p a ≡ beats_on (counted (bench_state c.args.self.now)) c.args.port c.args.op.now p a
+beats_are c p a =
     let b = c.args.self.now in
     let s = bench_state b in
     let w = c.in-Some.word.now in
     let op = c.args.op.now in
     let port = c.args.port in
     let h : word_at s port op ≡ Some w = sym (rw c.deref.ensures.value at c.find-found.ensures.word) ∙ ap option_copied c.in-Some.is in
-    let f : is_faulty (counted s) port op ≡ false = rw (← c.saturating_add-self.ensures) (sym c.is_faulty.ensures ∙ c.if-is_faulty.false) in
     let ws = c.set_beat.new.beats in
     let e : (with_items b.beats ws).items ≡ ws = with_items_is b.beats ws (c.set_beat.auto.beats ∙ c.deref_mut-2.ensures.len) in
-    let beats : ℕ → ℕ → ℕ = beats_of b.board.tables.words.value.items (with_items b.beats ws).items in
     let there : is_some (position (stands_at port op.address) s.setup.words) ≡ true = stands_there s.setup port op.address op.write _ w h in
     let at = c.find-found.result.at in
     let next = c.next_beat-next.result in
@@ -78,13 +80,19 @@ returns-clause-state c =
     let next_is : next ≡ cond
     (ltb (c.find-found.result.beat + 1) (length (filter (stands_for port op.address op.write) b.board.tables.words.value.items)))
     (c.find-found.result.beat + 1) 0 = rw c.find-found.ensures.count at c.next_beat-next.ensures in
-    ap (λ n. state_of s.setup c.touch-answer.new.cells beats n) c.saturating_add-self.ensures
-    ∙ touched_state s port op w (state_of s.setup c.touch-answer.new.cells s.beats (counted s).items) beats h f
-    (c.touch-answer.ensures.state s.beats (counted s).items)
-    (λ p a. rw e (ap (λ xs. beats_of b.board.tables.words.value.items xs p a) set_there
+    rw e (ap (λ xs. beats_of b.board.tables.words.value.items xs p a) set_there
     ∙ set_is b.board.tables.words.value.items b.beats.items port op.address at.first at.end next c.find-found.result.beat p a op.write b.beaten b.quiet next_is c.find-found.ensures.at
     ∙ moved (eqb p port && eqb a op.address) _ next _ (s.beats p a) there
-    (rw ((rw c.deref.ensures.value at c.find-found.ensures.beat), c.find-found.ensures.count) at c.next_beat-next.ensures)))
+    (rw ((rw c.deref.ensures.value at c.find-found.ensures.beat), c.find-found.ensures.count) at c.next_beat-next.ensures))
+
+pub returns-clause-state : goal.returns-clause-state
+returns-clause-state c =
+    let s = bench_state c.args.self.now in
+    let h : word_at s c.args.port c.args.op.now ≡ Some c.in-Some.word.now = sym (rw c.deref.ensures.value at c.find-found.ensures.word) ∙ ap option_copied c.in-Some.is in
+    let f : is_faulty (counted s) c.args.port c.args.op.now ≡ false = rw (← c.saturating_add-self.ensures) (sym c.is_faulty.ensures ∙ c.if-is_faulty.false) in
+    ap (λ n. state_of s.setup c.touch-answer.new.cells (beats_left c.before) n) c.saturating_add-self.ensures
+    ∙ touched_state s c.args.port c.args.op.now c.in-Some.word.now (state_of s.setup c.touch-answer.new.cells s.beats (counted s).items) (beats_left c.before) h f
+    (c.touch-answer.ensures.state s.beats (counted s).items) (beats_are c.before)
 
 pub returns-clause-answer : goal.returns-clause-answer
 returns-clause-answer c =
@@ -149,29 +157,11 @@ invariant_of-self-then-is_faulty-clause-named c =
 
 pub invariant_of-self-2-clause-named : goal.invariant_of-self-2-clause-named
 invariant_of-self-2-clause-named c =
-    let b = c.args.self.now in
-    let s = bench_state b in
-    let w = c.in-Some.word.now in
-    let op = c.args.op.now in
-    let port = c.args.port in
-    let h : word_at s port op ≡ Some w = sym (rw c.deref.ensures.value at c.find-found.ensures.word) ∙ ap option_copied c.in-Some.is in
-    let f : is_faulty (counted s) port op ≡ false = rw (← c.saturating_add-self.ensures) (sym c.is_faulty.ensures ∙ c.if-is_faulty.false) in
-    let ws = c.set_beat.new.beats in
-    let e : (with_items b.beats ws).items ≡ ws = with_items_is b.beats ws (c.set_beat.auto.beats ∙ c.deref_mut-2.ensures.len) in
-    let beats : ℕ → ℕ → ℕ = beats_of b.board.tables.words.value.items (with_items b.beats ws).items in
-    let there : is_some (position (stands_at port op.address) s.setup.words) ≡ true = stands_there s.setup port op.address op.write _ w h in
-    let at = c.find-found.result.at in
-    let next = c.next_beat-next.result in
-    let set_there : ws ≡ cond (ltb at.first at.end) (slice_set b.beats.items at.first next) b.beats.items = rw c.deref_mut-2.ensures.value at c.set_beat.ensures in
-    let next_is : next ≡ cond
-    (ltb (c.find-found.result.beat + 1) (length (filter (stands_for port op.address op.write) b.board.tables.words.value.items)))
-    (c.find-found.result.beat + 1) 0 = rw c.find-found.ensures.count at c.next_beat-next.ensures in
-    named_on s port op w (state_of s.setup c.touch-answer.new.cells s.beats (counted s).items) beats b.board.sound.even b.named h f
-    (c.touch-answer.ensures.state s.beats (counted s).items)
-    (λ p a. rw e (ap (λ xs. beats_of b.board.tables.words.value.items xs p a) set_there
-    ∙ set_is b.board.tables.words.value.items b.beats.items port op.address at.first at.end next c.find-found.result.beat p a op.write b.beaten b.quiet next_is c.find-found.ensures.at
-    ∙ moved (eqb p port && eqb a op.address) _ next _ (s.beats p a) there
-    (rw ((rw c.deref.ensures.value at c.find-found.ensures.beat), c.find-found.ensures.count) at c.next_beat-next.ensures)))
+    let s = bench_state c.args.self.now in
+    let h : word_at s c.args.port c.args.op.now ≡ Some c.in-Some.word.now = sym (rw c.deref.ensures.value at c.find-found.ensures.word) ∙ ap option_copied c.in-Some.is in
+    let f : is_faulty (counted s) c.args.port c.args.op.now ≡ false = rw (← c.saturating_add-self.ensures) (sym c.is_faulty.ensures ∙ c.if-is_faulty.false) in
+    named_on s c.args.port c.args.op.now c.in-Some.word.now (state_of s.setup c.touch-answer.new.cells s.beats (counted s).items) (beats_left c)
+    c.args.self.now.board.sound.even c.args.self.now.named h f (c.touch-answer.ensures.state s.beats (counted s).items) (beats_are c)
 
 pub invariant_of-self-2-clause-beaten : goal.invariant_of-self-2-clause-beaten
 invariant_of-self-2-clause-beaten c =

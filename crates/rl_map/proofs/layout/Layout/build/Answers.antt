@@ -1,14 +1,13 @@
 use Rattle.std.proofs.Common.{◌≡◌, sym, ap, ◌∙◌, subst}
 use Rattle.rl_map.specs.Layout.{IsSound}
-use Rattle.rl_map.specs.Building.{ArePlaces, AreRowsOf, NoRowsClash}
+use Rattle.rl_map.specs.Building.{AreRowsOf, NoRowsClash}
 use Rattle.rl_map.proofs.Placing.{rows_in}
 use Rattle.rl_map.proofs.Closing.{built, built_sound}
 use Rattle.rl_map.specs.Locations.{AreWordsOf, AreKept}
 use Rattle.rl_map.proofs.Keeping.{kept_built}
 use Rattle.rl_map.proofs.Folding.{none_least}
 use Rattle.std.proofs.lemmas.Result.{err_from_is_err_and}
-use Rattle.rl_map.specs.Clashes.{IsLeast, IsMade}
-use Rattle.rl_map.proofs.Exactly.{AreMade, by_maps, fault_is, whole_is, none_shared, accepted_by, refused_by, failed}
+use Rattle.rl_map.proofs.Exactly.{by_maps, fault_is, whole_is, none_shared, placed_for, made_of, failed}
 use Rattle.rl_map.proofs.layout.Layout.build.Goals as goal
 
 pub add_places-requires-clause-placed : goal.add_places-requires-clause-placed
@@ -28,9 +27,7 @@ invariant_of-result c =
     let places = c.add_places.new.placing.places.items in
     let first = c.add_places.new.placing.rows.items in
     let rows = c.sort_rows.new.rows.items in
-    let p : ArePlaces c.args.chip.now maps ports places first =
-    subst (λ m. ArePlaces c.args.chip.now m ports places first) c.deref.ensures.value
-    (subst (λ q. ArePlaces c.args.chip.now c.deref.result.now q places first) c.deref-2.ensures.value c.in_ok-refused.ensures.placed.places) in
+    let p = placed_for c.args.chip.now _ maps _ ports places first c.deref.ensures.value c.deref-2.ensures.value c.in_ok-refused.ensures.placed.places in
     let none : NoRowsClash places rows =
     subst (λ x. NoRowsClash x rows) c.deref-3.ensures.value
     (subst (λ y. NoRowsClash c.deref-3.result.now y) c.deref-4.ensures.value
@@ -60,76 +57,24 @@ returns-in_err-tables-clause-exact c =
 
 pub returns-in-Some-clause-exact : goal.returns-in-Some-clause-exact
 returns-in-Some-clause-exact c =
-    let chip = c.args.chip.now in
-    let maps = c.in_ok-tables.tables.0.items in
-    let ports = c.in_ok-tables.tables.1.items in
-    let places = c.add_places.new.placing.places.items in
-    let first = c.add_places.new.placing.rows.items in
-    let rows = c.sort_rows.new.rows.items in
-    let p : ArePlaces chip maps ports places first =
-    subst (λ m. ArePlaces chip m ports places first) c.deref.ensures.value
-    (subst (λ q. ArePlaces chip c.deref.result.now q places first) c.deref-2.ensures.value c.in_ok-refused.ensures.placed.places) in
+    let t = c.in_ok-tables.ensures in
+    let added = c.in_ok-refused.ensures in
     let sorted = c.in_ok-sort_rows.ensures in
-    let made : AreMade chip c.args.maps.now c.args.places.now c.args.kinds.now maps ports places first rows c.first_shared-shared.result c.in_ok-refused.refused = record {
-      accepted = record {
-        fine = c.in_ok-tables.ensures.fault.0;
-        maps_are = c.in_ok-tables.ensures.maps;
-        ports_are = c.in_ok-tables.ensures.ports;
-        rows_are = accepted_by chip c.args.places.now c.deref.result.now maps c.deref-2.result.now ports _ places _ c.deref.ensures.value c.deref-2.ensures.value
-            c.new-placing.ensures.places c.new-placing.ensures.rows c.in_ok-refused.ensures.accepted;
-      };
-      tables = c.in_ok-tables.ensures.tables;
-      few = c.requires;
-      placed = p;
-      refused_is = refused_by chip c.args.places.now c.deref.result.now maps c.deref-2.result.now ports _ _ _ c.deref.ensures.value c.deref-2.ensures.value
-          c.new-placing.ensures.places c.new-placing.ensures.rows c.in_ok-refused.ensures.fault;
-      moved = sorted.moved;
-      ascending = sorted.ascending;
-      stable = sorted.stable;
-      least = subst (λ x. IsLeast x rows c.first_shared-shared.result) c.deref-3.ensures.value
-          (subst (λ y. IsLeast c.deref-3.result.now y c.first_shared-shared.result) c.deref-4.ensures.value c.first_shared-shared.ensures.least);
-      made = λ s e. subst (λ x. IsMade x rows s) c.deref-3.ensures.value
-          (subst (λ y. IsMade c.deref-3.result.now y s) c.deref-4.ensures.value (c.first_shared-shared.ensures.made s e));
-    } in
-    λ other. fault_is chip c.args.maps.now c.args.places.now c.args.kinds.now maps ports places first rows c.first_shared-shared.result c.in_ok-refused.refused made
-    ∙ sym c.first_fault.ensures ∙ c.in-Some.is
+    let made = made_of c.args.chip.now c.args.maps.now c.args.places.now c.args.kinds.now _ _ _ _ _ _ _ _ _ _ _ _ _ t.fault.0 t.maps t.ports t.tables c.requires
+    c.deref.ensures.value c.deref-2.ensures.value c.new-placing.ensures.places c.new-placing.ensures.rows added.accepted added.fault added.placed.places
+    sorted.moved sorted.ascending sorted.stable c.deref-3.ensures.value c.deref-4.ensures.value c.first_shared-shared.ensures.least c.first_shared-shared.ensures.made in
+    λ other. fault_is c.args.chip.now c.args.maps.now c.args.places.now c.args.kinds.now _ _ _ _ _ _ _ made ∙ sym c.first_fault.ensures ∙ c.in-Some.is
 
 pub returns-clause-exact : goal.returns-clause-exact
 returns-clause-exact c =
-    let chip = c.args.chip.now in
-    let maps = c.in_ok-tables.tables.0.items in
-    let ports = c.in_ok-tables.tables.1.items in
-    let places = c.add_places.new.placing.places.items in
-    let first = c.add_places.new.placing.rows.items in
-    let rows = c.sort_rows.new.rows.items in
-    let p : ArePlaces chip maps ports places first =
-    subst (λ m. ArePlaces chip m ports places first) c.deref.ensures.value
-    (subst (λ q. ArePlaces chip c.deref.result.now q places first) c.deref-2.ensures.value c.in_ok-refused.ensures.placed.places) in
+    let t = c.in_ok-tables.ensures in
+    let added = c.in_ok-refused.ensures in
     let sorted = c.in_ok-sort_rows.ensures in
-    let made : AreMade chip c.args.maps.now c.args.places.now c.args.kinds.now maps ports places first rows c.first_shared-shared.result c.in_ok-refused.refused = record {
-      accepted = record {
-        fine = c.in_ok-tables.ensures.fault.0;
-        maps_are = c.in_ok-tables.ensures.maps;
-        ports_are = c.in_ok-tables.ensures.ports;
-        rows_are = accepted_by chip c.args.places.now c.deref.result.now maps c.deref-2.result.now ports _ places _ c.deref.ensures.value c.deref-2.ensures.value
-            c.new-placing.ensures.places c.new-placing.ensures.rows c.in_ok-refused.ensures.accepted;
-      };
-      tables = c.in_ok-tables.ensures.tables;
-      few = c.requires;
-      placed = p;
-      refused_is = refused_by chip c.args.places.now c.deref.result.now maps c.deref-2.result.now ports _ _ _ c.deref.ensures.value c.deref-2.ensures.value
-          c.new-placing.ensures.places c.new-placing.ensures.rows c.in_ok-refused.ensures.fault;
-      moved = sorted.moved;
-      ascending = sorted.ascending;
-      stable = sorted.stable;
-      least = subst (λ x. IsLeast x rows c.first_shared-shared.result) c.deref-3.ensures.value
-          (subst (λ y. IsLeast c.deref-3.result.now y c.first_shared-shared.result) c.deref-4.ensures.value c.first_shared-shared.ensures.least);
-      made = λ s e. subst (λ x. IsMade x rows s) c.deref-3.ensures.value
-          (subst (λ y. IsMade c.deref-3.result.now y s) c.deref-4.ensures.value (c.first_shared-shared.ensures.made s e));
-    } in
+    let made = made_of c.args.chip.now c.args.maps.now c.args.places.now c.args.kinds.now _ _ _ _ _ _ _ _ _ _ _ _ _ t.fault.0 t.maps t.ports t.tables c.requires
+    c.deref.ensures.value c.deref-2.ensures.value c.new-placing.ensures.places c.new-placing.ensures.rows added.accepted added.fault added.placed.places
+    sorted.moved sorted.ascending sorted.stable c.deref-3.ensures.value c.deref-4.ensures.value c.first_shared-shared.ensures.least c.first_shared-shared.ensures.made in
     let none = sym c.first_fault.ensures ∙ c.in_default.is in (
-      fault_is chip c.args.maps.now c.args.places.now c.args.kinds.now maps ports places first rows c.first_shared-shared.result c.in_ok-refused.refused made ∙ none,
-      ap (λ v. built maps places ports c.in_ok-from_slice.field-0.items v.items) c.in_ok-new.ensures.ok
-          ∙ whole_is chip c.args.maps.now c.args.places.now c.args.kinds.now maps ports places first rows c.first_shared-shared.result
-          c.in_ok-refused.refused _ made none c.in_ok-from_slice.ensures.items,
+      fault_is c.args.chip.now c.args.maps.now c.args.places.now c.args.kinds.now _ _ _ _ _ _ _ made ∙ none,
+      ap (λ v. built c.in_ok-tables.tables.0.items c.add_places.new.placing.places.items c.in_ok-tables.tables.1.items c.in_ok-from_slice.field-0.items v.items) c.in_ok-new.ensures.ok
+          ∙ whole_is c.args.chip.now c.args.maps.now c.args.places.now c.args.kinds.now _ _ _ _ _ _ _ _ made none c.in_ok-from_slice.ensures.items,
     )

@@ -1,20 +1,14 @@
 use Rattle.std.proofs.Common.{◌≡◌, ◌^◌, ◌<◌, length, sym, subst}
 use Rattle.rl_map.specs.declared.rows.PlaceRow.{PlaceRow}
 use Rattle.rl_map.specs.declared.seat.Seat.{Seat}
-use Rattle.rl_map.specs.Layout.{LayoutData, no_map, no_port, no_place, place_at, map_at, port_at, IsLocation, IsSound}
+use Rattle.rl_map.specs.Layout.{no_map, no_port, no_place, place_at, map_at, port_at, IsLocation, IsSound}
 use Rattle.rl_map.proofs.Lookups.{read_is, seat_shown}
+use Rattle.rl_map.proofs.Opened.{opened}
 use Rattle.rl_map.proofs.layout.Layout.seat.Goals as goal
 
 pub seat-requires-clause-fits : goal.seat-requires-clause-fits
 seat-requires-clause-fits c =
-    let l : LayoutData = record {
-      maps = c.self.inside.maps.items;
-      places = c.self.inside.places.items;
-      ports =
-          c.self.inside.ports.items;
-      kinds = c.self.inside.kinds.items;
-      rows = c.self.inside.rows.value.items;
-    } in
+    let l = opened c.self.inside in
     let sound : IsSound l = c.self.invariant.0 in
     let there : IsLocation l c.args.place c.args.index = subst (λ v. IsLocation v c.args.place c.args.index) (sym c.self.view_is) c.requires.location in
     let byte_in : c.args.byte < (place_at l c.args.place).bytes = subst (λ v. c.args.byte < (place_at v c.args.place).bytes) (sym c.self.view_is) c.requires.byte in

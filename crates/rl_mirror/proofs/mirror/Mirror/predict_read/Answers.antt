@@ -4,23 +4,18 @@ use Rattle.rl_mirror.specs.Mirror.{MirrorData, IsMirrorOf, mirrored_of, desired_
 use Rattle.rl_mirror.specs.Prediction.{predict_read}
 use Rattle.rl_mirror.specs.Reachable.{IsReachable}
 use Rattle.rl_mirror.proofs.ReachLemmas.{read_reach}
-use Rattle.rl_mirror.proofs.MirrorLemmas.{read_is}
+use Rattle.rl_mirror.proofs.MirrorLemmas.{read_of, read_is}
 use Rattle.rl_mirror.proofs.mirror.Mirror.predict_read.Goals as goal
 
 pub returns-clause-value : goal.returns-clause-value
 returns-clause-value c =
-    let chip = c.args.chip.now in
-    let reg = c.args.reg in
     let m : MirrorData = record { mirrored = c.self.inside.mirrored.items; desired = c.self.inside.desired.items; spent = c.self.inside.spent.items } in
     let is : m ≡ c.args.self.now = c.self.view_is in
-    let built : IsMirrorOf chip m = subst (λ (m : MirrorData). IsMirrorOf chip m) (sym is) c.requires.built in
-    let in_mirrored : reg < length m.mirrored = omega (arith, built.registers, c.requires.reg) in
-    let in_desired : reg < length m.desired = omega (arith, built.wishes, c.requires.reg) in
-    let mirrored : c.index-mirrored.result.now ≡ mirrored_of m reg = get_or_read_under m.mirrored reg (length m.mirrored) c.index-mirrored.result.now 0 c.index-mirrored.ensures in_mirrored refl in
-    let desired : c.index-desired.result.now ≡ desired_of m reg = get_or_read_under m.desired reg (length m.desired) c.index-desired.result.now 0 c.index-desired.ensures in_desired refl in
-    read_is chip reg c.args.value c.args.fields m c.index-mirrored.result.now c.index-desired.result.now c.overlaid-known.result c.wished-wish.result [] []
-    mirrored desired c.overlaid-known.ensures.value c.wished-wish.ensures.value
-    ∙ ap (predict_read chip reg c.args.value c.args.fields) is
+    let read = read_of c.args.chip.now c.args.reg c.index-mirrored.result.now c.index-desired.result.now m c.args.self.now is c.requires.built c.requires.reg c.index-mirrored.ensures
+    c.index-desired.ensures in
+    read_is c.args.chip.now c.args.reg c.args.value c.args.fields m c.index-mirrored.result.now c.index-desired.result.now c.overlaid-known.result c.wished-wish.result [] []
+    read.mirrored read.desired c.overlaid-known.ensures.value c.wished-wish.ensures.value
+    ∙ ap (predict_read c.args.chip.now c.args.reg c.args.value c.args.fields) is
 
 pub returns-clause-reach : goal.returns-clause-reach
 returns-clause-reach c was =

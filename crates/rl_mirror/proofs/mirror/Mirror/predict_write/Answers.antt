@@ -5,7 +5,7 @@ use Rattle.rl_mirror.specs.Mirror.{MirrorData, IsMirrorOf, mirrored_of, desired_
 use Rattle.rl_mirror.specs.Prediction.{predict_write}
 use Rattle.rl_mirror.specs.Reachable.{IsReachable}
 use Rattle.rl_mirror.proofs.ReachLemmas.{write_reach}
-use Rattle.rl_mirror.proofs.MirrorLemmas.{write_is}
+use Rattle.rl_mirror.proofs.MirrorLemmas.{read_of, write_is}
 use Rattle.rl_mirror.proofs.SpentLemmas.{length-spent_after}
 use Rattle.rl_mirror.proofs.mirror.Mirror.predict_write.Goals as goal
 
@@ -15,11 +15,7 @@ returns-clause-value c =
     let reg = c.args.reg in
     let m : MirrorData = record { mirrored = c.self.inside.mirrored.items; desired = c.self.inside.desired.items; spent = c.self.inside.spent.items } in
     let is : m ≡ c.args.self.now = c.self.view_is in
-    let built : IsMirrorOf chip m = subst (λ (m : MirrorData). IsMirrorOf chip m) (sym is) c.requires.built in
-    let in_mirrored : reg < length m.mirrored = omega (arith, built.registers, c.requires.reg) in
-    let in_desired : reg < length m.desired = omega (arith, built.wishes, c.requires.reg) in
-    let mirrored : c.index-mirrored.result.now ≡ mirrored_of m reg = get_or_read_under m.mirrored reg (length m.mirrored) c.index-mirrored.result.now 0 c.index-mirrored.ensures in_mirrored refl in
-    let desired : c.index-desired.result.now ≡ desired_of m reg = get_or_read_under m.desired reg (length m.desired) c.index-desired.result.now 0 c.index-desired.ensures in_desired refl in
+    let read = read_of chip reg c.index-mirrored.result.now c.index-desired.result.now m c.args.self.now is c.requires.built c.requires.reg c.index-mirrored.ensures c.index-desired.ensures in
     let long : length c.spend.new.spent ≡ c.self.inside.spent.len =
     omega (
       arith,
@@ -30,7 +26,7 @@ returns-clause-value c =
     ) in
     write_is chip reg c.args.value c.args.fields m c.index-mirrored.result.now c.index-desired.result.now c.overlaid-known.result c.wished-wish.result
     c.deref.result.now c.deref-2.result.now c.deref_mut.result.now (with_items c.self.inside.spent c.spend.new.spent).items
-    mirrored desired c.deref.ensures.value c.deref-2.ensures.value c.deref_mut.ensures.value c.overlaid-known.ensures.value c.wished-wish.ensures.value
+    read.mirrored read.desired c.deref.ensures.value c.deref-2.ensures.value c.deref_mut.ensures.value c.overlaid-known.ensures.value c.wished-wish.ensures.value
     (with_items_is c.self.inside.spent c.spend.new.spent long ∙ c.spend.ensures)
     ∙ ap (predict_write chip reg c.args.value c.args.fields) is
 
