@@ -6,32 +6,22 @@ use rl_bus::{Adapters, PlainAdapter};
 use rl_link::ByLine;
 use rl_linked::run_linked;
 use rl_log::Status;
+use rl_program::{code_of, create_file, open_file, words};
 use rl_report::{StdSink, StdSource};
 use std::alloc::AllocError;
+use std::io;
 use std::process::ExitCode;
-use std::{env, fs, io};
 
-// Says that a file can't be opened.
-fn tell(rt: &impl Eprint, path: &str, error: &io::Error) {
-    let _ = eprintln!(rt; "regrun-link: {path}: {error}");
-}
+const PROGRAM: &str = "regrun-link";
 
 // Runs the session in a file, and writes its log to another one.
 fn run_files(rt: &HostRuntime, session: &str, log: &str) -> Result<u8, AllocError> {
     let alloc = rt.alloc();
-    let session = match fs::open(rt, session) {
-        Ok(file) => file,
-        Err(error) => {
-            tell(rt, session, &error);
-            return Ok(Status::SourceFault.code());
-        }
+    let Some(session) = open_file(rt, PROGRAM, session) else {
+        return Ok(Status::SourceFault.code());
     };
-    let log = match fs::create(rt, log) {
-        Ok(file) => file,
-        Err(error) => {
-            tell(rt, log, &error);
-            return Ok(Status::SinkFault.code());
-        }
+    let Some(log) = create_file(rt, PROGRAM, log) else {
+        return Ok(Status::SinkFault.code());
     };
     let plain = PlainAdapter {
         next_tag: 0,
@@ -62,10 +52,7 @@ fn run_files(rt: &HostRuntime, session: &str, log: &str) -> Result<u8, AllocErro
 
 // Does what the arguments ask for.
 fn run(rt: &HostRuntime) -> io::Result<u8> {
-    let mut words = Vec::new(rt.alloc());
-    for word in env::args(rt)?.skip(1) {
-        words.push(word)?;
-    }
+    let words = words(rt)?;
     let [session, log] = words.as_slice() else {
         let _ = eprintln!(rt;
             "regrun-link: SESSION and LOG are asked for: a file to read and one to write"
@@ -76,11 +63,5 @@ fn run(rt: &HostRuntime) -> io::Result<u8> {
 }
 
 fn main(rt: HostRuntime) -> ExitCode {
-    match run(&rt) {
-        Ok(code) => ExitCode::from(code),
-        Err(error) if error.kind() == io::ErrorKind::OutOfMemory => {
-            ExitCode::from(Status::Memory.code())
-        }
-        Err(_) => ExitCode::from(Status::Words.code()),
-    }
+    code_of(run(&rt), Status::Memory.code(), Status::Words.code())
 }

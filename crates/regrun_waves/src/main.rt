@@ -8,10 +8,13 @@ use rl_apb::ApbAdapter;
 use rl_bus::{Adapters, PlainAdapter};
 use rl_dump::Fault;
 use rl_log::Status;
+use rl_program::{code_of, create_file, open_file, words};
 use rl_report::{StdSink, StdSource};
 use std::alloc::AllocError;
+use std::io;
 use std::process::ExitCode;
-use std::{env, fs, io};
+
+const PROGRAM: &str = "regrun-waves";
 
 fn fault_text(fault: Fault) -> &'static str {
     match fault {
@@ -22,7 +25,7 @@ fn fault_text(fault: Fault) -> &'static str {
 }
 
 // Says how the dump ended early, where it did. Answers the exit status.
-fn code_of(rt: &impl Eprint, path: &str, ran: &Ran) -> u8 {
+fn code_of_dump(rt: &impl Eprint, path: &str, ran: &Ran) -> u8 {
     let Some(fault) = ran.fault else {
         return ran.status.code();
     };
@@ -37,27 +40,14 @@ fn code_of(rt: &impl Eprint, path: &str, ran: &Ran) -> u8 {
     }
 }
 
-// Says that a file can't be opened.
-fn tell(rt: &impl Eprint, path: &str, error: &io::Error) {
-    let _ = eprintln!(rt; "regrun-waves: {path}: {error}");
-}
-
 // Runs the session in a file, and writes its pins to another one.
 fn run_files(rt: &HostRuntime, path: &str, waves: &str) -> Result<u8, AllocError> {
     let alloc = rt.alloc();
-    let session = match fs::open(rt, path) {
-        Ok(file) => file,
-        Err(error) => {
-            tell(rt, path, &error);
-            return Ok(Status::SourceFault.code());
-        }
+    let Some(session) = open_file(rt, PROGRAM, path) else {
+        return Ok(Status::SourceFault.code());
     };
-    let vcd = match fs::create(rt, waves) {
-        Ok(file) => file,
-        Err(error) => {
-            tell(rt, waves, &error);
-            return Ok(Status::SinkFault.code());
-        }
+    let Some(vcd) = create_file(rt, PROGRAM, waves) else {
+        return Ok(Status::SinkFault.code());
     };
     let plain = PlainAdapter {
         next_tag: 0,
@@ -79,15 +69,12 @@ fn run_files(rt: &HostRuntime, path: &str, waves: &str) -> Result<u8, AllocError
         StdSink::new(vcd),
         &mut adapters,
     );
-    Ok(code_of(rt, waves, &ran))
+    Ok(code_of_dump(rt, waves, &ran))
 }
 
 // Does what the arguments ask for.
 fn run(rt: &HostRuntime) -> io::Result<u8> {
-    let mut words = Vec::new(rt.alloc());
-    for word in env::args(rt)?.skip(1) {
-        words.push(word)?;
-    }
+    let words = words(rt)?;
     let [session, waves] = words.as_slice() else {
         let _ = eprintln!(rt;
             "regrun-waves: SESSION and VCD are asked for: a file to read and one to write"
@@ -98,11 +85,5 @@ fn run(rt: &HostRuntime) -> io::Result<u8> {
 }
 
 fn main(rt: HostRuntime) -> ExitCode {
-    match run(&rt) {
-        Ok(code) => ExitCode::from(code),
-        Err(error) if error.kind() == io::ErrorKind::OutOfMemory => {
-            ExitCode::from(Status::Memory.code())
-        }
-        Err(_) => ExitCode::from(Status::Words.code()),
-    }
+    code_of(run(&rt), Status::Memory.code(), Status::Words.code())
 }
