@@ -1,16 +1,18 @@
 -- What the recorders know of the events that went to them.
-use Rattle.std.proofs.Common.{◌≡◌, ℕ, true, false, List, [], ◌∷◌, ◌++◌, drop, if◌then◌else◌, Option, Some, None, Ok, Err, refl, sym, ap, ◌∙◌, append_assoc, append-nil}
+use Rattle.std.proofs.Common.{◌≡◌, ℕ, true, false, List, [], ◌∷◌, ◌++◌, length, drop, if◌then◌else◌, Option, Some, None, Ok, Err, refl, sym, ap, subst, ◌∙◌, append_assoc, append-nil}
 use Rattle.rl_access.specs.declared.event.Event.{Event}
 use Rattle.rl_access.specs.declared.event.Op.{Op}
 use Rattle.rl_access.specs.HandsOver.{TakesAll}
 use Rattle.rl_access.specs.Model.{ModelData}
 use Rattle.rl_access.specs.World.{IsAt, world}
 use Rattle.rl_bus.specs.Standing.{Standing}
+use Rattle.rl_map.specs.Layout.{LayoutData}
+use Rattle.rl_model.specs.Rows.{ChipData}
 use Rattle.rl_bus.specs.State.{State}
 use Rattle.rl_desc.specs.Data.{DescData}
 use Rattle.rl_session.specs.Judged.{first_world}
 use Rattle.rl_grade.specs.declared.job.Task.{Task}
-use Rattle.rl_grade.specs.Job.{heard_by}
+use Rattle.rl_grade.specs.Job.{TasksFit, heard_by}
 use Rattle.rl_grade.proofs.Driving.{world_is}
 use Rattle.rl_grade.specs.declared.seen.Find.{Find}
 use Rattle.rl_grade.specs.declared.seen.Seen.{Seen}
@@ -18,6 +20,11 @@ use Rattle.rl_grade.specs.Drive.{DrivesAll, told_of}
 use Rattle.rl_grade.specs.Find.{all_seen, first_find, new_in, seen_of, shows}
 use Rattle.rl_grade.specs.Heard.{Heard}
 use Rattle.rl_grade.specs.Record.{Finds, Keeps, Passes, items_from}
+
+-- the numbers in tasks are in range by the chip and the layout alone
+pub fits_on : (c d : ChipData) (l k : LayoutData) (tasks : List Task) → c ≡ d → l ≡ k → TasksFit d (length k.maps) tasks → TasksFit c (length l.maps) tasks
+fits_on c d l k tasks chip layout h =
+    subst (λ x. TasksFit x (length l.maps) tasks) (sym chip) (subst (λ (y : LayoutData). TasksFit d (length y.maps) tasks) (sym layout) h)
 
 abbrev find_of : List Seen → Heard → Find
 find_of base h = record { line = h.line; op = h.told.event.op; new = new_in base h.told.event }

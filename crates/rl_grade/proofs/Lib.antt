@@ -1,6 +1,13 @@
+mod Asking
+mod Complete
+mod Distinct
 mod Driving
 mod Finding
+mod Grading
+mod Keeping
 mod Listed
-mod Pushed
-mod Complete
 mod Made
+mod Pushed
+mod Reading
+mod Running
+mod Started

@@ -11,7 +11,7 @@ use Rattle.rl_bench.specs.declared.flaw.Flaw.TheVariants.{Deaf, ErrorNth, ErrorR
 use Rattle.rl_bench.specs.Flaws.{width_of}
 use Rattle.rl_desc.specs.Data.{DescData}
 use Rattle.rl_desc.specs.Flaws.{reset_value}
-use Rattle.rl_grade.specs.declared.flaws.TheConstants.{POLICIES}
+use Rattle.rl_policy.specs.declared.policy.TheConstants.{POLICIES}
 use Rattle.rl_grade.specs.declared.place.Place.{Place}
 use Rattle.rl_grade.specs.declared.place.Place.TheVariants.{OfItem, OfField, OfSession}
 use Rattle.rl_grade.specs.Flaws.{is_own, own_addresses, policies_beside, policy_of, row_at, stuck_bits, wrong_by, wrong_resets}

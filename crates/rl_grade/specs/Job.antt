@@ -13,7 +13,7 @@ use Rattle.rl_grade.specs.Heard.{Heard, heard_in}
 -- its operations, from a world on
 abbrev pub course_of : Job → World → Course
 course_of (One op) w = op_course op w
-course_of (BurstWrite mem map first values) w = burst_write_course mem map first values.items w
+course_of (BurstWrite mem map first values) w = burst_write_course mem map first values w
 course_of (BurstRead mem map first count) w = burst_read_course mem map first count w
 course_of (Sequence which block) w = sequence_course which block w
 

@@ -1,8 +1,13 @@
+pub mod Adapters
 pub mod Drive
 pub mod Find
 pub mod Flaws
 pub mod Heard
 pub mod Job
 pub mod Place
+pub mod Reading
 pub mod Record
+pub mod Run
+pub mod Script
+pub mod Share
 pub mod Single

@@ -4,7 +4,7 @@ use Rattle.rl_bench.specs.declared.flaw.Flaw.{Flaw}
 use Rattle.rl_desc.specs.Data.{DescData}
 use Rattle.rl_model.specs.Chip.{HasItem}
 use Rattle.rl_model.specs.Rows.{ChipData}
-use Rattle.rl_grade.specs.declared.flaws.TheConstants.{POLICIES}
+use Rattle.rl_policy.specs.declared.policy.TheConstants.{POLICIES}
 use Rattle.rl_grade.specs.declared.place.Place.{Place}
 use Rattle.rl_grade.specs.declared.place.Place.TheVariants.{OfItem, OfField, OfSession}
 use Rattle.rl_grade.specs.Flaws.{field_flaws, item_flaws, session_flaws}

@@ -1,5 +1,5 @@
 -- Which flaws are the single ones of a place, and that the lists have each of them.
-use Rattle.std.specs.Prelude.{◌≡◌, ◌⊎◌, ℕ, ◌^◌, ◌<◌, true, false, bit_xor, bytes_eq, List, length, All, Contains, Option, Some, None}
+use Rattle.std.specs.Prelude.{◌≡◌, ◌≢◌, ◌⊎◌, ℕ, ◌^◌, ◌<◌, true, false, bit_xor, bytes_eq, List, length, All, AllPairs, Contains, Option, Some, None}
 use Rattle.rl_policy.specs.declared.policy.Policy.{Policy}
 use Rattle.rl_policy.specs.Names.{name_of}
 use Rattle.rl_model.specs.declared.rows.Item.{Item}
@@ -47,3 +47,12 @@ NoneIsLeftOut = (d : DescData) (items : ℕ) (place : Place) (flaw : Flaw) → I
 -- each flaw of a place's list is a single one of it
 abbrev pub NoneIsMadeUp : Type 0
 NoneIsMadeUp = (d : DescData) (items : ℕ) (place : Place) → All (IsSingleAt d items place) (flaws_at d items place)
+
+-- no flaw stands twice in a place's list
+abbrev pub NoneStandsTwice : Type 0
+NoneStandsTwice = (d : DescData) (items : ℕ) (place : Place) → AllPairs (λ a b. a ≢ b) (flaws_at d items place)
+
+-- nor does one stand in the lists of two places
+abbrev pub PlacesAreApart : Type 0
+PlacesAreApart = (d : DescData) (items : ℕ) (place other : Place) (flaw : Flaw)
+    → Contains (flaws_at d items place) flaw → Contains (flaws_at d items other) flaw → place ≡ other

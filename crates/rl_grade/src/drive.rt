@@ -88,7 +88,16 @@ fn do_job<R: Recorder>(
             map,
             first,
             values,
-        } => burst_write(model, bench, adapters, *mem, *map, *first, values, recorder),
+        } => burst_write(
+            model,
+            bench,
+            adapters,
+            *mem,
+            *map,
+            *first,
+            values.items(),
+            recorder,
+        ),
         Job::BurstRead {
             mem,
             map,

@@ -2,43 +2,15 @@
 ghost use Rattle.std.specs.Prelude.{◌≡◌, ◌++◌, ◌<◌, ◌≤◌, length, bytes_eq, IfOk, OnOk};
 ghost use Rattle.std.specs.List.{list_any};
 ghost use Rattle.rl_policy.specs.Names.{name_of};
-ghost use Rattle.rl_grade.specs.Flaws.{stuck_bits, wrong_values, wrong_resets, other_policies, field_flaws};
-ghost use Rattle.rl_grade.specs.Flaws.{is_tried, is_of, is_tried_with, is_own, own_addresses, item_flaws, session_flaws};
+ghost use Rattle.rl_grade.specs.Flaws.{stuck_bits, wrong_values, wrong_resets, other_policies, field_flaws, is_tried};
+ghost use Rattle.rl_grade.specs.Flaws.{is_of, is_tried_with, is_own, own_addresses, item_flaws, session_flaws};
 
 use rl_bench::Flaw;
 use rl_bus::{Cell, WordRow};
 use rl_map::Layout;
 use rl_model::{Chip, Item};
-use rl_policy::Policy;
+use rl_policy::{POLICIES, Policy};
 use std::alloc::{AllocError, Global};
-
-const POLICIES: [Policy; 25] = [
-    Policy::Ro,
-    Policy::Rw,
-    Policy::Rc,
-    Policy::Rs,
-    Policy::Wrc,
-    Policy::Wrs,
-    Policy::Wc,
-    Policy::Ws,
-    Policy::Wsrc,
-    Policy::Wcrs,
-    Policy::W1c,
-    Policy::W1s,
-    Policy::W1t,
-    Policy::W0c,
-    Policy::W0s,
-    Policy::W0t,
-    Policy::W1src,
-    Policy::W1crs,
-    Policy::W0src,
-    Policy::W0crs,
-    Policy::Wo,
-    Policy::Woc,
-    Policy::Wos,
-    Policy::W1,
-    Policy::Wo1,
-];
 
 // Appends each bit of a field, stuck at a value.
 fn push_stuck(flaws: &mut Vec<Flaw>, field: u32, width: u32, value: bool) -> Result<(), AllocError>

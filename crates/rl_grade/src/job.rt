@@ -1,6 +1,6 @@
 // What a line asks for, by the numbers that the chip and the layout give its names.
 use rl_access::Op;
-use rl_script::Sequence;
+use rl_script::{Sequence, Values};
 
 /// What a line of a script asks for.
 #[derive(Drop)]
@@ -14,7 +14,7 @@ pub enum Job {
         mem: u32,
         map: Option<u32>,
         first: u64,
-        values: Vec<u64>,
+        values: Values,
     },
     /// So many consecutive locations of a memory.
     BurstRead {

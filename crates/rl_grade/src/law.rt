@@ -1,5 +1,7 @@
-//! What holds of the lists of single flaws. The function does nothing; its contract is the law.
-ghost use Rattle.rl_grade.specs.Single.{NoneIsLeftOut, NoneIsMadeUp};
+//! What holds of the lists of single flaws, and of a script and its tasks. Each function does nothing; its contract is
+//! the law.
+ghost use Rattle.rl_grade.specs.Run.{HeardAreEvents, RunDoesTasks, RunStopsThere};
+ghost use Rattle.rl_grade.specs.Single.{NoneIsLeftOut, NoneIsMadeUp, NoneStandsTwice, PlacesAreApart};
 
 /// Each single flaw of a field, a register, a memory or a session is in its list: each bit stuck at 0 and at 1, each
 /// value of a reset that is wrong in one bit, each policy of another name, that it is deaf, each address of its own,
@@ -11,4 +13,31 @@ pub fn none_is_left_out()
 /// Each flaw of a list is one of these, of what the list is of.
 pub fn none_is_made_up()
     ensures { NoneIsMadeUp }
+{}
+
+/// No flaw stands twice in the list of a place.
+pub fn none_stands_twice()
+    ensures { NoneStandsTwice }
+{}
+
+/// No flaw stands in the lists of two places.
+pub fn places_are_apart()
+    ensures { PlacesAreApart }
+{}
+
+/// The tasks that `read_script` reads are what a run of the script does: from each first state whose model has the same
+/// chip and layout, whatever its flaws, their events are those of the lines, each with the number of its line, and the
+/// run comes to its end.
+pub fn a_run_does_the_tasks()
+    ensures { RunDoesTasks }
+{}
+
+/// Where `read_script` refuses a line, a run stops at that line, for the same reason.
+pub fn a_run_stops_at_the_refused_line()
+    ensures { RunStopsThere }
+{}
+
+/// The events of the lines are those of the judged log.
+pub fn what_is_heard_are_the_events()
+    ensures { HeardAreEvents }
 {}

@@ -1,21 +1,26 @@
 //! Which single flaws of a device a script finds.
 //!
 //! The single flaws of a description stand in lists by what they are of: a field, a register or memory, the items of a
-//! session. A script comes as tasks, whose names are resolved. A run without flaws keeps what each event showed; a run
-//! with one flaw then goes up to the first event that shows more. No text is made.
+//! session. A script is read as tasks, whose names are resolved once. A run without flaws keeps what each event showed;
+//! a run with one flaw, begun afresh, then goes up to the first event that shows more. No text is made.
 #![tactic(auto)]
 
 mod drive;
 mod flaws;
+mod fresh;
+mod grade;
 mod job;
 pub mod law;
 mod place;
 mod recorders;
 mod run;
+mod script;
 mod seen;
 
 pub use flaws::{field_flaws, item_flaws, session_flaws};
+pub use grade::{Graded, PlaceGrade, Share, grade_place};
 pub use job::{Job, Task};
 pub use place::{Place, flaws_at};
-pub use run::{Shown, show, try_flaw};
+pub use run::{Shown, Tried, show, try_flaw};
+pub use script::{ScriptFault, read_script};
 pub use seen::{Find, Seen};

@@ -92,10 +92,17 @@ fn watch_tasks(
     }
 }
 
+/// A flaw that was tried.
+#[derive(Drop)]
+pub struct Tried {
+    /// The description again.
+    pub desc: Desc,
+    /// The first event that shows more with the flaw than without it.
+    pub found: Option<Find>,
+}
+
 /// Tries one flaw: runs tasks from the first state of a description with this flaw and no other, up to the first event
 /// that shows more than the one of its number in `base`, which a run without the flaw showed.
-///
-/// The adapters go on counting from run to run, which only the tags of items tell.
 ///
 /// # Errors
 ///
@@ -107,27 +114,37 @@ pub fn try_flaw(
     adapters: &mut Adapters,
     tasks: &[Task],
     base: &[Seen],
-) -> Result<Option<Find>, AllocError>
+) -> Result<Tried, AllocError>
     requires built_with { IsBuiltWith desc.layout desc.chip }
     requires flaw { IsFlawOf desc.chip desc.layout flaw }
     requires kinds { desc.layout.kinds ≡ kinds_of (map standing adapters.old.items) }
     requires fits { TasksFit desc.chip (length desc.layout.maps) tasks.now }
     ensures kinds { kinds_of (map standing adapters.new.items) ≡ kinds_of (map standing adapters.old.items) }
-    ensures found { IfOk result (λ find. find ≡ first_find base.now
+    ensures desc { IfOk result (λ tried. tried.desc ≡ desc) }
+    ensures found { IfOk result (λ tried. tried.found ≡ first_find base.now
         (heard_by (first_world (with_flaw desc flaw) (map standing adapters.old.items)) tasks.now)) }
 {
-    let mut flaws = Vec::new(alloc);
-    flaws.push(flaw)?;
     let Desc {
         chip,
         layout,
-        flaws: _,
+        flaws: declared,
     } = desc;
+    let mut flaws = Vec::new(alloc);
+    flaws.push(flaw)?;
     let flawed = Desc {
         chip,
         layout,
         flaws,
     };
     let (mut model, mut bench) = open(alloc, flawed)?;
-    Ok(watch_tasks(&mut model, &mut bench, adapters, tasks, base))
+    let found = watch_tasks(&mut model, &mut bench, adapters, tasks, base);
+    let (chip, layout) = model.into_parts();
+    Ok(Tried {
+        desc: Desc {
+            chip,
+            layout,
+            flaws: declared,
+        },
+        found,
+    })
 }

@@ -1,6 +1,6 @@
 use Rattle.std.proofs.Common.{refl, sym, ◌∙◌}
 use Rattle.std.proofs.lemmas.List.{take_more}
-use Rattle.rl_grade.specs.declared.flaws.TheConstants.{POLICIES}
+use Rattle.rl_policy.specs.declared.policy.TheConstants.{POLICIES}
 use Rattle.rl_grade.proofs.Pushed.{policy_more, policy_passed}
 use Rattle.rl_grade.proofs.flaws.push_policies.Goals as goal
 use Rattle.rl_grade.proofs.flaws.push_policies.Goals.{then-not-is_same+in_ok-push, else-not-is_same}

@@ -1,6 +1,6 @@
 -- The other ones of the policies so far were appended.
 use Rattle.std.proofs.Common.{◌≡◌, ◌++◌, take}
-use Rattle.rl_grade.specs.declared.flaws.TheConstants.{POLICIES}
+use Rattle.rl_policy.specs.declared.policy.TheConstants.{POLICIES}
 use Rattle.rl_grade.specs.Flaws.{other_policies}
 use Rattle.rl_grade.proofs.flaws.push_policies.Given as goal
 

@@ -3,7 +3,7 @@ use Rattle.std.specs.Prelude.{All, IfOk}
 use Rattle.rl_bench.specs.Flaws.{IsFlawOf}
 use Rattle.rl_desc.specs.Data.{DescData}
 use Rattle.rl_model.specs.Chip.{HasItem}
-use Rattle.rl_grade.specs.declared.flaws.TheConstants.{POLICIES}
+use Rattle.rl_policy.specs.declared.policy.TheConstants.{POLICIES}
 use Rattle.rl_grade.specs.Flaws.{field_flaws, item_flaws}
 use Rattle.rl_grade.proofs.Listed.{each_of, field_flaws_are, item_flaws_are}
 use Rattle.rl_grade.proofs.place.flaws_at.Goals as goal

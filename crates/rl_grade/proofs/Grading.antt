@@ -1,0 +1,33 @@
+-- Flaw by flaw through a list, to the answers of a share.
+use Rattle.std.proofs.Common.{◌≡◌, ℕ, ◌+◌, true, false, if◌then◌else◌, List, [], ◌∷◌, ◌++◌, map, sym, ap, ◌∙◌, append_assoc}
+use Rattle.rl_bench.specs.declared.flaw.Flaw.{Flaw}
+use Rattle.rl_desc.specs.Data.{DescData}
+use Rattle.rl_grade.specs.declared.grade.Graded.{Graded}
+use Rattle.rl_grade.specs.declared.grade.Share.{Share}
+use Rattle.rl_grade.specs.declared.job.Task.{Task}
+use Rattle.rl_grade.specs.declared.seen.Seen.{Seen}
+use Rattle.rl_grade.specs.Share.{graded_by, grades_of, is_in_share, share_of}
+
+module _ (d : DescData) (tasks : List Task) (shown : List Seen) (share : Share) where
+  abbrev left : ℕ → List Flaw → List Graded
+  left before flaws = grades_of d tasks shown share before flaws
+
+  pub flaw_taken : (again : DescData) (before number : ℕ) (flaw : Flaw) (from rest : List Flaw) (done new all : List Graded)
+      → again ≡ d → from ≡ flaw ∷ rest → number ≡ before + 1 → is_in_share share number ≡ true
+      → new ≡ done ++ graded_by again tasks shown flaw ∷ [] → done ++ left before from ≡ all → new ++ left number rest ≡ all
+  flaw_taken again before number flaw from rest done new all same is next taken tried h =
+      let more = tried ∙ ap (λ x. done ++ graded_by x tasks shown flaw ∷ []) same in
+      let others = share_of share (before + 1) rest in
+      ap (λ n. new ++ left n rest) next ∙ ap (λ gs. gs ++ left (before + 1) rest) more
+      ∙ append_assoc done (graded_by d tasks shown flaw ∷ []) (left (before + 1) rest)
+      ∙ sym (ap (λ fs. done ++ left before fs) is
+      ∙ ap (λ b. done ++ map (graded_by d tasks shown) (if b then flaw ∷ others else others)) (ap (is_in_share share) (sym next) ∙ taken)) ∙ h
+
+  pub flaw_passed : (before number : ℕ) (flaw : Flaw) (from rest : List Flaw) (done new all : List Graded)
+      → from ≡ flaw ∷ rest → number ≡ before + 1 → is_in_share share number ≡ false → new ≡ done
+      → done ++ left before from ≡ all → new ++ left number rest ≡ all
+  flaw_passed before number flaw from rest done new all is next passed same h =
+      let others = share_of share (before + 1) rest in
+      ap (λ n. new ++ left n rest) next ∙ ap (λ gs. gs ++ left (before + 1) rest) same
+      ∙ sym (ap (λ fs. done ++ left before fs) is
+      ∙ ap (λ b. done ++ map (graded_by d tasks shown) (if b then flaw ∷ others else others)) (ap (is_in_share share) (sym next) ∙ passed)) ∙ h

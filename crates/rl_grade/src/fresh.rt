@@ -1,0 +1,50 @@
+// A flaw that is tried as by a program that was just started.
+ghost use Rattle.std.specs.Prelude.{◌≡◌, IfOk, length};
+ghost use Rattle.rl_bench.specs.Flaws.{IsFlawOf};
+ghost use Rattle.rl_bus.specs.Standing.{kinds_of};
+ghost use Rattle.rl_map.specs.Maps.{IsBuiltWith};
+ghost use Rattle.rl_session.specs.Judged.{first_world};
+ghost use Rattle.rl_grade.specs.Adapters.{fresh_standings};
+ghost use Rattle.rl_grade.specs.Find.{first_find};
+ghost use Rattle.rl_grade.specs.Job.{TasksFit, heard_by};
+ghost use Rattle.rl_grade.specs.Place.{with_flaw};
+
+use crate::job::Task;
+use crate::run::{Tried, try_flaw};
+use crate::seen::Seen;
+use rl_apb::ApbAdapter;
+use rl_bench::Flaw;
+use rl_bus::{Adapters, PlainAdapter};
+use rl_desc::Desc;
+use std::alloc::{AllocError, Global};
+
+// Tries one flaw over a plain and an APB adapter that have sent nothing. They are made here, since an adapter that is
+// handed out has no proof.
+pub(crate) fn try_afresh(
+    alloc: Global,
+    desc: Desc,
+    flaw: Flaw,
+    tasks: &[Task],
+    base: &[Seen],
+) -> Result<Tried, AllocError>
+    requires built_with { IsBuiltWith desc.layout desc.chip }
+    requires flaw { IsFlawOf desc.chip desc.layout flaw }
+    requires kinds { desc.layout.kinds ≡ kinds_of fresh_standings }
+    requires fits { TasksFit desc.chip (length desc.layout.maps) tasks.now }
+    ensures desc { IfOk result (λ tried. tried.desc ≡ desc) }
+    ensures found { IfOk result (λ tried. tried.found ≡ first_find base.now
+        (heard_by (first_world (with_flaw desc flaw) fresh_standings) tasks.now)) }
+{
+    let plain = PlainAdapter {
+        next_tag: 0,
+        trail: 0,
+    };
+    let apb = ApbAdapter {
+        next_serial: 0,
+        trail: 0,
+    };
+    let mut adapters: Adapters = Vec::new(alloc);
+    adapters.push(Box::new(alloc, plain)?)?;
+    adapters.push(Box::new(alloc, apb)?)?;
+    try_flaw(alloc, desc, flaw, &mut adapters, tasks, base)
+}

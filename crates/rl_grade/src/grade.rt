@@ -1,0 +1,160 @@
+// The flaws of a share at a place, each with its answer.
+ghost use Rattle.std.specs.Prelude.{◌≡◌, ◌<◌, [], ◌∷◌, ◌++◌, All, IfOk, length};
+ghost use Rattle.rl_bench.specs.Flaws.{IsFlawOf};
+ghost use Rattle.rl_bus.specs.Standing.{kinds_of};
+ghost use Rattle.rl_map.specs.Maps.{IsBuiltWith};
+ghost use Rattle.rl_grade.specs.Adapters.{fresh_standings};
+ghost use Rattle.rl_grade.specs.Job.{TasksFit};
+ghost use Rattle.rl_grade.specs.Place.{IsPlaceIn, flaws_at};
+ghost use Rattle.rl_grade.specs.Share.{graded_by, grades_of, is_in_share};
+
+use crate::fresh::try_afresh;
+use crate::job::Task;
+use crate::place::{Place, flaws_at};
+use crate::run::Shown;
+use crate::seen::{Find, Seen};
+use rl_bench::Flaw;
+use rl_desc::Desc;
+use std::alloc::{AllocError, Global};
+
+/// A flaw that was tried.
+#[derive(Clone, Copy, Debug, PartialEq, Eq)]
+pub struct Graded {
+    pub flaw: Flaw,
+    /// The first event that shows more with it than without it.
+    pub found: Option<Find>,
+}
+
+/// Which flaws are tried: each `every`-th from the `first`-th on. They count from 1.
+#[derive(Clone, Copy, Debug, PartialEq, Eq)]
+pub struct Share {
+    pub first: u64,
+    /// Not 0.
+    pub every: u64,
+}
+
+/// The flaws of a place that are of a share, each with its answer.
+#[derive(Drop)]
+pub struct PlaceGrade {
+    /// The description again.
+    pub desc: Desc,
+    /// How many flaws the place has.
+    pub flaws: u64,
+    /// Those of the share, in order.
+    pub graded: Vec<Graded>,
+}
+
+// What was tried so far, and the description again.
+#[derive(Drop)]
+struct Tries {
+    desc: Desc,
+    graded: Vec<Graded>,
+}
+
+impl Share {
+    // Whether the flaw of this number is of the share.
+    fn takes(self, number: u128) -> bool
+        requires { 0 < self.every }
+        ensures { result ≡ is_in_share self number }
+    {
+        let first = u128::from(self.first);
+        number >= first && (number - first) % u128::from(self.every) == 0
+    }
+}
+
+// Tries a flaw, and appends its answer.
+fn grade_flaw(
+    alloc: Global,
+    tries: Tries,
+    flaw: Flaw,
+    tasks: &[Task],
+    shown: &[Seen],
+) -> Result<Tries, AllocError>
+    requires built_with { IsBuiltWith tries.desc.layout tries.desc.chip }
+    requires kinds { tries.desc.layout.kinds ≡ kinds_of fresh_standings }
+    requires fits { TasksFit tries.desc.chip (length tries.desc.layout.maps) tasks.now }
+    requires flaw { IsFlawOf tries.desc.chip tries.desc.layout flaw }
+    ensures desc { IfOk result (λ more. more.desc ≡ tries.desc) }
+    ensures graded { IfOk result (λ more. more.graded.items ≡ tries.graded.items
+        ++ graded_by tries.desc tasks.now shown.now flaw ∷ []) }
+{
+    let Tries { desc, mut graded } = tries;
+    let tried = try_afresh(alloc, desc, flaw, tasks, shown)?;
+    graded.push(Graded {
+        flaw,
+        found: tried.found,
+    })?;
+    Ok(Tries {
+        desc: tried.desc,
+        graded,
+    })
+}
+
+// Tries those flaws of a share that stand in a list, behind so many others.
+fn grade_flaws(
+    alloc: Global,
+    desc: Desc,
+    flaws: &[Flaw],
+    tasks: &[Task],
+    shown: &[Seen],
+    number: u64,
+    share: Share,
+) -> Result<Tries, AllocError>
+    requires built_with { IsBuiltWith desc.layout desc.chip }
+    requires kinds { desc.layout.kinds ≡ kinds_of fresh_standings }
+    requires fits { TasksFit desc.chip (length desc.layout.maps) tasks.now }
+    requires flaws { All (IsFlawOf desc.chip desc.layout) flaws.now }
+    requires every { 0 < share.every }
+    ensures desc { IfOk result (λ tries. tries.desc ≡ desc) }
+    ensures graded { IfOk result (λ tries.
+        tries.graded.items ≡ grades_of desc tasks.now shown.now share number flaws.now) }
+{
+    let mut tries = Tries {
+        desc,
+        graded: Vec::new(alloc),
+    };
+    let mut reached = u128::from(number);
+    for flaw in flaws {
+        reached += 1;
+        if share.takes(reached) {
+            tries = grade_flaw(alloc, tries, *flaw, tasks, shown)?;
+        }
+    }
+    Ok(tries)
+}
+
+/// Tries the flaws of a place that are of a share: each by these tasks, from the first state of the description with
+/// this flaw alone and over adapters that have sent nothing, beside what the same tasks showed without it.
+///
+/// Before this place stand `number` flaws.
+///
+/// # Errors
+///
+/// Want of memory.
+pub fn grade_place(
+    alloc: Global,
+    desc: Desc,
+    tasks: &[Task],
+    shown: &Shown,
+    place: Place,
+    number: u64,
+    share: Share,
+) -> Result<PlaceGrade, AllocError>
+    requires built_with { IsBuiltWith desc.layout desc.chip }
+    requires kinds { desc.layout.kinds ≡ kinds_of fresh_standings }
+    requires fits { TasksFit desc.chip (length desc.layout.maps) tasks.now }
+    requires place { IsPlaceIn desc.chip place }
+    requires every { 0 < share.every }
+    ensures desc { IfOk result (λ grade. grade.desc ≡ desc) }
+    ensures flaws { IfOk result (λ grade. grade.flaws ≡ length (flaws_at desc shown.now.items place)) }
+    ensures graded { IfOk result (λ grade. grade.graded.items ≡ grades_of desc tasks.now shown.now.seen.items
+        share number (flaws_at desc shown.now.items place)) }
+{
+    let flaws = flaws_at(alloc, &desc, shown.items, place)?;
+    let tries = grade_flaws(alloc, desc, &flaws, tasks, &shown.seen, number, share)?;
+    Ok(PlaceGrade {
+        desc: tries.desc,
+        flaws: flaws.len() as u64,
+        graded: tries.graded,
+    })
+}
