@@ -1,0 +1,2 @@
+mod Flaws
+pub mod Parts
