@@ -1,5 +1,5 @@
 //! A table of entries, and accesses to it by index.
-ghost use Rattle.std.specs.Prelude.{◌≡◌, ◌<◌, map, length};
+ghost use Rattle.std.specs.Prelude.{◌<◌, ◌^◌, map, length};
 ghost use Rattle.rl_access.specs.Model.{IsReady};
 ghost use Rattle.rl_indirect.specs.Bank.{IsBankOf};
 
@@ -70,6 +70,19 @@ fn measure_over<D: Device>(
     Ok(make_all(&mut bank, model, device, adapters, accesses, entries))
 }
 
+// Makes them over a device model without flaws.
+fn measure_by(
+    alloc: Global,
+    adapters: &mut Adapters,
+    accesses: u32,
+    entries: u32,
+) -> Result<Summary, Fault>
+    requires few { length (map standing adapters.old.items) < 2 ^ 32 }
+{
+    let (mut model, mut device) = opened(alloc, adapters)?;
+    measure_over(alloc, &mut model, &mut device, adapters, accesses, entries)
+}
+
 /// Makes so many accesses to a table of so many entries, over a plain bus and a device model without flaws.
 pub(crate) fn measure(alloc: Global, accesses: u32, entries: u32) -> Result<Summary, Fault> {
     let plain = PlainAdapter {
@@ -78,13 +91,5 @@ pub(crate) fn measure(alloc: Global, accesses: u32, entries: u32) -> Result<Summ
     };
     let mut adapters: Adapters = Vec::new(alloc);
     adapters.push(Box::new(alloc, plain)?)?;
-    let (mut model, mut device) = opened(alloc, &adapters)?;
-    measure_over(
-        alloc,
-        &mut model,
-        &mut device,
-        &mut adapters,
-        accesses,
-        entries,
-    )
+    measure_by(alloc, &mut adapters, accesses, entries)
 }

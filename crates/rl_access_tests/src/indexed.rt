@@ -6,3 +6,7 @@ mod chip;
 mod flaws;
 mod quiet;
 mod rows;
+
+pub(crate) use banks::banks_built;
+pub(crate) use calls::{Case, run};
+pub(crate) use quiet::Quiet;

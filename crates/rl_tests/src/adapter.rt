@@ -1,7 +1,7 @@
 // An adapter of a bus without byte enables.
-ghost use Rattle.std.specs.Prelude.{true, false};
+ghost use Rattle.std.specs.Prelude.{codes, false};
 ghost use Rattle.rl_bus.specs.Standing.{Standing};
-ghost use Rattle.rl_tests.specs.Kinds.{third_kind};
+ghost use Rattle.rl_bus.specs.Kinds.{plain_kind};
 
 use rl_bus::{
     Adapter, AdapterKind, Answer, BusOp, PlainTransfer, Response, ShortName, Transfer,
@@ -9,14 +9,18 @@ use rl_bus::{
 };
 
 /// The adapter `third`, which carries no byte enables in either direction.
-#[derive(Clone, Copy, Debug, PartialEq, Eq, Drop)]
-pub struct ThirdAdapter {
-    pub next_tag: u64,
-    pub trail: u64,
+#[derive(Drop)]
+pub(crate) struct ThirdAdapter {
+    pub(crate) next_tag: u64,
+    pub(crate) trail: u64,
 }
 
 impl Adapter for ThirdAdapter {
-    ghost standing = { λ a. record { kind = third_kind; tag = a.next_tag; trail = a.trail } };
+    ghost standing = { λ a. record {
+      kind = record plain_kind { name = codes "third"; write_lanes = false; read_lanes = false };
+      tag = a.next_tag;
+      trail = a.trail;
+    } };
 
     fn kind(&self) -> AdapterKind {
         AdapterKind {

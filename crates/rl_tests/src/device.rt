@@ -4,15 +4,15 @@ ghost use Rattle.std.specs.Prelude.{None};
 use rl_bus::{Answer, Cell, Device, Response, Transfer, response_to};
 
 /// A device that doesn't tell its state, answers each third transfer as failed, and reads as 0.
-#[derive(Clone, Copy, Debug, PartialEq, Eq, Drop)]
-pub struct Wavering {
+#[derive(Drop)]
+pub(crate) struct Wavering {
     transfers: u64,
     failures: u64,
 }
 
 impl Wavering {
     /// A device with no transfer so far.
-    pub fn new() -> Wavering {
+    pub(crate) fn new() -> Wavering {
         Wavering {
             transfers: 0,
             failures: 0,

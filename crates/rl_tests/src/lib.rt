@@ -1,23 +1,27 @@
-//! An adapter, a device and a sink that no other crate has, and tests of the public calls over them.
+//! Tests of the public calls over parts that a caller brings: an adapter, a device, sources and sinks that no other
+//! crate has.
 //!
-//! What a command can show stands in `rows/`; here is what it can't: sources and sinks that fail, and parts that a
-//! caller brings.
+//! What a command can show stands in `rows/`; here is what it can't: sources and sinks that fail or wait, words that
+//! are sent alone, and a predictor by itself. All stands apart from the crates that it tests, since a crate with tests
+//! is proved twice.
 #![tactic(auto)]
-
-mod adapter;
-mod device;
-mod sink;
-
-pub use adapter::ThirdAdapter;
-pub use device::Wavering;
-pub use sink::Unending;
 
 #[cfg(test)]
 mod accesses;
 #[cfg(test)]
-mod parts;
+mod adapter;
+#[cfg(test)]
+mod device;
+#[cfg(test)]
+mod fixture;
+#[cfg(test)]
+mod playing;
 #[cfg(test)]
 mod sessions;
+#[cfg(test)]
+mod sink;
+#[cfg(test)]
+mod talk;
 #[cfg(test)]
 mod watching;
 #[cfg(test)]

@@ -5,8 +5,8 @@ use rl_report::{Failed, Sink};
 use std::alloc::Global;
 
 /// A sink that takes what it has memory for, and fails each `finish`.
-#[derive(Debug, Drop)]
-pub struct Unending {
+#[derive(Drop)]
+pub(crate) struct Unending {
     taken: Vec<u8>,
     faults: u64,
     ends: u64,
@@ -14,7 +14,7 @@ pub struct Unending {
 
 impl Unending {
     /// An empty sink.
-    pub fn new(alloc: Global) -> Unending {
+    pub(crate) fn new(alloc: Global) -> Unending {
         Unending {
             taken: Vec::new(alloc),
             faults: 0,
@@ -23,17 +23,17 @@ impl Unending {
     }
 
     /// What it has taken.
-    pub fn taken(&self) -> &[u8] {
+    pub(crate) fn taken(&self) -> &[u8] {
         &self.taken
     }
 
     /// How often it has failed.
-    pub fn faults(&self) -> u64 {
+    pub(crate) fn faults(&self) -> u64 {
         self.faults
     }
 
     /// How often it was finished.
-    pub fn ends(&self) -> u64 {
+    pub(crate) fn ends(&self) -> u64 {
         self.ends
     }
 }

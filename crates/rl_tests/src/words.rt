@@ -1,66 +1,162 @@
-ghost use Rattle.std.specs.Prelude.{◌≡◌, None, map};
+// Words of whole accesses that are sent alone over a device that fails each third of them, and values that are adopted.
+ghost use Rattle.std.specs.Prelude.{◌≡◌, ◌<◌, IfOk, None, length, map};
+ghost use Rattle.rl_map.specs.Layout.{place_at, words_of};
+ghost use Rattle.rl_access.specs.Gathering.{IsRegisterPlace};
 ghost use Rattle.rl_access.specs.Model.{IsReady};
 
-use crate::Wavering;
-use crate::accesses::{opened, plain_adapter, register_at_first};
+use crate::device::Wavering;
+use crate::fixture::{Task, performed};
 use rl_access::{Model, adopt, send_word};
-use rl_bus::{Adapter, Adapters, kind_of};
+use rl_bus::{Adapter, Adapters};
+use rl_model::Item;
+use std::process::Abort;
 use std::test::Fail;
 
-// Two words under an explicit root. Bits 12 to 15 are no field's.
-const WATCHED: &[u8] =
-    b"[[reg]]\nname = 'a'\nbytes = 4\nfield = [{name = 'v', lsb = 0, width = 12, policy = 'RW', reset = 0x5}, {name = 'w', lsb = 16, width = 16, policy = 'RW', reset = 0xffff}]\n[[map]]\nname = 'bus'\nbytes = 2\npredict = 'explicit'\n[[place]]\nmap = 'bus'\nitem = 'a'\n";
+// Two words under an explicit root. Ones that are written clear the upper half.
+fn clearing() -> &'static str {
+    "
+[[reg]]
+name = 'a'
+bytes = 4
+field = [{name = 'v', lsb = 0, width = 16, policy = 'RW'}, {name = 'w', lsb = 16, width = 16, policy = 'W1C', reset = 0xffff}]
+[[map]]
+name = 'bus'
+bytes = 2
+predict = 'explicit'
+[[place]]
+map = 'bus'
+item = 'a'
+"
+}
 
-// What a word of a read answered, and what is mirrored then.
-fn word_read(
+// Two words under an explicit root. Bits 12 to 15 are no field's.
+fn holding() -> &'static str {
+    "
+[[reg]]
+name = 'a'
+bytes = 4
+field = [{name = 'v', lsb = 0, width = 12, policy = 'RW', reset = 0x5}, {name = 'w', lsb = 16, width = 16, policy = 'RW', reset = 0xffff}]
+[[map]]
+name = 'bus'
+bytes = 2
+predict = 'explicit'
+[[place]]
+map = 'bus'
+item = 'a'
+"
+}
+
+/// The number of a word and the value of the write that it is of, or none of a read; then what the device answers,
+/// which is 0, and what is mirrored. The device fails the third, the sixth and the ninth.
+pub(crate) type Row = ((u32, Option<u64>), (u64, u64));
+
+static WRITTEN: [Row; 11] = [
+    ((0, Some(0x1122_3344)), (0, 0xffff_0000)),
+    ((1, Some(0x1122_3344)), (0, 0xeedd_3344)),
+    ((0, Some(0x5566_7788)), (0, 0xeedd_3344)),
+    // Behind a word that failed, and so out of order.
+    ((1, Some(0x5566_7788)), (0, 0xeedd_3344)),
+    ((0, Some(0x5566_7788)), (0, 0xeedd_3344)),
+    ((1, Some(0x5566_7788)), (0, 0xeedd_3344)),
+    // The word before failed, and what was gathered is gone.
+    ((1, Some(0x5566_7788)), (0, 0xeedd_3344)),
+    ((0, Some(0x5566_7788)), (0, 0xeedd_3344)),
+    ((0, Some(0x5566_7788)), (0, 0xeedd_3344)),
+    ((0, Some(0x5566_7788)), (0, 0xeedd_3344)),
+    ((1, Some(0x5566_7788)), (0, 0xaa99_7788)),
+];
+
+static READ: [Row; 2] = [((0, None), (0, 0xffff_0005)), ((1, None), (0, 0))];
+
+fn written() -> &'static [Row] {
+    &WRITTEN
+}
+
+fn read() -> &'static [Row] {
+    &READ
+}
+
+// The register of the first place, where it has four bytes and a word of that number.
+fn register_at_first(model: &Model, k: u32) -> Result<u32, Fail>
+    ensures register { IfOk result (λ _. IsRegisterPlace model.now.layout 0) }
+    ensures word { IfOk result (λ _. k < length (words_of model.now.layout 0 0)) }
+    ensures bytes { IfOk result (λ _. (place_at model.now.layout 0).bytes ≡ 4) }
+    ensures in_range { IfOk result (λ reg. reg < length model.now.chip.regs) }
+{
+    let chip = model.chip();
+    let layout = model.layout();
+    if layout.places() == 0 || k >= layout.words(0) {
+        return Err("no such word".into());
+    }
+    let Item::Reg(reg) = layout.item(0) else {
+        return Err("no register".into());
+    };
+    if reg >= chip.regs() || chip.bytes(Item::Reg(reg)) != 4 {
+        return Err("not of four bytes".into());
+    }
+    Ok(reg)
+}
+
+// Sends a word: what is answered, and what is mirrored then.
+fn sent(
     model: &mut Model,
     device: &mut Wavering,
     adapters: &mut Adapters,
     k: u32,
+    value: Option<u64>,
 ) -> Result<(u64, u64), Fail>
     requires ready { IsReady model.old (map standing adapters.old.items) None }
     ensures ready { IsReady model.new (map standing adapters.new.items) None }
 {
     let reg = register_at_first(model, k)?;
-    let item = send_word(model, device, adapters, 0, k, None);
+    if value.unwrap_or(0) > 0xffff_ffff {
+        return Err("too wide".into());
+    }
+    let item = send_word(model, device, adapters, 0, k, value);
     Ok((item.answer.word, model.mirror().mirrored(reg)))
 }
 
-fn both_words_read(
+/// Sends words alone, each of which is to come to what stands beside it.
+pub(crate) fn all_sent(
+    rt: &impl Abort,
     model: &mut Model,
-    device: &mut Wavering,
     adapters: &mut Adapters,
-) -> Result<[(u64, u64); 2], Fail>
+    rows: &[Row],
+) -> Result<(), Fail>
     requires ready { IsReady model.old (map standing adapters.old.items) None }
 {
-    let first = word_read(model, device, adapters, 0)?;
-    let second = word_read(model, device, adapters, 1)?;
-    Ok([first, second])
+    let mut device = Wavering::new();
+    for ((k, value), want) in rows {
+        let got = sent(model, &mut device, adapters, *k, *value)?;
+        assert_eq!(rt; got, *want, "word {k}");
+    }
+    Ok(())
+}
+
+// The mirror follows at the last word of an access, once all went out in order.
+#[test]
+fn words_sent_alone_are_gathered(rt: HostRuntime) -> Result<(), Fail> {
+    performed(&rt, clearing(), &Task::Send(written()))
 }
 
 // The device reads as 0, and the mirror follows at the last word.
 #[test]
 fn words_of_a_read_are_gathered(rt: HostRuntime) -> Result<(), Fail> {
-    let alloc = rt.alloc();
-    let mut adapters = plain_adapter(alloc)?;
-    let kind = kind_of(&adapters, 0);
-    let mut model = opened(alloc, WATCHED, &[kind])?;
-    let mut device = Wavering::new();
-    let read = both_words_read(&mut model, &mut device, &mut adapters)?;
-    assert_eq!(rt; read, [(0, 0xffff_0005), (0, 0)]);
+    performed(&rt, holding(), &Task::Send(read()))
+}
+
+/// Adopts a value of the first register.
+pub(crate) fn bits_adopted(rt: &impl Abort, model: &mut Model) -> Result<(), Fail> {
+    let reg = register_at_first(model, 0)?;
+    adopt(model, reg, 0x1234_f678);
+    let mirror = model.mirror();
+    let believed = (mirror.mirrored(reg), mirror.desired(reg));
+    assert_eq!(rt; believed, (0x1234_0678, 0x1234_0678));
     Ok(())
 }
 
 // Each field takes its bits, and what is no field's stays 0.
 #[test]
 fn bits_are_adopted(rt: HostRuntime) -> Result<(), Fail> {
-    let alloc = rt.alloc();
-    let adapters = plain_adapter(alloc)?;
-    let kind = kind_of(&adapters, 0);
-    let mut model = opened(alloc, WATCHED, &[kind])?;
-    let reg = register_at_first(&model, 0)?;
-    adopt(&mut model, reg, 0x1234_f678);
-    assert_eq!(rt; model.mirror().mirrored(reg), 0x1234_0678);
-    assert_eq!(rt; model.mirror().desired(reg), 0x1234_0678);
-    Ok(())
+    performed(&rt, holding(), &Task::Adopt)
 }

@@ -3,17 +3,19 @@ ghost use Rattle.std.specs.Prelude.{◌<◌, length};
 ghost use Rattle.rl_access.specs.Model.{IsDeviceOf};
 
 use super::chip::window;
-use crate::fixture::{opened, plain_adapter};
+use crate::fixture::{Task, performed};
 use rl_access::Model;
 use rl_bus::Device;
-use rl_indirect::Bank;
+use rl_indirect::WindowFault::{BadData, BadIndex, BadSize, IndexOutside, SameRegister};
+use rl_indirect::{Bank, Window, WindowFault};
 use std::alloc::{AllocGlobal, Global};
 use std::process::Abort;
 use std::test::Fail;
 
 // Index and data registers, each of which is wrong in one way. The device begins with another index than the model
 // believes in `there`, `believed` and `both`.
-const CHIP: &str = "
+fn chip() -> &'static str {
+    "
 [[reg]]
 name = 'ix'
 bytes = 1
@@ -84,66 +86,75 @@ kind = 'reset'
 field = 'both.k'
 on = 'HARD'
 value = 9
-";
+"
+}
 
-// Index register, data register and size, and the first condition that fails.
-const FAULTS: &str = "\
-ix dt 4 -> built
-wide dt 65536 -> built
-two two 0 -> SameRegister
-none once 0 -> BadIndex
-two dt 4 -> BadIndex
-shifted dt 4 -> BadIndex
-clears dt 4 -> BadIndex
-moves dt 4 -> BadIndex
-ix once 0 -> BadData
-ix unread 4 -> BadData
-ix lives 4 -> BadData
-ix none 4 -> built
-there dt 0 -> BadSize
-ix dt 5 -> BadSize
-wide dt 65537 -> BadSize
-there dt 17 -> BadSize
-there dt 9 -> IndexOutside { value: 9 }
-there dt 10 -> built
-believed dt 5 -> IndexOutside { value: 5 }
-believed dt 6 -> built
-both dt 5 -> IndexOutside { value: 9 }
-";
+// Index register, data register and size, and the first condition that fails, or none where a bank is built.
+type Row = (&'static str, &'static str, u32, Option<WindowFault>);
 
-// The fault of a window, or that a bank is built.
-fn answer<D: Device>(alloc: Global, model: &Model, device: &D, asked: &str) -> Result<String, Fail>
-    requires { IsDeviceOf model.now (D.state device.now) }
+static ROWS: [Row; 21] = [
+    ("ix", "dt", 4, None),
+    ("wide", "dt", 65_536, None),
+    ("two", "two", 0, Some(SameRegister)),
+    ("none", "once", 0, Some(BadIndex)),
+    ("two", "dt", 4, Some(BadIndex)),
+    ("shifted", "dt", 4, Some(BadIndex)),
+    ("clears", "dt", 4, Some(BadIndex)),
+    ("moves", "dt", 4, Some(BadIndex)),
+    ("ix", "once", 0, Some(BadData)),
+    ("ix", "unread", 4, Some(BadData)),
+    ("ix", "lives", 4, Some(BadData)),
+    ("ix", "none", 4, None),
+    ("there", "dt", 0, Some(BadSize)),
+    ("ix", "dt", 5, Some(BadSize)),
+    ("wide", "dt", 65_537, Some(BadSize)),
+    ("there", "dt", 17, Some(BadSize)),
+    ("there", "dt", 9, Some(IndexOutside { value: 9 })),
+    ("there", "dt", 10, None),
+    ("believed", "dt", 5, Some(IndexOutside { value: 5 })),
+    ("believed", "dt", 6, None),
+    ("both", "dt", 5, Some(IndexOutside { value: 9 })),
+];
+
+fn rows() -> &'static [Row] {
+    &ROWS
+}
+
+// The fault of a window, or none where a bank is built.
+fn fault<D: Device>(
+    alloc: Global,
+    model: &Model,
+    device: &D,
+    window: Window,
+    size: u32,
+) -> Option<WindowFault>
+    requires device { IsDeviceOf model.now (D.state device.now) }
+    requires index_reg { window.index_reg < length model.now.chip.regs }
+    requires data_reg { window.data_reg < length model.now.chip.regs }
 {
-    let mut words = asked.split_whitespace();
-    let index = words.next().unwrap_or("");
-    let data = words.next().unwrap_or("");
-    let size = words.next().unwrap_or("").parse::<u32>().unwrap_or(0);
-    let window = window(model.chip(), index, data)?;
     match Bank::build(alloc, model, device, window, size) {
-        Ok(_bank) => Ok(String::from_str(alloc, "built")?),
-        Err(fault) => Ok(format!(in alloc; "{fault:?}")?),
+        Ok(_bank) => None,
+        Err(fault) => Some(fault),
     }
 }
 
-fn answers<D: Device>(
+/// Builds banks, each of which is built or has the fault that stands beside it.
+pub(crate) fn banks_built<D: Device>(
     rt: &(impl Abort + AllocGlobal),
     model: &Model,
     device: &D,
 ) -> Result<(), Fail>
     requires { IsDeviceOf model.now (D.state device.now) }
 {
-    for row in FAULTS.lines() {
-        let (asked, want) = row.split_once(" -> ").ok_or("a row")?;
-        let answer = answer(rt.alloc(), model, device, asked)?;
-        assert_eq!(rt; answer.as_str(), want, "{row}");
+    for (index, data, size, want) in rows() {
+        let window = window(model.chip(), index, data)?;
+        let got = fault(rt.alloc(), model, device, window, *size);
+        assert_eq!(rt; got, *want, "{index} {data} {size}");
     }
     Ok(())
 }
 
 #[test]
 fn each_cause_in_order(rt: HostRuntime) -> Result<(), Fail> {
-    let adapters = plain_adapter(rt.alloc())?;
-    let (model, device) = opened(rt.alloc(), &adapters, CHIP)?;
-    answers(&rt, &model, &device)
+    performed(&rt, chip(), &Task::Banks)
 }

@@ -101,12 +101,31 @@ fn entries<D: Device>(bank: &Bank, model: &Model, device: &D) -> Entries
     (there, believed)
 }
 
-/// The names of the two registers, the accesses one after another with what each comes to, and the entries after them.
+/// The flaws of the device, the names of the two registers, the accesses one after another with what each comes to, and
+/// the entries after them.
 pub(crate) struct Case {
+    pub flaws: &'static str,
     pub index: &'static str,
     pub data: &'static str,
     pub rows: &'static [(Call, Seen)],
     pub entries: Entries,
+}
+
+fn run_bank<D: Device>(
+    rt: &impl Abort,
+    bank: &mut Bank,
+    model: &mut Model,
+    device: &mut D,
+    adapters: &mut Adapters,
+    case: &Case,
+)
+    requires ready { IsReady model.old (map standing adapters.old.items) (D.state device.old) }
+    requires size { bank.old.size ≡ 4 }
+    requires bank { IsBankOf model.old.chip bank.old }
+    requires data { IsOverData (D.state device.old) bank.old }
+{
+    make_all(rt, bank, model, device, adapters, case.rows);
+    assert_eq!(rt; entries(bank, model, device), case.entries);
 }
 
 /// Runs a case over four entries.
@@ -123,7 +142,6 @@ pub(crate) fn run<D: Device>(
     let Ok(mut bank) = Bank::build(rt.alloc(), model, device, window, 4) else {
         return Err("no bank".into());
     };
-    make_all(rt, &mut bank, model, device, adapters, case.rows);
-    assert_eq!(rt; entries(&bank, model, device), case.entries);
+    run_bank(rt, &mut bank, model, device, adapters, case);
     Ok(())
 }

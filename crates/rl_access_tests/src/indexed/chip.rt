@@ -3,11 +3,12 @@ ghost use Rattle.std.specs.Prelude.{◌<◌, IfOk, length};
 
 use rl_indirect::Window;
 use rl_model::Chip;
-use std::alloc::Global;
+use std::alloc::{AllocError, Global};
 use std::test::Fail;
 
 // An index register of four bits that may be written, one that may not, and three data registers: each of a policy.
-const CHIP: &str = "
+fn chip() -> &'static str {
+    "
 [[reg]]
 name = 'ix'
 bytes = 1
@@ -51,11 +52,14 @@ map = 'bus'
 item = 'locked'
 offset = 8
 rights = 'ro'
-";
+"
+}
 
 /// The chip with these flaws.
-pub(crate) fn with_flaws(alloc: Global, flaws: &str) -> Result<String, Fail> {
-    Ok(format!(in alloc; "{CHIP}{flaws}")?)
+pub(crate) fn with_flaws(alloc: Global, flaws: &str) -> Result<String, AllocError> {
+    let mut text = String::from_str(alloc, chip())?;
+    text.push_str(flaws)?;
+    Ok(text)
 }
 
 /// Two registers by their names.

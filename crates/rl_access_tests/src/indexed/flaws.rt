@@ -1,13 +1,12 @@
 // What accesses by index show of a device with a flaw.
 use super::calls::{Call, Case, Seen, WRITTEN};
-use super::rows::run_with;
+use super::rows::run_each;
 use rl_access::End;
 use std::test::Fail;
 
-const STUCK_FLAW: &str = "[[flaw]]\nkind = 'stuck'\nfield = 'rw.v'\nbit = 0\nvalue = 1\n";
-
 // A check names the field of an entry that isn't as it was written.
 const STUCK: Case = Case {
+    flaws: "[[flaw]]\nkind = 'stuck'\nfield = 'rw.v'\nbit = 0\nvalue = 1\n",
     index: "ix",
     data: "rw",
     rows: &[
@@ -32,10 +31,9 @@ const STUCK: Case = Case {
     ),
 };
 
-const DEAF_FLAW: &str = "[[flaw]]\nkind = 'deaf'\nitem = 'ix'\n";
-
 // An index register that takes no write: the value goes to the entry that is selected.
 const DEAF: Case = Case {
+    flaws: "[[flaw]]\nkind = 'deaf'\nitem = 'ix'\n",
     index: "ix",
     data: "rw",
     rows: &[
@@ -52,22 +50,20 @@ const DEAF: Case = Case {
     entries: ([0x1234, 0, 0, 0], [0, 0x1234, 0x1234, 0]),
 };
 
-const UNHEARD_FLAW: &str = "[[flaw]]\nkind = 'error-range'\nmap = 'bus'\nfrom = 0\nto = 0\n";
-
 const FAILED: Seen = (Some(End::BusError { word: 0 }), None, 0, 1);
 
 // The index register isn't heard.
 const UNHEARD: Case = Case {
+    flaws: "[[flaw]]\nkind = 'error-range'\nmap = 'bus'\nfrom = 0\nto = 0\n",
     index: "ix",
     data: "rw",
     rows: &[(Call::Write(1, 0x1234), FAILED), (Call::Check(0), FAILED)],
     entries: ([0; 4], [0; 4]),
 };
 
-const FIFTH_FLAW: &str = "[[flaw]]\nkind = 'error-nth'\nnth = 5\n";
-
 // The fifth item is the first one of the second access to the data register. The index has changed by then.
 const FIFTH: Case = Case {
+    flaws: "[[flaw]]\nkind = 'error-nth'\nnth = 5\n",
     index: "ix",
     data: "rw",
     rows: &[
@@ -91,10 +87,13 @@ const FIFTH: Case = Case {
     ),
 };
 
+static FLAWED: [Case; 4] = [STUCK, DEAF, UNHEARD, FIFTH];
+
+fn flawed() -> &'static [Case] {
+    &FLAWED
+}
+
 #[test]
 fn flaws_are_seen(rt: HostRuntime) -> Result<(), Fail> {
-    run_with(&rt, STUCK_FLAW, &STUCK)?;
-    run_with(&rt, DEAF_FLAW, &DEAF)?;
-    run_with(&rt, UNHEARD_FLAW, &UNHEARD)?;
-    run_with(&rt, FIFTH_FLAW, &FIFTH)
+    run_each(&rt, flawed())
 }

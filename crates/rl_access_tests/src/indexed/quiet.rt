@@ -1,10 +1,10 @@
 // The rows over a device that doesn't tell its state.
 ghost use Rattle.std.specs.Prelude.{◌<◌, None};
 
-use super::calls::{Call, Case, WRITTEN, run};
+use super::calls::{Call, Case, WRITTEN};
 use super::chip::with_flaws;
-use super::rows::{AT_THE_ENDS, TWO_ENTRIES};
-use crate::fixture::{opened, plain_adapter};
+use super::rows::anywhere;
+use crate::fixture::{Task, performed};
 use rl_access::End;
 use rl_bus::{Answer, BusOp, Cell, Device, Response, Transfer, carried, response_to};
 use std::alloc::AllocGlobal;
@@ -13,7 +13,7 @@ use std::test::Fail;
 
 /// The registers `ix` at address 0 and `rw` at 2 and 3, on a bus of one byte. It fails one item.
 #[derive(Drop)]
-struct Quiet {
+pub(crate) struct Quiet {
     bytes: [u8; 4],
     items: u64,
     /// The number of the item that fails, counted from 0.
@@ -22,7 +22,8 @@ struct Quiet {
 }
 
 impl Quiet {
-    fn failing_at(failing: u64) -> Quiet {
+    /// A device that fails the item of this number.
+    pub(crate) fn failing_at(failing: u64) -> Quiet {
         Quiet {
             bytes: [0; 4],
             items: 0,
@@ -82,17 +83,18 @@ impl Device for Quiet {
 }
 
 // Runs a case over a device that fails one item.
-fn run_quietly(rt: &(impl Abort + AllocGlobal), failing: u64, case: &Case) -> Result<(), Fail> {
-    let alloc = rt.alloc();
-    let mut adapters = plain_adapter(alloc)?;
-    let text = with_flaws(alloc, "")?;
-    let (mut model, _bench) = opened(alloc, &adapters, text.as_str())?;
-    let mut device = Quiet::failing_at(failing);
-    run(rt, &mut model, &mut device, &mut adapters, case)
+fn run_quietly(
+    rt: &(impl Abort + AllocGlobal),
+    failing: u64,
+    case: &'static Case,
+) -> Result<(), Fail> {
+    let text = with_flaws(rt.alloc(), case.flaws)?;
+    performed(rt, text.as_str(), &Task::IndexQuietly(failing, case))
 }
 
 // The second byte of the data register fails: its first byte is written, and the model isn't told.
-const HALF: Case = Case {
+static HALF: Case = Case {
+    flaws: "",
     index: "ix",
     data: "rw",
     rows: &[
@@ -109,7 +111,8 @@ const HALF: Case = Case {
 };
 
 // The index of the second access fails, and both sides stay at the entry of the first one.
-const ONCE: Case = Case {
+static ONCE: Case = Case {
+    flaws: "",
     index: "ix",
     data: "rw",
     rows: &[
@@ -126,10 +129,19 @@ const ONCE: Case = Case {
     entries: ([0, 0x1234, 0, 0], [0, 0x1234, 0, 0]),
 };
 
+fn half() -> &'static Case {
+    &HALF
+}
+
+fn once() -> &'static Case {
+    &ONCE
+}
+
 #[test]
 fn accesses_to_a_quiet_device(rt: HostRuntime) -> Result<(), Fail> {
-    run_quietly(&rt, u64::MAX, &TWO_ENTRIES)?;
-    run_quietly(&rt, u64::MAX, &AT_THE_ENDS)?;
-    run_quietly(&rt, 2, &HALF)?;
-    run_quietly(&rt, 3, &ONCE)
+    for case in anywhere() {
+        run_quietly(&rt, u64::MAX, case)?;
+    }
+    run_quietly(&rt, 2, half())?;
+    run_quietly(&rt, 3, once())
 }

@@ -1,4 +1,4 @@
--- Each call may be made.
+-- Each register may be written.
 use Rattle.std.proofs.Common.{None, map}
 use Rattle.rl_access.specs.Model.{IsReady}
 use Rattle.rl_tests.proofs.accesses.all_written.Given as goal
