@@ -1,0 +1,99 @@
+//! Which single flaws of a device the script of a session finds: reads the session from standard input, and writes its
+//! grading to standard output.
+#![tactic(auto)]
+
+ghost use Rattle.std.specs.Prelude.{◌<◌};
+ghost use Rattle.rl_grading.specs.Asked.{share_of};
+
+use rl_apb::ApbAdapter;
+use rl_bus::{Adapters, PlainAdapter};
+use rl_grading::{Asked, Meter, asked_by, run_grade};
+use rl_log::Status;
+use rl_program::{code_of, words};
+use rl_report::{StdSink, StdSource};
+use std::alloc::AllocError;
+use std::io::{self, IsTerminal};
+use std::process::ExitCode;
+
+// Shows on standard error how many flaws stand in the places so far.
+#[derive(Drop)]
+struct Shown<'a, R: Eprint> {
+    rt: &'a R,
+    // It is a terminal, and the grading goes elsewhere.
+    is_terminal: bool,
+}
+
+impl<R: Eprint> Meter for Shown<'_, R> {
+    fn show(&mut self, flaws: u64) {
+        if self.is_terminal {
+            let _ = eprint!(self.rt; "\rregrun-grade: {flaws} flaws");
+        }
+    }
+}
+
+impl<R: Eprint> Shown<'_, R> {
+    // Takes the line away.
+    fn clear(&self) {
+        if self.is_terminal {
+            let _ = eprint!(self.rt; "\r\x1b[K");
+        }
+    }
+}
+
+// Grades the session on standard input, with a plain and an APB adapter for the root maps.
+fn grade(rt: &HostRuntime, asked: Asked) -> Result<Status, AllocError>
+    requires { 0 < (share_of asked).every }
+{
+    let alloc = rt.alloc();
+    let plain = PlainAdapter {
+        next_tag: 0,
+        trail: 0,
+    };
+    let apb = ApbAdapter {
+        next_serial: 0,
+        trail: 0,
+    };
+    let mut adapters: Adapters = Vec::new(alloc);
+    adapters.push(Box::new(alloc, plain)?)?;
+    adapters.push(Box::new(alloc, apb)?)?;
+    let mut source = StdSource::new(rt.reader());
+    let mut log = StdSink::new(io::writer(rt));
+    let mut meter = Shown {
+        rt,
+        is_terminal: rt.stderr().is_terminal() && !rt.stdout().is_terminal(),
+    };
+    let status = run_grade(
+        alloc,
+        asked,
+        &mut source,
+        &mut log,
+        &mut adapters,
+        &mut meter,
+    );
+    meter.clear();
+    Ok(status)
+}
+
+// Says what can be asked for. Answers the exit status.
+fn tell_words(rt: &HostRuntime) -> u8 {
+    let _ = eprintln!(rt;
+        "regrun-grade: `run`, `run K/N` with K from 1 to N, or `missed` is asked for, and a session on standard input"
+    );
+    Status::Words.code()
+}
+
+// Does what the arguments ask for.
+fn run(rt: &HostRuntime) -> io::Result<u8> {
+    let words = words(rt)?;
+    let Some(asked) = asked_by(&words) else {
+        return Ok(tell_words(rt));
+    };
+    if asked.share().every == 0 {
+        return Ok(tell_words(rt));
+    }
+    Ok(grade(rt, asked)?.code())
+}
+
+fn main(rt: HostRuntime) -> ExitCode {
+    code_of(run(&rt), Status::Memory.code(), Status::Words.code())
+}

@@ -1,0 +1,4 @@
+mod Placed
+mod PlaceLemmas
+mod SessionLemmas
+mod WordLemmas

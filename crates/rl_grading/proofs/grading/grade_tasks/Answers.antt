@@ -1,0 +1,6 @@
+use Rattle.rl_play.proofs.BufferLemmas.{keeps_refl}
+use Rattle.rl_play.proofs.EndingLemmas.{front_none}
+use Rattle.rl_grading.proofs.grading.grade_tasks.Goals as goal
+
+pub returns-in_default-clause-bytes : goal.returns-in_default-clause-bytes
+returns-in_default-clause-bytes g c = record { whole = tt; part = front_none _ _ _ (keeps_refl _) }
