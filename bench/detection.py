@@ -1,13 +1,16 @@
 #!/usr/bin/env python3
-"""detection.py PROGRAM: which flaws each sequence finds for each access policy, as the tables of docs/DETECTION.md.
+"""detection.py GRADE: which flaws each sequence finds for each access policy, as the tables of docs/DETECTION.md.
 
-Each register of a chip has a field of one policy, one width and one reset value; a sequence over the chip is graded by
-grade.py, and what was found is told by policy and kind of flaw: always, never, or by the first condition below that holds
-in exactly the tries that found it. JOBS is as in grade.py.
+Each register of a chip has a field of one policy, one width and one reset value; a sequence over the chip is graded by the
+built program regrun_grade, and what was found is told by policy and kind of flaw: always, never, or by the first condition
+below that holds in exactly the tries that found it. Python 3.6 or later and its standard library.
 """
-import collections, itertools, sys
+import collections, itertools, subprocess, sys
 
-import grade
+import add_grades
+
+POLICIES = ("RO RW RC RS WRC WRS WC WS WSRC WCRS W1C W1S W1T W0C W0S W0T "
+            "W1SRC W1CRS W0SRC W0CRS WO WOC WOS W1 WO1").split()
 
 SEQUENCES = ("hw-reset", "bit-bash", "access", "shared", "mem-walk")
 
@@ -40,7 +43,7 @@ VERDICTS = ("always", "sometimes", "never")
 COLUMNS = ("stuck at 0", "stuck at 1", "wrong reset", "other policy", "deaf", "address", "item")
 
 
-def description(shape, sequence, width, policies=grade.POLICIES):
+def description(shape, sequence, width, policies=POLICIES):
     """A chip with a register for each policy and reset value, with two places for shared access, else with one."""
     beside, lsb, resets = shape
     names, text = [], ""
@@ -55,32 +58,54 @@ def description(shape, sequence, width, policies=grade.POLICIES):
     return text
 
 
-def session(program, text, sequence):
-    return grade.Session(program, "{}---\nseq {} *\n".format(text, sequence).encode())
+def graded(program, text, sequence):
+    """What is told of each place of a description where the sequence over it is graded."""
+    given = "{}---\nseq {} *\n".format(text, sequence).encode()
+    ran = subprocess.run([program, "run"], input=given, stdout=subprocess.PIPE, check=True)
+    return add_grades.read(ran.stdout.decode("ascii"))[0]
 
 
-def column_of(flaw):
-    if flaw.kind == "stuck":
-        return "stuck at {}".format(flaw.row["value"])
-    return {"reset": "wrong reset", "policy": "other policy"}.get(flaw.kind, flaw.kind)
+def bits_of(told, sort, width):
+    """Each bit with whether its flaw of the sort is found."""
+    missed = add_grades.numbers(told.missed.get(sort, ()))
+    return [(bit, bit not in missed) for bit in range(width)]
+
+
+def others_found(told, policy):
+    """Each other policy with whether it is found."""
+    missed = told.missed.get("policy", [])
+    others = [it for it in POLICIES if it != policy]
+    return [(it, it not in missed and missed[:1] != ["all"]) for it in others]
+
+
+def counted(told, kind):
+    """Whether each flaw of a kind is found, where they are told by no more than their number."""
+    found, missed = told.counts.get(kind, (0, 0))
+    return [(None, True)] * found + [(None, False)] * missed
 
 
 def tries(program, sequence, shape):
     """By policy and column, each flaw of a field or register that was tried."""
     found = collections.defaultdict(list)
-    sessions = [session(program, description(shape, sequence, width), sequence) for width in shape[2]]
-    for flaw, it in itertools.chain.from_iterable(map(grade.grade, sessions)):
-        if flaw.kind == "item" or flaw.where.endswith((".low", ".high")):
-            continue
-        policy, width, reset = flaw.item.split("_")
-        found[policy, column_of(flaw)].append(Try(int(width), int(reset), flaw.told[1], it))
+    for width in shape[2]:
+        for name, told in graded(program, description(shape, sequence, width), sequence).items():
+            if name == "session" or name.endswith((".low", ".high")):
+                continue
+            policy, _, reset = name.partition(".")[0].split("_")
+            if "." in name:
+                each = {"stuck at 0": bits_of(told, "stuck at 0 bit", width), "stuck at 1": bits_of(told, "stuck at 1 bit", width),
+                        "wrong reset": bits_of(told, "reset HARD bit", width), "other policy": others_found(told, policy)}
+            else:
+                each = {kind: counted(told, kind) for kind in ("deaf", "address")}
+            for column, them in each.items():
+                found[policy, column] += [Try(width, int(reset), what, it) for what, it in them]
     return found
 
 
 def of_items(program, sequence, policy):
     """What of the first and the last item is found, over a register of one field; nothing where it has none."""
-    grading = grade.Grading(session(program, description(ONE, sequence, 3, (policy,)), sequence))
-    return [Try(3, 5, None, *grading.finds([at])) for at, flaw in enumerate(grading.flaws) if flaw.kind == "item"]
+    places = graded(program, description(ONE, sequence, 3, (policy,)), sequence)
+    return [Try(3, 5, *it) for it in counted(places["session"], "item")] if "session" in places else []
 
 
 def condition(tried, atoms):
@@ -105,7 +130,7 @@ def verdict(tried):
 def by_other(tried):
     """By verdict, the other policies that it is of, in the order of the table."""
     sorts = collections.defaultdict(list)
-    for other in grade.POLICIES:
+    for other in POLICIES:
         own = [it for it in tried if it.what == other]
         if own:
             sorts[verdict(own)].append(other)
@@ -125,7 +150,7 @@ def cell(column, tried):
 
 def rows_of(found, columns):
     """The cells of each policy."""
-    return {policy: tuple(cell(it, found[policy, it]) for it in columns) for policy in grade.POLICIES}
+    return {policy: tuple(cell(it, found[policy, it]) for it in columns) for policy in POLICIES}
 
 
 def table(head, rows):
@@ -148,7 +173,7 @@ def others_of(sorts):
 def tell(program, sequence):
     """The part of one sequence."""
     found = tries(program, sequence, ALONE)
-    for policy in grade.POLICIES:
+    for policy in POLICIES:
         found[policy, "item"] = of_items(program, sequence, policy)
     rows = rows_of(found, COLUMNS)
     print("\n### {}\n".format(sequence))
@@ -160,7 +185,7 @@ def tell(program, sequence):
     if other:
         print("\nWith an RW field on each side, where that is otherwise:\n")
         table(COLUMNS[:-1], other)
-    sorts = {policy: by_other(found[policy, "other policy"]) for policy in grade.POLICIES}
+    sorts = {policy: by_other(found[policy, "other policy"]) for policy in POLICIES}
     pairs = [sum(len(it[sort]) for it in sorts.values()) for sort in VERDICTS]
     print("\nOf 600 pairs of a policy and another one, which the device has, "
           "{} are found always, {} sometimes, {} never.".format(*pairs))
@@ -176,14 +201,14 @@ def tell_memories(program):
     text += "".join(PLACE.format("one", "m{}_{}".format(*it), 16 * at) for at, it in enumerate(MEMORIES))
     print("\n### Memories\n\n| sequence | deaf | address | item |\n|---|---|---|---|")
     for sequence in SEQUENCES:
-        graded = grade.grade(session(program, text, sequence))
-        cells = [[Try(0, 0, None, found) for flaw, found in graded if flaw.kind == kind] for kind in COLUMNS[-3:]]
+        places = graded(program, text, sequence).values()
+        cells = [[Try(0, 0, *it) for told in places for it in counted(told, kind)] for kind in COLUMNS[-3:]]
         print("| {} | {} |".format(sequence, " | ".join(verdict(it) if it else "no item" for it in cells)))
 
 
 def main():
     if len(sys.argv) != 2:
-        print("detection.py PROGRAM", file=sys.stderr)
+        print("detection.py GRADE", file=sys.stderr)
         return 6
     for sequence in SEQUENCES:
         tell(sys.argv[1], sequence)

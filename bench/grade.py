@@ -22,7 +22,7 @@ The status is 0 where the session was graded. One that the program refuses is re
 one that has flaws of its own with status 2. JOBS in the environment is the number of processes; absent, one a processor.
 Python 3.11 or later and its standard library. It measures: it proves nothing.
 """
-import collections, multiprocessing, os, re, subprocess, sys, tomllib
+import collections, itertools, multiprocessing, os, re, subprocess, sys, tomllib
 
 POLICIES = ("RO RW RC RS WRC WRS WC WS WSRC WCRS W1C W1S W1T W0C W0S W0T "
             "W1SRC W1CRS W0SRC W0CRS WO WOC WOS W1 WO1").split()
@@ -75,15 +75,27 @@ def as_row(flaw):
     return "[[flaw]]\n" + "".join("{} = {}\n".format(key, value(it)) for key, it in flaw.row.items())
 
 
-def field_flaws(register, field):
-    """The flaws of one field."""
+def reset_kinds(chip):
+    """The kinds of reset in the order in which a chip has them: HARD, SOFT, and the others as fields first have them, those of
+    a field by name."""
+    fields = (field for register in chip.get("reg", []) for field in register.get("field", []))
+    return list(dict.fromkeys(itertools.chain(("HARD", "SOFT"), *(sorted(resets_of(it)) for it in fields))))
+
+
+def resets_of(field):
+    """The value of a field for each kind of reset that it has one for."""
+    resets = field.get("reset", {})
+    return resets if isinstance(resets, dict) else {"HARD": resets}
+
+
+def field_flaws(register, field, kinds=("HARD", "SOFT")):
+    """The flaws of one field, of a chip with these kinds of reset."""
     where, width = "{}.{}".format(register, field["name"]), number(field["width"])
     for value in (0, 1):
         for bit in range(width):
             yield Flaw("stuck", register, where, ("at {} bit".format(value), bit), {"kind": "stuck", "field": where, "bit": bit, "value": value})
-    resets = field.get("reset", {})
-    resets = resets if isinstance(resets, dict) else {"HARD": resets}
-    for kind in sorted(resets):
+    resets = resets_of(field)
+    for kind in (it for it in kinds if it in resets):
         for bit in range(width):
             wrong = {"kind": "reset", "field": where, "on": kind, "value": hex(number(resets[kind]) ^ 1 << bit)}
             yield Flaw("reset", register, where, ("{} bit".format(kind), bit), wrong)
@@ -101,9 +113,10 @@ def item_flaws(item, addresses):
 
 
 def addresses(session, chip):
-    """For each item the root map and the address of each of its words, as the items of a log tell them."""
+    """For each item the root map and the address of each of its words, as the items of a log tell them, by the order of the
+    maps and by address; and for each such address the item of the place that comes first."""
     sizes = {path(it): number(it["size"]) for it in chip.get("mem", [])}
-    script, asked, found = [], [], collections.defaultdict(dict)
+    script, asked, found, owners = [], [], collections.defaultdict(dict), {}
     for place in chip.get("place", []):
         item, writes = place["item"], place.get("rights", "rw") == "wo"
         for at in sorted({0, sizes.get(item, 1) - 1}):
@@ -117,21 +130,22 @@ def addresses(session, chip):
         word = ITEM.match(line)
         if word:
             found[asked[event]][word.groups()] = None
+            owners.setdefault(word.groups(), asked[event])
         else:
             event += 1
-    return found
+    order = {it["name"]: at for at, it in enumerate(chip.get("map", []))}
+    found = {item: sorted(own, key=lambda it: (order[it[0]], int(it[1], 16))) for item, own in found.items()}
+    return collections.defaultdict(list, found), owners
 
 
-def all_flaws(chip, words, items):
+def all_flaws(chip, words, owners, items):
     """Each single flaw of a description with these words, and of a session with so many bus items; an address that two
-    items share is the first one's."""
-    told = set()
+    items share is that of the one whose place comes first."""
+    kinds = reset_kinds(chip)
     for row in chip.get("reg", []) + chip.get("mem", []):
-        own = [it for it in words[path(row)] if it not in told]
-        told.update(own)
-        yield from item_flaws(path(row), own)
+        yield from item_flaws(path(row), [it for it in words[path(row)] if owners[it] == path(row)])
         for field in row.get("field", []):
-            yield from field_flaws(path(row), field)
+            yield from field_flaws(path(row), field, kinds)
     for nth in sorted({1, items} if items else ()):
         yield Flaw("item", None, "session", ("", nth), {"kind": "error-nth", "nth": nth})
 
@@ -162,8 +176,8 @@ class Grading:
             raise Refused("refused session: Python doesn't read the description: {}".format(told), 2)
         if "flaw" in self.chip:
             raise Refused("refused session: the description has flaws of its own", 2)
-        self.words = addresses(session, self.chip)
-        self.flaws = list(all_flaws(self.chip, self.words, sum(it.startswith("  ") for it in log.split("\n"))))
+        self.words, owners = addresses(session, self.chip)
+        self.flaws = list(all_flaws(self.chip, self.words, owners, sum(it.startswith("  ") for it in log.split("\n"))))
         self.before = findings(log)
         self.registers = {path(it): path(it) for it in self.chip.get("reg", [])}
         for it in self.chip.get("reg", []):
@@ -240,7 +254,7 @@ def words_of(them):
     """Bits or items by number, or policies by name."""
     if isinstance(them[0], int):
         return ranges(them)
-    return "all 24" if len(them) == len(POLICIES) - 1 else " ".join(them)
+    return "all 24" if len(them) == len(POLICIES) - 1 and set(them) <= set(POLICIES) else " ".join(them)
 
 
 def missed_text(flaws):
@@ -269,7 +283,8 @@ def print_run(graded):
     for where, each in by_place.items():
         print(line_of(where, each))
     found = sum(it for _, it in graded)
-    share = ", {:.1f} % found".format(100 * found / len(graded)) if graded else ""
+    tenths = 1000 * found // len(graded) if graded else 0
+    share = ", {}.{} % found".format(tenths // 10, tenths % 10) if graded else ""
     print("end: {} flaws, {} found, {} missed{}".format(len(graded), found, len(graded) - found, share))
 
 
