@@ -1,6 +1,6 @@
 -- The lanes of a bus word.
 use Rattle.std.proofs.Common.{◌≡◌, ℕ, zero, suc, ◌+◌, ◌-◌, ◌*◌, ◌/◌, ◌%◌, ◌<◌, Bool, true, false, ◌&&◌, ◌||◌, cond, eqb}
-use Rattle.std.proofs.Common.{ltb, Option, Some, None, is_some, refl, ap, ◌∙◌, subst, arith, add-one, eqb-true}
+use Rattle.std.proofs.Common.{ltb, Some, None, is_some, refl, ap, ◌∙◌, subst, arith, add-one, eqb-true}
 use Rattle.std.specs.Prelude.{slice_index}
 use Rattle.std.proofs.lemmas.Bool.Decides.{nat_tests}
 use Rattle.rl_policy.specs.Bits.{bit, is_within, put_bit, from_bits}
@@ -43,26 +43,30 @@ moved_bit from to b source target = ap (λ t. cond t (bit (from_bits 8 (λ i. so
         rw here (bit-from_bits 8 (λ i. source (8 * from + i)) (b % 8) small)
     by false e = refl
 
--- one lane more, on one bit: e says that the lane is enabled, t that the bit is in its byte
-pub spread_more : (e t x : Bool) (l i : ℕ) (o : Option ℕ) (word : ℕ → Bool) → e ≡ true → x ≡ bit_in o word i → cond t (word (8 * l + i)) x ≡ bit_in (cond (e && t) (Some l) o) word i
-spread_more true true x l i o word enabled h = refl
-spread_more true false x l i o word enabled h = h
-spread_more false t x l i o word enabled h = cc
+-- one lane more of a word that is spread, on the bit at place i of byte j
+pub spread_more : (s : Lanes) (l j i : ℕ) (word : ℕ → Bool) (x : Bool) → bit s.enabled l ≡ true → x ≡ bit_in (lane_below l s j) word i →
+    cond (eqb (slice_index s.bytes l) j) (word (8 * l + i)) x ≡ bit_in (lane_below (l + 1) s j) word i
+spread_more s l j i word x enabled h = rw (lane_below-more, enabled) (by (eqb (slice_index s.bytes l) j))
+  where
+    by : (t : Bool) → cond t (word (8 * l + i)) x ≡ bit_in (cond t (Some l) (lane_below l s j)) word i
+    by true = refl
+    by false = h
 
-pub spread_less : (e t x : Bool) (l i : ℕ) (o : Option ℕ) (word : ℕ → Bool) → e ≡ false → x ≡ bit_in o word i → x ≡ bit_in (cond (e && t) (Some l) o) word i
-spread_less true t x l i o word enabled h = cc
-spread_less false t x l i o word enabled h = h
+pub spread_less : (s : Lanes) (l j i : ℕ) (word : ℕ → Bool) (x : Bool) → bit s.enabled l ≡ false → x ≡ bit_in (lane_below l s j) word i → x ≡ bit_in (lane_below (l + 1) s j) word i
+spread_less s l j i word x disabled h = rw (lane_below-more, disabled) h
 
-pub lane_more : (e t x : Bool) (l : ℕ) (o : Option ℕ) → e ≡ true → x ≡ is_some o → (x || t) ≡ is_some (cond (e && t) (Some l) o)
-lane_more true true true l o enabled h = refl
-lane_more true true false l o enabled h = refl
-lane_more true false true l o enabled h = h
-lane_more true false false l o enabled h = h
-lane_more false t x l o enabled h = cc
+-- the same of the bits that a lane carries
+pub lane_more : (s : Lanes) (l j : ℕ) (x : Bool) → bit s.enabled l ≡ true → x ≡ is_some (lane_below l s j) → (x || eqb (slice_index s.bytes l) j) ≡ is_some (lane_below (l + 1) s j)
+lane_more s l j x enabled h = rw (lane_below-more, enabled) (by x (eqb (slice_index s.bytes l) j) h)
+  where
+    by : (x t : Bool) → x ≡ is_some (lane_below l s j) → (x || t) ≡ is_some (cond t (Some l) (lane_below l s j))
+    by true true h = refl
+    by true false h = h
+    by false true h = refl
+    by false false h = h
 
-pub lane_less : (e t x : Bool) (l : ℕ) (o : Option ℕ) → e ≡ false → x ≡ is_some o → x ≡ is_some (cond (e && t) (Some l) o)
-lane_less true t x l o enabled h = cc
-lane_less false t x l o enabled h = h
+pub lane_less : (s : Lanes) (l j : ℕ) (x : Bool) → bit s.enabled l ≡ false → x ≡ is_some (lane_below l s j) → x ≡ is_some (lane_below (l + 1) s j)
+lane_less s l j x disabled h = rw (lane_below-more, disabled) h
 
 -- one lane more of a word that is gathered, on the bit at place i of lane q
 pub gather_more : (s : Lanes) (lane q i : ℕ) (bits : ℕ → Bool) (x : Bool) → bit s.enabled lane ≡ true → x ≡ (ltb q lane && (bit s.enabled q && bits (8 * slice_index s.bytes q + i))) →

@@ -55,3 +55,5 @@ high_lanes (suc n) lanes word some h = subst (λ k. HasOnlyLanes k (lanes / 2) (
 pub no_word : (n lanes word : ℕ) → n ≡ 0 → HasOnlyLanes n lanes word → word ≡ 0
 unfolding HasOnlyLanes
 no_word n lanes word none h = let P : ℕ → Type 0 = λ k. HasOnlyLanes k lanes word in subst P none h
+
+pub ruleset by_lanes = (one_lane, no_lane, low_lane, high_lanes, no_word)

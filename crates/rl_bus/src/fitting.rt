@@ -38,7 +38,7 @@ fn is_word(bytes: u8, lanes: u8, word: u64) -> bool
         && has_only_lanes(bytes, lanes, word)
 }
 
-#[tactic(auto, using(crate::proofs::Words::one_lane, crate::proofs::Words::no_lane, crate::proofs::Words::low_lane, crate::proofs::Words::high_lanes, crate::proofs::Words::no_word))]
+#[tactic(auto, using(crate::proofs::Words::by_lanes))]
 fn has_only_lanes(bytes: u8, lanes: u8, word: u64) -> bool
     ensures fits { IsTrue result → HasOnlyLanes bytes lanes word }
     ensures all { HasOnlyLanes bytes lanes word → IsTrue result }

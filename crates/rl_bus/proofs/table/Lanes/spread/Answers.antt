@@ -2,8 +2,7 @@ use Rattle.std.proofs.Common.{◌≡◌, ◌/◌, ◌%◌, sym, arith, ◌∙◌
 use Rattle.std.specs.Prelude.{slice_index}
 use Rattle.rl_policy.specs.Bits.{bit}
 use Rattle.rl_policy.proofs.BitLemmas.{bit-zero, is_from_bits, from_bits-lt, bit-from_bits}
-use Rattle.rl_bus.specs.Spread.{lane_below}
-use Rattle.rl_bus.proofs.LaneLemmas.{lane_below-none, lane_below-more, moved_bit, spread_more, spread_less}
+use Rattle.rl_bus.proofs.LaneLemmas.{lane_below-none, moved_bit, spread_more, spread_less}
 use Rattle.rl_bus.proofs.table.Lanes.spread.Goals as goal
 use Rattle.rl_bus.proofs.table.Lanes.spread.Goals.{then-is_enabled, else-is_enabled}
 
@@ -14,14 +13,14 @@ pub loop-lane-preserved : goal.loop-lane-preserved
 loop-lane-preserved c = elim c.if-is_enabled.branch [
   | then-is_enabled w ↦ record {
     fits = rw (w.bits-is, w.put-bits.ensures) (from_bits-lt 64 _);
-    bits = λ b k. rw (lane_below-more, w.bits-is, w.put-bits.ensures, w.take.ensures, w.from-place.ensures)
+    bits = λ b k. rw (w.bits-is, w.put-bits.ensures, w.take.ensures, w.from-place.ensures)
         (bit-from_bits 64 _ b k ∙ moved_bit c.loop-lane.lane (slice_index c.args.self.now.bytes c.loop-lane.lane) b (bit c.args.word) (bit c.loop-lane.bits)
-        ∙ spread_more (bit c.args.self.now.enabled c.loop-lane.lane) _ (bit c.loop-lane.bits b) c.loop-lane.lane (b % 8) (lane_below c.loop-lane.lane c.args.self.now (b / 8)) (bit c.args.word) (sym c.is_enabled.ensures ∙ w.if-is_enabled.true) (c.loop-lane.invariant.bits b k));
+        ∙ spread_more c.args.self.now c.loop-lane.lane (b / 8) (b % 8) (bit c.args.word) _ (sym c.is_enabled.ensures ∙ w.if-is_enabled.true) (c.loop-lane.invariant.bits b k));
   }
   | else-is_enabled w ↦ record {
     fits = rw w.bits-is c.loop-lane.invariant.fits;
-    bits = λ b k. rw (lane_below-more, w.bits-is)
-        (spread_less (bit c.args.self.now.enabled c.loop-lane.lane) _ (bit c.loop-lane.bits b) c.loop-lane.lane (b % 8) (lane_below c.loop-lane.lane c.args.self.now (b / 8)) (bit c.args.word) (sym c.is_enabled.ensures ∙ w.if-is_enabled.false) (c.loop-lane.invariant.bits b k));
+    bits = λ b k. rw w.bits-is
+        (spread_less c.args.self.now c.loop-lane.lane (b / 8) (b % 8) (bit c.args.word) _ (sym c.is_enabled.ensures ∙ w.if-is_enabled.false) (c.loop-lane.invariant.bits b k));
   }
 ]
 
