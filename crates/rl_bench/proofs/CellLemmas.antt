@@ -4,8 +4,9 @@ use Rattle.std.specs.Prelude.{slice_index}
 use Rattle.std.proofs.lemmas.List.{get_or_read}
 use Rattle.rl_bus.specs.Setup.{Setup}
 use Rattle.rl_bench.specs.declared.shape.Shape.{Shape}
+use Rattle.rl_bench.specs.declared.cells.Cells.{Cells}
 use Rattle.rl_bench.specs.Shape.{IsShapeOf}
-use Rattle.rl_bench.specs.Board.{AreShapesOf}
+use Rattle.rl_bench.specs.Board.{AreShapesOf, FitCells}
 
 pub shape_at : (t : Setup) (shapes : List Shape) (r : ℕ) (s : Shape) → AreShapesOf t shapes → r < length t.regs → s ≡ get_or shapes r s → IsShapeOf (record { setup = t; reg = r }) s
 shape_at t shapes r s h l e = subst (λ x. IsShapeOf (record { setup = t; reg = r }) x) (sym e) (h.each r s l)
@@ -15,6 +16,6 @@ pub record IsRead (t : Setup) (words : List ℕ) (r : ℕ) (s : Shape) (word : �
   pub shape_is : IsShapeOf (record { setup = t; reg = r }) s
   pub word_is : word ≡ slice_index words r
 
-pub reg_read : (t : Setup) (shapes : List Shape) (words : List ℕ) (r : ℕ) (s : Shape) (word : ℕ) → AreShapesOf t shapes → r < length t.regs → length words ≡ length t.regs
-    → s ≡ get_or shapes r s → word ≡ get_or words r word → IsRead t words r s word
-reg_read t shapes words r s word h low same e f = record { shape_is = shape_at t shapes r s h low e; word_is = get_or_read words r word (omega (arith, low, same)) f 0 }
+pub reg_read : {t : Setup} {shapes : List Shape} {c : Cells} (r : ℕ) {s : Shape} {word : ℕ} → AreShapesOf t shapes → FitCells t c → r < length t.regs
+    → s ≡ get_or shapes r s → word ≡ get_or c.bits.items r word → IsRead t c.bits.items r s word
+reg_read {t} {shapes} {c} r {s} {word} h fit low e f = record { shape_is = shape_at t shapes r s h low e; word_is = get_or_read c.bits.items r word (omega arith) f 0 }

@@ -13,7 +13,7 @@ pub returns-in-Reg-clause-state : goal.returns-in-Reg-clause-state
 returns-in-Reg-clause-state c beats items =
     let t = setup_held c.args.board.now.tables in
     let old = c.args.cells.now in
-    let seen = reg_read t c.args.board.now.shapes.items old.bits.items c.in-Reg.reg c.index.result.now _ c.args.board.now.shaped (c.requires.cell.reg c.in-Reg.reg c.in-Reg.is) c.requires.fit.bits c.index.ensures c.index-in-Reg.ensures in
+    let seen = reg_read c.in-Reg.reg c.args.board.now.shaped c.requires.fit (c.requires.cell.reg c.in-Reg.reg c.in-Reg.is) c.index.ensures c.index-in-Reg.ensures in
     rw c.in-Reg.is (ap (λ v. record (state_of t old beats items) { bits = slice_set old.bits.items c.in-Reg.reg v })
     (c.read-word.ensures.bits _ seen.shape_is ∙ ap (λ n. held t c.in-Reg.reg (λ b. bit_left (policy_at t c.in-Reg.reg b) (bit n b) (lane_bit c.args.lanes.now b))) seen.word_is))
 
@@ -21,7 +21,7 @@ pub returns-in-Reg-clause-answer : goal.returns-in-Reg-clause-answer
 returns-in-Reg-clause-answer c beats items =
     let t = setup_held c.args.board.now.tables in
     let old = c.args.cells.now in
-    let seen = reg_read t c.args.board.now.shapes.items old.bits.items c.in-Reg.reg c.index.result.now _ c.args.board.now.shaped (c.requires.cell.reg c.in-Reg.reg c.in-Reg.is) c.requires.fit.bits c.index.ensures c.index-in-Reg.ensures in
+    let seen = reg_read c.in-Reg.reg c.args.board.now.shaped c.requires.fit (c.requires.cell.reg c.in-Reg.reg c.in-Reg.is) c.index.ensures c.index-in-Reg.ensures in
     rw c.in-Reg.is (c.read-word.ensures.word _ seen.shape_is ∙ ap (λ n. from_bits 64 (gathered_bit c.args.lanes.now (λ b. bit_answered (policy_at t c.in-Reg.reg b) (bit n b)))) seen.word_is)
 
 pub location-at-requires-clause-mem : goal.location-at-requires-clause-mem

@@ -16,8 +16,9 @@ returns-in-Reg-clause-state c beats items =
     let t = setup_held c.args.board.now.tables in
     let r = c.in-Reg.reg in
     let old = c.args.cells.now in
-    let seen = reg_read t c.args.board.now.shapes.items old.bits.items r c.index.result.now _ c.args.board.now.shaped (c.requires.cell.reg c.in-Reg.reg c.in-Reg.is) c.requires.fit.bits c.index.ensures c.index-in-Reg.ensures in
-    let m : c.index-in-Reg-2.result.now ≡ slice_index old.marks.items r = get_or_read old.marks.items r _ (omega (arith, c.requires.cell.reg r c.in-Reg.is, c.requires.fit.marks)) c.index-in-Reg-2.ensures 0 in
+    let there = c.requires.cell.reg r c.in-Reg.is in
+    let seen = reg_read r c.args.board.now.shaped c.requires.fit there c.index.ensures c.index-in-Reg.ensures in
+    let m : c.index-in-Reg-2.result.now ≡ slice_index old.marks.items r = get_or_read old.marks.items r _ (omega arith) c.index-in-Reg-2.ensures 0 in
     let word = spread_bit c.args.lanes.now (bit c.args.word) in
     let lanes = lane_bit c.args.lanes.now in
     rw c.in-Reg.is

@@ -17,7 +17,7 @@ returns-in-Reg-clause-state c beats items =
     let t = setup_held c.args.board.now.tables in
     let r = c.in-Reg.reg in
     let old = c.args.cells.now in
-    let seen = reg_read t c.args.board.now.shapes.items old.bits.items r c.index.result.now _ c.args.board.now.shaped (c.requires.cell.reg c.in-Reg.reg c.in-Reg.is) c.requires.fit.bits c.index.ensures c.index-in-Reg.ensures in
+    let seen = reg_read r c.args.board.now.shaped c.requires.fit (c.requires.cell.reg r c.in-Reg.is) c.index.ensures c.index-in-Reg.ensures in
     rw c.in-Reg.is (ap (λ v. record (state_of t old beats items) { bits = slice_set old.bits.items r v })
     (c.hold.ensures _ seen.shape_is
     ∙ held_same t r _ _ (λ b k. rw (c.replaced-deposited.ensures b k, seen.shape_is.effects.owned b k, owned_some (policy_of t) (field_at t r b), seen.word_is) refl)))
