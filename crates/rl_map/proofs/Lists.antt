@@ -11,10 +11,6 @@ pub filter_none : {X : Type 0} (p : X → Bool) (xs : List X) → AllByRecursion
 filter_none p [] h = refl
 filter_none p (x ∷ xs) h = rw h.0 (filter_none p xs h.1)
 
-pub filter_all : {X : Type 0} (p : X → Bool) (xs : List X) → AllByRecursion (λ x. p x ≡ true) xs → filter p xs ≡ xs
-filter_all p [] h = refl
-filter_all p (x ∷ xs) h = rw h.0 (ap (λ ys. x ∷ ys) (filter_all p xs h.1))
-
 pub filter_same : {X : Type 0} (p q : X → Bool) (xs : List X) → AllByRecursion (λ x. p x ≡ q x) xs → filter p xs ≡ filter q xs
 filter_same p q [] h = refl
 filter_same p q (x ∷ xs) h = rw h.0 (ap (λ ys. cond (q x) (x ∷ ys) ys) (filter_same p q xs h.1))

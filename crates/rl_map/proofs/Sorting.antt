@@ -1,18 +1,18 @@
 -- Rows by port and address.
-use Rattle.std.proofs.Common.{◌≡◌, ℕ, zero, suc, ◌+◌, ◌*◌, ◌^◌, ◌<◌, ◌≤◌, ◌-◌, ◌⊎◌, inl, inr, Bool, true, false, ◌==◌, List, []}
-use Rattle.std.proofs.Common.{◌∷◌, ◌++◌, length, get_or, subst, take, drop, nat_le, refl, sym, ap, ◌∙◌, arith, eq-eqb, eqb-true}
+use Rattle.std.proofs.Common.{◌≡◌, ℕ, suc, ◌+◌, ◌*◌, ◌^◌, ◌<◌, ◌≤◌, ◌-◌, ◌⊎◌, inl, inr, Bool, true, false, ◌==◌, List, []}
+use Rattle.std.proofs.Common.{◌∷◌, ◌++◌, length, get_or, subst, take, drop, not, refl, sym, ap, ◌∙◌, arith, eq-eqb, eqb-true}
 use Rattle.std.specs.Prelude.{filter, All}
-use Rattle.std.specs.List.{AllByRecursion, AllWithin}
-use Rattle.std.proofs.lemmas.Bool.{cases_lt}
+use Rattle.std.specs.List.{AllByRecursion, AllWithin, position_or_len}
+use Rattle.std.proofs.lemmas.Bool.{cases_lt, cases_Bool}
 use Rattle.std.proofs.lemmas.Bool.Decides.{nat_tests}
-use Rattle.std.proofs.lemmas.List.{take-append-drop}
+use Rattle.std.proofs.lemmas.List.{take-append-drop, get_or-drop, length-drop}
 use Rattle.std.proofs.lemmas.List.Elements.{filter-append, recursion_from_All}
 use Rattle.std.proofs.lemmas.Nat.{same_from_place}
 use Rattle.rl_bus.specs.declared.table.WordRow.{WordRow}
 use Rattle.rl_bus.specs.declared.table.Cell.TheVariants as cell
 use Rattle.rl_bus.specs.Setup.{stands_at}
-use Rattle.rl_map.specs.Layout.{key_of}
-use Rattle.rl_map.proofs.Lists.{filter_none, filter_all, filter_same, all_below, all_from}
+use Rattle.rl_map.specs.Layout.{key_of, IsAscending}
+use Rattle.rl_map.proofs.Lists.{filter_none, filter_same, all_below, all_from}
 use Rattle.rl_map.proofs.Lookups.{default_any}
 use Rattle.rl_map.proofs.Bools.{and_true, both}
 
@@ -47,18 +47,7 @@ standing_by_key rows port address low h =
 pub some_row : WordRow
 some_row = record { port = 0; address = 0; reads = false; writes = false; cell = cell.Reg 0; place = 0; lanes = record { enabled = 0; bytes = [] } }
 
--- ---- the rows of a key, by two points
-
-all_mid : {X : Type 0} (P : X → Type 0) (xs : List X) (s n : ℕ) → AllWithin P xs s (s + n) → s + n ≤ length xs → AllByRecursion P (take n (drop s xs))
-all_mid P xs zero n h low = all_below P xs n (λ k d p q. h k d (omega arith) (omega arith)) (omega arith)
-all_mid P [] (suc s) n h low = absurd (omega arith)
-all_mid P (x ∷ xs) (suc s) n h low = all_mid P xs s n (λ k d p q. h (suc k) d (omega arith) (omega arith)) (omega arith)
-
-drop_twice : {X : Type 0} (xs : List X) (s n : ℕ) → drop n (drop s xs) ≡ drop (s + n) xs
-drop_twice xs zero n = ap (λ k. drop k xs) (let e : n ≡ 0 + n = omega arith in e)
-drop_twice [] (suc s) zero = let e : suc s + 0 ≡ suc s = omega arith in rw e refl
-drop_twice [] (suc s) (suc n) = let e : suc s + suc n ≡ suc (s + suc n) = omega arith in rw e refl
-drop_twice (x ∷ xs) (suc s) n = drop_twice xs s n ∙ (let e : suc s + n ≡ suc (s + n) = omega arith in rw e refl)
+-- ---- the rows of a key, which follow the first that isn't below it
 
 lt_false : (a b : ℕ) → a < b → (a == b) ≡ false
 lt_false a b h = grind (arith, nat_tests)
@@ -66,44 +55,39 @@ lt_false a b h = grind (arith, nat_tests)
 gt_false : (a b : ℕ) → b < a → (a == b) ≡ false
 gt_false a b h = grind (arith, nat_tests)
 
-pub gt_from : (a b : ℕ) → nat_le a b ≡ false → b < a
-gt_from a b h = grind (arith, nat_tests)
+over_from : (a b : ℕ) → b ≤ a → (a == b) ≡ false → b < a
+over_from a b h e = grind (arith, nat_tests)
 
--- the points: below `start` the keys are smaller, from `start` on they aren't, and from `end` on they are greater
-pub record ArePoints (rows : List WordRow) (key start end : ℕ) : Type 0 where
-  pub before : AllWithin (λ r. key_of r < key) rows 0 start
-  pub from : AllWithin (λ r. key ≤ key_of r) rows start (length rows)
-  pub until : AllWithin (λ r. key_of r ≤ key) rows 0 end
-  pub after : AllWithin (λ r. key < key_of r) rows end (length rows)
-  pub start_in : start ≤ length rows
-  pub end_in : end ≤ length rows
-
-pub points_rise : (rows : List WordRow) (key start end : ℕ) (d : WordRow) → ArePoints rows key start end → start ≤ end
-points_rise rows key start end d p =
-    elim (cases_lt end start) [
-      | inl less ↦ let low = p.before end d (omega arith) less in let high = p.after end d (omega arith) (omega (arith, p.start_in)) in absurd (omega arith)
-      | inr above ↦ above
+-- where no key is below it
+in_front : (rows : List WordRow) (key : ℕ) → IsAscending rows → AllByRecursion (λ r. key ≤ key_of r) rows
+    → filter (λ r. key_of r == key) rows ≡ take (position_or_len (λ r. not (key_of r == key)) rows) rows
+in_front [] key rise low = refl
+in_front (r ∷ rs) key rise low =
+    elim (cases_Bool (key_of r == key)) [
+      | inl holds ↦ rw (holds, one) (ap (λ xs. r ∷ xs) (in_front rs key (λ i j d p q. rise (suc i) (suc j) d (omega arith) (omega arith)) low.1))
+      | inr fails ↦
+          let over : key < key_of r = over_from (key_of r) key low.0 fails in
+          rw fails (filter_none (λ x. key_of x == key) rs (all_from (λ x. (key_of x == key) ≡ false) rs 0
+          (λ k d p q. let up = rise 0 (suc k) d (omega arith) (omega arith) in gt_false _ key (omega arith))))
     ]
+  where
+    one : (n : ℕ) → 1 + n ≡ suc n
+    one n = omega arith
 
-pub group_is : (rows : List WordRow) (key start n : ℕ) → ArePoints rows key start (start + n) → filter (λ r. key_of r == key) rows ≡ take n (drop start rows)
-group_is rows key start n p =
+pub group_is : (rows : List WordRow) (key start : ℕ) → IsAscending rows → AllWithin (λ r. key_of r < key) rows 0 start → AllWithin (λ r. key ≤ key_of r) rows start (length rows)
+    → start ≤ length rows → filter (λ r. key_of r == key) rows ≡ take (position_or_len (λ r. not (key_of r == key)) (drop start rows)) (drop start rows)
+group_is rows key start rise before from low =
     let t : WordRow → Bool = λ r. key_of r == key in
     let early : filter t (take start rows) ≡ [] =
-    filter_none t (take start rows) (all_below (λ r. t r ≡ false) rows start (λ k d q r. lt_false _ _ (p.before k d q r)) p.start_in) in
-    let late : filter t (drop n (drop start rows)) ≡ [] =
-    rw (drop_twice rows start n) (filter_none t (drop (start + n) rows) (all_from (λ r. t r ≡ false) rows (start + n) (λ k d q r. gt_false _ _ (p.after k d q r)))) in
-    let mid : filter t (take n (drop start rows)) ≡ take n (drop start rows) =
-    filter_all t (take n (drop start rows)) (all_mid (λ r. t r ≡ true) rows start n
-    (λ k d q r. eq-eqb _ _ (let a = p.from k d q (omega (arith, p.end_in)) in let b = p.until k d (omega arith) r in omega arith)) p.end_in) in
+    filter_none t (take start rows) (all_below (λ r. t r ≡ false) rows start (λ k d q r. lt_false _ _ (before k d q r)) low) in
     ap (filter t) (sym (take-append-drop start rows)) ∙ filter-append t (take start rows) (drop start rows)
     ∙ ap (λ xs. xs ++ filter t (drop start rows)) early
-    ∙ ap (filter t) (sym (take-append-drop n (drop start rows))) ∙ filter-append t (take n (drop start rows)) (drop n (drop start rows))
-    ∙ ap (λ xs. filter t (take n (drop start rows)) ++ xs) late
-    ∙ append_none (filter t (take n (drop start rows))) ∙ mid
-  where
-    append_none : {X : Type 0} (xs : List X) → xs ++ [] ≡ xs
-    append_none [] = refl
-    append_none (x ∷ xs) = ap (λ ys. x ∷ ys) (append_none xs)
+    ∙ in_front (drop start rows) key
+    (λ i j d p q.
+    subst (λ k. key_of (get_or (drop start rows) i d) ≤ key_of k) (sym (get_or-drop start rows j d))
+    (subst (λ k. key_of k ≤ key_of (get_or rows (start + j) d)) (sym (get_or-drop start rows i d))
+    (rise (start + i) (start + j) d (omega arith) (omega (arith, length-drop start rows)))))
+    (all_from (λ r. key ≤ key_of r) rows start from)
 
 -- ---- rows that stand in order already
 

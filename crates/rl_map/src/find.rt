@@ -1,6 +1,7 @@
 //! Words by address.
 ghost use Rattle.std.specs.Prelude.{◌≡◌, ◌<◌, ◌≤◌, ◌*◌, ◌+◌, ◌^◌, ℕ, List, length, filter};
-ghost use Rattle.std.specs.Prelude.{find, position, bytes_eq, All, if◌then◌else◌};
+ghost use Rattle.std.specs.Prelude.{find, position, bytes_eq, All, if◌then◌else◌, ◌==◌, not};
+ghost use Rattle.std.specs.List.{position_or_len};
 ghost use Rattle.rl_bus.specs.Setup.{stands_at};
 ghost use Rattle.rl_map.specs.Layout.{key_of, index_of, is_in, lets_through, IsAscending};
 
@@ -21,16 +22,25 @@ fn lets_through(row: &WordRow, write: bool) -> bool
     if write { row.writes } else { row.reads }
 }
 
-/// The rows at an address of a port, by halves.
+/// How many rows in front have a key.
+fn count_in_front(rows: &[WordRow], sought: u128) -> usize
+    ensures count { result ≡ position_or_len (λ r. not (key_of r == sought)) rows.now }
+    ensures within { result ≤ length rows.now }
+{
+    rows.iter()
+        .position(|row| key(row) != sought)
+        .unwrap_or(rows.len())
+}
+
+/// The rows at an address of a port: the first by halves, and the few behind it one by one.
 pub(crate) fn rows_at(rows: &[WordRow], port: u32, address: u64) -> &[WordRow]
     requires ascending { IsAscending rows.now }
     requires low { All (λ r. r.address < 2 ^ 64) rows.now }
     ensures { result.now ≡ filter (stands_at port address) rows.now }
 {
     let sought = u128::from(port) * (u128::from(u64::MAX) + 1) + u128::from(address);
-    let start = rows.partition_point(|row| key(row) < sought);
-    let end = rows.partition_point(|row| key(row) <= sought);
-    &rows[start..end]
+    let rest = &rows[rows.partition_point(|row| key(row) < sought)..];
+    &rest[..count_in_front(rest, sought)]
 }
 
 /// The first row that has the right of a direction.

@@ -157,6 +157,16 @@ impl Layout {
         self.places[place as usize].item
     }
 
+    /// How many bytes the register, or a location of the memory, at a place has: 1 to 8.
+    pub fn bytes(&self, place: u32) -> u32
+        requires { place < length self.now.places }
+        ensures bytes { result ≡ (place_at self.now place).bytes }
+        ensures some { 0 < result }
+        ensures few { result ≤ 8 }
+    {
+        self.places[place as usize].bytes as u32
+    }
+
     /// The map that a place stands in.
     pub fn map_of(&self, place: u32) -> u32
         requires { place < length self.now.places }
