@@ -13,6 +13,7 @@ pub mod Steps
 pub mod Accesses
 pub mod Registers
 pub mod Sent
+pub mod Whole
 pub mod Locations
 pub mod BySeats
 pub mod UnderWay

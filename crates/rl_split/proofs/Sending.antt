@@ -209,7 +209,7 @@ pub record Reached (l : LayoutData) (place index chosen : ℕ) (write : Bool) : 
 word_lanes : (l : LayoutData) (place index k : ℕ) → IsHere l place index → k < length (words_of l place index) → (get_or (words_of l place index) k no_word).lanes < 2 ^ bus_bytes_of l place
 word_lanes l place index k here inside = (here.words.on k no_word inside).enabled
 
-whole_lanes : (l : LayoutData) (place index k : ℕ) → IsHere l place index → k < length (words_of l place index) →
+pub whole_lanes : (l : LayoutData) (place index k : ℕ) → IsHere l place index → k < length (words_of l place index) →
     chosen_lanes (all_bytes (place_at l place).bytes) (get_or (words_of l place index) k no_word) ≡ (get_or (words_of l place index) k no_word).lanes
 whole_lanes l place index k here inside =
     let words = words_of l place index in

@@ -186,7 +186,7 @@ not_carried : (carried : Bool) (x y : ℕ) → IsFalse carried → cond carried 
 not_carried true x y e = absurd (search rules)
 not_carried false x y e = refl
 
-op_fits : (kind : AdapterKind) (n chosen value : ℕ) (write : Bool) (w : Word) → IsWidth n → n ≤ kind.most_bytes → IsWordOn kind n w → Fits kind (op_for kind n chosen value write w)
+pub op_fits : (kind : AdapterKind) (n chosen value : ℕ) (write : Bool) (w : Word) → IsWidth n → n ≤ kind.most_bytes → IsWordOn kind n w → Fits kind (op_for kind n chosen value write w)
 op_fits kind n chosen value true w width wide on =
     let low = chosen_below chosen w n on.enabled width in
     record {
@@ -311,10 +311,10 @@ all_sent chosen k ws h =
     let none = none_left (sent_words chosen (drop k ws)) (omega (arith, h, ap length whole, length-append (sent_words chosen (take k ws)) (sent_words chosen (drop k ws)))) in
     sym (whole ∙ ap (λ xs. sent_words chosen (take k ws) ++ xs) none ∙ append-nil (sent_words chosen (take k ws)))
 
-pub take_next : (k x : ℕ) (xs : List ℕ) → slice_get xs k ≡ Some x → take (k + 1) xs ≡ take k xs ++ x ∷ []
-take_next k x xs e = take_more xs k 0 (slice_get_within xs k x e) ∙ ap (λ y. take k xs ++ y ∷ []) (get_or_from_slice_get xs k x 0 e)
+pub take_next : {A : Type 0} (k : ℕ) (x : A) (xs : List A) → slice_get xs k ≡ Some x → take (k + 1) xs ≡ take k xs ++ x ∷ []
+take_next k x xs e = take_more xs k x (slice_get_within xs k x e) ∙ ap (λ y. take k xs ++ y ∷ []) (get_or_from_slice_get xs k x x e)
 
-pub taken_length : (k : ℕ) (xs : List ℕ) → k ≤ length xs → length (take k xs) ≡ k
+pub taken_length : {A : Type 0} (k : ℕ) (xs : List A) → k ≤ length xs → length (take k xs) ≡ k
 taken_length k xs l = let e : length (take k xs) ≡ min k (length xs) = length-take k xs in omega (arith, e, l)
 
 pub or_small : (a b : ℕ) → a < 2 ^ 64 → b < 2 ^ 64 → bit_or a b < 2 ^ 64

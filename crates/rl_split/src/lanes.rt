@@ -1,5 +1,5 @@
 //! The chosen bytes of an item in the lanes of a bus word.
-ghost use Rattle.std.specs.Prelude.{◌≡◌, ◌<◌, ◌&&◌, slice_index};
+ghost use Rattle.std.specs.Prelude.{◌≡◌, ◌<◌, ◌&&◌, slice_index, IsTrue};
 ghost use Rattle.rl_policy.specs.Bits.{bit};
 ghost use Rattle.rl_bus.specs.Spread.{AreInCell};
 ghost use Rattle.rl_map.specs.Words.{lanes_of};
@@ -41,5 +41,30 @@ pub(crate) fn lanes_for(word: &Word, chosen: u8) -> Lanes
     Lanes {
         enabled,
         bytes: word.bytes,
+    }
+}
+
+/// All lanes of a word.
+#[inline(always)]
+pub(crate) fn lanes_of(word: &Word) -> Lanes
+    ensures { result ≡ lanes_of word.now }
+{
+    Lanes {
+        enabled: word.lanes,
+        bytes: word.bytes,
+    }
+}
+
+/// The lanes of a word that carry a chosen byte, where it is known whether all bytes of the item are chosen.
+#[inline(always)]
+pub(crate) fn lanes_sent(word: &Word, chosen: u8, whole: bool) -> Lanes
+    requires bytes { AreInCell (lanes_of word.now) }
+    requires whole { IsTrue whole → lanes_of word.now ≡ lanes_for chosen word.now }
+    ensures { result ≡ lanes_for chosen word.now }
+{
+    if whole {
+        lanes_of(word)
+    } else {
+        lanes_for(word, chosen)
     }
 }

@@ -17,7 +17,7 @@ mod lanes;
 pub mod law;
 mod words;
 
-pub use access::{join, split, split_into};
+pub use access::{join, join_whole, split, split_into, whole_op};
 pub use answers::Answers;
 pub use fields::narrow;
 pub use words::Words;

@@ -8,8 +8,15 @@ use Rattle.rl_split.specs.Access.{sent_words, op_for, op_of, ops_of, orders_of, 
 use Rattle.rl_split.specs.Lists.{ops_in, orders_in}
 use Rattle.rl_split.proofs.Sending.{is_here}
 use Rattle.rl_split.proofs.Sent.{Pair, is_sent, is_left_out, pairs_more, pairs_same, firsts, seconds, some_sent, ops_fit}
+use Rattle.rl_split.proofs.Whole.{lanes_chosen}
 use Rattle.rl_split.proofs.access.split_into.Goals as goal
 use Rattle.rl_split.proofs.access.split_into.Goals.{then-lanes-ne0, else-lanes-ne0}
+
+pub lanes_sent-lanes-requires-clause-whole : goal.lanes_sent-lanes-requires-clause-whole
+lanes_sent-lanes-requires-clause-whole c =
+    let l = c.args.layout.now in
+    let here = is_here l c.args.place c.args.index c.ports.ensures.sound c.requires.location in
+    lanes_chosen l c.args.place c.args.index c.args.chosen c.loop-k.k c.word-word.result c.is_whole-whole.result here c.word-word.ensures.word c.is_whole-whole.ensures
 
 pub loop-k-preserved : goal.loop-k-preserved
 loop-k-preserved c =
@@ -24,19 +31,19 @@ loop-k-preserved c =
     let wide = c.port_bytes-bus_bytes.ensures ∙ ap (λ p. (port_at l p).bytes) port in
     elim c.if-lanes-ne0.branch [
       | then-lanes-ne0 v ↦
-          let op = v.operation.ensures c.args.chosen c.lanes_for-lanes.ensures
+          let op = v.operation.ensures c.args.chosen c.lanes_sent-lanes.ensures
           ∙ ap (λ x. op_for x c.port_bytes-bus_bytes.result c.args.chosen c.args.value c.args.write w) kind
           ∙ ap (λ n. op_for (kind_of l place) n c.args.chosen c.args.value c.args.write w) wide in
           let more = v.words-is ∙ v.push.ensures ∙ ap (λ o. c.loop-k.words ++ (o, w.order) ∷ []) op in
           record {
             words = pairs_more f c.args.chosen k words w c.loop-k.words c.if-lanes-ne0.words c.word-word.ensures.word
-                (is_sent c.args.chosen w c.lanes_for-lanes.result c.lanes_for-lanes.ensures v.if-lanes-ne0.true) c.loop-k.invariant.words more;
+                (is_sent c.args.chosen w c.lanes_sent-lanes.result c.lanes_sent-lanes.ensures v.if-lanes-ne0.true) c.loop-k.invariant.words more;
             few = omega (arith, c.loop-k.invariant.few, ap length more, length_push c.loop-k.words (f w));
           }
       | else-lanes-ne0 v ↦
           record {
             words = v.words-is ∙ pairs_same f c.args.chosen k words w c.loop-k.words c.word-word.ensures.word
-                (is_left_out c.args.chosen w c.lanes_for-lanes.result c.lanes_for-lanes.ensures v.if-lanes-ne0.false) c.loop-k.invariant.words;
+                (is_left_out c.args.chosen w c.lanes_sent-lanes.result c.lanes_sent-lanes.ensures v.if-lanes-ne0.false) c.loop-k.invariant.words;
             few = omega (arith, c.loop-k.invariant.few, ap length v.words-is);
           }
     ]
