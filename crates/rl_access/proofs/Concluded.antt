@@ -32,6 +32,6 @@ write_concluded m new good e a op items told ends within = by (failed_at items)
     by (Some k) e_is new_is = rw (e_is, new_is) (record { parts = record { chip = refl; layout = refl }; told = told; ends = told.errors k; within = tt; outcome = refl })
 
 -- an event tells its own items
-pub told_by_trace : (o : List TraceItem → Outcome) (op : Op) (reg : ℕ) (items : List TraceItem) (event : Event) → event ≡ register_event op reg items (o items) → event ≡ register_event op reg event.trace
-    (o event.trace)
+pub told_by_trace : (o : List TraceItem → Outcome) (op : Op) (reg : ℕ) (items : List TraceItem) (event : Event) →
+    event ≡ register_event op reg items (o items) → event ≡ register_event op reg event.trace (o event.trace)
 told_by_trace o op reg items event e = subst (λ (t : List TraceItem). event ≡ register_event op reg t (o t)) (sym (ap (λ (x : Event). x.trace) e)) e

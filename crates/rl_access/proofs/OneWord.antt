@@ -1,7 +1,6 @@
 -- One operation that is sent alone.
-use Rattle.std.proofs.Common.{◌≡◌, ℕ, ◌<◌, List, [], ◌∷◌, length, Bool, true, false, All, Option, Some, slice_get, refl, subst, arith}
+use Rattle.std.proofs.Common.{◌≡◌, ℕ, ◌<◌, List, [], ◌∷◌, length, Bool, true, false, All, Option, refl, arith}
 use Rattle.std.proofs.lemmas.List.Elements.{All-head, All-cons}
-use Rattle.std.proofs.lemmas.Option.{get_or_from_slice_get, slice_get_within}
 use Rattle.rl_bus.specs.Causes.{AnswerHasCause}
 use Rattle.rl_bus.specs.Device.{IsStep}
 use Rattle.rl_bus.specs.Standing.{Standing, standing_at, moved_on, kind_at, kinds_of}
@@ -59,9 +58,6 @@ pub item_fits_there : (l : LayoutData) (port place : ℕ) (s : Standing) (op : B
 item_fits_there l port place s op item items inside bytes fits small =
     All-head (ItemFits l) item [] (items_fit l port (kind_of l place) s (op ∷ []) (item ∷ []) items inside (alone (λ o. o.bytes ≡ (port_at l port).bytes) op bytes) (alone (Fits (kind_of l place)) op
     fits) (alone IsAnswerSmall item small))
-
-pub at_number : {A : Type 0} (P : A → Type 0) (xs : List A) (k : ℕ) (x : A) → All P xs → slice_get xs k ≡ Some x → P x
-at_number P xs k x all e = subst P (get_or_from_slice_get xs k x x e) (all k x (slice_get_within xs k x e))
 
 pub item_fits_sent : {first new : List Standing} {which port errors later : ℕ} {op : BusOp} {item : TraceItem} {state after : Option State} (l : LayoutData) (place : ℕ) →
     IsSentInOrder first new which port (op ∷ []) (item ∷ []) errors later state after →

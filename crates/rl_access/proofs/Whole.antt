@@ -1,22 +1,11 @@
 -- What a whole access sends.
-use Rattle.std.proofs.Common.{◌≡◌, ℕ, ◌^◌, ◌<◌, Bool, true, false, not, ◌&&◌, eqb, ltb, length, get_or, Some, refl, sym, ap, ◌∙◌, subst, arith}
-use Rattle.std.specs.Prelude.{slice_index}
+use Rattle.std.proofs.Common.{◌≡◌, ℕ, ◌<◌, Bool, true, not, eqb, length, get_or, ap, ◌∙◌, arith}
 use Rattle.std.proofs.lemmas.Bool.Decides.{nat_tests}
 use Rattle.std.proofs.lemmas.List.{length-map}
-use Rattle.rl_policy.specs.Bits.{bit}
-use Rattle.rl_policy.proofs.BitLemmas.{bit-from_bits, bit-mask, same_from_bits}
-use Rattle.rl_model.specs.Rows.{ChipData}
-use Rattle.rl_model.specs.Chip.{bytes_of}
-use Rattle.rl_model.specs.declared.rows.Item.{Item}
-use Rattle.rl_model.specs.declared.rows.Item.TheVariants as item
-use Rattle.rl_map.specs.declared.word.Word.{Word}
 use Rattle.rl_map.specs.Layout.{LayoutData, place_at, words_of, IsSound, IsLocation}
-use Rattle.rl_map.specs.Maps.{IsBuiltWith}
 use Rattle.rl_map.specs.Words.{no_word}
 use Rattle.rl_split.specs.Access.{all_bytes, chosen_lanes, has_chosen, sent_words, op_of, ops_of, sent_of}
 use Rattle.rl_split.proofs.Sending.{all_numbered, filter_all, all_chosen, small_lanes, byte_in, IsHere, is_here}
-use Rattle.rl_access.specs.Gathering.{IsRegister, IsRegisterPlace}
-use Rattle.rl_access.specs.Observed.{reg_in}
 
 -- each word has a byte
 pub all_sent : (l : LayoutData) (place index : ℕ) → IsHere l place index → sent_words (all_bytes (place_at l place).bytes) (words_of l place index) ≡ words_of l place index
@@ -46,17 +35,5 @@ whole_count l place index value write sound at =
 
 -- ---- a place of a register
 
-pub register_is : (i : Item) (reg : ℕ) → IsRegister i → reg ≡ reg_in i → i ≡ item.Reg reg
-register_is (item.Reg r) reg is e = ap item.Reg (sym e)
-register_is (item.Mem m) reg is e = absurd is
-
 pub first_of_place : (l : LayoutData) (place : ℕ) → IsSound l → place < length l.places → IsLocation l place 0
 first_of_place l place sound inside = let here = sound.each_place place inside in record { place_in = inside; index_in = omega (arith, here.size) }
-
-pub bytes_at : (c : ChipData) (l : LayoutData) (place reg bytes : ℕ) → IsBuiltWith l c → IsRegisterPlace l place → reg ≡ reg_in (place_at l place).item → bytes_of c (item.Reg reg) ≡ Some bytes →
-    (place_at l place).bytes ≡ bytes
-bytes_at c l place reg bytes built there is e =
-    let same : (place_at l place).item ≡ item.Reg reg = register_is (place_at l place).item reg there.register is in
-    let found : bytes_of c (item.Reg reg) ≡ Some (place_at l place).bytes = subst (λ i. bytes_of c i ≡ Some (place_at l place).bytes) same (built place there.inside).0 in
-    let both : Some (place_at l place).bytes ≡ Some bytes = sym found ∙ e in
-    cc

@@ -1,6 +1,6 @@
 //! The predictor that watches the bus.
 ghost use Rattle.std.specs.Prelude.{◌≡◌, ◌<◌, ◌≤◌, ◌&&◌, length, slice_set, IfOk, IfSome};
-ghost use Rattle.rl_access.specs.Prelude.{IsBuiltWith, IsChoice, IsLocation, IsNothingGathered, all_bytes, place_at};
+ghost use Rattle.rl_access.specs.Prelude.{IsBuiltWith, IsLocation, IsNothingGathered, place_at};
 ghost use Rattle.rl_map.specs.Layout.{words_of};
 ghost use Rattle.rl_mirror.specs.Mirror.{IsMirrorOf};
 ghost use Rattle.rl_mirror.specs.Reachable.{IsReachable};
@@ -9,12 +9,11 @@ ghost use Rattle.rl_access.specs.Gathering.{same_direction, emptied, appended, g
 ghost use Rattle.rl_access.specs.Observed.{as_register, watched_place, is_whole, value_gathered, reg_in, predicted};
 ghost use Rattle.rl_access.specs.Observed.{taken_in, observed};
 
-use crate::model::all_bytes;
 use rl_bus::{Answer, BusOp};
 use rl_map::Layout;
 use rl_mirror::Mirror;
 use rl_model::{Chip, Item};
-use rl_split::{Answers, join, split};
+use rl_split::{Answers, join_whole};
 use std::alloc::{AllocError, Global};
 
 /// The words of a place that were seen so far, all of one direction.
@@ -106,7 +105,7 @@ impl Gathered {
         ensures reach { IsReachable chip.now mirror.old → IsReachable chip.now mirror.new }
     {
         let reg = register_at(chip, layout, place);
-        let value = self.value(chip, layout, place);
+        let value = self.value(layout, place);
         if self.write {
             mirror.predict_write(chip, reg, value, u64::MAX);
         } else {
@@ -115,29 +114,15 @@ impl Gathered {
     }
 
     // The value that the words bring.
-    fn value(&self, chip: &Chip, layout: &Layout, place: u32) -> u64
-        requires built_with { IsBuiltWith layout.now chip.now }
+    fn value(&self, layout: &Layout, place: u32) -> u64
         requires place { IsRegisterPlace layout.now place }
         requires whole { length self.now.words ≡ length (words_of layout.now place 0) }
         ensures { result ≡ value_gathered layout.now place self.now }
     {
         // The call tells that the layout is sound.
         let _ = layout.places();
-        let chosen = bytes_of_place(chip, layout, place);
-        let words = split(layout, place, 0, chosen, 0, false);
-        join(layout, place, 0, chosen, &words, &self.words)
+        join_whole(layout, place, &self.words)
     }
-}
-
-/// The bytes of a register at a place: one bit for each.
-pub(crate) fn bytes_of_place(chip: &Chip, layout: &Layout, place: u32) -> u8
-    requires built_with { IsBuiltWith layout.now chip.now }
-    requires place { IsRegisterPlace layout.now place }
-    ensures bytes { result ≡ all_bytes (place_at layout.now place).bytes }
-    ensures choice { IsChoice (place_at layout.now place).bytes result }
-{
-    let reg = register_at(chip, layout, place);
-    all_bytes(chip.bytes(Item::Reg(reg)))
 }
 
 // The register of a place.

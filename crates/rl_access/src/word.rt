@@ -10,13 +10,11 @@ ghost use Rattle.rl_access.specs.Model.{IsReady, IsSameChip};
 ghost use Rattle.rl_access.specs.Observed.{word_ops};
 ghost use Rattle.rl_access.specs.Word.{IsWordSent};
 
-use crate::engine::operations;
 use crate::model::Model;
-use crate::predictor::bytes_of_place;
 use crate::send::send_one;
 use crate::trace::TraceItem;
 use rl_bus::{Adapter, Adapters, BusOp, Device};
-use rl_split::Words;
+use rl_split::whole_op;
 
 /// Sends one word of a whole write of a value, or of a whole read, at a place of a register. `k` is the
 /// word's number, counted from 0. Where the root is explicit the predictor sees the item.
@@ -50,14 +48,15 @@ pub fn send_word<D: Device>(
 fn word_of(model: &Model, place: u32, k: u32, value: Option<u64>) -> BusOp
     requires place { IsRegisterPlace model.now.layout place }
     requires word { k < length (words_of model.now.layout place 0) }
-    requires value { unwrap_or value 0 < 256 ^ (place_at model.now.layout place).bytes }
     ensures word { slice_get (word_ops model.now.layout place value) k ≡ Some result }
     ensures fits { Fits (kind_of model.now.layout place) result }
     ensures bytes { result.bytes ≡ bus_bytes_of model.now.layout place }
 {
-    let chosen = bytes_of_place(model.chip(), model.layout(), place);
-    let mut words = Words::new();
-    let (carried, write) = (value.unwrap_or(0), value.is_some());
-    operations(model, place, 0, chosen, carried, write, &mut words);
-    words.op(k)
+    whole_op(
+        model.layout(),
+        place,
+        k,
+        value.unwrap_or(0),
+        value.is_some(),
+    )
 }
