@@ -1,58 +1,16 @@
--- The value of a read of which each word was sent, and the operation that an event names.
-use Rattle.std.proofs.Common.{◌≡◌, ℕ, ◌<◌, ◌≤◌, true, false, List, length, Option, None, Some, refl, sym, ap, ◌∙◌, subst}
-use Rattle.std.proofs.lemmas.List.{length-map}
-use Rattle.rl_bus.specs.declared.op.BusOp.{BusOp}
-use Rattle.rl_model.specs.Rows.{ChipData}
-use Rattle.rl_model.specs.Chip.{bytes_of}
-use Rattle.rl_model.specs.Fields.{size_of}
+-- The operation that an event names.
+use Rattle.std.proofs.Common.{◌≡◌, ℕ, ◌<◌, ◌≤◌, true, length, Option, None, Some, refl, sym, ap, subst}
 use Rattle.rl_model.specs.declared.rows.Item.TheVariants as item
-use Rattle.rl_map.specs.Layout.{LayoutData, place_at, words_of}
-use Rattle.rl_split.specs.Access.{IsChoice, all_bytes, ops_of}
-use Rattle.rl_split.specs.Lists.{ops_in}
-use Rattle.rl_access.specs.declared.trace.TraceItem.{TraceItem}
-use Rattle.rl_access.specs.Items.{words_answered, word_answered}
+use Rattle.rl_map.specs.Layout.{place_at, words_of}
 use Rattle.rl_access.specs.declared.event.End.{End}
 use Rattle.rl_access.specs.declared.event.End.TheVariants.{BusError}
 use Rattle.rl_access.specs.Event.{IsEndWithin}
 use Rattle.rl_access.specs.Model.{ModelData, IsModel}
 use Rattle.rl_access.specs.Operation.{register_of, HasNumbers, IsMapIn, has_end, digits_of}
 use Rattle.rl_access.specs.Rules.{named, map_used, map_of_place}
-use Rattle.rl_access.proofs.Places.{all_chosen, size_is}
-use Rattle.rl_access.proofs.Whole.{whole_count, first_of_place}
+use Rattle.rl_access.proofs.Whole.{first_of_place}
 use Rattle.rl_weave.specs.Access.{op_with}
 use Rattle.rl_weave.proofs.Granted.{IsGranted}
-
--- what a chip answers for the bytes of a register, of a model's chip
-size_found : (m : ModelData) (chip : ChipData) (reg bytes : ℕ) → chip ≡ m.chip → bytes_of chip (item.Reg reg) ≡ Some bytes →
-    size_of m.chip reg ≡ bytes
-size_found m chip reg bytes same e = size_is m.chip (item.Reg reg) bytes (subst (λ (h : ChipData). bytes_of h (item.Reg reg) ≡ Some bytes) same e)
-
-pub whole_choice : (m : ModelData) (chip : ChipData) (l : LayoutData) (reg place bytes chosen : ℕ) → chip ≡ m.chip → l ≡ m.layout →
-    bytes_of chip (item.Reg reg) ≡ Some bytes → 1 ≤ bytes → (place_at m.layout place).bytes ≡ size_of m.chip reg → chosen ≡ all_bytes bytes →
-    IsChoice (place_at l place).bytes chosen
-whole_choice m chip l reg place bytes chosen same there e some size all =
-    subst (λ (x : LayoutData). IsChoice (place_at x place).bytes chosen) (sym there)
-    (subst (λ n. IsChoice n chosen) (sym (size ∙ size_found m chip reg bytes same e)) (subst (IsChoice bytes) (sym all) (all_chosen bytes some)))
-
--- there is an answer for each operation
-pub answers_whole : (m : ModelData) (chip : ChipData) (l : LayoutData) (reg place bytes chosen : ℕ) (items : List TraceItem) (answers : List ℕ) (words : List (BusOp × ℕ)) →
-    IsModel m → chip ≡ m.chip → l ≡ m.layout → bytes_of chip (item.Reg reg) ≡ Some bytes →
-    (place_at m.layout place).bytes ≡ size_of m.chip reg → chosen ≡ all_bytes bytes → place < length m.layout.places →
-    answers ≡ words_answered items → length items ≡ length (words_of m.layout place 0) → ops_in words ≡ ops_of l place 0 chosen 0 false →
-    length answers ≡ length words
-answers_whole m chip l reg place bytes chosen items answers words ok same there e size all inside are whole ops =
-    let n = m.layout in
-    let chosen_is : chosen ≡ all_bytes (place_at n place).bytes = all ∙ ap all_bytes (sym (size ∙ size_found m chip reg bytes same e)) in
-    ap length are
-    ∙ length-map items word_answered
-    ∙ whole
-    ∙ sym (whole_count n place 0 0 false ok.layout (first_of_place n place ok.layout inside))
-    ∙ ap (λ x. length (ops_of n place 0 x 0 false)) (sym chosen_is)
-    ∙ ap (λ (x : LayoutData). length (ops_of x place 0 chosen 0 false)) (sym there)
-    ∙ sym (ap length ops)
-    ∙ length-map words (λ (p : BusOp × ℕ). p.0)
-
--- ---- the operation as its event names it
 
 pub reg_in : (m : ModelData) (reg : ℕ) (map value : Option ℕ) → HasNumbers m.chip (length m.layout.maps) (op_with reg map value) →
     reg < length m.chip.regs

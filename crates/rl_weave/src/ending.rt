@@ -1,20 +1,19 @@
 //! The event of an access that is over.
 ghost use Rattle.std.specs.Prelude.{◌≡◌, ◌<◌, ◌≤◌, ◌^◌, ◌+◌, ◌++◌, ◌∷◌, [], true, false, length, All, None, Ok};
 ghost use Rattle.rl_map.specs.Layout.{place_at, words_of};
-ghost use Rattle.rl_split.specs.Access.{all_bytes};
+ghost use Rattle.rl_split.specs.Access.{all_bytes, joined};
 ghost use Rattle.rl_model.specs.Fields.{size_of};
 ghost use Rattle.rl_access.specs.Event.{EventFits, ItemFits, IsEndWithin};
 ghost use Rattle.rl_access.specs.Items.{words_answered};
 ghost use Rattle.rl_access.specs.Operation.{register_of, HasNumbers, has_end, digits_of};
-ghost use Rattle.rl_access.specs.Rules.{grant, named, quiet, register_event, value_of, whole};
+ghost use Rattle.rl_access.specs.Rules.{grant, named, quiet, register_event};
 ghost use Rattle.rl_weave.specs.Access.{op_of, IsWovenOn};
 ghost use Rattle.rl_weave.specs.Step.{good_end, event_with};
 
 use crate::access::Access;
 use crate::woven::Woven;
 use rl_access::{End, Event, Model, Op, Trace, TraceItem};
-use rl_model::Item;
-use rl_split::{Answers, join, split};
+use rl_split::{Answers, join_whole};
 
 impl Woven {
     /// Ends the access with its last item: its event.
@@ -56,7 +55,6 @@ fn op_used(model: &Model, access: &Access, place: u32) -> Op
 
 /// How an access ends of which no item failed.
 fn good_end(model: &Model, access: &Access, place: u32, items: &Trace) -> End
-    requires reg { access.now.reg < length model.now.chip.regs }
     requires place { place < length model.now.layout.places }
     requires bytes { (place_at model.now.layout place).bytes ≡ size_of model.now.chip access.now.reg }
     requires whole { length items.now ≡ length (words_of model.now.layout place 0) }
@@ -67,23 +65,20 @@ fn good_end(model: &Model, access: &Access, place: u32, items: &Trace) -> End
     match access.value {
         Some(_) => End::Done,
         None => End::Value {
-            value: value_read(model, access.reg, place, items),
+            value: value_read(model, place, items),
         },
     }
 }
 
 /// The value that the items of a read brought.
-fn value_read(model: &Model, reg: u32, place: u32, items: &Trace) -> u64
-    requires reg { reg < length model.now.chip.regs }
+fn value_read(model: &Model, place: u32, items: &Trace) -> u64
     requires place { place < length model.now.layout.places }
-    requires bytes { (place_at model.now.layout place).bytes ≡ size_of model.now.chip reg }
     requires whole { length items.now ≡ length (words_of model.now.layout place 0) }
-    ensures value { result ≡ value_of model.now (whole model.now reg place 0) items.now }
-    ensures fits { result < 256 ^ size_of model.now.chip reg }
+    ensures value { result ≡ joined model.now.layout place 0
+        (all_bytes (place_at model.now.layout place).bytes) (words_answered items.now) }
+    ensures fits { result < 256 ^ (place_at model.now.layout place).bytes }
 {
-    let chosen = all_bytes(model.chip().bytes(Item::Reg(reg)));
-    let words = split(model.layout(), place, 0, chosen, 0, false);
-    join(model.layout(), place, 0, chosen, &words, &answers_of(items))
+    join_whole(model.layout(), place, &answers_of(items))
 }
 
 /// The words that the items answered.
@@ -95,14 +90,6 @@ fn answers_of(items: &Trace) -> Answers
         answers.push(items.item(k).answer.word);
     }
     answers
-}
-
-/// The bytes of a register: one bit for each.
-fn all_bytes(bytes: u32) -> u8
-    requires { bytes ≤ 8 }
-    ensures { result ≡ all_bytes bytes }
-{
-    ((1u16 << bytes) - 1) as u8
 }
 
 /// The event of an operation on a register that has ended, with its items.
