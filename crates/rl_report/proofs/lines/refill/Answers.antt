@@ -34,5 +34,7 @@ returns-clause-size g c =
 
 pub returns-clause-grown : goal.returns-clause-grown
 returns-clause-grown g c =
-    read_behind (Consumes (g.S.Source.left c.args.source.now) (g.S.Source.left c.read_behind.new.source)) _ c.read_behind.new.buffer _ c.make_room-from.result.0
-    c.make_room-from.result.1 c.in_ok-count.count c.make_room-from.ensures.ordered (omega (arith, c.make_room-from.ensures.room, c.in_ok-count.ensures.room)) c.in_ok-count.ensures.before c.make_room-from.ensures.same c.in_ok-count.ensures.bytes
+    let m = c.make_room-from in
+    let e = c.in_ok-count in
+    read_behind (Consumes (g.S.Source.left c.args.source.now) (g.S.Source.left c.read_behind.new.source)) _ c.read_behind.new.buffer _ m.result.0 m.result.1 e.count
+    m.ensures.ordered (omega (arith, m.ensures.room, e.ensures.room)) e.ensures.before m.ensures.same e.ensures.bytes
