@@ -144,9 +144,6 @@ next_value h values k l = ap (λ vs. mirror_sum h vs) (drop_more values k 0 l)
 pub no_value : (h : ℕ) (values : List ℕ) (k : ℕ) → length values ≤ k → mirror_sum h (drop k values) ≡ h
 no_value h values k l = ap (λ vs. mirror_sum h vs) (drop_all k values l)
 
-pub none_down : (f : ℕ → List ℕ) (n : ℕ) → n ≡ 0 → flat_map f (reverse (range_with_len 0 n)) ≡ []
-none_down f n e = ap (λ k. flat_map f (reverse (range_with_len 0 k))) e
-
 -- ---- several pushes
 
 pub pushed_twice : (first now next a b : List ℕ) → now ≡ first ++ a → next ≡ now ++ b → next ≡ first ++ (a ++ b)

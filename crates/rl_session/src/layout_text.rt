@@ -1,5 +1,5 @@
 // The text of a layout.
-ghost use Rattle.std.specs.Prelude.{◌≡◌, ◌<◌, ◌≤◌, ◌++◌, length};
+ghost use Rattle.std.specs.Prelude.{◌≡◌, ◌+◌, ◌<◌, ◌≤◌, ◌++◌, drop, length};
 ghost use Rattle.rl_bus.specs.Causes.{HasCause};
 ghost use Rattle.rl_policy.specs.Bits.{bit};
 ghost use Rattle.rl_map.specs.Layout.{IsSound};
@@ -10,7 +10,7 @@ ghost use Rattle.rl_session.specs.LayoutPieces.{heading_text, word_line, words_t
 
 use crate::digits::front;
 use bitflags::Flags;
-use itoa::Buffer;
+use itoa::{Buffer, write_digits};
 use rl_map::{Layout, Word};
 use rl_model::{Chip, Rights};
 use rl_policy::spell;
@@ -23,36 +23,36 @@ fn has_lane(word: &Word, lane: u32) -> bool
     word.lanes >> lane & 1 == 1
 }
 
-fn put_lane<K: Sink>(sink: &mut K, word: &Word, lane: u32) -> Result<(), Failed>
-    requires { lane < 8 }
-    ensures bytes { Puts (K.written sink.old) (K.written sink.new) (lane_text word.now lane) result }
-    ensures cause { HasCause (K.faults sink.old) (K.faults sink.new) result }
-    ensures ends_kept { K.ends sink.new ≡ K.ends sink.old }
-    ensures same_target { K.target sink.new ≡ K.target sink.old }
+// Spells what a lane has, before a place of a text. Answers where it begins.
+fn spell_lane(text: &mut [u8; 32], end: usize, word: &Word, lane: u32) -> usize
+    requires lane { lane < 8 }
+    requires room { 4 ≤ end }
+    requires within { end ≤ 32 }
+    ensures room { end ≤ result + 4 }
+    ensures within { result ≤ end }
+    ensures text { drop result text.new ≡ lane_text word.now lane ++ drop end text.old }
 {
-    if has_lane(word, lane) {
-        let mut number = Buffer::new();
-        put_all(sink, b" ")?;
-        put_all(sink, number.format(word.bytes[lane as usize]).as_bytes())
-    } else {
-        put_all(sink, b" -")
+    if !has_lane(word, lane) {
+        text[end - 1] = b'-';
+        text[end - 2] = b' ';
+        return end - 2;
     }
+    let start = write_digits(u64::from(word.bytes[lane as usize]), text, end) - 1;
+    text[start] = b' ';
+    start
 }
 
-// From the highest lane down.
-fn put_lanes<K: Sink>(sink: &mut K, word: &Word, bytes: u32) -> Result<(), Failed>
+// Spells the lanes at the end of a text, from the highest down. Answers where they begin.
+fn spell_lanes(text: &mut [u8; 32], word: &Word, bytes: u32) -> usize
     requires { bytes ≤ 8 }
-    ensures bytes { Puts (K.written sink.old) (K.written sink.new) (lanes_text bytes word.now) result }
-    ensures cause { HasCause (K.faults sink.old) (K.faults sink.new) result }
-    ensures ends_kept { K.ends sink.new ≡ K.ends sink.old }
-    ensures same_target { K.target sink.new ≡ K.target sink.old }
+    ensures within { result ≤ 32 }
+    ensures text { drop result text.new ≡ lanes_text bytes word.now }
 {
-    let mut lanes = bytes;
-    while lanes > 0 {
-        lanes -= 1;
-        put_lane(sink, word, lanes)?;
+    let mut start = 32;
+    for lane in 0..bytes {
+        start = spell_lane(text, start, word, lane);
     }
-    Ok(())
+    start
 }
 
 // Writes a word of a port whose root map has this name.
@@ -65,13 +65,12 @@ fn put_word<K: Sink>(sink: &mut K, root: &[u8], bytes: u32, word: &Word) -> Resu
 {
     let mut digits = [0u8; 16];
     let len = spell(&mut digits, word.address);
-    put_all(sink, b"  ")?;
-    put_all(sink, root)?;
-    put_all(sink, b" 0x")?;
-    put_all(sink, front(&digits, len))?;
-    put_all(sink, b":")?;
-    put_lanes(sink, word, bytes)?;
-    put_all(sink, b"\n")
+    let address = front(&digits, len);
+    let mut text = [0u8; 32];
+    let start = spell_lanes(&mut text, word, bytes);
+    let lanes = &text[start..];
+    let pieces: [&[u8]; 7] = [b"  ", root, b" 0x", address, b":", lanes, b"\n"];
+    put_pieces(sink, &pieces)
 }
 
 // Writes the words of a place's first location.

@@ -1,51 +1,10 @@
-use Rattle.rl_report.proofs.PieceLemmas.{puts_more, puts_last, puts_failed}
+use Rattle.std.proofs.Common.{◌≡◌, ◌-◌, length, take, drop, take_all, length-drop, arith, rules}
 use Rattle.rl_session.proofs.layout_text.put_word.Goals as goal
-
-pub returns-in_err-put_all-clause-bytes : goal.returns-in_err-put_all-clause-bytes
-returns-in_err-put_all-clause-bytes g c =
-    puts_failed _ _ _ _ _ c.from_residual.ensures.0 c.in_err-put_all.ensures.bytes.part
-
-pub returns-in_err-put_all-2-clause-bytes : goal.returns-in_err-put_all-2-clause-bytes
-returns-in_err-put_all-2-clause-bytes g c =
-    puts_more _ _ _ _ _ _ c.in_ok-put_all.ensures.bytes.whole
-    (puts_failed _ _ _ _ _ c.from_residual-in_err-put_all-2.ensures.0 c.in_err-put_all-2.ensures.bytes.part)
-
-pub returns-in_err-put_all-3-clause-bytes : goal.returns-in_err-put_all-3-clause-bytes
-returns-in_err-put_all-3-clause-bytes g c =
-    puts_more _ _ _ _ _ _ c.in_ok-put_all.ensures.bytes.whole
-    (puts_more _ _ _ _ _ _ c.in_ok-put_all-2.ensures.bytes.whole
-    (puts_failed _ _ _ _ _ c.from_residual-in_err-put_all-3.ensures.0 c.in_err-put_all-3.ensures.bytes.part))
-
-pub returns-in_err-put_all-4-clause-bytes : goal.returns-in_err-put_all-4-clause-bytes
-returns-in_err-put_all-4-clause-bytes g c =
-    puts_more _ _ _ _ _ _ c.in_ok-put_all.ensures.bytes.whole
-    (puts_more _ _ _ _ _ _ c.in_ok-put_all-2.ensures.bytes.whole
-    (puts_more _ _ _ _ _ _ c.in_ok-put_all-3.ensures.bytes.whole
-    (puts_failed _ _ _ _ _ c.from_residual-in_err-put_all-4.ensures.0
-    (rw (c.front.ensures, c.spell-len.ensures.digits) at c.in_err-put_all-4.ensures.bytes.part))))
-
-pub returns-in_err-put_all-5-clause-bytes : goal.returns-in_err-put_all-5-clause-bytes
-returns-in_err-put_all-5-clause-bytes g c =
-    puts_more _ _ _ _ _ _ c.in_ok-put_all.ensures.bytes.whole
-    (puts_more _ _ _ _ _ _ c.in_ok-put_all-2.ensures.bytes.whole
-    (puts_more _ _ _ _ _ _ c.in_ok-put_all-3.ensures.bytes.whole
-    (puts_more _ _ _ _ _ _ (rw (c.front.ensures, c.spell-len.ensures.digits) at c.in_ok-put_all-4.ensures.bytes.whole)
-    (puts_failed _ _ _ _ _ c.from_residual-in_err-put_all-5.ensures.0 c.in_err-put_all-5.ensures.bytes.part))))
-
-pub returns-in_err-put_lanes-clause-bytes : goal.returns-in_err-put_lanes-clause-bytes
-returns-in_err-put_lanes-clause-bytes g c =
-    puts_more _ _ _ _ _ _ c.in_ok-put_all.ensures.bytes.whole
-    (puts_more _ _ _ _ _ _ c.in_ok-put_all-2.ensures.bytes.whole
-    (puts_more _ _ _ _ _ _ c.in_ok-put_all-3.ensures.bytes.whole
-    (puts_more _ _ _ _ _ _ (rw (c.front.ensures, c.spell-len.ensures.digits) at c.in_ok-put_all-4.ensures.bytes.whole)
-    (puts_more _ _ _ _ _ _ c.in_ok-put_all-5.ensures.bytes.whole
-    (puts_failed _ _ _ _ _ c.from_residual-in_err-put_lanes.ensures.0 c.in_err-put_lanes.ensures.bytes.part)))))
 
 pub returns-clause-bytes : goal.returns-clause-bytes
 returns-clause-bytes g c =
-    puts_more _ _ _ _ _ _ c.in_ok-put_all.ensures.bytes.whole
-    (puts_more _ _ _ _ _ _ c.in_ok-put_all-2.ensures.bytes.whole
-    (puts_more _ _ _ _ _ _ c.in_ok-put_all-3.ensures.bytes.whole
-    (puts_more _ _ _ _ _ _ (rw (c.front.ensures, c.spell-len.ensures.digits) at c.in_ok-put_all-4.ensures.bytes.whole)
-    (puts_more _ _ _ _ _ _ c.in_ok-put_all-5.ensures.bytes.whole
-    (puts_more _ _ _ _ _ _ c.in_ok-put_lanes.ensures.bytes.whole (puts_last _ _ _ _ c.put_all-6.ensures.bytes))))))
+    let text = c.spell_lanes-start.new.text in
+    let start = c.spell_lanes-start.result in
+    let long : length text ≡ 32 = search rules in
+    let all : take (32 - start) (drop start text) ≡ drop start text = take_all (32 - start) (drop start text) (omega (arith, length-drop start text, long)) in
+    rw (c.front-address.ensures, c.spell-len.ensures.digits, all, c.spell_lanes-start.ensures.text) at c.put_pieces.ensures.bytes
