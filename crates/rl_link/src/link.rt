@@ -2,7 +2,7 @@
 ghost use Rattle.std.specs.Prelude.{◌≡◌, ◌+◌, ◌-◌, ◌^◌, ◌<◌, ◌≤◌, ◌↔◌, min, [], None, Some, Err, IsSome};
 ghost use Rattle.std.specs.Prelude.{IsNone, is_some, IsOk, IfOk, OnOk, IfSome, if◌then◌else◌, option_map};
 ghost use Rattle.rl_link.specs.Answers.{failure};
-ghost use Rattle.rl_link.specs.Coming.{coming, Answers, IsDone, Takes};
+ghost use Rattle.rl_link.specs.Peer.{CountsLines, TakesAnswer, TakesDone, BrokeBehind};
 ghost use Rattle.rl_link.specs.Prelude.{Appends, AnswerHasCause, IsStep, IsPortOf, IsCellOf, IsFieldOf, IsWidth, poked};
 ghost use Rattle.rl_link.specs.Prelude.{reset_by, hw_set, carried_by, tag_of, IsWellFormed, IsReplyTo, answered_by};
 ghost use Rattle.rl_link.specs.Prelude.{AppendsFront, Puts};
@@ -51,12 +51,10 @@ fn transfer_over<S: Source, K: Sink>(
 ) -> Result<Answer, Cause>
     requires { IsWidth op.now.bytes }
     ensures sent { Puts (K.written talk.old.sink) (K.written talk.new.sink) request.now result }
-    ensures answer { IfOk result (λ answer. IfSome (coming talk.old.held (S.left talk.old.source))
-        (λ bytes. Answers op.now.write op.now.bytes bytes answer (coming talk.new.held (S.left talk.new.source)))) }
+    ensures answer { IfOk result (TakesAnswer S.left talk.old talk.new op.now) }
     ensures small { IfOk result (λ answer. answer.word < 256 ^ op.now.bytes) }
     ensures out_first { result ≡ Err Cause.Unsent → talk.new.source ≡ talk.old.source }
-    ensures lines { Takes talk.old.lines talk.new.lines (coming talk.old.held (S.left talk.old.source))
-        (coming talk.new.held (S.left talk.new.source)) }
+    ensures lines { CountsLines S.left talk.old talk.new }
 {
     let said = talk.ask(request)?;
     let answer = answer_to(op.write, op.bytes, said)?;
@@ -68,11 +66,9 @@ fn transfer_over<S: Source, K: Sink>(
 #[tactic(auto, using(crate::proofs::ComingLemmas::done_here, crate::proofs::SentLemmas::by_whole))]
 fn done_over<S: Source, K: Sink>(talk: &mut Talk<S, K>, request: &[u8]) -> Result<(), Cause>
     ensures sent { Puts (K.written talk.old.sink) (K.written talk.new.sink) request.now result }
-    ensures done { OnOk result (IfSome (coming talk.old.held (S.left talk.old.source))
-        (λ bytes. IsDone bytes (coming talk.new.held (S.left talk.new.source)))) }
+    ensures done { OnOk result (TakesDone S.left talk.old talk.new) }
     ensures out_first { result ≡ Err Cause.Unsent → talk.new.source ≡ talk.old.source }
-    ensures lines { Takes talk.old.lines talk.new.lines (coming talk.old.held (S.left talk.old.source))
-        (coming talk.new.held (S.left talk.new.source)) }
+    ensures lines { CountsLines S.left talk.old talk.new }
 {
     let said = talk.ask(request)?;
     done_by(said)?;
@@ -135,8 +131,7 @@ impl<S: Source, K: Sink> Link<S, K> {
           broken = (if is_some self.old.broken then self.old.broken
               else Some (record { cause = cause; line = min (self.old.talk.lines + 1) (2 ^ 64 - 1) }));
         } }
-        ensures line { IsNone self.old.broken → IfSome self.new.broken
-            (λ broken. broken.line ≡ min (self.new.talk.lines + 1) (2 ^ 64 - 1)) }
+        ensures line { IsNone self.old.broken → BrokeBehind self.new.talk.lines self.new.broken }
     {
         self.count();
         if self.broken.is_none() {
@@ -161,15 +156,11 @@ impl<S: Source, K: Sink> Link<S, K> {
         ensures going { OnOk result (IsNone self.old.broken) }
         ensures sent { Puts (K.written self.old.talk.sink) (K.written self.new.talk.sink)
             (transfer_line (name_at self.old.names.ports port) op.now tag) result }
-        ensures answer { IfOk result (λ answer. IfSome (coming self.old.talk.held (S.left self.old.talk.source))
-            (λ bytes. Answers op.now.write op.now.bytes bytes answer
-            (coming self.new.talk.held (S.left self.new.talk.source)))) }
+        ensures answer { IfOk result (TakesAnswer S.left self.old.talk self.new.talk op.now) }
         ensures small { IfOk result (λ answer. answer.word < 256 ^ op.now.bytes) }
         ensures silent { IsSome self.old.broken → self.new.talk ≡ self.old.talk }
         ensures out_first { result ≡ Err Cause.Unsent → self.new.talk.source ≡ self.old.talk.source }
-        ensures lines { Takes self.old.talk.lines self.new.talk.lines
-            (coming self.old.talk.held (S.left self.old.talk.source))
-            (coming self.new.talk.held (S.left self.new.talk.source)) }
+        ensures lines { CountsLines S.left self.old.talk self.new.talk }
         ensures names { self.new.names ≡ self.old.names }
         ensures errors { self.new.errors ≡ self.old.errors }
         ensures broken { self.new.broken ≡ self.old.broken }
@@ -184,12 +175,9 @@ impl<S: Source, K: Sink> Link<S, K> {
         ensures going { OnOk result (IsNone self.old.broken) }
         ensures sent { Puts (K.written self.old.talk.sink) (K.written self.new.talk.sink)
             (reset_line (name_at self.old.names.kinds kind)) result }
-        ensures done { OnOk result (IfSome (coming self.old.talk.held (S.left self.old.talk.source))
-            (λ bytes. IsDone bytes (coming self.new.talk.held (S.left self.new.talk.source)))) }
+        ensures done { OnOk result (TakesDone S.left self.old.talk self.new.talk) }
         ensures silent { IsSome self.old.broken → self.new.talk ≡ self.old.talk }
-        ensures lines { Takes self.old.talk.lines self.new.talk.lines
-            (coming self.old.talk.held (S.left self.old.talk.source))
-            (coming self.new.talk.held (S.left self.new.talk.source)) }
+        ensures lines { CountsLines S.left self.old.talk self.new.talk }
         ensures names { self.new.names ≡ self.old.names }
         ensures errors { self.new.errors ≡ self.old.errors }
         ensures broken { self.new.broken ≡ self.old.broken }
@@ -204,12 +192,9 @@ impl<S: Source, K: Sink> Link<S, K> {
         ensures going { OnOk result (IsNone self.old.broken) }
         ensures sent { Puts (K.written self.old.talk.sink) (K.written self.new.talk.sink)
             (hw_line (name_at self.old.names.fields field) value) result }
-        ensures done { OnOk result (IfSome (coming self.old.talk.held (S.left self.old.talk.source))
-            (λ bytes. IsDone bytes (coming self.new.talk.held (S.left self.new.talk.source)))) }
+        ensures done { OnOk result (TakesDone S.left self.old.talk self.new.talk) }
         ensures silent { IsSome self.old.broken → self.new.talk ≡ self.old.talk }
-        ensures lines { Takes self.old.talk.lines self.new.talk.lines
-            (coming self.old.talk.held (S.left self.old.talk.source))
-            (coming self.new.talk.held (S.left self.new.talk.source)) }
+        ensures lines { CountsLines S.left self.old.talk self.new.talk }
         ensures names { self.new.names ≡ self.old.names }
         ensures errors { self.new.errors ≡ self.old.errors }
         ensures broken { self.new.broken ≡ self.old.broken }
@@ -235,13 +220,11 @@ impl<S: Source, K: Sink> Device for Link<S, K> {
         ensures cause { AnswerHasCause self.old.errors self.new.errors (answered_by result) }
         ensures step { IsStep None None port (carried_by transfer.now) (answered_by result) }
 
-        // While the link isn't broken, the whole request goes out, and the answer is what the line says that comes
-        // for it.
+        // Unless the link is broken, the whole request goes out, and the line that comes for it tells the answer.
         ensures sent { IsNone self.new.broken → Appends (K.written self.old.talk.sink) (K.written self.new.talk.sink)
             (transfer_line (name_at self.old.names.ports port) (carried_by transfer.now) (tag_of transfer.now)) }
-        ensures answer { IsNone self.new.broken → IfSome (coming self.old.talk.held (S.left self.old.talk.source))
-            (λ bytes. Answers (carried_by transfer.now).write (carried_by transfer.now).bytes bytes (answered_by result)
-            (coming self.new.talk.held (S.left self.new.talk.source))) }
+        ensures answer { IsNone self.new.broken → TakesAnswer S.left self.old.talk self.new.talk
+            (carried_by transfer.now) (answered_by result) }
 
         // Where it breaks in this call, a front of the request went out, and nothing was read before all of it was.
         ensures front { AppendsFront (K.written self.old.talk.sink) (K.written self.new.talk.sink)
@@ -253,11 +236,8 @@ impl<S: Source, K: Sink> Device for Link<S, K> {
             → (self.new.talk ≡ self.old.talk) × (self.new.broken ≡ self.old.broken) }
         ensures names { self.new.names ≡ self.old.names }
         // Each line of the peer that is taken counts one, and the number of a break is that of the line behind them.
-        ensures lines { Takes self.old.talk.lines self.new.talk.lines
-            (coming self.old.talk.held (S.left self.old.talk.source))
-            (coming self.new.talk.held (S.left self.new.talk.source)) }
-        ensures line { IsNone self.old.broken → IfSome self.new.broken
-            (λ broken. broken.line ≡ min (self.new.talk.lines + 1) (2 ^ 64 - 1)) }
+        ensures lines { CountsLines S.left self.old.talk self.new.talk }
+        ensures line { IsNone self.old.broken → BrokeBehind self.new.talk.lines self.new.broken }
     {
         let op = carried(transfer);
         let answer = match self.try_transfer(port, &op, transfer.tag()) {
@@ -293,17 +273,13 @@ impl<S: Source, K: Sink> Device for Link<S, K> {
         ensures later { self.old.errors ≤ self.new.errors }
         ensures sent { IsNone self.new.broken → Appends (K.written self.old.talk.sink) (K.written self.new.talk.sink)
             (reset_line (name_at self.old.names.kinds kind)) }
-        ensures done { IsNone self.new.broken → IfSome (coming self.old.talk.held (S.left self.old.talk.source))
-            (λ bytes. IsDone bytes (coming self.new.talk.held (S.left self.new.talk.source))) }
+        ensures done { IsNone self.new.broken → TakesDone S.left self.old.talk self.new.talk }
         ensures silent { IsSome self.old.broken
             → (self.new.talk ≡ self.old.talk) × (self.new.broken ≡ self.old.broken) }
         ensures names { self.new.names ≡ self.old.names }
         // Each line of the peer that is taken counts one, and the number of a break is that of the line behind them.
-        ensures lines { Takes self.old.talk.lines self.new.talk.lines
-            (coming self.old.talk.held (S.left self.old.talk.source))
-            (coming self.new.talk.held (S.left self.new.talk.source)) }
-        ensures line { IsNone self.old.broken → IfSome self.new.broken
-            (λ broken. broken.line ≡ min (self.new.talk.lines + 1) (2 ^ 64 - 1)) }
+        ensures lines { CountsLines S.left self.old.talk self.new.talk }
+        ensures line { IsNone self.old.broken → BrokeBehind self.new.talk.lines self.new.broken }
     {
         if let Err(cause) = self.try_reset(kind) {
             self.break_off(cause);
@@ -316,17 +292,13 @@ impl<S: Source, K: Sink> Device for Link<S, K> {
         ensures later { self.old.errors ≤ self.new.errors }
         ensures sent { IsNone self.new.broken → Appends (K.written self.old.talk.sink) (K.written self.new.talk.sink)
             (hw_line (name_at self.old.names.fields field) value) }
-        ensures done { IsNone self.new.broken → IfSome (coming self.old.talk.held (S.left self.old.talk.source))
-            (λ bytes. IsDone bytes (coming self.new.talk.held (S.left self.new.talk.source))) }
+        ensures done { IsNone self.new.broken → TakesDone S.left self.old.talk self.new.talk }
         ensures silent { IsSome self.old.broken
             → (self.new.talk ≡ self.old.talk) × (self.new.broken ≡ self.old.broken) }
         ensures names { self.new.names ≡ self.old.names }
         // Each line of the peer that is taken counts one, and the number of a break is that of the line behind them.
-        ensures lines { Takes self.old.talk.lines self.new.talk.lines
-            (coming self.old.talk.held (S.left self.old.talk.source))
-            (coming self.new.talk.held (S.left self.new.talk.source)) }
-        ensures line { IsNone self.old.broken → IfSome self.new.broken
-            (λ broken. broken.line ≡ min (self.new.talk.lines + 1) (2 ^ 64 - 1)) }
+        ensures lines { CountsLines S.left self.old.talk self.new.talk }
+        ensures line { IsNone self.old.broken → BrokeBehind self.new.talk.lines self.new.broken }
     {
         if let Err(cause) = self.try_hw(field, value) {
             self.break_off(cause);
