@@ -34,16 +34,16 @@ use Rattle.rl_grade.proofs.Made.{none_made_up}
 
 -- ---- lists of which no two elements are the same
 
-abbrev Apart : {X : Type 0} → List X → Type 0
+abbrev pub Apart : {X : Type 0} → List X → Type 0
 Apart [] = Unit {0}
 Apart (x ∷ xs) = All (λ y. x ≢ y) xs × Apart xs
 
-apart_pairs : {X : Type 0} (xs : List X) → Apart xs → AllPairs (λ x y. x ≢ y) xs
+pub apart_pairs : {X : Type 0} (xs : List X) → Apart xs → AllPairs (λ x y. x ≢ y) xs
 apart_pairs [] h = λ i j d low high. absurd (omega arith)
 apart_pairs (x ∷ xs) h = AllPairs-cons (λ x y. x ≢ y) x xs h.0 (apart_pairs xs h.1)
 
 -- of two lists that have nothing in common, by what holds of the elements of each
-apart_append : (P Q : Flaw → Type 0) → ((x y : Flaw) → P x → Q y → x ≢ y) → (xs ys : List Flaw) → All P xs → All Q ys
+pub apart_append : {X : Type 0} (P Q : X → Type 0) → ((x y : X) → P x → Q y → x ≢ y) → (xs ys : List X) → All P xs → All Q ys
     → Apart xs → Apart ys → Apart (xs ++ ys)
 apart_append P Q other [] ys p q a b = b
 apart_append P Q other (x ∷ xs) ys p q a b = (
@@ -51,7 +51,7 @@ apart_append P Q other (x ∷ xs) ys p q a b = (
   apart_append P Q other xs ys (λ k d low. p (suc k) d (omega (arith, low))) q a.1 b,
 )
 
-apart_map : {X Y : Type 0} (f : X → Y) → ((a b : X) → f a ≡ f b → a ≡ b) → (xs : List X) → Apart xs → Apart (map f xs)
+pub apart_map : {X Y : Type 0} (f : X → Y) → ((a b : X) → f a ≡ f b → a ≡ b) → (xs : List X) → Apart xs → Apart (map f xs)
 apart_map f one [] h = tt
 apart_map f one (x ∷ xs) h = (
   All-map (λ y. f x ≢ y) f xs (All-weaker (λ y. x ≢ y) (λ y. f x ≢ f y) (λ y other same. other (one x y same)) xs h.0),
@@ -72,7 +72,7 @@ from_on a (suc n) =
     All-cons (λ y. a ≤ y) a (range_with_len (a + 1) n) (omega arith)
     (All-weaker (λ y. a + 1 ≤ y) (λ y. a ≤ y) (λ y low. omega (arith, low)) (range_with_len (a + 1) n) (from_on (a + 1) n))
 
-apart_range : (a n : ℕ) → Apart (range_with_len a n)
+pub apart_range : (a n : ℕ) → Apart (range_with_len a n)
 apart_range a zero = tt
 apart_range a (suc n) = (
   All-weaker (λ y. a + 1 ≤ y) (λ y. a ≢ y) (λ y low same. omega (arith, low, same)) (range_with_len (a + 1) n) (from_on (a + 1) n),
@@ -348,7 +348,7 @@ session_apart items false false is = tt
 
 -- ---- all
 
-place_apart : (d : DescData) (items : ℕ) (place : Place) → Apart (flaws_at d items place)
+pub place_apart : (d : DescData) (items : ℕ) (place : Place) → Apart (flaws_at d items place)
 place_apart d items (OfItem i) = item_apart d.chip d.layout.rows i
 place_apart d items (OfField f) = field_apart d.chip f (width_of d.chip f)
 place_apart d items OfSession = session_apart items (nat_lt 0 items) (nat_lt 1 items) refl

@@ -1,5 +1,6 @@
 -- Flaw by flaw through a list, to the answers of a share.
-use Rattle.std.proofs.Common.{◌≡◌, ℕ, ◌+◌, true, false, if◌then◌else◌, List, [], ◌∷◌, ◌++◌, map, sym, ap, ◌∙◌, append_assoc}
+use Rattle.std.proofs.Common.{◌≡◌, ℕ, ◌+◌, Bool, true, false, if◌then◌else◌, List, [], ◌∷◌, ◌++◌, map, All, sym, ap, ◌∙◌, append_assoc, arith}
+use Rattle.std.proofs.lemmas.List.Elements.{All-cons, All-map, All-nil, All-tail}
 use Rattle.rl_bench.specs.declared.flaw.Flaw.{Flaw}
 use Rattle.rl_desc.specs.Data.{DescData}
 use Rattle.rl_grade.specs.declared.grade.Graded.{Graded}
@@ -31,3 +32,21 @@ module _ (d : DescData) (tasks : List Task) (shown : List Seen) (share : Share) 
       ap (λ n. new ++ left n rest) next ∙ ap (λ gs. gs ++ left (before + 1) rest) same
       ∙ sym (ap (λ fs. done ++ left before fs) is
       ∙ ap (λ b. done ++ map (graded_by d tasks shown) (if b then flaw ∷ others else others)) (ap (is_in_share share) (sym next) ∙ passed)) ∙ h
+
+-- ---- what holds of each flaw of a list holds of those of a share
+
+module _ (P : Flaw → Type 0) where
+  taken_if : (b : Bool) (flaw : Flaw) (flaws : List Flaw) → P flaw → All P flaws → All P (if b then flaw ∷ flaws else flaws)
+  taken_if true flaw flaws here others = All-cons P flaw flaws here others
+  taken_if false flaw flaws here others = others
+
+  shared : (share : Share) (before : ℕ) (flaws : List Flaw) → All P flaws → All P (share_of share before flaws)
+  shared share before [] each = All-nil P
+  shared share before (flaw ∷ flaws) each =
+      taken_if (is_in_share share (before + 1)) flaw (share_of share (before + 1) flaws) (each 0 flaw (omega arith))
+      (shared share (before + 1) flaws (All-tail P flaw flaws each))
+
+  pub each_graded : (d : DescData) (tasks : List Task) (shown : List Seen) (share : Share) (before : ℕ) (flaws : List Flaw)
+      → All P flaws → All (λ (g : Graded). P g.flaw) (grades_of d tasks shown share before flaws)
+  each_graded d tasks shown share before flaws each =
+      All-map (λ (g : Graded). P g.flaw) (graded_by d tasks shown) (share_of share before flaws) (shared share before flaws each)

@@ -1,12 +1,12 @@
 mod Asking
-mod Complete
-mod Distinct
+pub mod Complete
+pub mod Distinct
 mod Driving
 mod Finding
 mod Grading
 mod Keeping
 mod Listed
-mod Made
+pub mod Made
 mod Pushed
 mod Reading
 mod Running

@@ -5,6 +5,7 @@ pub mod Flaws
 pub mod Heard
 pub mod Job
 pub mod Place
+pub mod Prelude
 pub mod Reading
 pub mod Record
 pub mod Run

@@ -1,12 +1,8 @@
 // The tasks of a script on the device model, with each event handed to a recorder.
 ghost use Rattle.std.specs.Prelude.{◌≡◌, ◌<◌, true, map, length, Some, IfSome};
-ghost use Rattle.rl_access.specs.Model.{IsReady, IsSameChip};
-ghost use Rattle.rl_access.specs.Operation.{HasNumbers, is_single};
-ghost use Rattle.rl_access.specs.World.{world};
-ghost use Rattle.rl_bench.specs.State.{bench_state};
-ghost use Rattle.rl_log.specs.Entry.{op_course, sequence_course};
-ghost use Rattle.rl_grade.specs.Drive.{Drives, DrivesAll};
-ghost use Rattle.rl_grade.specs.Job.{JobFits, TasksFit, course_of, heard_by};
+ghost use Rattle.rl_grade.specs.Prelude.{Drives, DrivesAll, HasNumbers, IsReady, IsSameChip, JobFits, TasksFit};
+ghost use Rattle.rl_grade.specs.Prelude.{bench_state, course_of, heard_by, is_single, op_course, sequence_course};
+ghost use Rattle.rl_grade.specs.Prelude.{world};
 
 use crate::job::{Job, Task};
 use rl_access::{Model, Op, Recorder, Tally, burst_read, burst_write, perform};
@@ -88,16 +84,10 @@ fn do_job<R: Recorder>(
             map,
             first,
             values,
-        } => burst_write(
-            model,
-            bench,
-            adapters,
-            *mem,
-            *map,
-            *first,
-            values.items(),
-            recorder,
-        ),
+        } => {
+            let values = values.items();
+            burst_write(model, bench, adapters, *mem, *map, *first, values, recorder)
+        }
         Job::BurstRead {
             mem,
             map,

@@ -1,13 +1,7 @@
 // A flaw that is tried as by a program that was just started.
 ghost use Rattle.std.specs.Prelude.{◌≡◌, IfOk, length};
-ghost use Rattle.rl_bench.specs.Flaws.{IsFlawOf};
-ghost use Rattle.rl_bus.specs.Standing.{kinds_of};
-ghost use Rattle.rl_map.specs.Maps.{IsBuiltWith};
-ghost use Rattle.rl_session.specs.Judged.{first_world};
-ghost use Rattle.rl_grade.specs.Adapters.{fresh_standings};
-ghost use Rattle.rl_grade.specs.Find.{first_find};
-ghost use Rattle.rl_grade.specs.Job.{TasksFit, heard_by};
-ghost use Rattle.rl_grade.specs.Place.{with_flaw};
+ghost use Rattle.rl_grade.specs.Prelude.{IsBuiltWith, IsFlawOf, TasksFit, first_find, first_world, fresh_standings};
+ghost use Rattle.rl_grade.specs.Prelude.{heard_by, kinds_of, with_flaw};
 
 use crate::job::Task;
 use crate::run::{Tried, try_flaw};

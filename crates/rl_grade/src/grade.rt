@@ -1,12 +1,7 @@
 // The flaws of a share at a place, each with its answer.
-ghost use Rattle.std.specs.Prelude.{◌≡◌, ◌<◌, [], ◌∷◌, ◌++◌, All, IfOk, length};
-ghost use Rattle.rl_bench.specs.Flaws.{IsFlawOf};
-ghost use Rattle.rl_bus.specs.Standing.{kinds_of};
-ghost use Rattle.rl_map.specs.Maps.{IsBuiltWith};
-ghost use Rattle.rl_grade.specs.Adapters.{fresh_standings};
-ghost use Rattle.rl_grade.specs.Job.{TasksFit};
-ghost use Rattle.rl_grade.specs.Place.{IsPlaceIn, flaws_at};
-ghost use Rattle.rl_grade.specs.Share.{graded_by, grades_of, is_in_share};
+ghost use Rattle.std.specs.Prelude.{◌≡◌, ◌<◌, [], ◌∷◌, ◌++◌, All, Contains, IfOk, length};
+ghost use Rattle.rl_grade.specs.Prelude.{IsBuiltWith, IsFlawOf, IsPlaceIn, TasksFit, flaws_at, fresh_standings};
+ghost use Rattle.rl_grade.specs.Prelude.{graded_by, grades_of, is_in_share, kinds_of};
 
 use crate::fresh::try_afresh;
 use crate::job::Task;
@@ -149,6 +144,9 @@ pub fn grade_place(
     ensures flaws { IfOk result (λ grade. grade.flaws ≡ length (flaws_at desc shown.now.items place)) }
     ensures graded { IfOk result (λ grade. grade.graded.items ≡ grades_of desc tasks.now shown.now.seen.items
         share number (flaws_at desc shown.now.items place)) }
+    ensures listed { IfOk result (λ grade.
+        All (λ it. Contains (flaws_at desc shown.now.items place) it.flaw) grade.graded.items) }
+    ensures each { IfOk result (λ grade. All (λ it. IsFlawOf desc.chip desc.layout it.flaw) grade.graded.items) }
 {
     let flaws = flaws_at(alloc, &desc, shown.items, place)?;
     let tries = grade_flaws(alloc, desc, &flaws, tasks, &shown.seen, number, share)?;

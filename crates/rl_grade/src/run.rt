@@ -1,16 +1,7 @@
 // A script on the device without a flaw, and on one with a flaw.
 ghost use Rattle.std.specs.Prelude.{◌≡◌, map, length, Some, IfOk};
-ghost use Rattle.rl_access.specs.Model.{IsReady, IsSameChip};
-ghost use Rattle.rl_access.specs.World.{world};
-ghost use Rattle.rl_bench.specs.Flaws.{IsFlawOf};
-ghost use Rattle.rl_bench.specs.State.{bench_state};
-ghost use Rattle.rl_bus.specs.Standing.{kinds_of};
-ghost use Rattle.rl_map.specs.Maps.{IsBuiltWith};
-ghost use Rattle.rl_session.specs.Judged.{first_world};
-ghost use Rattle.rl_grade.specs.Find.{all_seen, first_find};
-ghost use Rattle.rl_grade.specs.Job.{TasksFit, heard_by};
-ghost use Rattle.rl_grade.specs.Place.{with_flaw};
-ghost use Rattle.rl_grade.specs.Record.{items_from};
+ghost use Rattle.rl_grade.specs.Prelude.{IsBuiltWith, IsFlawOf, IsReady, IsSameChip, TasksFit, all_seen, bench_state};
+ghost use Rattle.rl_grade.specs.Prelude.{first_find, first_world, heard_by, items_from, kinds_of, with_flaw, world};
 
 use crate::drive::do_tasks;
 use crate::job::Task;
@@ -139,12 +130,10 @@ pub fn try_flaw(
     let (mut model, mut bench) = open(alloc, flawed)?;
     let found = watch_tasks(&mut model, &mut bench, adapters, tasks, base);
     let (chip, layout) = model.into_parts();
-    Ok(Tried {
-        desc: Desc {
-            chip,
-            layout,
-            flaws: declared,
-        },
-        found,
-    })
+    let desc = Desc {
+        chip,
+        layout,
+        flaws: declared,
+    };
+    Ok(Tried { desc, found })
 }

@@ -3,7 +3,8 @@ ghost use Rattle.std.specs.Prelude.{◌≡◌, ◌++◌, ◌<◌, length, OnOk};
 ghost use Rattle.rl_bench.specs.Flaws.{IsFlawOf};
 ghost use Rattle.rl_model.specs.Chip.{HasItem};
 ghost use Rattle.rl_graded.specs.Lines.{AreGraded};
-ghost use Rattle.rl_graded.specs.Row.{of_field, value_line, stuck_row, reset_row, policy_row, range_row, nth_row, deaf_row, flaw_row, rows_text};
+ghost use Rattle.rl_graded.specs.Row.{of_field, value_line, stuck_row, reset_row, policy_row, range_row, nth_row};
+ghost use Rattle.rl_graded.specs.Row.{deaf_row, flaw_row, rows_text};
 
 use crate::line::push_field;
 use crate::pieces::{front, push_pieces};
