@@ -1,3 +1,4 @@
+mod EachOnce
 mod Placed
 mod PlaceLemmas
 mod SessionLemmas

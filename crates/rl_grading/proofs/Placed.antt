@@ -1,45 +1,17 @@
 -- Places one after another.
-use Rattle.std.proofs.Common.{◌≡◌, ℕ, ◌+◌, ◌<◌, ◌≤◌, Bool, true, false, if◌then◌else◌, List, [], ◌∷◌, ◌++◌, length, drop, get_or, map, All, Result, Ok, Err, IsErr, refl, sym, ap, subst, ◌∙◌, arith}
+use Rattle.std.proofs.Common.{◌≡◌, ℕ, ◌+◌, ◌<◌, ◌≤◌, List, ◌++◌, length, drop, get_or, Result, Ok, Err, IsErr, sym, ap, subst, ◌∙◌}
 use Rattle.std.specs.declared.option.Option.{Option}
 use Rattle.std.specs.Io.KnownBytes.{Appends}
 use Rattle.std.proofs.lemmas.List.{drop_all, drop_more}
-use Rattle.std.proofs.lemmas.List.Elements.{All-cons, All-map, All-nil, All-tail}
-use Rattle.rl_bench.specs.declared.flaw.Flaw.{Flaw}
-use Rattle.rl_bench.specs.Flaws.{IsFlawOf}
 use Rattle.rl_desc.specs.Data.{DescData}
 use Rattle.rl_report.specs.Pieces.{AppendsFront, Puts}
 use Rattle.rl_session.proofs.ListingLemmas.{IsLeft, left_stopped, less_left}
-use Rattle.rl_grade.specs.declared.grade.Graded.{Graded}
-use Rattle.rl_grade.specs.declared.grade.Share.{Share}
-use Rattle.rl_grade.specs.declared.job.Task.{Task}
 use Rattle.rl_grade.specs.declared.place.Place.{Place}
-use Rattle.rl_grade.specs.declared.seen.Seen.{Seen}
-use Rattle.rl_grade.specs.Share.{graded_by, grades_of, is_in_share, share_of}
 use Rattle.rl_graded.specs.declared.totals.Totals.{Totals}
-use Rattle.rl_graded.specs.Lines.{AreGraded}
 use Rattle.rl_graded.specs.Totals.{with_graded}
 use Rattle.rl_grading.specs.declared.asked.Asked.{Asked}
 use Rattle.rl_grading.specs.Grading.{Base, flaws_behind, graded_at, last_text, place_text, places_text}
 use Rattle.rl_grading.specs.Progress.{IsNext}
-
--- ---- flaws that were tried
-
-taken_if : (P : Flaw → Type 0) (b : Bool) (flaw : Flaw) (flaws : List Flaw) → P flaw → All P flaws
-    → All P (if b then flaw ∷ flaws else flaws)
-taken_if P true flaw flaws here others = All-cons P flaw flaws here others
-taken_if P false flaw flaws here others = others
-
-shared : (P : Flaw → Type 0) (share : Share) (before : ℕ) (flaws : List Flaw) → All P flaws → All P (share_of share before flaws)
-shared P share before [] each = All-nil P
-shared P share before (flaw ∷ flaws) each =
-    taken_if P (is_in_share share (before + 1)) flaw (share_of share (before + 1) flaws) (each 0 flaw (omega arith))
-    (shared P share (before + 1) flaws (All-tail P flaw flaws each))
-
-pub grades_are : (d : DescData) (tasks : List Task) (seen : List Seen) (share : Share) (before : ℕ) (flaws : List Flaw)
-    → All (IsFlawOf d.chip d.layout) flaws → AreGraded d.chip d.layout (grades_of d tasks seen share before flaws)
-grades_are d tasks seen share before flaws each =
-    All-map (λ (g : Graded). IsFlawOf d.chip d.layout g.flaw) (graded_by d tasks seen) (share_of share before flaws)
-    (shared (IsFlawOf d.chip d.layout) share before flaws each)
 
 -- ---- the next place
 

@@ -57,7 +57,8 @@ fn decimal_of(text: &[u8]) -> Option<u64>
 }
 
 fn share_if(first: Option<u64>, every: Option<u64>) -> Option<Share>
-    ensures { result ≡ share_if first every }
+    ensures share { result ≡ share_if first every }
+    ensures every { IfSome result (λ share. 0 < share.every) }
 {
     let (Some(first), Some(every)) = (first, every) else {
         return None;
@@ -77,7 +78,8 @@ fn slash_in(word: &[u8]) -> Option<usize>
 
 // `K/N`, with K from 1 to N.
 fn share_named(word: &[u8]) -> Option<Share>
-    ensures { result ≡ share_named word.now }
+    ensures share { result ≡ share_named word.now }
+    ensures every { IfSome result (λ share. 0 < share.every) }
 {
     let Some(slash) = slash_in(word) else {
         return None;
@@ -98,7 +100,8 @@ fn task_named(word: &str) -> Option<Asked>
 }
 
 fn task_shared(word: &str, share: &str) -> Option<Asked>
-    ensures { result ≡ task_shared word.now share.now }
+    ensures asked { result ≡ task_shared word.now share.now }
+    ensures every { IfSome result (λ asked. 0 < (share_of asked).every) }
 {
     if word != "run" {
         return None;
@@ -112,6 +115,7 @@ fn task_shared(word: &str, share: &str) -> Option<Asked>
 /// What the words ask for: `run`, `run K/N` with K from 1 to N, or `missed`; none where they ask for nothing known.
 pub fn asked_by(words: &[String]) -> Option<Asked>
     ensures asked { result ≡ asked_by words.now }
+    ensures every { IfSome result (λ asked. 0 < (share_of asked).every) }
 {
     match words {
         [word] => task_named(word.as_str()),

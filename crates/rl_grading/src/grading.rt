@@ -1,28 +1,11 @@
 // A session that is graded.
-ghost use Rattle.std.specs.Prelude.{◌≡◌, ◌≢◌, ◌≤◌, ◌<◌, ◌^◌, [], Some, true, false, map, length, All, IfOk, IfErr, IfSome};
-ghost use Rattle.rl_access.specs.Model.{IsReady};
-ghost use Rattle.rl_access.specs.World.{world};
-ghost use Rattle.rl_bench.specs.State.{bench_state};
-ghost use Rattle.rl_bus.specs.Causes.{Rose};
-ghost use Rattle.rl_bus.specs.Standing.{kinds_of};
-ghost use Rattle.rl_log.specs.Causes.{IsCaused};
-ghost use Rattle.rl_log.specs.Statuses.{is_complete};
-ghost use Rattle.rl_log.specs.Telling.{Tells};
-ghost use Rattle.rl_map.specs.Maps.{IsBuiltWith};
-ghost use Rattle.rl_opening.specs.Opening.{IsBehindHead, IsRunnable};
-ghost use Rattle.rl_opening.specs.Stays.{Stays, StaysOpen};
-ghost use Rattle.rl_play.specs.Earlier.{KeepsEarlier};
-ghost use Rattle.rl_report.specs.Lines.{lines_of};
-ghost use Rattle.rl_report.specs.Pieces.{Puts};
-ghost use Rattle.rl_report.specs.Reading.{input_of};
-ghost use Rattle.rl_grade.specs.Adapters.{fresh_standings};
-ghost use Rattle.rl_grade.specs.Job.{TasksFit, heard_by};
-ghost use Rattle.rl_grade.specs.Place.{IsPlaceIn};
-ghost use Rattle.rl_grading.specs.Asked.{share_of};
-ghost use Rattle.rl_grading.specs.Grading.{place_text, graded_at, places_text, report, script_graded, grading_of};
-ghost use Rattle.rl_grading.specs.Grading.{no_totals};
-ghost use Rattle.rl_grading.specs.Progress.{IsNext, TellsGraded, base_shown, desc_of, status_of};
-ghost use Rattle.rl_grading.specs.Places.{places_of};
+ghost use Rattle.std.specs.Prelude.{◌≡◌, ◌≢◌, ◌≤◌, ◌<◌, ◌^◌, [], Some, true, false, map, length, All};
+ghost use Rattle.std.specs.Prelude.{IfErr, IfOk, IfSome};
+ghost use Rattle.rl_grading.specs.Prelude.{IsBehindHead, IsBuiltWith, IsCaused, IsNext, IsPlaceIn, IsReady, IsRunnable};
+ghost use Rattle.rl_grading.specs.Prelude.{KeepsEarlier, Puts, Rose, Stays, StaysOpen, TasksFit, Tells, TellsGraded};
+ghost use Rattle.rl_grading.specs.Prelude.{base_shown, bench_state, desc_of, fresh_standings, graded_at, grading_of};
+ghost use Rattle.rl_grading.specs.Prelude.{heard_by, input_of, is_complete, kinds_of, lines_of, no_totals, place_text};
+ghost use Rattle.rl_grading.specs.Prelude.{places_of, places_text, report, script_graded, share_of, status_of, world};
 
 use crate::asked::Asked;
 use crate::meter::Meter;
@@ -33,7 +16,7 @@ use rl_access::Model;
 use rl_bench::Bench;
 use rl_bus::{Adapter, Adapters};
 use rl_desc::Desc;
-use rl_grade::{Place, Shown, Task, flaws_at, grade_place, read_script, show};
+use rl_grade::{Place, Shown, Task, grade_place, read_script, show};
 use rl_graded::Totals;
 use rl_log::Status;
 use rl_opening::{end_log, open_session};
@@ -78,16 +61,13 @@ fn grade_next<K: Sink>(
         number,
         totals,
     } = progress;
-    let Ok(flaws) = flaws_at(alloc, &desc, shown.items, place) else {
-        return Err(Status::Memory);
-    };
     let Ok(grade) = grade_place(alloc, desc, tasks, shown, place, number, asked.share()) else {
         return Err(Status::Memory);
     };
     put_place(alloc, asked, &grade.desc, place, &grade.graded, log)?;
     Ok(Progress {
         desc: grade.desc,
-        number: number.saturating_add(flaws.len() as u64),
+        number: number.saturating_add(grade.flaws),
         totals: totals.with(&grade.graded),
     })
 }
@@ -257,8 +237,8 @@ fn grade_session<S: Source, K: Sink, M: Meter>(
     }
 }
 
-/// Grades a session: tries which single flaws of its device its script finds, and writes for each place what was found, or
-/// each flaw that is missed as a row. The adapters are a plain and an APB adapter that have sent nothing.
+/// Grades a session: tries which single flaws of its device its script finds, and writes for each place what was found,
+/// or each flaw that is missed as a row. The adapters are a plain and an APB adapter that have sent nothing.
 ///
 /// Nothing is written before the whole script was read. The log is finished once, where its last line was written.
 pub fn run_grade<S: Source, K: Sink, M: Meter>(

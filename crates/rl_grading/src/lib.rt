@@ -3,6 +3,7 @@
 
 mod asked;
 mod grading;
+pub mod law;
 mod meter;
 mod places;
 mod refusal;

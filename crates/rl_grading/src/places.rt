@@ -1,9 +1,8 @@
 // The places of a chip at which flaws are told.
 ghost use Rattle.std.specs.Prelude.{◌≡◌, ◌++◌, ◌+◌, ◌^◌, ◌<◌, length, map, All, OnOk, IfOk};
 ghost use Rattle.std.specs.List.{range_with_len};
-ghost use Rattle.rl_grade.specs.Place.{IsPlaceIn};
 ghost use Rattle.rl_grade.specs.declared.place.Place.TheVariants.{OfField};
-ghost use Rattle.rl_grading.specs.Places.{reg_places, regs_places, mems_places, places_of};
+ghost use Rattle.rl_grading.specs.Prelude.{IsPlaceIn, mems_places, places_of, reg_places, regs_places};
 
 use rl_grade::Place;
 use rl_model::{Chip, Item};

@@ -1,16 +1,8 @@
 // What can't be graded.
 ghost use Rattle.std.specs.Prelude.{◌≡◌, ◌≢◌, [], Ok, Err, OnOk, IfErr, IfSome};
 ghost use Rattle.std.specs.Io.KnownBytes.{Keeps};
-ghost use Rattle.rl_bus.specs.Causes.{Rose};
-ghost use Rattle.rl_log.specs.Causes.{IsCaused};
-ghost use Rattle.rl_log.specs.Statuses.{is_complete};
-ghost use Rattle.rl_log.specs.Telling.{Tells};
-ghost use Rattle.rl_log.specs.Texts.{refused_text};
-ghost use Rattle.rl_opening.specs.Stays.{StaysOpen};
-ghost use Rattle.rl_opening.specs.Telling.{Stops};
-ghost use Rattle.rl_grade.specs.Reading.{refused_line};
-ghost use Rattle.rl_grading.specs.Opening.{unflawed};
-ghost use Rattle.rl_grading.specs.Refusal.{EndsUnread};
+ghost use Rattle.rl_grading.specs.Prelude.{EndsUnread, IsCaused, Rose, StaysOpen, Stops, Tells, is_complete};
+ghost use Rattle.rl_grading.specs.Prelude.{refused_line, refused_text, unflawed};
 
 use rl_desc::Desc;
 use rl_grade::ScriptFault;

@@ -1,12 +1,7 @@
 // What is written of a place, and at the end.
 ghost use Rattle.std.specs.Prelude.{◌≡◌, false, IfOk, IfErr};
-ghost use Rattle.rl_log.specs.Causes.{IsCaused};
-ghost use Rattle.rl_log.specs.Statuses.{is_complete};
-ghost use Rattle.rl_opening.specs.Stays.{Stays};
-ghost use Rattle.rl_report.specs.Pieces.{Puts};
-ghost use Rattle.rl_grade.specs.Place.{IsPlaceIn};
-ghost use Rattle.rl_graded.specs.Lines.{AreGraded};
-ghost use Rattle.rl_grading.specs.Grading.{place_text, last_text};
+ghost use Rattle.rl_grading.specs.Prelude.{AreGraded, IsCaused, IsPlaceIn, Puts, Stays};
+ghost use Rattle.rl_grading.specs.Prelude.{is_complete, last_text, place_text};
 
 use crate::asked::Asked;
 use rl_desc::Desc;
