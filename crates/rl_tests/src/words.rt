@@ -18,7 +18,8 @@ fn clearing() -> &'static str {
 [[reg]]
 name = 'a'
 bytes = 4
-field = [{name = 'v', lsb = 0, width = 16, policy = 'RW'}, {name = 'w', lsb = 16, width = 16, policy = 'W1C', reset = 0xffff}]
+field = [{name = 'v', lsb = 0, width = 16, policy = 'RW'}, \
+    {name = 'w', lsb = 16, width = 16, policy = 'W1C', reset = 0xffff}]
 [[map]]
 name = 'bus'
 bytes = 2
@@ -35,7 +36,8 @@ fn holding() -> &'static str {
 [[reg]]
 name = 'a'
 bytes = 4
-field = [{name = 'v', lsb = 0, width = 12, policy = 'RW', reset = 0x5}, {name = 'w', lsb = 16, width = 16, policy = 'RW', reset = 0xffff}]
+field = [{name = 'v', lsb = 0, width = 12, policy = 'RW', reset = 0x5}, \
+    {name = 'w', lsb = 16, width = 16, policy = 'RW', reset = 0xffff}]
 [[map]]
 name = 'bus'
 bytes = 2
