@@ -2,8 +2,8 @@
 """profile.py BIN [WORK..]: where a program's instructions go on the works of bench.sh, as a table of Markdown for each work.
 
 A row is a crate of the repository or of the kit, or what libc does: code that was inlined counts for the crate of the function that
-it stands in. Below it stand the crate's functions that take two hundredths of the work or more. Needs valgrind. A work is named by
-its session, as mixed or woven, or soak; with none, all are taken.
+it stands in. Behind a crate's name stand its functions that take two hundredths of the work or more, four at most. Needs valgrind. A
+work is named by its session, as mixed or woven, or soak; with none, all are taken.
 """
 import collections
 import os
