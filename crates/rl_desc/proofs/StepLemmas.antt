@@ -22,6 +22,7 @@ use Rattle.rl_desc.specs.Refusals.{Fails, Reads}
 use Rattle.rl_desc.specs.Faults.{of_model, of_map}
 use Rattle.rl_desc.specs.Reading.{document_fault, document_data}
 use Rattle.rl_desc.specs.Flaws.{flaws_fault, flaws_of}
+use Rattle.rl_desc.proofs.FirstLemmas.{later, here}
 use Rattle.rl_desc.specs.Described.{described, rows_fault, document_of, first_fault, description_of}
 
 pub model_err : (e : ModelFault) (rows : DocumentData) (kinds : List AdapterKind) → rules.Fails e (chip_fault rows.parts)
@@ -129,6 +130,9 @@ pub stops : {X Y : Type 0} (view : X → Y) (r : Result X DescFault) (e : DescFa
     → IsErr r × IsErrAnd r (λ x. x ≡ e) → Fails e fault → Reads view r fault y
 stops view (Ok x) e fault y h fails = absurd h.1
 stops view (Err x) e fault y h fails = rw h.1 fails
+
+-- a reader of steps, one after the other, hands on the first fault
+pub ruleset by_steps = (stops, later, here)
 
 pub text_stops : (r : Result DescData DescFault) (e : DescFault) (bytes : List ℕ) (kinds : List AdapterKind) → IsErr r × IsErrAnd r (λ x. x ≡ e)
     → (e ≢ Memory → first_fault bytes kinds ≡ Some e) → IfErr r (λ x. x ≢ Memory → first_fault bytes kinds ≡ Some x)

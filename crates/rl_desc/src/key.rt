@@ -45,50 +45,28 @@ pub enum Key {
     Nth,
 }
 
+/// The text beside the key, in a table of all keys.
+macro_rules! text_beside {
+    ($key:expr; $($name:ident $text:literal),+) => {
+        match $key {
+            $(Key::$name => $text,)+
+        }
+    };
+}
+
 impl Key {
     /// The key as a description spells it.
     pub fn name(self) -> &'static str
         ensures { result.now ≡ key_name self }
     {
-        match self {
-            Key::Block => "block",
-            Key::File => "file",
-            Key::Reg => "reg",
-            Key::Mem => "mem",
-            Key::Map => "map",
-            Key::Place => "place",
-            Key::Flaw => "flaw",
-            Key::Name => "name",
-            Key::Of => "of",
-            Key::Bytes => "bytes",
-            Key::Backdoor => "backdoor",
-            Key::Skip => "skip",
-            Key::Field => "field",
-            Key::Lsb => "lsb",
-            Key::Width => "width",
-            Key::Policy => "policy",
-            Key::Volatile => "volatile",
-            Key::Compare => "compare",
-            Key::Alone => "alone",
-            Key::Reset => "reset",
-            Key::Size => "size",
-            Key::Access => "access",
-            Key::Endian => "endian",
-            Key::Addressing => "addressing",
-            Key::Base => "base",
-            Key::Parent => "parent",
-            Key::Offset => "offset",
-            Key::Adapter => "adapter",
-            Key::Predict => "predict",
-            Key::Item => "item",
-            Key::Rights => "rights",
-            Key::Kind => "kind",
-            Key::On => "on",
-            Key::Value => "value",
-            Key::Bit => "bit",
-            Key::From => "from",
-            Key::To => "to",
-            Key::Nth => "nth",
+        text_beside! {
+            self;
+            Block "block", File "file", Reg "reg", Mem "mem", Map "map", Place "place", Flaw "flaw",
+            Name "name", Of "of", Bytes "bytes", Backdoor "backdoor", Skip "skip", Field "field", Lsb "lsb",
+            Width "width", Policy "policy", Volatile "volatile", Compare "compare", Alone "alone",
+            Reset "reset", Size "size", Access "access", Endian "endian", Addressing "addressing", Base "base",
+            Parent "parent", Offset "offset", Adapter "adapter", Predict "predict", Item "item",
+            Rights "rights", Kind "kind", On "on", Value "value", Bit "bit", From "from", To "to", Nth "nth"
         }
     }
 }

@@ -1,4 +1,6 @@
 //! Reading the rows of a description.
+#![tactic(auto, using(crate::proofs::StepLemmas::by_steps))]
+
 ghost use Rattle.std.specs.Prelude.{◌≡◌, codes};
 ghost use Rattle.toml.specs.View.{table_view};
 ghost use Rattle.rl_desc.specs.Prelude.{Reads, document_fault, document_data, column_fault, flaw_columns, flaw_as};

@@ -28,7 +28,7 @@ use Rattle.rl_map.specs.Layout.{no_map, no_port}
 use Rattle.rl_map.specs.Maps.{MapTables, item_at, place_row}
 use Rattle.rl_map.specs.Faults.{Check, first_of, row_at, Placed, word_count, is_placed, places_fault}
 use Rattle.rl_map.specs.Steps.{first_cause, Tells, there_checks, fifo_checks, word_checks, own_checks, place_of_part, own_fault, own_faults, accepted, shared_check, shared_faults}
-use Rattle.rl_map.specs.Building.{path_in, port_for, placed_in, placed_at, ArePlaces, rows_of, rows_of_all}
+use Rattle.rl_map.specs.Building.{path_in, port_for, placed_in, placed_at, ArePlaces, HasTables, IsPlacedIn, rows_of, rows_of_all}
 use Rattle.rl_map.proofs.Lookups.{read_is}
 use Rattle.rl_map.proofs.Growing.{rows_more}
 use Rattle.rl_map.proofs.Placing.{length-rows_of}
@@ -187,6 +187,13 @@ seat_is maps ports row map port path low_m low_p a b e =
     let path_is : path ≡ path_in maps row = e ∙ ap (λ (m : MapRow). m.path) (read_is maps row.map map no_map low_m a) in
     let port_is : port ≡ port_for ports row = read_is ports row.port port no_port low_p b in
     ap (λ x. placed_at row x port) path_is ∙ ap (λ x. placed_at row (path_in maps row) x) port_is
+
+-- the same of a row that is one of a chip's in these tables
+pub row_seat : (chip : ChipData) (maps : List MapRow) (ports : List PortRow) (row : PlaceRow) (map : MapRow) (port : PortRow) (path : List Level)
+    → HasTables maps ports → IsPlacedIn chip maps row → map ≡ get_or maps row.map map → port ≡ get_or ports row.port port → path ≡ map.path
+    → placed_at row path port ≡ placed_in maps ports row
+row_seat chip maps ports row map port path tables placed a b e =
+    seat_is maps ports row map port path placed.map (subst (λ n. n < length ports) (sym placed.port) (tables.1.each_map row.map no_map placed.map).port) a b e
 
 -- ---- place by place
 

@@ -15,3 +15,4 @@ pub mod Placing
 pub mod Laws
 pub mod Steps
 pub mod Clashes
+pub mod Prelude

@@ -30,6 +30,6 @@ pub use fault::{MapCause, MapFault};
 pub use layout::Layout;
 pub use parts::{MapNode, PlacePart};
 pub use path::Kind;
-pub use rows::Here;
+pub use rows::{Here, has_right};
 pub use seat::Seat;
 pub use word::Word;

@@ -4,36 +4,20 @@ ghost use Rattle.rl_model.specs.Rows.{ChipData};
 ghost use Rattle.rl_map.specs.declared.rows.MapRow.{MapRow};
 ghost use Rattle.rl_map.specs.declared.rows.PortRow.{PortRow};
 ghost use Rattle.rl_map.specs.declared.fault.MapFault.{MapFault};
-ghost use Rattle.rl_map.specs.Level.{IsPath};
-ghost use Rattle.rl_map.specs.Seat.{AddressesFit};
-ghost use Rattle.rl_map.specs.Layout.{has_right, cell_of, word_row, location_of};
-ghost use Rattle.rl_map.specs.Locations.{AreStraight, AreLocations};
-ghost use Rattle.rl_map.specs.Maps.{place_row};
-ghost use Rattle.rl_map.specs.Steps.{own_fault, own_faults, accepted};
-ghost use Rattle.rl_map.specs.Building.{HasTables, rows_of, path_in, port_for};
-ghost use Rattle.rl_map.specs.Placing.{ArePlaced};
+ghost use Rattle.rl_map.specs.Prelude.{IsPath, AddressesFit, cell_of, word_row, location_of, AreStraight, AreLocations};
+ghost use Rattle.rl_map.specs.Prelude.{HasTables, rows_of, path_in, port_for, place_row, own_fault, own_faults};
+ghost use Rattle.rl_map.specs.Prelude.{accepted, ArePlaced};
 
 use crate::checks::checked_place;
 use crate::fault::{MapFault, refusal, row_at};
 use crate::kept::PlaceWords;
 use crate::links::ItemLinks;
 use crate::parts::PlacePart;
-use crate::rows::{MapRow, PlaceRow, PortRow, location};
+use crate::rows::{MapRow, PlaceRow, PortRow, has_right, location};
 use crate::word::Word;
-use bitflags::Flags;
 use rl_bus::{Cell, Lanes, WordRow};
-use rl_model::{Array, Chip, Item, Rights};
+use rl_model::{Array, Chip, Item};
 use std::alloc::{AllocError, Global};
-
-fn has_right(rights: Rights, write: bool) -> bool
-    ensures { result ≡ has_right rights write }
-{
-    if write {
-        rights.contains(Rights::WRITE)
-    } else {
-        rights.contains(Rights::READ)
-    }
-}
 
 fn cell_of(item: Item, index: u32) -> Cell
     ensures { result ≡ cell_of item index }

@@ -1,9 +1,10 @@
 //! What a layout keeps of its maps, ports and places.
 ghost use Rattle.std.specs.Prelude.{◌≡◌};
-ghost use Rattle.rl_map.specs.Layout.{location_of};
+ghost use Rattle.rl_map.specs.Layout.{has_right, location_of};
 
 use crate::path::Path;
 use crate::seat::Location;
+use bitflags::Flags;
 use rl_bus::AdapterKind;
 use rl_model::{Item, Name, Rights};
 
@@ -59,5 +60,16 @@ pub(crate) fn location(row: &PlaceRow, index: u32) -> Location
         bytes: row.bytes,
         offset: row.offset,
         index,
+    }
+}
+
+/// Whether the bus may write, or read, where it has these rights.
+pub fn has_right(rights: Rights, write: bool) -> bool
+    ensures { result ≡ has_right rights write }
+{
+    if write {
+        rights.contains(Rights::WRITE)
+    } else {
+        rights.contains(Rights::READ)
     }
 }

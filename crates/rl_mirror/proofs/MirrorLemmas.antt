@@ -116,6 +116,9 @@ reset_built c kind m sound built = record {
   desired = values_are c kind m.desired sound built.wishes;
 }
 
+pub built_after : (c : ChipData) (kind : ℕ) (m n : MirrorData) → n ≡ reset c kind m → IsSound c → IsMirrorOf c m → IsMirrorOf c n
+built_after c kind m n is sound built = subst (λ (x : MirrorData). IsMirrorOf c x) (sym is) (reset_built c kind m sound built)
+
 zero_is_value : (c : ChipData) (reg : ℕ) → IsValueOf c reg 0
 zero_is_value c reg = record { fits = some_power (size_of c reg); owned = owned_zero (fields_of c reg) }
   where

@@ -271,6 +271,9 @@ blank_reach c = record {
   one_sided = λ n l one. inl (λ b in_it. refl);
 }
 
+pub reached_after : (c : ChipData) (kind : ℕ) (m n : MirrorData) → n ≡ reset c kind m → IsSound c → IsMirrorOf c m → IsReachable c m → IsReachable c n
+reached_after c kind m n is sound built was = subst (λ (x : MirrorData). IsReachable c x) (sym is) (reset_reach c kind m sound built was)
+
 pub fresh_reach : (c : ChipData) → IsSound c → IsReachable c (fresh c)
 unfolding fresh
 fresh_reach c sound = reset_reach c 0 (blank c) sound (blank_built c) (blank_reach c)

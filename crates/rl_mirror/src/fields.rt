@@ -24,7 +24,7 @@ pub(crate) fn has_field(fields: u64, k: u32) -> bool
 }
 
 /// How many fields a register has.
-pub(crate) fn field_count(chip: &Chip, reg: u32) -> u32
+pub fn field_count(chip: &Chip, reg: u32) -> u32
     requires { reg < length chip.now.regs }
     ensures count { result ≡ length (fields_of chip.now reg) }
     ensures few { result ≤ 64 }
@@ -34,7 +34,7 @@ pub(crate) fn field_count(chip: &Chip, reg: u32) -> u32
 }
 
 /// The number, counted through all registers, of the `k`-th field of a register.
-pub(crate) fn field_number(chip: &Chip, reg: u32, k: u32) -> u32
+pub fn field_number(chip: &Chip, reg: u32, k: u32) -> u32
     requires reg { reg < length chip.now.regs }
     requires field { k < length (fields_of chip.now reg) }
     ensures number { result ≡ first_of chip.now reg + k }
@@ -44,7 +44,7 @@ pub(crate) fn field_number(chip: &Chip, reg: u32, k: u32) -> u32
 }
 
 /// The `k`-th field of a register.
-pub(crate) fn field_at(chip: &Chip, reg: u32, k: u32) -> Field
+pub fn field_at(chip: &Chip, reg: u32, k: u32) -> Field
     requires reg { reg < length chip.now.regs }
     requires field { k < length (fields_of chip.now reg) }
     ensures field { result ≡ (field_in (fields_of chip.now reg) k).shape }

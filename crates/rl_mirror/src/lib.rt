@@ -13,5 +13,5 @@ pub mod law;
 mod mirror;
 mod resets;
 
-pub use fields::{left_by_read, owned, shown};
+pub use fields::{field_at, field_count, field_number, left_by_read, owned, shown};
 pub use mirror::Mirror;

@@ -11,6 +11,7 @@ pub mod FewFields
 pub mod FieldNumbers
 pub mod KindLemmas
 pub mod SoundMore
+pub mod ChipSound
 pub mod Within
 pub mod ChipLaws
 pub mod Repeats

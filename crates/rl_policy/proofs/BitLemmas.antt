@@ -10,29 +10,23 @@ use Rattle.std.proofs.lemmas.Nat.Bits.{bit_at_and, bit_at_or, bit_at_xor, bit_at
 use Rattle.rl_policy.specs.Bits.{bit, from_bits}
 use Rattle.rl_policy.specs.Table.{either_alone}
 
+-- a claim of two digits, from its four cases
+by_digits : (P : ℕ → ℕ → Type 0) → P 0 0 → P 0 1 → P 1 0 → P 1 1 → (x y : ℕ) → x < 2 → y < 2 → P x y
+by_digits P a b c d zero zero p q = a
+by_digits P a b c d zero (suc zero) p q = b
+by_digits P a b c d (suc zero) zero p q = c
+by_digits P a b c d (suc zero) (suc zero) p q = d
+by_digits P a b c d (suc (suc x)) y p q = absurd (omega arith)
+by_digits P a b c d x (suc (suc y)) p q = absurd (omega arith)
+
 min_digit : (x y : ℕ) → x < 2 → y < 2 → eqb (min x y) 1 ≡ (eqb x 1 && eqb y 1)
-min_digit zero zero p q = refl
-min_digit zero (suc zero) p q = refl
-min_digit (suc zero) zero p q = refl
-min_digit (suc zero) (suc zero) p q = refl
-min_digit (suc (suc x)) y p q = absurd (omega arith)
-min_digit x (suc (suc y)) p q = absurd (omega arith)
+min_digit = by_digits (λ x y. eqb (min x y) 1 ≡ (eqb x 1 && eqb y 1)) refl refl refl refl
 
 max_digit : (x y : ℕ) → x < 2 → y < 2 → eqb (max x y) 1 ≡ (eqb x 1 || eqb y 1)
-max_digit zero zero p q = refl
-max_digit zero (suc zero) p q = refl
-max_digit (suc zero) zero p q = refl
-max_digit (suc zero) (suc zero) p q = refl
-max_digit (suc (suc x)) y p q = absurd (omega arith)
-max_digit x (suc (suc y)) p q = absurd (omega arith)
+max_digit = by_digits (λ x y. eqb (max x y) 1 ≡ (eqb x 1 || eqb y 1)) refl refl refl refl
 
 sum_digit : (x y : ℕ) → x < 2 → y < 2 → eqb ((x + y) % 2) 1 ≡ either_alone (eqb x 1) (eqb y 1)
-sum_digit zero zero p q = refl
-sum_digit zero (suc zero) p q = refl
-sum_digit (suc zero) zero p q = refl
-sum_digit (suc zero) (suc zero) p q = refl
-sum_digit (suc (suc x)) y p q = absurd (omega arith)
-sum_digit x (suc (suc y)) p q = absurd (omega arith)
+sum_digit = by_digits (λ x y. eqb ((x + y) % 2) 1 ≡ either_alone (eqb x 1) (eqb y 1)) refl refl refl refl
 
 not_digit : (x : ℕ) → x < 2 → eqb (1 - x) 1 ≡ not (eqb x 1)
 not_digit zero p = refl

@@ -1,5 +1,5 @@
 -- Facts on the whole table, by computation.
-use Rattle.std.proofs.Common.{◌≡◌, Bool, true, false, ◌&&◌, refl, sym, not, ◌||◌}
+use Rattle.std.proofs.Common.{◌≡◌, Bool, true, false, ◌&&◌, refl, sym, ap, ◌∙◌, not, ◌||◌}
 use Rattle.std.specs.Prelude.{IsTrue, ◌↔◌, ℕ, List, [], ◌∷◌, cond, find, bytes_eq, Option, Some, None, IfSome}
 use Rattle.std.specs.Bool.{beq}
 use Rattle.std.proofs.lemmas.Slice.Eq.{bytes_eq-Decides}
@@ -25,33 +25,6 @@ agrees p m d s = beq (beq (after_write p m (update_bit p d m) s) d) (is_reached 
 abbrev row_agrees : Policy → Bool
 row_agrees p = both (λ m. both (λ d. both (λ s. agrees p m d s)))
 
-every_row : (p : Policy) → row_agrees p ≡ true
-every_row Ro = refl
-every_row Rw = refl
-every_row Rc = refl
-every_row Rs = refl
-every_row Wrc = refl
-every_row Wrs = refl
-every_row Wc = refl
-every_row Ws = refl
-every_row Wsrc = refl
-every_row Wcrs = refl
-every_row W1c = refl
-every_row W1s = refl
-every_row W1t = refl
-every_row W0c = refl
-every_row W0s = refl
-every_row W0t = refl
-every_row W1src = refl
-every_row W1crs = refl
-every_row W0src = refl
-every_row W0crs = refl
-every_row Wo = refl
-every_row Woc = refl
-every_row Wos = refl
-every_row W1 = refl
-every_row Wo1 = refl
-
 same_as_test : (x d r : Bool) → beq (beq x d) r ≡ true → (x ≡ d) ↔ IsTrue r
 same_as_test true true true h = (λ _. refl, λ _. refl)
 same_as_test true true false h = cc
@@ -61,10 +34,6 @@ same_as_test false true true h = cc
 same_as_test false true false h = (λ e. cc, λ e. cc)
 same_as_test false false true h = (λ _. refl, λ _. refl)
 same_as_test false false false h = cc
-
-pub update_reaches : UpdateReaches
-update_reaches p m d s =
-    same_as_test _ d _ (both_at (agrees p m d) (both_at (λ e. both (agrees p m e)) (both_at (λ n. both (λ e. both (agrees p n e))) (every_row p) m) d) s)
 
 -- what holds of each policy and of each of four bits
 abbrev Rule : Type 0
@@ -101,35 +70,42 @@ rule_fresh p m d v s = not (is_reached p m d s) || is_reached p m d false
 abbrev all_rules : Policy → Bool
 all_rules p = row_passes (λ p m d v s. rule_predicted p m d v s && rule_set p m d v s && rule_one_sided p m d v s && rule_fresh p m d v s) p
 
-rules_pass : (p : Policy) → all_rules p ≡ true
-rules_pass Ro = refl
-rules_pass Rw = refl
-rules_pass Rc = refl
-rules_pass Rs = refl
-rules_pass Wrc = refl
-rules_pass Wrs = refl
-rules_pass Wc = refl
-rules_pass Ws = refl
-rules_pass Wsrc = refl
-rules_pass Wcrs = refl
-rules_pass W1c = refl
-rules_pass W1s = refl
-rules_pass W1t = refl
-rules_pass W0c = refl
-rules_pass W0s = refl
-rules_pass W0t = refl
-rules_pass W1src = refl
-rules_pass W1crs = refl
-rules_pass W0src = refl
-rules_pass W0crs = refl
-rules_pass Wo = refl
-rules_pass Woc = refl
-rules_pass Wos = refl
-rules_pass W1 = refl
-rules_pass Wo1 = refl
+-- the whole table, by computation
+table_passes : (p : Policy) → (row_agrees p && all_rules p) ≡ true
+table_passes Ro = refl
+table_passes Rw = refl
+table_passes Rc = refl
+table_passes Rs = refl
+table_passes Wrc = refl
+table_passes Wrs = refl
+table_passes Wc = refl
+table_passes Ws = refl
+table_passes Wsrc = refl
+table_passes Wcrs = refl
+table_passes W1c = refl
+table_passes W1s = refl
+table_passes W1t = refl
+table_passes W0c = refl
+table_passes W0s = refl
+table_passes W0t = refl
+table_passes W1src = refl
+table_passes W1crs = refl
+table_passes W0src = refl
+table_passes W0crs = refl
+table_passes Wo = refl
+table_passes Woc = refl
+table_passes Wos = refl
+table_passes W1 = refl
+table_passes Wo1 = refl
+
+pub update_reaches : UpdateReaches
+update_reaches p m d s =
+    same_as_test _ d _ (both_at (agrees p m d) (both_at (λ e. both (agrees p m e)) (both_at (λ n. both (λ e. both (agrees p n e))) (and_parts (row_agrees p) (all_rules p) (table_passes p)).0 m) d) s)
 
 rules_at : (p : Policy) (m d v s : Bool) → (rule_predicted p m d v s && rule_set p m d v s && rule_one_sided p m d v s && rule_fresh p m d v s) ≡ true
-rules_at p m d v s = at_bits (λ p m d v s. rule_predicted p m d v s && rule_set p m d v s && rule_one_sided p m d v s && rule_fresh p m d v s) p m d v s (rules_pass p)
+rules_at p m d v s =
+    at_bits (λ p m d v s. rule_predicted p m d v s && rule_set p m d v s && rule_one_sided p m d v s && rule_fresh p m d v s) p m d v s
+    (and_parts (row_agrees p) (all_rules p) (table_passes p)).1
 
 four_parts : (a b c d : Bool) → (a && b && c && d) ≡ true → (a ≡ true) × (b ≡ true) × (c ≡ true) × (d ≡ true)
 four_parts true true true true h = (refl, refl, refl, refl)
@@ -149,35 +125,7 @@ keeps_reach = record {
   fresh = λ p m d s h. implied (is_reached p m d s) _ (rule_parts p m d d s).3 h;
 }
 
--- a mark is asked only where the policy spends it
-pub after_write-spending : (p : Policy) (x w s : Bool) → after_write p x w (spends_mark p && s) ≡ after_write p x w s
-after_write-spending Ro x w s = refl
-after_write-spending Rw x w s = refl
-after_write-spending Rc x w s = refl
-after_write-spending Rs x w s = refl
-after_write-spending Wrc x w s = refl
-after_write-spending Wrs x w s = refl
-after_write-spending Wc x w s = refl
-after_write-spending Ws x w s = refl
-after_write-spending Wsrc x w s = refl
-after_write-spending Wcrs x w s = refl
-after_write-spending W1c x w s = refl
-after_write-spending W1s x w s = refl
-after_write-spending W1t x w s = refl
-after_write-spending W0c x w s = refl
-after_write-spending W0s x w s = refl
-after_write-spending W0t x w s = refl
-after_write-spending W1src x w s = refl
-after_write-spending W1crs x w s = refl
-after_write-spending W0src x w s = refl
-after_write-spending W0crs x w s = refl
-after_write-spending Wo x w s = refl
-after_write-spending Woc x w s = refl
-after_write-spending Wos x w s = refl
-after_write-spending W1 x w s = refl
-after_write-spending Wo1 x w s = refl
-
--- and a spent mark keeps the bit
+-- a spent mark keeps the bit
 pub after_write-by_mark : (p : Policy) (x w s : Bool) → after_write p x w s ≡ cond (spends_mark p && s) x (after_write p x w false)
 after_write-by_mark Ro x w s = refl
 after_write-by_mark Rw x w s = refl
@@ -204,6 +152,16 @@ after_write-by_mark Woc x w s = refl
 after_write-by_mark Wos x w s = refl
 after_write-by_mark W1 x w s = refl
 after_write-by_mark Wo1 x w s = refl
+
+and_again : (a b : Bool) → (a && (a && b)) ≡ (a && b)
+and_again true b = refl
+and_again false b = refl
+
+-- so a mark is asked only where the policy spends it
+pub after_write-spending : (p : Policy) (x w s : Bool) → after_write p x w (spends_mark p && s) ≡ after_write p x w s
+after_write-spending p x w s =
+    after_write-by_mark p x w (spends_mark p && s) ∙ ap (λ b. cond b x (after_write p x w false)) (and_again (spends_mark p) s)
+    ∙ sym (after_write-by_mark p x w s)
 
 -- ---- a search through the whole table
 

@@ -1,8 +1,10 @@
-use Rattle.std.proofs.Common.{◌≡◌, ℕ, ◌+◌, ◌<◌, Bool, false, List, [], length, get_or, take, sym, ap, ◌∙◌, arith}
+use Rattle.std.proofs.Common.{◌≡◌, ℕ, ◌+◌, ◌<◌, ◌≤◌, Bool, false, List, [], length, get_or, take, sym, ap, ◌∙◌, arith}
 use Rattle.std.proofs.lemmas.List.{append-nil}
 use Rattle.std.proofs.lemmas.List.Elements.{filter_more}
 use Rattle.std.specs.Prelude.{filter, slice_get, option_copied}
-use Rattle.rl_bus.specs.Setup.{stands_for}
+use Rattle.rl_bus.specs.declared.table.WordRow.{WordRow}
+use Rattle.rl_bus.specs.Setup.{stands_at, stands_for}
+use Rattle.rl_bench.specs.Stretch.{IsStretch}
 use Rattle.rl_bench.proofs.ListLemmas.{found_here, found_other, count_here}
 use Rattle.rl_bench.proofs.StretchLemmas.{none_taken, all_taken, not_for}
 use Rattle.rl_bench.proofs.find.find_word.Goals as goal
@@ -49,18 +51,16 @@ loop-k-preserved c =
       behind = omega (arith, was.behind);
     }
 
+-- a stretch holds all that stands for an access
+all_found : (p a : ℕ) (write : Bool) (words : List WordRow) (first end k : ℕ) → IsStretch (stands_at p a) words first end → end ≤ k
+    → filter (stands_for p a write) (take k words) ≡ filter (stands_for p a write) words
+all_found p a write words first end k at past = all_taken (stands_for p a write) words k (λ i d l m. not_for p a write (get_or words i d) (at.behind i d (omega (arith, l, past)) m))
+
 pub returns-clause-word : goal.returns-clause-word
 returns-clause-word c =
-    let q = stands_for c.args.port c.args.address c.args.write in
-    let whole : filter q (take c.loop-k.k c.args.words.now) ≡ filter q c.args.words.now =
-    all_taken q c.args.words.now c.loop-k.k
-    (λ k d l m. not_for c.args.port c.args.address c.args.write (get_or c.args.words.now k d) (c.requires.behind k d (omega (arith, l, c.loop-k-test.false)) m)) in
-    c.loop-k.invariant.found ∙ ap (λ xs. slice_get xs c.args.beat) whole
+    c.loop-k.invariant.found
+    ∙ ap (λ xs. slice_get xs c.args.beat) (all_found c.args.port c.args.address c.args.write c.args.words.now _ _ c.loop-k.k c.requires (omega (arith, c.loop-k-test.false)))
 
 pub returns-clause-count : goal.returns-clause-count
 returns-clause-count c =
-    let q = stands_for c.args.port c.args.address c.args.write in
-    let whole : filter q (take c.loop-k.k c.args.words.now) ≡ filter q c.args.words.now =
-    all_taken q c.args.words.now c.loop-k.k
-    (λ k d l m. not_for c.args.port c.args.address c.args.write (get_or c.args.words.now k d) (c.requires.behind k d (omega (arith, l, c.loop-k-test.false)) m)) in
-    c.loop-k.invariant.count ∙ ap length whole
+    c.loop-k.invariant.count ∙ ap length (all_found c.args.port c.args.address c.args.write c.args.words.now _ _ c.loop-k.k c.requires (omega (arith, c.loop-k-test.false)))

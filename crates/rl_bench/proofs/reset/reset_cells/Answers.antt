@@ -57,20 +57,19 @@ whole t items n word bits marks marks' locations locations' long done m l =
 pub returns-then-kind-eq0-clause-state : goal.returns-then-kind-eq0-clause-state
 unfolding reset_by
 returns-then-kind-eq0-clause-state c beats items =
-    let s = state_of (setup_held c.args.board.now.tables) c.args.cells.now beats items in
-    let was = c.loop-reg.invariant in
     let yes : eqb c.args.kind 0 ≡ true = grind (arith, nat_tests, c.if-kind-eq0.true) in
     let marks : c.fill.new.self.items ≡ replicate (length c.args.cells.now.marks.items) 0 =
-    c.fill.ensures.items (λ y e. e) ∙ ap (λ n. replicate n 0) (c.loop-reg.cells.marks.ok.0 ∙ ap (λ v. length v.items) was.marks) in
-    rw yes (whole s.setup items (length c.args.cells.now.bits.items) (reg_reset s c.args.kind) _ _ _ _ _ was.long
-    (λ k l. was.done k (omega (arith, l, c.requires.bits, c.loop-reg-test.false, c.len-reg-end.ensures, c.args.board.now.tables.regs.ok.0))) marks (ap (λ v. v.items) was.locations))
+    c.fill.ensures.items (λ y e. e) ∙ ap (λ n. replicate n 0) (c.loop-reg.cells.marks.ok.0 ∙ ap (λ v. length v.items) c.loop-reg.invariant.marks) in
+    rw yes (whole (setup_held c.args.board.now.tables) items (length c.args.cells.now.bits.items)
+    (reg_reset (state_of (setup_held c.args.board.now.tables) c.args.cells.now beats items) c.args.kind) _ _ _ _ _ c.loop-reg.invariant.long
+    (λ k l. c.loop-reg.invariant.done k (omega (arith, l, c.requires.bits, c.loop-reg-test.false, c.len-reg-end.ensures, c.args.board.now.tables.regs.ok.0))) marks
+    (ap (λ v. v.items) c.loop-reg.invariant.locations))
 
 pub returns-else-kind-eq0-clause-state : goal.returns-else-kind-eq0-clause-state
 unfolding reset_by
 returns-else-kind-eq0-clause-state c beats items =
-    let s = state_of (setup_held c.args.board.now.tables) c.args.cells.now beats items in
-    let was = c.loop-reg.invariant in
     let no : eqb c.args.kind 0 ≡ false = grind (arith, nat_tests, c.if-kind-eq0.false) in
-    rw no (whole s.setup items (length c.args.cells.now.bits.items) (reg_reset s c.args.kind) _ _ _ _ _ was.long
-    (λ k l. was.done k (omega (arith, l, c.requires.bits, c.loop-reg-test.false, c.len-reg-end.ensures, c.args.board.now.tables.regs.ok.0))) (ap (λ v. v.items) was.marks)
-    (ap (λ v. v.items) was.locations))
+    rw no (whole (setup_held c.args.board.now.tables) items (length c.args.cells.now.bits.items)
+    (reg_reset (state_of (setup_held c.args.board.now.tables) c.args.cells.now beats items) c.args.kind) _ _ _ _ _ c.loop-reg.invariant.long
+    (λ k l. c.loop-reg.invariant.done k (omega (arith, l, c.requires.bits, c.loop-reg-test.false, c.len-reg-end.ensures, c.args.board.now.tables.regs.ok.0)))
+    (ap (λ v. v.items) c.loop-reg.invariant.marks) (ap (λ v. v.items) c.loop-reg.invariant.locations))

@@ -1,9 +1,8 @@
-use Rattle.std.proofs.Common.{◌≡◌, ◌<◌, length, sym, ◌∙◌, subst, arith}
+use Rattle.std.proofs.Common.{◌<◌, length, sym, ◌∙◌, subst, arith}
 use Rattle.rl_map.specs.Layout.{no_map}
 use Rattle.rl_map.proofs.Placing.{room_is}
 use Rattle.std.proofs.lemmas.Result.{err_from_is_err_and}
-use Rattle.rl_map.specs.Building.{placed_at, placed_in}
-use Rattle.rl_map.proofs.Accepting.{own_lined, own_words, seat_is, told}
+use Rattle.rl_map.proofs.Accepting.{own_lined, own_words, row_seat, told}
 use Rattle.rl_map.proofs.checks.checked_place.Goals as goal
 
 pub returns-clause-room : goal.returns-clause-room
@@ -27,11 +26,8 @@ returns-in_err-check_fifo-clause-fault c =
 pub returns-in_err-check_words-clause-fault : goal.returns-in_err-check_words-clause-fault
 returns-in_err-check_words-clause-fault c =
     let row = c.in_ok-row.row in
-    let placed = c.in_ok-row.ensures.placed in
-    let at : placed_at row c.levels.result.now c.index-ports-row.result ≡ placed_in c.args.maps.now c.args.ports.now row =
-    seat_is c.args.maps.now c.args.ports.now row c.index-maps-row.result c.index-ports-row.result c.levels.result.now placed.map
-    (subst (λ n. n < length c.args.ports.now) (sym placed.port) (c.requires.tables.1.each_map row.map no_map placed.map).port)
-    c.index-maps-row.is c.index-ports-row.is c.levels.ensures.levels in
+    let at = row_seat c.args.chip.now c.args.maps.now c.args.ports.now row c.index-maps-row.result c.index-ports-row.result c.levels.result.now c.requires.tables
+    c.in_ok-row.ensures.placed c.index-maps-row.is c.index-ports-row.is c.levels.ensures.levels in
     let p = err_from_is_err_and c.from_residual-in_err-check_words.result c.from_residual-in_err-check_words.ensures.1 in
     told c.from_residual-in_err-check_words.result _ c.in_err-check_words.field-0.0 p.0 p.1 p.2
     (own_words c.args.chip.now c.args.maps.now c.args.ports.now c.args.places.now c.args.words c.args.part.now row _ (omega arith) c.in_ok-row.ensures.fault c.in_ok-row.ensures.row
@@ -40,10 +36,7 @@ returns-in_err-check_words-clause-fault c =
 pub returns-clause-fault : goal.returns-clause-fault
 returns-clause-fault c =
     let row = c.in_ok-row.row in
-    let placed = c.in_ok-row.ensures.placed in
-    let at : placed_at row c.levels.result.now c.index-ports-row.result ≡ placed_in c.args.maps.now c.args.ports.now row =
-    seat_is c.args.maps.now c.args.ports.now row c.index-maps-row.result c.index-ports-row.result c.levels.result.now placed.map
-    (subst (λ n. n < length c.args.ports.now) (sym placed.port) (c.requires.tables.1.each_map row.map no_map placed.map).port)
-    c.index-maps-row.is c.index-ports-row.is c.levels.ensures.levels in
+    let at = row_seat c.args.chip.now c.args.maps.now c.args.ports.now row c.index-maps-row.result c.index-ports-row.result c.levels.result.now c.requires.tables
+    c.in_ok-row.ensures.placed c.index-maps-row.is c.index-ports-row.is c.levels.ensures.levels in
     own_words c.args.chip.now c.args.maps.now c.args.ports.now c.args.places.now c.args.words c.args.part.now row _ (omega arith) c.in_ok-row.ensures.fault c.in_ok-row.ensures.row
     (sym c.is_placed.ensures ∙ c.if-is_placed.false) c.in_ok-check_fifo.ensures.fault at ∙ c.in_ok-check_words.ensures.fault

@@ -1,7 +1,8 @@
-use Rattle.std.proofs.Common.{◌++◌, map, refl, sym, ap, ◌∙◌, arith}
-use Rattle.std.proofs.lemmas.List.{append-nil, at_drop_all}
+use Rattle.std.proofs.Common.{◌≤◌, ◌++◌, length, map, refl, sym, ap, ◌∙◌, arith}
+use Rattle.std.proofs.lemmas.List.{at_drop_all}
 use Rattle.rl_model.specs.Rules.{mem_path, mems_fault}
 use Rattle.rl_model.specs.Build.{mem_seen}
+use Rattle.rl_model.proofs.BuildLemmas.{all_built}
 use Rattle.rl_model.proofs.build.add_mems.Goals as goal
 
 pub loop-part-init : goal.loop-part-init
@@ -16,14 +17,10 @@ loop-part-init c = record {
 
 pub returns-clause-exact : goal.returns-clause-exact
 returns-clause-exact c =
-    let was = c.loop-part.invariant in
     let l = c.loop-part in
-    let parts = c.args.parts.now in (
-      sym was.fault ∙ at_drop_all (mems_fault l.row c.args.blocks l.paths l.total) parts l.part-index (omega (arith, c.loop-part-test.false)),
-      (
-        sym (append-nil l.mems.items) ∙ sym (at_drop_all (λ rest. l.mems.items ++ map mem_seen rest) parts l.part-index (omega (arith, c.loop-part-test.false))) ∙ was.mems,
-        sym (append-nil l.paths) ∙ sym (at_drop_all (λ rest. l.paths ++ map mem_path rest) parts l.part-index (omega (arith, c.loop-part-test.false))) ∙ was.paths,
-      ),
+    let end : length c.args.parts.now ≤ l.part-index = omega (arith, c.loop-part-test.false) in (
+      sym l.invariant.fault ∙ at_drop_all (mems_fault l.row c.args.blocks l.paths l.total) c.args.parts.now l.part-index end,
+      (all_built (map mem_seen) refl _ _ _ _ end l.invariant.mems, all_built (map mem_path) refl _ _ _ _ end l.invariant.paths),
     )
 
 pub returns-clause-few : goal.returns-clause-few

@@ -7,8 +7,9 @@ use Rattle.rl_map.specs.Locations.{AreWordsOf, AreKept}
 use Rattle.rl_map.proofs.Keeping.{kept_built}
 use Rattle.rl_map.proofs.Folding.{none_least}
 use Rattle.std.proofs.lemmas.Result.{err_from_is_err_and}
-use Rattle.rl_map.proofs.Exactly.{by_maps, fault_is, whole_is, none_shared, placed_for, made_of, failed}
+use Rattle.rl_map.proofs.Exactly.{AreMade, by_maps, fault_is, whole_is, none_shared, placed_for, made_of, failed}
 use Rattle.rl_map.proofs.layout.Layout.build.Goals as goal
+use Rattle.rl_map.proofs.layout.Layout.build.Goals.{After-first_fault}
 
 pub add_places-requires-clause-placed : goal.add_places-requires-clause-placed
 add_places-requires-clause-placed c = c.new-placing.ensures.placed c.args.chip.now c.deref.result.now c.deref-2.result.now
@@ -55,26 +56,27 @@ returns-in_err-tables-clause-exact c =
     failed c.args.chip.now c.args.maps.now c.args.places.now c.args.kinds.now c.from_residual.result c.in_err-tables.field-0.0 p.0 p.1 p.2
     (by_maps c.args.chip.now c.args.maps.now c.args.places.now c.args.kinds.now _ c.in_err-tables.ensures.fault)
 
-pub returns-in-Some-clause-exact : goal.returns-in-Some-clause-exact
-returns-in-Some-clause-exact c =
+-- what the build made, up to the first fault
+made : (c : After-first_fault) → AreMade c.args.chip.now c.args.maps.now c.args.places.now c.args.kinds.now c.in_ok-tables.tables.0.items c.in_ok-tables.tables.1.items
+    c.add_places.new.placing.places.items c.add_places.new.placing.rows.items c.sort_rows.new.rows.items c.first_shared-shared.result c.in_ok-refused.refused
+made c =
     let t = c.in_ok-tables.ensures in
     let added = c.in_ok-refused.ensures in
     let sorted = c.in_ok-sort_rows.ensures in
-    let made = made_of c.args.chip.now c.args.maps.now c.args.places.now c.args.kinds.now _ _ _ _ _ _ _ _ _ _ _ _ _ t.fault.0 t.maps t.ports t.tables c.requires
+    made_of c.args.chip.now c.args.maps.now c.args.places.now c.args.kinds.now _ _ _ _ _ _ _ _ _ _ _ _ _ t.fault.0 t.maps t.ports t.tables c.requires
     c.deref.ensures.value c.deref-2.ensures.value c.new-placing.ensures.places c.new-placing.ensures.rows added.accepted added.fault added.placed.places
-    sorted.moved sorted.ascending sorted.stable c.deref-3.ensures.value c.deref-4.ensures.value c.first_shared-shared.ensures.least c.first_shared-shared.ensures.made in
-    λ other. fault_is c.args.chip.now c.args.maps.now c.args.places.now c.args.kinds.now _ _ _ _ _ _ _ made ∙ sym c.first_fault.ensures ∙ c.in-Some.is
+    sorted.moved sorted.ascending sorted.stable c.deref-3.ensures.value c.deref-4.ensures.value c.first_shared-shared.ensures.least c.first_shared-shared.ensures.made
+
+pub returns-in-Some-clause-exact : goal.returns-in-Some-clause-exact
+returns-in-Some-clause-exact c =
+    λ other. fault_is c.args.chip.now c.args.maps.now c.args.places.now c.args.kinds.now _ _ _ _ _ _ _ (made (goal.at.returns-in-Some-clause-exact c).After-first_fault)
+    ∙ sym c.first_fault.ensures ∙ c.in-Some.is
 
 pub returns-clause-exact : goal.returns-clause-exact
 returns-clause-exact c =
-    let t = c.in_ok-tables.ensures in
-    let added = c.in_ok-refused.ensures in
-    let sorted = c.in_ok-sort_rows.ensures in
-    let made = made_of c.args.chip.now c.args.maps.now c.args.places.now c.args.kinds.now _ _ _ _ _ _ _ _ _ _ _ _ _ t.fault.0 t.maps t.ports t.tables c.requires
-    c.deref.ensures.value c.deref-2.ensures.value c.new-placing.ensures.places c.new-placing.ensures.rows added.accepted added.fault added.placed.places
-    sorted.moved sorted.ascending sorted.stable c.deref-3.ensures.value c.deref-4.ensures.value c.first_shared-shared.ensures.least c.first_shared-shared.ensures.made in
+    let all = made (goal.at.returns-clause-exact c).After-first_fault in
     let none = sym c.first_fault.ensures ∙ c.in_default.is in (
-      fault_is c.args.chip.now c.args.maps.now c.args.places.now c.args.kinds.now _ _ _ _ _ _ _ made ∙ none,
+      fault_is c.args.chip.now c.args.maps.now c.args.places.now c.args.kinds.now _ _ _ _ _ _ _ all ∙ none,
       ap (λ v. built c.in_ok-tables.tables.0.items c.add_places.new.placing.places.items c.in_ok-tables.tables.1.items c.in_ok-from_slice.field-0.items v.items) c.in_ok-new.ensures.ok
-          ∙ whole_is c.args.chip.now c.args.maps.now c.args.places.now c.args.kinds.now _ _ _ _ _ _ _ _ made none c.in_ok-from_slice.ensures.items,
+          ∙ whole_is c.args.chip.now c.args.maps.now c.args.places.now c.args.kinds.now _ _ _ _ _ _ _ _ all none c.in_ok-from_slice.ensures.items,
     )

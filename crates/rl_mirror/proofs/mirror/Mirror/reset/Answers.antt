@@ -1,10 +1,9 @@
-use Rattle.std.proofs.Common.{sym, ap, subst, ◌∙◌}
+use Rattle.std.proofs.Common.{ap, ◌∙◌}
 use Rattle.std.specs.Vec.{with_items}
-use Rattle.rl_mirror.specs.Mirror.{MirrorData, IsMirrorOf}
+use Rattle.rl_mirror.specs.Mirror.{MirrorData}
 use Rattle.rl_mirror.specs.Prediction.{reset}
-use Rattle.rl_mirror.specs.Reachable.{IsReachable}
-use Rattle.rl_mirror.proofs.ReachLemmas.{reset_reach}
-use Rattle.rl_mirror.proofs.MirrorLemmas.{hard_is, soft_is, reset_built, refilled, cleared}
+use Rattle.rl_mirror.proofs.ReachLemmas.{reached_after}
+use Rattle.rl_mirror.proofs.MirrorLemmas.{hard_is, soft_is, built_after, refilled, cleared}
 use Rattle.rl_mirror.proofs.mirror.Mirror.reset.Goals as goal
 
 pub returns-then-kind-eq0-clause-value : goal.returns-then-kind-eq0-clause-value
@@ -18,11 +17,6 @@ returns-then-kind-eq0-clause-value c =
     (cleared c.self.inside.spent c.deref_mut-then-kind-eq0.result.now c.clear.new.spent c.deref_mut-then-kind-eq0.ensures.value c.clear.ensures)
     ∙ ap (reset chip c.args.kind) c.self.view_is
 
-pub returns-then-kind-eq0-clause-built : goal.returns-then-kind-eq0-clause-built
-returns-then-kind-eq0-clause-built c =
-    subst (λ (m : MirrorData). IsMirrorOf c.args.chip.now m) (sym (returns-then-kind-eq0-clause-value c)) (reset_built c.args.chip.now c.args.kind c.args.self.now c.reset_all.ensures.sound
-    c.requires.built)
-
 pub returns-else-kind-eq0-clause-value : goal.returns-else-kind-eq0-clause-value
 returns-else-kind-eq0-clause-value c =
     let chip = c.args.chip.now in
@@ -32,17 +26,14 @@ returns-else-kind-eq0-clause-value c =
     (refilled c.self.inside.desired chip c.args.kind c.deref_mut-2.result.now c.reset_all-2.new.values c.deref_mut-2.ensures.value c.reset_all-2.ensures.value)
     ∙ ap (reset chip c.args.kind) c.self.view_is
 
+pub returns-then-kind-eq0-clause-built : goal.returns-then-kind-eq0-clause-built
+returns-then-kind-eq0-clause-built c = built_after c.args.chip.now c.args.kind c.args.self.now _ (returns-then-kind-eq0-clause-value c) c.reset_all.ensures.sound c.requires.built
+
 pub returns-else-kind-eq0-clause-built : goal.returns-else-kind-eq0-clause-built
-returns-else-kind-eq0-clause-built c =
-    subst (λ (m : MirrorData). IsMirrorOf c.args.chip.now m) (sym (returns-else-kind-eq0-clause-value c)) (reset_built c.args.chip.now c.args.kind c.args.self.now c.reset_all.ensures.sound
-    c.requires.built)
+returns-else-kind-eq0-clause-built c = built_after c.args.chip.now c.args.kind c.args.self.now _ (returns-else-kind-eq0-clause-value c) c.reset_all.ensures.sound c.requires.built
 
 pub returns-then-kind-eq0-clause-reach : goal.returns-then-kind-eq0-clause-reach
-returns-then-kind-eq0-clause-reach c was =
-    subst (λ (m : MirrorData). IsReachable c.args.chip.now m) (sym (returns-then-kind-eq0-clause-value c)) (reset_reach c.args.chip.now c.args.kind c.args.self.now c.reset_all.ensures.sound
-    c.requires.built was)
+returns-then-kind-eq0-clause-reach c = reached_after c.args.chip.now c.args.kind c.args.self.now _ (returns-then-kind-eq0-clause-value c) c.reset_all.ensures.sound c.requires.built
 
 pub returns-else-kind-eq0-clause-reach : goal.returns-else-kind-eq0-clause-reach
-returns-else-kind-eq0-clause-reach c was =
-    subst (λ (m : MirrorData). IsReachable c.args.chip.now m) (sym (returns-else-kind-eq0-clause-value c)) (reset_reach c.args.chip.now c.args.kind c.args.self.now c.reset_all.ensures.sound
-    c.requires.built was)
+returns-else-kind-eq0-clause-reach c = reached_after c.args.chip.now c.args.kind c.args.self.now _ (returns-else-kind-eq0-clause-value c) c.reset_all.ensures.sound c.requires.built
