@@ -1,6 +1,7 @@
 pub mod Alone
 pub mod BackPerforms
 pub mod Beliefs
+pub mod Brought
 pub mod Bytes
 pub mod Concluded
 pub mod Seated

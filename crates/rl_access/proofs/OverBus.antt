@@ -17,7 +17,7 @@ use Rattle.rl_access.specs.declared.event.Op.TheVariants as op
 use Rattle.rl_access.specs.declared.trace.TraceItem.{TraceItem}
 use Rattle.rl_access.specs.Call.{scene, Performs}
 use Rattle.rl_access.specs.Items.{AreSent, failed_at, port_for, adapter_for}
-use Rattle.rl_access.specs.Model.{ModelData}
+use Rattle.rl_access.specs.Model.{ModelData, IsSameChip}
 use Rattle.rl_access.specs.Operation.{reg_of}
 use Rattle.rl_access.specs.Rules.{Grant, placed, with_right, with_watch, way, watched_way, map_of_place, map_used, grant, named, forgetting, forgetting_field, whole, field_written, field_read}
 use Rattle.rl_access.specs.Rules.{field_alone, is_alone, access_ops, Outcome, or_error, write_outcome, read_outcome, value_of, end_in_field, in_field, register_event, quiet}
@@ -57,6 +57,13 @@ watched_by m reg map place used write there at names is = record {
 pub field_place_is : (m : ModelData) (field : ℕ) (shape : Field) (map place : Option ℕ) → shape ≡ (field_of m.chip field).shape → place ≡ place_of m.layout (item.Reg shape.reg) map →
     place ≡ place_of m.layout (item.Reg (reg_of m.chip field)) map
 field_place_is m field shape map place same there = there ∙ ap (λ (f : Field). place_of m.layout (item.Reg f.reg) map) same
+
+-- what is forgotten around a field's access leaves the chip and the layout
+pub parts_around : (m entry new : ModelData) (field place : ℕ) (write : Bool) → entry ≡ forgetting_field m field place write → IsSameChip entry new → IsSameChip m new
+parts_around m entry new field place write is same = record {
+  chip = same.chip ∙ ap (λ (x : ModelData). x.chip) is;
+  layout = same.layout ∙ ap (λ (x : ModelData). x.layout) is;
+}
 
 -- ---- writes
 

@@ -21,7 +21,7 @@ use Rattle.rl_access.specs.Event.{EventFits, ItemFits, IsEndWithin, HasValues}
 use Rattle.rl_access.specs.Gathering.{IsPredictorOf, IsNothingGathered, no_words, gathered_at}
 use Rattle.rl_access.specs.Model.{ModelData, IsModel}
 use Rattle.rl_access.specs.Operation.{register_of, HasNumbers, digits_of, has_end}
-use Rattle.rl_access.specs.Rules.{item_size}
+use Rattle.rl_access.specs.Rules.{item_size, memory_size}
 use Rattle.rl_access.proofs.Bytes.{bytes_digits}
 
 -- ---- a place has its item's bytes
@@ -40,6 +40,12 @@ place_size m i place ok there =
 
 pub first_location : (m : ModelData) (place : ℕ) → IsModel m → place < length m.layout.places → IsLocation m.layout place 0
 first_location m place ok inside = let here = ok.layout.each_place place inside in record { place_in = inside; index_in = omega (arith, here.size) }
+
+-- a location of a memory, at a place of it
+pub location_at : (m : ModelData) (mem place index : ℕ) → IsModel m → IsPlaceFor m (item.Mem mem) place → index < memory_size m.chip mem → IsLocation m.layout place index
+location_at m mem place index ok there inside =
+    let size : memory_size m.chip mem ≡ (place_at m.layout place).size = map_or_of (λ r. r.size) _ _ 0 ((ok.built place there.inside).1 mem there.item_is) in
+    record { place_in = there.inside; index_in = subst (λ n. index < n) size inside }
 
 pub all_chosen : (bytes : ℕ) → 1 ≤ bytes → IsChoice bytes (all_bytes bytes)
 all_chosen bytes some = let more = pow_below 0 bytes (omega arith) in record { some = omega (arith, more); within = omega (arith, more) }

@@ -12,7 +12,7 @@ use Rattle.rl_bus.specs.Wire.{Fits}
 use Rattle.rl_map.specs.Layout.{LayoutData, port_at}
 use Rattle.rl_split.specs.Access.{bus_bytes_of, op_of, ops_of, sent_of}
 use Rattle.rl_access.specs.declared.trace.TraceItem.{TraceItem}
-use Rattle.rl_access.specs.Access.{HasBytes, IsWholeTrace}
+use Rattle.rl_access.specs.Access.{HasBytes}
 use Rattle.rl_access.specs.Event.{ItemFits}
 use Rattle.rl_access.specs.Items.{took_item, item_of, AreItemsOf, has_failed, failed_at, IsAnswerSmall}
 
@@ -37,23 +37,6 @@ none_false false n e = refl
 pub quiet_where_none : (items : List TraceItem) → failed_at items ≡ None → has_failed items ≡ false
 quiet_where_none items none =
     quiet_from items (ltb-false (position_or_len fails items) (length items) (none_false (nat_lt (position_or_len fails items) (length items)) (position_or_len fails items) none))
-
-or_true : (a b : Bool) → (a || b) ≡ false → (a ≡ false) × (b ≡ false)
-or_true true b h = cc
-or_true false b h = (refl, h)
-
--- where no item failed there is one for each operation
-as_many : (s : Standing) (port : ℕ) (ops : List BusOp) (items : List TraceItem) → AreItemsOf s port ops items → has_failed items ≡ false → length items ≡ length ops
-as_many s port [] [] h quiet = refl
-as_many s port (op ∷ ops) (item ∷ items) h quiet =
-    let both = or_true item.answer.failed (has_failed items) quiet in
-    let rest : AreItemsOf (took_item s item) port ops items = subst (λ b. MatchBool b (items ≡ []) (AreItemsOf (took_item s item) port ops items)) both.0 h.1 in
-    ap suc (as_many (took_item s item) port ops items rest both.1)
-as_many s port [] (item ∷ items) h quiet = absurd h
-as_many s port (op ∷ ops) [] h quiet = absurd h
-
-pub whole_trace : (s : Standing) (port : ℕ) (ops : List BusOp) (items : List TraceItem) (count : ℕ) → AreItemsOf s port ops items → length ops ≡ count → IsWholeTrace count items
-whole_trace s port ops items count h same none = as_many s port ops items h (quiet_where_none items none) ∙ same
 
 -- ---- each item fits the layout
 

@@ -210,6 +210,11 @@ under_way_next {first} {now} {new} {which} {port} {ops} {i} {items} {item} {erro
           ∙ u.answers d e;
     }
 
+-- under other names for what was sent, and how many
+pub sent_as_before : {first now : List Standing} {which port : ℕ} {ops : List BusOp} {i j : ℕ} {items more : List TraceItem} {errors_before errors : ℕ} {before state : Option State} → j ≡ i →
+    more ≡ items → IsUnderWay first now which port ops i items errors_before errors before state → IsUnderWay first now which port ops j more errors_before errors before state
+sent_as_before same alike u = rw (same, alike) u
+
 -- what the items and the adapters are at the end
 pub record IsSentInOrder (first last : List Standing) (which port : ℕ) (ops : List BusOp) (items : List TraceItem) (errors_before errors : ℕ) (before after : Option State) : Type 0 where
   pub sent : AreSent which port ops items first last errors_before errors before after

@@ -10,7 +10,7 @@ use Rattle.rl_access.specs.declared.event.Refused.{Refused}
 use Rattle.rl_access.specs.declared.trace.TraceItem.{TraceItem}
 use Rattle.rl_access.specs.Items.{AreItemsOf, AreSent, HasCauses, items_of, moved_on_by_all, port_for, adapter_for}
 use Rattle.rl_access.specs.Event.{EventFits}
-use Rattle.rl_access.specs.Model.{ModelData, IsDeviceOf, IsSameChip}
+use Rattle.rl_access.specs.Model.{ModelData, IsDeviceOf, IsReady, IsSameChip}
 use Rattle.rl_access.specs.Rules.{grant, named, sends, outcome, event_of, refused_event, found_by, device_after, access_ops, register_event, write_outcome, read_outcome}
 
 -- what a call meets and leaves
@@ -73,6 +73,14 @@ pub record IsReadBy (s new : Scene) (op : Op) (a : Access) (check : Bool) (event
 -- the operation is refused by its first cause, or done
 abbrev pub Performs : Scene → Scene → Op → Event → Type 0
 Performs s new op event = MatchResult (grant s.model op) (λ place. IsDone s new op place event) (λ why. IsRefused s new op why event)
+
+-- What a call over the bus does, and what it leaves for the next one: the next call may follow, the chip and the layout are the
+-- same, and the event can be told of the model.
+pub record Does (s new : Scene) (op : Op) (event : Event) : Type 0 where
+  pub performs : Performs s new op event
+  pub ready : IsReady new.model new.adapters new.device
+  pub parts : IsSameChip s.model new.model
+  pub fits : EventFits new.model event
 
 -- an operation that meets no adapter and no device, beside any of them
 abbrev pub PerformsAlone : ModelData → ModelData → Op → Event → Type 0

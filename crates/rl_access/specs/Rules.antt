@@ -13,6 +13,7 @@ use Rattle.rl_model.specs.declared.rows.Item.TheVariants as item
 use Rattle.rl_map.specs.Layout.{LayoutData, place_at, port_at, place_of, has_right}
 use Rattle.rl_split.specs.Access.{all_bytes, ops_of, joined}
 use Rattle.rl_split.specs.Narrow.{is_narrow, bytes_of_field}
+use Rattle.rl_split.specs.declared.access.Outgoing.{Outgoing}
 use Rattle.rl_mirror.specs.Compared.{differ}
 use Rattle.rl_model.specs.Fields.{field_of, first_of, size_of, fields_of}
 use Rattle.rl_mirror.specs.Fields.{owned, part_of}
@@ -248,6 +249,10 @@ forgetting_field m field place write = record m { gathered = if is_alone m field
 
 abbrev pub location_bytes : ModelData → ℕ → ℕ
 location_bytes m mem = all_bytes (location_size m.chip mem)
+
+-- an access to it, word by word
+abbrev pub outgoing_at : ModelData → (mem place index value : ℕ) → (write : Bool) → Outgoing
+outgoing_at m mem place index value write = record { place = place; index = index; chosen = location_bytes m mem; value = value; write = write }
 
 abbrev pub location_value : ModelData → (mem place index : ℕ) → List TraceItem → ℕ
 location_value m mem place index items = joined m.layout place index (location_bytes m mem) (words_answered items)

@@ -1,4 +1,8 @@
 //! What an access over the bus reaches.
+ghost use Rattle.std.specs.Prelude.{◌≡◌};
+ghost use Rattle.rl_access.specs.Prelude.{IsAccessOn, IsOutgoingOn, ModelData, outgoing_of};
+
+use rl_split::Outgoing;
 
 /// An access to a register: its place, the bytes that take part, the fields that it concerns, and the
 /// value to write, which is 0 in a read.
@@ -11,4 +15,20 @@ pub(crate) struct Access {
     pub(crate) chosen: u8,
     pub(crate) fields: u64,
     pub(crate) value: u64,
+}
+
+impl Access {
+    /// A write of it, or a read, as its words are sent.
+    pub(crate) fn outgoing(&self, write: bool) -> Outgoing
+        ensures outgoing { result ≡ outgoing_of self.now write }
+        ensures on { (m : ModelData) → IsAccessOn m self.now → IsOutgoingOn m.layout result }
+    {
+        Outgoing {
+            place: self.place,
+            index: 0,
+            chosen: self.chosen,
+            value: if write { self.value } else { 0 },
+            write,
+        }
+    }
 }

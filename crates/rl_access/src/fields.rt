@@ -1,8 +1,8 @@
 //! Accesses to one field, and desired values.
 ghost use Rattle.std.specs.Prelude.{◌≡◌, ◌+◌, ◌<◌, ◌≤◌, map as each, length, OnErr, true};
-ghost use Rattle.rl_access.specs.Prelude.{EventFits, IsEndWithin, IsMapIn, IsReady, IsSameChip, Performs};
-ghost use Rattle.rl_access.specs.Prelude.{PerformsAlone, end_in_field, ends_with_value, field_digits, forgetting_field};
-ghost use Rattle.rl_access.specs.Prelude.{grant, scene_of};
+ghost use Rattle.rl_access.specs.Prelude.{Does, EventFits, IsEndWithin, IsMapIn, IsReady, IsSameChip, PerformsAlone};
+ghost use Rattle.rl_access.specs.Prelude.{end_in_field, ends_with_value, field_digits, forgetting_field, grant};
+ghost use Rattle.rl_access.specs.Prelude.{scene_of};
 ghost use Rattle.rl_access.specs.declared.event.Op.TheVariants as op;
 
 use crate::engine::{read, write_as};
@@ -26,10 +26,7 @@ pub fn field_write<D: Device>(
     requires ready { IsReady model.old (each standing adapters.old.items) (D.state device.old) }
     requires field { field < length model.old.chip.fields }
     requires map { IsMapIn (length model.old.layout.maps) map }
-    ensures ready { IsReady model.new (each standing adapters.new.items) (D.state device.new) }
-    ensures parts { IsSameChip model.old model.new }
-    ensures fits { EventFits model.new result }
-    ensures performs { Performs (scene_of standing D.errors D.state model.old adapters.old.items device.old)
+    ensures does { Does (scene_of standing D.errors D.state model.old adapters.old.items device.old)
         (scene_of standing D.errors D.state model.new adapters.new.items device.new)
         (op.FieldWrite field map value) result }
     ensures refused { OnErr (grant model.old (op.FieldWrite field map value)) (device.new ≡ device.old) }
@@ -63,10 +60,7 @@ pub fn field_read<D: Device>(
     requires ready { IsReady model.old (each standing adapters.old.items) (D.state device.old) }
     requires field { field < length model.old.chip.fields }
     requires map { IsMapIn (length model.old.layout.maps) map }
-    ensures ready { IsReady model.new (each standing adapters.new.items) (D.state device.new) }
-    ensures parts { IsSameChip model.old model.new }
-    ensures fits { EventFits model.new result }
-    ensures performs { Performs (scene_of standing D.errors D.state model.old adapters.old.items device.old)
+    ensures does { Does (scene_of standing D.errors D.state model.old adapters.old.items device.old)
         (scene_of standing D.errors D.state model.new adapters.new.items device.new) (op.FieldRead field map) result }
     ensures refused { OnErr (grant model.old (op.FieldRead field map)) (device.new ≡ device.old) }
 {

@@ -1,6 +1,6 @@
 //! Accesses to registers over the bus.
 ghost use Rattle.std.specs.Prelude.{◌≡◌, ◌<◌, map as each, length, if◌then◌else◌, OnErr};
-ghost use Rattle.rl_access.specs.Prelude.{EventFits, IsMapIn, IsReady, IsSameChip, Performs, grant, scene_of};
+ghost use Rattle.rl_access.specs.Prelude.{Does, IsMapIn, IsReady, grant, scene_of};
 ghost use Rattle.rl_access.specs.declared.event.Op.TheVariants as op;
 
 use crate::event::{End, Event, Op};
@@ -21,10 +21,7 @@ pub fn front_write<D: Device>(
     requires ready { IsReady model.old (each standing adapters.old.items) (D.state device.old) }
     requires reg { reg < length model.old.chip.regs }
     requires map { IsMapIn (length model.old.layout.maps) map }
-    ensures ready { IsReady model.new (each standing adapters.new.items) (D.state device.new) }
-    ensures parts { IsSameChip model.old model.new }
-    ensures fits { EventFits model.new result }
-    ensures performs { Performs (scene_of standing D.errors D.state model.old adapters.old.items device.old)
+    ensures does { Does (scene_of standing D.errors D.state model.old adapters.old.items device.old)
         (scene_of standing D.errors D.state model.new adapters.new.items device.new) (op.Write reg map value) result }
     ensures refused { OnErr (grant model.old (op.Write reg map value)) (device.new ≡ device.old) }
 {
@@ -53,10 +50,7 @@ pub fn front_read<D: Device>(
     requires ready { IsReady model.old (each standing adapters.old.items) (D.state device.old) }
     requires reg { reg < length model.old.chip.regs }
     requires map { IsMapIn (length model.old.layout.maps) map }
-    ensures ready { IsReady model.new (each standing adapters.new.items) (D.state device.new) }
-    ensures parts { IsSameChip model.old model.new }
-    ensures fits { EventFits model.new result }
-    ensures performs { Performs (scene_of standing D.errors D.state model.old adapters.old.items device.old)
+    ensures does { Does (scene_of standing D.errors D.state model.old adapters.old.items device.old)
         (scene_of standing D.errors D.state model.new adapters.new.items device.new) (op.Read reg map) result }
     ensures refused { OnErr (grant model.old (op.Read reg map)) (device.new ≡ device.old) }
 {
@@ -85,10 +79,7 @@ pub fn mirror<D: Device>(
     requires ready { IsReady model.old (each standing adapters.old.items) (D.state device.old) }
     requires reg { reg < length model.old.chip.regs }
     requires map { IsMapIn (length model.old.layout.maps) map }
-    ensures ready { IsReady model.new (each standing adapters.new.items) (D.state device.new) }
-    ensures parts { IsSameChip model.old model.new }
-    ensures fits { EventFits model.new result }
-    ensures performs { Performs (scene_of standing D.errors D.state model.old adapters.old.items device.old)
+    ensures does { Does (scene_of standing D.errors D.state model.old adapters.old.items device.old)
         (scene_of standing D.errors D.state model.new adapters.new.items device.new)
         (if check then op.Check reg map else op.Mirror reg map) result }
     ensures refused { OnErr (grant model.old (op.Mirror reg map)) (device.new ≡ device.old) }

@@ -1,69 +1,38 @@
 //! One location of a memory: what is sent for it and how that ends, and its bytes in the device.
 ghost use Rattle.std.specs.Prelude.{◌≡◌, ℕ, ◌*◌, ◌<◌, ◌≤◌, ◌^◌, [], map as each, length, option_map, All, true, false};
-ghost use Rattle.rl_access.specs.Prelude.{AreSent, Fits, HasBytes, IsDeviceOf, IsEndWithin, IsFoundAt, IsPlaceFor};
-ghost use Rattle.rl_access.specs.Prelude.{IsReady, IsWholeTrace, ItemFits, ModelData, adapter_for, all_bytes};
-ghost use Rattle.rl_access.specs.Prelude.{bus_bytes_of, ends_done, ends_with_value, failed_at, kind_of, location_bytes};
-ghost use Rattle.rl_access.specs.Prelude.{location_size, location_value, memory_size, ops_in, ops_of, or_error, poked};
-ghost use Rattle.rl_access.specs.Prelude.{port_for, quiet};
+ghost use Rattle.rl_access.specs.Prelude.{AreSent, IsBrought, IsDeviceOf, IsEndWithin, IsFoundAt, IsOutgoingOn};
+ghost use Rattle.rl_access.specs.Prelude.{IsPlaceFor, IsReady, ItemFits, ModelData, adapter_for, ends_done};
+ghost use Rattle.rl_access.specs.Prelude.{ends_with_value, failed_at, location_bytes, location_size, location_value};
+ghost use Rattle.rl_access.specs.Prelude.{memory_size, ops_of, or_error, outgoing_at, poked, port_for, quiet};
 ghost use Rattle.rl_bus.specs.declared.table.Cell.TheVariants as cell;
 ghost use Rattle.rl_access.specs.declared.event.End.TheVariants as end;
 ghost use Rattle.rl_model.specs.declared.rows.Item.TheVariants as item;
 
-use crate::engine::{answers_of, operations, send};
+use crate::engine::send;
 use crate::event::End;
 use crate::model::{Model, all_bytes};
 use crate::trace::Trace;
 use rl_bus::{Adapter, Adapters, Cell, Device};
 use rl_model::Item;
 use rl_policy::take;
-use rl_split::{Words, join};
+use rl_split::Outgoing;
 
-/// Lists the operations of an access to a location.
-fn location_words(
-    model: &Model,
-    mem: u32,
-    place: u32,
-    index: u32,
-    value: u64,
-    write: bool,
-    words: &mut Words,
-)
-    requires empty { words.old ≡ [] }
+/// An access to a location: to all its bytes.
+fn outgoing_at(model: &Model, mem: u32, place: u32, index: u32, value: u64, write: bool) -> Outgoing
     requires mem { mem < length model.now.chip.mems }
     requires place { IsPlaceFor model.now (item.Mem mem) place }
     requires index { index < memory_size model.now.chip mem }
     requires value { value < 256 ^ location_size model.now.chip mem }
-    ensures ops { ops_in words.new ≡
-        ops_of model.now.layout place index (all_bytes (location_size model.now.chip mem)) value write }
-    ensures few { length words.new ≤ 8 }
-    ensures fits { All (Fits (kind_of model.now.layout place)) (ops_in words.new) }
-    ensures bytes { HasBytes (bus_bytes_of model.now.layout place) (ops_in words.new) }
+    ensures outgoing { result ≡ outgoing_at model.now mem place index value write }
+    ensures on { IsOutgoingOn model.now.layout result }
 {
-    let chosen = all_bytes(model.chip().bytes(Item::Mem(mem)));
-    operations(model, place, index, chosen, value, write, words);
-}
-
-/// The value that the items of a read of a location brought.
-fn location_value(
-    model: &Model,
-    mem: u32,
-    place: u32,
-    index: u32,
-    words: &Words,
-    trace: &Trace,
-) -> u64
-    requires mem { mem < length model.now.chip.mems }
-    requires place { IsPlaceFor model.now (item.Mem mem) place }
-    requires index { index < memory_size model.now.chip mem }
-    requires words { ops_in words.now ≡
-        ops_of model.now.layout place index (all_bytes (location_size model.now.chip mem)) 0 false }
-    requires whole { length trace.now ≡ length words.now }
-    ensures value { result ≡ location_value model.now mem place index trace.now }
-    ensures digits { result < 16 ^ (2 * location_size model.now.chip mem) }
-{
-    let chosen = all_bytes(model.chip().bytes(Item::Mem(mem)));
-    let answers = answers_of(trace);
-    join(model.layout(), place, index, chosen, words, &answers)
+    Outgoing {
+        place,
+        index,
+        chosen: all_bytes(model.chip().bytes(Item::Mem(mem))),
+        value,
+        write,
+    }
 }
 
 fn end_of_write(trace: &Trace) -> End
@@ -77,23 +46,21 @@ fn end_of_write(trace: &Trace) -> End
     }
 }
 
-fn end_of_read(model: &Model, mem: u32, place: u32, index: u32, words: &Words, trace: &Trace) -> End
+fn end_of_read(model: &Model, mem: u32, place: u32, index: u32, value: u64, trace: &Trace) -> End
     requires mem { mem < length model.now.chip.mems }
     requires place { IsPlaceFor model.now (item.Mem mem) place }
     requires index { index < memory_size model.now.chip mem }
-    requires words { ops_in words.now ≡
-        ops_of model.now.layout place index (all_bytes (location_size model.now.chip mem)) 0 false }
-    requires whole { IsWholeTrace (length words.now) trace.now }
+    requires value { IsBrought model.now.layout (outgoing_at model.now mem place index 0 false) trace.now value }
     ensures end { result ≡
         (or_error (failed_at trace.now) model.now
         (quiet (end.Value (location_value model.now mem place index trace.now)) model.now)).end }
     ensures ends { ends_with_value result ≡ true }
     ensures within { IsEndWithin (2 * location_size model.now.chip mem) result }
 {
+    // A model that is opened is known to be sound.
+    let _ = model.layout();
     match trace.failed_at() {
-        None => End::Value {
-            value: location_value(model, mem, place, index, words, trace),
-        },
+        None => End::Value { value },
         Some(word) => End::BusError { word },
     }
 }
@@ -125,9 +92,8 @@ pub(crate) fn write_location<D: Device>(
     ensures ends { ends_done result ≡ true }
     ensures within { IsEndWithin (2 * location_size model.now.chip mem) result }
 {
-    let mut words = Words::new();
-    location_words(model, mem, place, index as u32, value, true, &mut words);
-    send(model, device, adapters, place, &words, trace);
+    let outgoing = outgoing_at(model, mem, place, index as u32, value, true);
+    send(model, device, adapters, &outgoing, trace);
     end_of_write(trace)
 }
 
@@ -159,10 +125,9 @@ pub(crate) fn read_location<D: Device>(
     ensures within { IsEndWithin (2 * location_size model.now.chip mem) result }
 {
     let index = index as u32;
-    let mut words = Words::new();
-    location_words(model, mem, place, index, 0, false, &mut words);
-    send(model, device, adapters, place, &words, trace);
-    end_of_read(model, mem, place, index, &words, trace)
+    let outgoing = outgoing_at(model, mem, place, index, 0, false);
+    let value = send(model, device, adapters, &outgoing, trace);
+    end_of_read(model, mem, place, index, value, trace)
 }
 
 /// The bytes of a location, as the device has them.

@@ -1,6 +1,6 @@
 //! Accesses to the locations of memories.
 ghost use Rattle.std.specs.Prelude.{◌≡◌, ◌<◌, ◌≤◌, map as each, length, OnErr};
-ghost use Rattle.rl_access.specs.Prelude.{EventFits, IsDeviceOf, IsMapIn, IsReady, Performs, PerformsOffBus, grant};
+ghost use Rattle.rl_access.specs.Prelude.{Does, EventFits, IsDeviceOf, IsMapIn, IsReady, PerformsOffBus, grant};
 ghost use Rattle.rl_access.specs.Prelude.{scene_of, value_differs};
 
 use crate::event::{End, Event, Op};
@@ -23,9 +23,7 @@ pub fn mem_write<D: Device>(
     requires mem { mem < length model.old.chip.mems }
     requires map { IsMapIn (length model.old.layout.maps) map }
     ensures model { model.new ≡ model.old }
-    ensures ready { IsReady model.new (each standing adapters.new.items) (D.state device.new) }
-    ensures fits { EventFits model.new result }
-    ensures performs { Performs (scene_of standing D.errors D.state model.old adapters.old.items device.old)
+    ensures does { Does (scene_of standing D.errors D.state model.old adapters.old.items device.old)
         (scene_of standing D.errors D.state model.new adapters.new.items device.new)
         (Op.MemWrite mem map index value) result }
     ensures refused { OnErr (grant model.old (Op.MemWrite mem map index value)) (device.new ≡ device.old) }
@@ -63,9 +61,7 @@ pub fn mem_read<D: Device>(
     requires mem { mem < length model.old.chip.mems }
     requires map { IsMapIn (length model.old.layout.maps) map }
     ensures model { model.new ≡ model.old }
-    ensures ready { IsReady model.new (each standing adapters.new.items) (D.state device.new) }
-    ensures fits { EventFits model.new result }
-    ensures performs { Performs (scene_of standing D.errors D.state model.old adapters.old.items device.old)
+    ensures does { Does (scene_of standing D.errors D.state model.old adapters.old.items device.old)
         (scene_of standing D.errors D.state model.new adapters.new.items device.new) (Op.MemRead mem map index) result }
     ensures refused { OnErr (grant model.old (Op.MemRead mem map index)) (device.new ≡ device.old) }
 {
@@ -99,9 +95,7 @@ pub fn mem_check<D: Device>(
     requires mem { mem < length model.old.chip.mems }
     requires map { IsMapIn (length model.old.layout.maps) map }
     ensures model { model.new ≡ model.old }
-    ensures ready { IsReady model.new (each standing adapters.new.items) (D.state device.new) }
-    ensures fits { EventFits model.new result }
-    ensures performs { Performs (scene_of standing D.errors D.state model.old adapters.old.items device.old)
+    ensures does { Does (scene_of standing D.errors D.state model.old adapters.old.items device.old)
         (scene_of standing D.errors D.state model.new adapters.new.items device.new)
         (Op.MemCheck mem map index value) result }
     ensures refused { OnErr (grant model.old (Op.MemCheck mem map index value)) (device.new ≡ device.old) }

@@ -1,6 +1,6 @@
 //! One operation of any kind, by the call that does it.
 ghost use Rattle.std.specs.Prelude.{◌≡◌, length, map as each, OnErr, true};
-ghost use Rattle.rl_access.specs.Prelude.{EventFits, HasNumbers, IsDeviceOf, IsReady, IsSameChip, Performs};
+ghost use Rattle.rl_access.specs.Prelude.{Does, EventFits, HasNumbers, IsDeviceOf, IsReady, IsSameChip};
 ghost use Rattle.rl_access.specs.Prelude.{PerformsOffBus, grant, is_off_bus, is_on_memory, is_single, scene_of};
 
 use crate::backdoor::{back_read, back_write, hw, peek, poke, reset};
@@ -26,10 +26,7 @@ pub fn perform<D: Device>(
     requires ready { IsReady model.old (each standing adapters.old.items) (D.state device.old) }
     requires numbers { HasNumbers model.old.chip (length model.old.layout.maps) op }
     requires single { is_single op ≡ true }
-    ensures ready { IsReady model.new (each standing adapters.new.items) (D.state device.new) }
-    ensures parts { IsSameChip model.old model.new }
-    ensures fits { EventFits model.new result }
-    ensures performs { Performs (scene_of standing D.errors D.state model.old adapters.old.items device.old)
+    ensures does { Does (scene_of standing D.errors D.state model.old adapters.old.items device.old)
         (scene_of standing D.errors D.state model.new adapters.new.items device.new) op result }
     ensures refused { OnErr (grant model.old op) (device.new ≡ device.old) }
 {
@@ -65,9 +62,7 @@ fn perform_on_memory<D: Device>(
     requires numbers { HasNumbers model.old.chip (length model.old.layout.maps) op }
     requires on_memory { is_on_memory op ≡ true }
     ensures model { model.new ≡ model.old }
-    ensures ready { IsReady model.new (each standing adapters.new.items) (D.state device.new) }
-    ensures fits { EventFits model.new result }
-    ensures performs { Performs (scene_of standing D.errors D.state model.old adapters.old.items device.old)
+    ensures does { Does (scene_of standing D.errors D.state model.old adapters.old.items device.old)
         (scene_of standing D.errors D.state model.new adapters.new.items device.new) op result }
     ensures refused { OnErr (grant model.old op) (device.new ≡ device.old) }
 {

@@ -1,6 +1,6 @@
 //! Accesses of another master, which a predictor watches.
 ghost use Rattle.std.specs.Prelude.{◌≡◌, ◌<◌, map as each, length, OnErr};
-ghost use Rattle.rl_access.specs.Prelude.{EventFits, IsMapIn, IsReady, IsSameChip, Performs, grant, scene_of};
+ghost use Rattle.rl_access.specs.Prelude.{Does, IsMapIn, IsReady, grant, scene_of};
 ghost use Rattle.rl_access.specs.declared.event.Op.TheVariants as op;
 
 use crate::event::{End, Event, Op};
@@ -21,10 +21,7 @@ pub fn other_write<D: Device>(
     requires ready { IsReady model.old (each standing adapters.old.items) (D.state device.old) }
     requires reg { reg < length model.old.chip.regs }
     requires map { IsMapIn (length model.old.layout.maps) map }
-    ensures ready { IsReady model.new (each standing adapters.new.items) (D.state device.new) }
-    ensures parts { IsSameChip model.old model.new }
-    ensures fits { EventFits model.new result }
-    ensures performs { Performs (scene_of standing D.errors D.state model.old adapters.old.items device.old)
+    ensures does { Does (scene_of standing D.errors D.state model.old adapters.old.items device.old)
         (scene_of standing D.errors D.state model.new adapters.new.items device.new)
         (op.OtherWrite reg map value) result }
     ensures refused { OnErr (grant model.old (op.OtherWrite reg map value)) (device.new ≡ device.old) }
@@ -54,10 +51,7 @@ pub fn other_read<D: Device>(
     requires ready { IsReady model.old (each standing adapters.old.items) (D.state device.old) }
     requires reg { reg < length model.old.chip.regs }
     requires map { IsMapIn (length model.old.layout.maps) map }
-    ensures ready { IsReady model.new (each standing adapters.new.items) (D.state device.new) }
-    ensures parts { IsSameChip model.old model.new }
-    ensures fits { EventFits model.new result }
-    ensures performs { Performs (scene_of standing D.errors D.state model.old adapters.old.items device.old)
+    ensures does { Does (scene_of standing D.errors D.state model.old adapters.old.items device.old)
         (scene_of standing D.errors D.state model.new adapters.new.items device.new) (op.OtherRead reg map) result }
     ensures refused { OnErr (grant model.old (op.OtherRead reg map)) (device.new ≡ device.old) }
 {

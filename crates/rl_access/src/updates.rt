@@ -1,6 +1,6 @@
 //! Bringing a register to its desired value.
 ghost use Rattle.std.specs.Prelude.{◌≡◌, ◌<◌, map as each, length, OnErr};
-ghost use Rattle.rl_access.specs.Prelude.{EventFits, IsMapIn, IsModel, IsReady, IsSameChip, Performs, grant, scene_of};
+ghost use Rattle.rl_access.specs.Prelude.{Does, IsMapIn, IsModel, IsReady, grant, scene_of};
 ghost use Rattle.rl_mirror.specs.Reachable.{UpdateBrings};
 ghost use Rattle.rl_access.specs.Wishes.{BringsWishes};
 ghost use Rattle.rl_access.specs.declared.event.Op.TheVariants as op;
@@ -25,10 +25,7 @@ pub fn update<D: Device>(
     requires ready { IsReady model.old (each standing adapters.old.items) (D.state device.old) }
     requires reg { reg < length model.old.chip.regs }
     requires map { IsMapIn (length model.old.layout.maps) map }
-    ensures ready { IsReady model.new (each standing adapters.new.items) (D.state device.new) }
-    ensures parts { IsSameChip model.old model.new }
-    ensures fits { EventFits model.new result }
-    ensures performs { Performs (scene_of standing D.errors D.state model.old adapters.old.items device.old)
+    ensures does { Does (scene_of standing D.errors D.state model.old adapters.old.items device.old)
         (scene_of standing D.errors D.state model.new adapters.new.items device.new) (op.Update reg map) result }
     ensures wishes { BringsWishes model.old model.new reg result.end }
     ensures refused { OnErr (grant model.old (op.Update reg map)) (device.new ≡ device.old) }

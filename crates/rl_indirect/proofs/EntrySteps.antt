@@ -1,22 +1,18 @@
 -- From agreement, an access to the data register is one step of the selected entry.
-use Rattle.std.proofs.Common.{◌≡◌, ℕ, ◌<◌, Bool, true, false, not, ◌&&◌, cond, List, [], length, get_or, Option, None, Some, Result, Ok, Err, MatchResult, refl, sym, ap, ◌∙◌, subst, arith}
+use Rattle.std.proofs.Common.{◌≡◌, ℕ, ◌<◌, Bool, true, false, not, ◌&&◌, cond, List, [], length, Option, None, Some, Ok, Err, MatchResult, refl, sym, ap, ◌∙◌, subst, arith}
 use Rattle.std.specs.Prelude.{All, slice_index, slice_set}
-use Rattle.std.specs.List.{list_all}
-use Rattle.std.proofs.lemmas.List.{get_or-set_same, set-set, length-set}
+use Rattle.std.proofs.lemmas.List.{get_or-set_same, set-set}
 use Rattle.std.proofs.lemmas.List.Elements.{All-same, All-set}
 use Rattle.std.proofs.lemmas.List.Sums.{AllPass-from_list_all}
-use Rattle.rl_policy.specs.Bits.{bit, from_bits}
 use Rattle.rl_policy.specs.Table.{after_write, spends_mark}
 use Rattle.rl_policy.specs.declared.policy.Policy.{Policy}
 use Rattle.rl_policy.specs.declared.policy.Policy.TheVariants.{W1, Wo1}
-use Rattle.rl_policy.proofs.BitLemmas.{from_bits-same}
-use Rattle.rl_bus.specs.State.{State, peeked}
+use Rattle.rl_bus.specs.State.{peeked}
 use Rattle.rl_bus.specs.declared.table.Cell.TheVariants as cell
-use Rattle.rl_model.specs.Fields.{fields_of, field_in, no_field, policy_in, place_at}
+use Rattle.rl_model.specs.Fields.{fields_of, field_in, no_field, policy_in}
 use Rattle.rl_model.specs.Rows.{FieldSeen, ChipData}
-use Rattle.rl_split.specs.Step.{Register, every, wstep, rstep, ranswer, written_bit, left_bit, shown_bit}
+use Rattle.rl_split.specs.Step.{Register, every, ranswer}
 use Rattle.rl_mirror.specs.Mirror.{IsValueOf, mirrored_of}
-use Rattle.rl_mirror.proofs.PlaceLemmas.{place_is}
 use Rattle.rl_access.specs.declared.event.End.{End}
 use Rattle.rl_access.specs.declared.event.End.TheVariants as end
 use Rattle.rl_access.specs.declared.event.Event.{Event}
@@ -28,9 +24,10 @@ use Rattle.rl_access.specs.Operation.{HasNumbers, IsMapIn, register_of}
 use Rattle.rl_access.specs.declared.event.Refused.{Refused}
 use Rattle.rl_access.specs.Rules.{Grant, grant, named, event_at, quiet, refused_event}
 use Rattle.rl_access.specs.Tally.{is_bus_error}
-use Rattle.rl_plain.specs.Agree.{Agree, believed}
+use Rattle.rl_plain.specs.Agree.{believed}
 use Rattle.rl_plain.specs.OneStep.{Step, write_step, read_step, no_step, IsAccess, end_of, register_after, step_of}
 use Rattle.rl_plain.proofs.Believed.{access_is_believed}
+use Rattle.rl_plain.proofs.Masters.{written_by, left_alike, answers_alike}
 use Rattle.rl_indirect.specs.declared.window.Window.{Window}
 use Rattle.rl_indirect.specs.declared.indexed.Indexed.TheVariants.{At, AtIndex, NoSuchEntry}
 use Rattle.rl_indirect.specs.Agree.{BankAgree, IsEntryStep, KeepsEntries, entries_stepped, entry_at, is_refused}
@@ -60,28 +57,10 @@ data_unmarked c b of =
     let all = AllPass-from_list_all (λ (f : FieldSeen). is_data_field f.shape) fs (window_parts c b.window b.size of.window).data_is in
     record { none = λ k low. not_true (spends_mark (policy_in fs k)) (not (field_in fs k).shape.volatile) (all k no_field low) }
 
-written_same : (fs : List FieldSeen) (chosen : ℕ → Bool) (word : ℕ) (r q : Register) → HasNoMark fs → r.bits ≡ q.bits → (wstep fs chosen word r).bits ≡ (wstep fs chosen word q).bits
-unfolding wstep
-written_same fs chosen word r q free e =
-    from_bits-same 64 (λ b. written_bit fs chosen r.spent (place_at fs b) (bit r.bits b) (bit word b)) (λ b. written_bit fs chosen q.spent (place_at fs b) (bit q.bits b) (bit word b))
-    (λ b low. ap (λ n. written_bit fs chosen r.spent (place_at fs b) (bit n b) (bit word b)) e ∙ by b (place_at fs b) refl)
-  where
-    by : (b : ℕ) (o : Option ℕ) → place_at fs b ≡ o → written_bit fs chosen r.spent o (bit q.bits b) (bit word b) ≡ written_bit fs chosen q.spent o (bit q.bits b) (bit word b)
-    by b None at = refl
-    by b (Some k) at =
-        ap (λ x. cond (chosen k) x (bit q.bits b)) (unmarked (policy_in fs k) (bit q.bits b) (bit word b) (r.spent k) (q.spent k) (free.none k (place_is fs b k at).0))
-
-left_same : (fs : List FieldSeen) (chosen : ℕ → Bool) (r q : Register) → r.bits ≡ q.bits → (rstep fs chosen r).bits ≡ (rstep fs chosen q).bits
-unfolding rstep
-left_same fs chosen r q e = ap (λ n. from_bits 64 (λ b. left_bit fs chosen (place_at fs b) (bit n b))) e
-
-pub answer_same : (fs : List FieldSeen) (chosen : ℕ → Bool) (r q : Register) → r.bits ≡ q.bits → ranswer fs chosen r ≡ ranswer fs chosen q
-unfolding ranswer
-answer_same fs chosen r q e = ap (λ n. from_bits 64 (λ b. shown_bit fs chosen (place_at fs b) (bit n b))) e
-
 after_same : (fs : List FieldSeen) (step : Step) (r q : Register) → HasNoMark fs → r.bits ≡ q.bits → (register_after fs step r).bits ≡ (register_after fs step q).bits
-after_same fs (write_step chosen word) r q free e = written_same fs chosen word r q free e
-after_same fs (read_step chosen) r q free e = left_same fs chosen r q e
+after_same fs (write_step chosen word) r q free e =
+    written_by fs chosen word r q e (λ k old new low. unmarked (policy_in fs k) old new (r.spent k) (q.spent k) (free.none k low))
+after_same fs (read_step chosen) r q free e = left_alike fs chosen r q e
 after_same fs no_step r q free e = e
 
 -- ---- the data register is accessed
@@ -106,24 +85,15 @@ on_write m reg value map inside mapped = record {
   answers = λ place r read e. absurd (cc);
 }
 
+read_is : (n read : ℕ) → end.Value n ≡ end.Value read → read ≡ n
+read_is n read e = cc
+
 pub on_read : (m : ModelData) (reg : ℕ) (map : Option ℕ) (check : Bool) → reg < length m.chip.regs → IsMapIn (length m.layout.maps) map →
     IsOnData m (cond check (op.Check reg map) (op.Mirror reg map)) reg (read_step every)
-on_read m reg map true inside mapped = record {
-  access = tt;
-  numbers = (inside, mapped);
-  register = refl;
-  step_is = λ place. refl;
-  granted = λ place r. refl;
-  answers = λ place r read e. let same : ranswer (fields_of m.chip reg) every r ≡ read = cc in sym same;
-}
-on_read m reg map false inside mapped = record {
-  access = tt;
-  numbers = (inside, mapped);
-  register = refl;
-  step_is = λ place. refl;
-  granted = λ place r. refl;
-  answers = λ place r read e. let same : ranswer (fields_of m.chip reg) every r ≡ read = cc in sym same;
-}
+on_read m reg map true inside mapped =
+    record { access = tt; numbers = (inside, mapped); register = refl; step_is = λ place. refl; granted = λ place r. refl; answers = λ place r read e. read_is _ read e }
+on_read m reg map false inside mapped =
+    record { access = tt; numbers = (inside, mapped); register = refl; step_is = λ place. refl; granted = λ place r. refl; answers = λ place r read e. read_is _ read e }
 
 -- what it leaves of a bank whose entry k is in the data register
 pub record IsDataStep (s t : Scene) (b : BankData) (k : ℕ) (step : Step) (access : Event) : Type 0 where
@@ -184,7 +154,7 @@ data_by s t b k step o access h ok later of bank selected on performs (Ok place)
         model = h.model ∙ sym index;
       };
       entries = stepped ∙ ap (λ t. cond t old (entries_stepped b s.model k step)) (sym good);
-      reads = λ read e. on.answers place r read (sym st.ends ∙ e) ∙ answer_same fs every r (entry_at b s.model k) (sym entry);
+      reads = λ read e. on.answers place r read (sym st.ends ∙ e) ∙ answers_alike fs every r (entry_at b s.model k) (sym entry);
       no_error = st.no_error;
     }
 data_by s t b k step o access h ok later of bank selected on performs (Err why) refused =

@@ -1,10 +1,10 @@
 //! The two registers of a window, and why they are none.
-ghost use Rattle.std.specs.Prelude.{◌≡◌, ◌+◌, ◌<◌, ◌≤◌, true, length};
-ghost use Rattle.rl_model.specs.Fields.{first_of, fields_of, field_in};
+ghost use Rattle.std.specs.Prelude.{◌≡◌, ◌<◌, true, length};
 ghost use Rattle.rl_indirect.specs.Window.{is_rw, is_index, is_index_field, is_data, is_data_field, is_size};
 ghost use Rattle.rl_indirect.specs.Window.{window_fault};
 ghost use Rattle.rl_indirect.specs.declared.window.WindowFault.TheVariants.{Memory};
 
+use rl_mirror::{field_at, field_count};
 use rl_model::{Chip, Field};
 use rl_policy::policy::spends;
 use rl_policy::{Policy, mask};
@@ -83,36 +83,6 @@ fn is_data_field(field: &Field) -> bool
     ensures { result ≡ is_data_field field.now }
 {
     !spends(field.policy) && !field.volatile
-}
-
-/// How many fields a register has.
-fn field_count(chip: &Chip, reg: u32) -> u32
-    requires { reg < length chip.now.regs }
-    ensures count { result ≡ length (fields_of chip.now reg) }
-    ensures few { result ≤ 64 }
-{
-    chip.field_count(reg)
-}
-
-/// The number, counted through all registers, of the `k`-th field of a register.
-fn field_number(chip: &Chip, reg: u32, k: u32) -> u32
-    requires reg { reg < length chip.now.regs }
-    requires field { k < length (fields_of chip.now reg) }
-    ensures number { result ≡ first_of chip.now reg + k }
-    ensures within { result < length chip.now.fields }
-{
-    chip.first_field(reg) + k
-}
-
-/// The `k`-th field of a register.
-fn field_at(chip: &Chip, reg: u32, k: u32) -> Field
-    requires reg { reg < length chip.now.regs }
-    requires field { k < length (fields_of chip.now reg) }
-    ensures field { result ≡ (field_in (fields_of chip.now reg) k).shape }
-    ensures some { 1 ≤ result.width }
-    ensures most { result.width ≤ 64 }
-{
-    chip.field(field_number(chip, reg, k))
 }
 
 /// Whether a register can be the index register of a window.

@@ -32,7 +32,7 @@ pub low_is : (c : ChipData) (item : Item) (v n all : ℕ) → bytes_of c item �
 low_is c item v n all bytes is =
     ap (bit_and v) is ∙ and_mask v (8 * n) ∙ ap (λ k. v % 2 ^ (8 * k)) (sym (bytes_are c item n bytes))
 
-turned_below : (v k : ℕ) → v < 2 ^ 64 → k ≤ 64 → bit_and (18446744073709551615 - v) (2 ^ k - 1) ≡ 2 ^ k - 1 - v % 2 ^ k
+pub turned_below : (v k : ℕ) → v < 2 ^ 64 → k ≤ 64 → bit_and (18446744073709551615 - v) (2 ^ k - 1) ≡ 2 ^ k - 1 - v % 2 ^ k
 turned_below v k fits few =
     let some : 0 < 2 ^ k = pow_pos k in
     let most : 2 ^ k ≤ 18446744073709551616 = pow_mono few in

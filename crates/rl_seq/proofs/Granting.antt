@@ -63,7 +63,7 @@ not_before l item place k ok there mine low =
     let same : k ≡ place = ok.once k place (omega (arith, low, there)) there items maps in
     omega (arith, same, low))
 
-found : (l : LayoutData) (item : Item) (place : ℕ) → IsLayout l → place < length l.places → is_of l place item ≡ true
+pub found : (l : LayoutData) (item : Item) (place : ℕ) → IsLayout l → place < length l.places → is_of l place item ≡ true
     → place_of l item (Some (map_at l place)) ≡ Some place
 found l item place ok there mine =
     let test : PlaceRow → Bool = λ p. same_item p.item item && is_in (Some (map_at l place)) p.map in
@@ -86,12 +86,12 @@ way_is m item place write ok there mine right =
     ∙ ap (λ b. if b then Ok place else Err NoRight) right
 
 -- a condition that holds
-met : (g : Grant) (place : ℕ) (b : Bool) (why : Refused) → g ≡ Ok place → b ≡ true → only_where g b why ≡ Ok place
+pub met : (g : Grant) (place : ℕ) (b : Bool) (why : Refused) → g ≡ Ok place → b ≡ true → only_where g b why ≡ Ok place
 met g place b why is so = ap (λ x. only_where x b why) is ∙ ap (λ c. if c then Ok place else Err why) so
 
 -- ---- values
 
-turned_fits : (c : ChipData) (item : Item) (v : ℕ) → nat_lt (turned_round c item v) (256 ^ item_size c item) ≡ true
+pub turned_fits : (c : ChipData) (item : Item) (v : ℕ) → nat_lt (turned_round c item v) (256 ^ item_size c item) ≡ true
 turned_fits c item v =
     let bits = bytes_bits (item_size c item) in
     let some = pow_pos (8 * item_size c item) in
@@ -106,7 +106,7 @@ low_fits c item v =
 mirrored_fits : (m : ModelData) (reg : ℕ) → IsModel m → reg < length m.chip.regs → mirrored_of m.mirror reg < 256 ^ size_of m.chip reg
 mirrored_fits m reg ok there = (ok.mirror.mirrored reg there).fits
 
-bashed_fits : (m : ModelData) (reg bit : ℕ) → IsModel m → reg < length m.chip.regs → bit < 8 * size_of m.chip reg
+pub bashed_fits : (m : ModelData) (reg bit : ℕ) → IsModel m → reg < length m.chip.regs → bit < 8 * size_of m.chip reg
     → nat_lt (bit_xor (mirrored_of m.mirror reg) (2 ^ bit)) (256 ^ size_of m.chip reg) ≡ true
 bashed_fits m reg bit ok there low =
     let bits = bytes_bits (size_of m.chip reg) in
@@ -255,44 +255,33 @@ record IsWalked (c : ChipData) (l : LayoutData) (mem place : ℕ) : Type 0 where
   writing : may_write l place ≡ true
   writable : is_writable c mem ≡ true
 
-filled : (c : ChipData) (l : LayoutData) (mem place k : ℕ) → IsWalked c l mem place → k < memory_size c mem
-    → IsGranted c l (fill c mem (map_at l place) k)
-filled c l mem place k w low = (
-  mem_writes c l mem place k (turned_round c (Mem mem) k) w.at w.writing w.writable
-      (lt-ltb k (memory_size c mem) low) (turned_fits c (Mem mem) k),
-  tt,
-)
+-- a write of a value that fits there, and a check
+wrote_there : (c : ChipData) (l : LayoutData) (mem place k v : ℕ) → IsWalked c l mem place → k < memory_size c mem
+    → nat_lt v (256 ^ item_size c (Mem mem)) ≡ true → IsGranted c l (step (op.MemWrite mem (Some (map_at l place)) k v) stop)
+wrote_there c l mem place k v w low fits =
+    (mem_writes c l mem place k v w.at w.writing w.writable (lt-ltb k (memory_size c mem) low) fits, tt)
 
-still_filled : (c : ChipData) (l : LayoutData) (mem place k : ℕ) → IsWalked c l mem place → k < memory_size c mem
-    → IsGranted c l (check_filled c mem (map_at l place) k)
-still_filled c l mem place k w low = (
-  mem_checks c l mem place k (turned_round c (Mem mem) k) w.at w.reads
-      (lt-ltb k (memory_size c mem) low) (turned_fits c (Mem mem) k),
-  tt,
-)
-
-numbered : (c : ChipData) (l : LayoutData) (mem place k : ℕ) → IsWalked c l mem place → k < memory_size c mem
-    → IsGranted c l (write_number c mem (map_at l place) k)
-numbered c l mem place k w low = (
-  mem_writes c l mem place k (low_bits c (Mem mem) k) w.at w.writing w.writable
-      (lt-ltb k (memory_size c mem) low) (low_fits c (Mem mem) k),
-  tt,
-)
+checked_there : (c : ChipData) (l : LayoutData) (mem place k v : ℕ) → IsWalked c l mem place → k < memory_size c mem
+    → nat_lt v (256 ^ item_size c (Mem mem)) ≡ true → IsGranted c l (step (op.MemCheck mem (Some (map_at l place)) k v) stop)
+checked_there c l mem place k v w low fits =
+    (mem_checks c l mem place k v w.at w.reads (lt-ltb k (memory_size c mem) low) fits, tt)
 
 settled : (c : ChipData) (l : LayoutData) (mem place k : ℕ) → IsWalked c l mem place → k < memory_size c mem
     → IsGranted c l (settle_before c mem (map_at l place) k)
 settled c l mem place zero w low = tt
 settled c l mem place (suc k) w low =
     followed c l (check_filled c mem (map_at l place) k) (write_number c mem (map_at l place) k)
-    (still_filled c l mem place k w (omega (arith, low))) (numbered c l mem place k w (omega (arith, low)))
+    (checked_there c l mem place k (turned_round c (Mem mem) k) w (omega (arith, low)) (turned_fits c (Mem mem) k))
+    (wrote_there c l mem place k (low_bits c (Mem mem) k) w (omega (arith, low)) (low_fits c (Mem mem) k))
 
 walked : (c : ChipData) (l : LayoutData) (mem place k : ℕ) → IsWalked c l mem place → k < memory_size c mem
     → IsGranted c l (walk_location c mem (map_at l place) k)
 walked c l mem place k w low =
     let map = map_at l place in
-    followed c l (fill c mem map k) (followed_by (settle_before c mem map k) (check_last c mem map k)) (filled c l mem place k w low)
+    followed c l (fill c mem map k) (followed_by (settle_before c mem map k) (check_last c mem map k))
+    (wrote_there c l mem place k (turned_round c (Mem mem) k) w low (turned_fits c (Mem mem) k))
     (followed c l (settle_before c mem map k) (check_last c mem map k) (settled c l mem place k w low)
-    (chosen c l (k + 1 == memory_size c mem) (check_filled c mem map k) (λ so. still_filled c l mem place k w low)))
+    (chosen c l (k + 1 == memory_size c mem) (check_filled c mem map k) (λ so. checked_there c l mem place k (turned_round c (Mem mem) k) w low (turned_fits c (Mem mem) k))))
 
 granted_at : (which : Sequence) (c : ChipData) (l : LayoutData) (number place : ℕ) → number < items_of which c → Chosen which c number
     → IsPlace l place (item_of which number) → HasRights which l place → IsGranted c l (at_place which c l number place)

@@ -44,20 +44,17 @@ row_there c n (Some r) sound l is h =
 pub field_inside : (c : ChipData) (n : ℕ) → IsSoundChip c → n < length c.fields → IsInside c (field_at c n)
 field_inside c n sound l = row_there c n (slice_get c.regs (field_at c n).reg) sound l refl (field_fits c n no_field sound l).0
 
+-- what a row that is there says is what is said of it
+said_of : {X : Type 0} (f : X → ℕ) (o : Option X) (n : ℕ) → option_map f o ≡ Some n → n ≡ option_map_or f o 0
+said_of f None n e = cc
+said_of f (Some x) n e = cc
+
 -- the numbers of a register's fields
 pub first_is : (c : ChipData) (reg n : ℕ) → option_map (λ (r : RegRow). r.first) (slice_get c.regs reg) ≡ Some n → n ≡ first_of c reg
-first_is c reg n e = by (slice_get c.regs reg) e
-  where
-    by : (o : Option RegRow) → option_map (λ (r : RegRow). r.first) o ≡ Some n → n ≡ option_map_or (λ (r : RegRow). r.first) o 0
-    by None e = cc
-    by (Some r) e = cc
+first_is c reg n e = said_of (λ (r : RegRow). r.first) (slice_get c.regs reg) n e
 
 pub count_is : (c : ChipData) (reg n : ℕ) → option_map (λ (r : RegRow). r.count) (slice_get c.regs reg) ≡ Some n → n ≡ count_of c reg
-count_is c reg n e = by (slice_get c.regs reg) e
-  where
-    by : (o : Option RegRow) → option_map (λ (r : RegRow). r.count) o ≡ Some n → n ≡ option_map_or (λ (r : RegRow). r.count) o 0
-    by None e = cc
-    by (Some r) e = cc
+count_is c reg n e = said_of (λ (r : RegRow). r.count) (slice_get c.regs reg) n e
 
 -- ---- a test of numbers, one after another
 

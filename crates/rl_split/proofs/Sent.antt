@@ -1,15 +1,16 @@
 -- The words of an access that are sent, one after another.
 use Rattle.std.proofs.Common.{◌≡◌, ℕ, zero, suc, ◌+◌, ◌-◌, ◌*◌, ◌/◌, ◌%◌, ◌^◌, ◌<◌, ◌≤◌, ◌⊎◌, inl, inr, Bool, true, false, not, ◌&&◌, ◌||◌, cond, eqb, ltb, List, [], ◌∷◌, ◌++◌, length, get_or, take}
-use Rattle.std.proofs.Common.{map, Some, refl, sym, ap, ◌∙◌, arith, rules, eqb-true, append-nil, drop, min, length-take, length-append}
-use Rattle.std.specs.Prelude.{All, slice_get, slice_index, IsFalse, bit_or}
+use Rattle.std.proofs.Common.{map, Option, Some, None, option_map, subst, refl, sym, ap, ◌∙◌, arith, rules, eqb-true, append-nil, drop, min, length-take, length-append}
+use Rattle.std.specs.Prelude.{All, count_by, slice_get, slice_index, IsFalse, bit_or}
 use Rattle.std.proofs.Math.Pow.{pow_mono}
 use Rattle.std.proofs.Math.Nat.{pow-suc, div-lt_iff_lt-mul}
 use Rattle.std.proofs.lemmas.Bool.{cases_lt}
 use Rattle.std.proofs.lemmas.Bool.Decides.{nat_tests}
-use Rattle.std.proofs.lemmas.List.{map-append, take_all, take_more, take-append-drop, length-map}
+use Rattle.std.proofs.lemmas.List.{take_all, take_more, take-append-drop, length-map}
+use Rattle.std.proofs.lemmas.List.Sums.{length-filter, count_by-le-length}
 use Rattle.std.proofs.lemmas.List.Elements.{filter_more, filter-append, All-filter}
 use Rattle.std.proofs.lemmas.Nat.{pow-add, or_lt}
-use Rattle.std.proofs.lemmas.Option.{slice_get_within, get_or_from_slice_get}
+use Rattle.std.proofs.lemmas.Option.{slice_get_within, slice_get-get_or, slice_get-map, get_or_from_slice_get}
 use Rattle.rl_policy.specs.Bits.{bit, from_bits}
 use Rattle.rl_policy.proofs.BitLemmas.{bit-from_bits, bit-above, bit-mod, bit-ones, bit-shr, bit-zero, from_bits-lt, is_from_bits, same_from_bits}
 use Rattle.rl_bus.specs.declared.op.AdapterKind.{AdapterKind}
@@ -19,13 +20,16 @@ use Rattle.rl_bus.specs.Lanes.{HasOnlyLanes, IsWidth}
 use Rattle.rl_bus.specs.Spread.{lane_bit, spread_bit, gathered_bit}
 use Rattle.rl_bus.specs.Wire.{Fits}
 use Rattle.rl_map.specs.declared.word.Word.{Word}
-use Rattle.rl_map.specs.Layout.{LayoutData, words_of}
+use Rattle.rl_map.specs.Layout.{LayoutData, words_of, place_at, IsSound, IsLocation}
 use Rattle.rl_map.specs.Partition.{have_bit, IsWordOn}
 use Rattle.rl_map.specs.Words.{no_word}
-use Rattle.rl_split.specs.Access.{chosen_lanes, lanes_for, has_chosen, sent_words, op_for, op_of, kind_of, bus_bytes_of, joined_bit, IsChoice, ops_of, sent_of, enabled_lanes}
+use Rattle.rl_split.specs.Access.{chosen_lanes, lanes_for, has_chosen, sent_words, op_for, op_of, kind_of, bus_bytes_of, joined_bit, joined, IsChoice, ops_of, sent_of, enabled_lanes}
+use Rattle.rl_split.specs.Outgoing.{IsOutgoingOn, outgoing_ops, words_in, word_in, outgoing_word, sent_as, sent_of_first}
+use Rattle.rl_split.specs.declared.access.OutgoingWord.{OutgoingWord}
+use Rattle.rl_split.specs.declared.access.Outgoing.{Outgoing}
 use Rattle.rl_split.proofs.Chosen.{sent_touches}
 use Rattle.rl_split.proofs.ReadRuns.{none_spread}
-use Rattle.rl_split.proofs.Sending.{IsHere, chosen_below}
+use Rattle.rl_split.proofs.Sending.{IsHere, is_here, chosen_below}
 use Rattle.rl_split.proofs.WriteRuns.{are_touched}
 
 -- ---- one word more
@@ -56,15 +60,6 @@ is_left_out chosen w lanes is none = let e : chosen_lanes chosen w ≡ 0 = sym (
 
 abbrev pub Pair : Type 0
 Pair = BusOp × ℕ
-
-pub pairs_more : (f : Word → Pair) (chosen k : ℕ) (ws : List Word) (w : Word) (now next : List Pair) → slice_get ws k ≡ Some w → has_chosen chosen w ≡ true →
-    now ≡ map f (sent_words chosen (take k ws)) → next ≡ now ++ f w ∷ [] → next ≡ map f (sent_words chosen (take (k + 1) ws))
-pairs_more f chosen k ws w now next e on is more =
-    more ∙ ap (λ ps. ps ++ f w ∷ []) is ∙ sym (map-append f (sent_words chosen (take k ws)) (w ∷ [])) ∙ ap (map f) (sym (one_more chosen k ws w e on))
-
-pub pairs_same : (f : Word → Pair) (chosen k : ℕ) (ws : List Word) (w : Word) (now : List Pair) → slice_get ws k ≡ Some w → has_chosen chosen w ≡ false → now ≡ map f (sent_words chosen (take k ws)) →
-    now ≡ map f (sent_words chosen (take (k + 1) ws))
-pairs_same f chosen k ws w now e off is = is ∙ ap (map f) (sym (no_more chosen k ws w e off))
 
 pub firsts : (op : Word → BusOp) (ws : List Word) → map (λ (p : Pair). p.0) (map (λ w. (op w, w.order)) ws) ≡ map op ws
 firsts op [] = refl
@@ -286,6 +281,13 @@ joined_small chosen bytes ws answers most reach =
     past : (b : ℕ) → 8 * bytes ≤ b → ltb (b / 8) bytes ≡ false
     past b high = grind (arith, nat_tests)
 
+-- the value has the bytes of the location
+pub joined_fits : (l : LayoutData) (place index chosen : ℕ) (answers : List ℕ) → IsSound l → IsLocation l place index → joined l place index chosen answers < 256 ^ (place_at l place).bytes
+unfolding joined sent_of
+joined_fits l place index chosen answers sound at =
+    let here = is_here l place index sound at in
+    joined_small chosen (place_at l place).bytes (words_of l place index) answers here.row.most here.words.reach
+
 -- ---- all of them
 
 pub ops_length : (l : LayoutData) (place index chosen value : ℕ) (write : Bool) → length (ops_of l place index chosen value write) ≡ length (sent_words chosen (words_of l place index))
@@ -310,6 +312,81 @@ all_sent chosen k ws h =
     (take k ws) (drop k ws) in
     let none = none_left (sent_words chosen (drop k ws)) (omega (arith, h, ap length whole, length-append (sent_words chosen (take k ws)) (sent_words chosen (drop k ws)))) in
     sym (whole ∙ ap (λ xs. sent_words chosen (take k ws) ++ xs) none ∙ append-nil (sent_words chosen (take k ws)))
+
+-- ---- an access, word by word
+
+at_seam : {A : Type 0} (xs : List A) (x : A) (rest : List A) → slice_get ((xs ++ x ∷ []) ++ rest) (length xs) ≡ Some x
+at_seam [] x rest = refl
+at_seam (y ∷ xs) x rest = at_seam xs x rest
+
+-- its operation is the next one, and it follows the words that were sent before it
+pub record IsNextSent (l : LayoutData) (s : Outgoing) (k : ℕ) (next : OutgoingWord) : Type 0 where
+  pub op : slice_get (outgoing_ops l s) (length (sent_of_first l s k)) ≡ Some next.op
+  pub more : sent_of_first l s (k + 1) ≡ sent_of_first l s k ++ word_in l s k ∷ []
+  pub lanes : next.lanes ≡ lanes_for s.chosen (word_in l s k)
+
+there : (l : LayoutData) (s : Outgoing) (k : ℕ) → k < length (words_in l s) → slice_get (words_in l s) k ≡ Some (word_in l s k)
+there l s k inside = slice_get-get_or (words_in l s) k no_word inside
+
+next_op : (l : LayoutData) (s : Outgoing) (k : ℕ) (w : Word) → sent_of_first l s (k + 1) ≡ sent_of_first l s k ++ w ∷ [] →
+    slice_get (outgoing_ops l s) (length (sent_of_first l s k)) ≡ Some (op_of l s.place s.chosen s.value s.write w)
+unfolding ops_of sent_of
+next_op l s k w more =
+    let op : Word → BusOp = op_of l s.place s.chosen s.value s.write in
+    let ws = words_in l s in
+    let rest = sent_words s.chosen (drop (k + 1) ws) in
+    let before = sent_of_first l s k in
+    let all : sent_words s.chosen ws ≡ (before ++ w ∷ []) ++ rest =
+    ap (sent_words s.chosen) (sym (take-append-drop (k + 1) ws)) ∙ filter-append (has_chosen s.chosen) (take (k + 1) ws) (drop (k + 1) ws) ∙ ap (λ xs. xs ++ rest) more in
+    ap (λ xs. slice_get (map op xs) (length before)) all ∙ slice_get-map op ((before ++ w ∷ []) ++ rest) (length before) ∙ ap (option_map op) (at_seam before w rest)
+
+pub next_sent : (l : LayoutData) (s : Outgoing) (k : ℕ) (found : Option OutgoingWord) (next : OutgoingWord) → k < length (words_in l s) →
+    found ≡ sent_as l s (word_in l s k) → found ≡ Some next → IsNextSent l s k next
+next_sent l s k found next inside is some = by (has_chosen s.chosen (word_in l s k)) refl (sym is ∙ some)
+  where
+    sent : OutgoingWord
+    sent = outgoing_word l s (word_in l s k)
+
+    by : (t : Bool) → has_chosen s.chosen (word_in l s k) ≡ t → cond t (Some sent) None ≡ Some next → IsNextSent l s k next
+    by true on e =
+        let same : sent ≡ next = cc in
+        let more = one_more s.chosen k (words_in l s) (word_in l s k) (there l s k inside) on in
+        subst (IsNextSent l s k) same (record { op = next_op l s k (word_in l s k) more; more = more; lanes = refl })
+    by false off e = absurd cc
+
+-- a word that isn't sent
+pub none_sent : (l : LayoutData) (s : Outgoing) (k : ℕ) (found : Option OutgoingWord) → k < length (words_in l s) → found ≡ sent_as l s (word_in l s k) → found ≡ None → sent_of_first l s (k + 1) ≡
+    sent_of_first l s k
+none_sent l s k found inside is none = by (outgoing_word l s (word_in l s k)) (has_chosen s.chosen (word_in l s k)) refl (sym is ∙ none)
+  where
+    by : (a : OutgoingWord) (t : Bool) → has_chosen s.chosen (word_in l s k) ≡ t → cond t (Some a) None ≡ None → sent_of_first l s (k + 1) ≡ sent_of_first l s k
+    by a true on e = absurd cc
+    by a false off e = no_more s.chosen k (words_in l s) (word_in l s k) (there l s k inside) off
+
+-- no more are sent than there are
+pub few_sent : (l : LayoutData) (s : Outgoing) (k : ℕ) → length (sent_of_first l s k) ≤ k
+few_sent l s k =
+    let chosen : length (sent_of_first l s k) ≡ count_by (has_chosen s.chosen) (take k (words_in l s)) = length-filter (has_chosen s.chosen) (take k (words_in l s)) in
+    let most = count_by-le-length (has_chosen s.chosen) (take k (words_in l s)) in
+    let short : length (take k (words_in l s)) ≡ min k (length (words_in l s)) = length-take k (words_in l s) in
+    omega (arith, chosen, most, short)
+
+-- all of them
+pub all_ops : (l : LayoutData) (s : Outgoing) (k : ℕ) → length (words_in l s) ≤ k → length (outgoing_ops l s) ≡ length (sent_of_first l s k)
+unfolding ops_of sent_of
+all_ops l s k end =
+    length-map (sent_words s.chosen (words_in l s)) (op_of l s.place s.chosen s.value s.write) ∙ ap (λ ws. length (sent_words s.chosen ws)) (sym (take_all k (words_in l s) end))
+
+pub all_joined : (l : LayoutData) (s : Outgoing) (k : ℕ) (answers : List ℕ) → length (words_in l s) ≤ k →
+    from_bits 64 (joined_bit s.chosen (sent_of_first l s k) answers) ≡ joined l s.place s.index s.chosen answers
+unfolding joined sent_of
+all_joined l s k answers end = ap (λ ws. from_bits 64 (joined_bit s.chosen (sent_words s.chosen ws) answers)) (take_all k (words_in l s) end)
+
+pub outgoing_fits : (l : LayoutData) (s : Outgoing) → IsSound l → IsOutgoingOn l s → All (Fits (kind_of l s.place)) (outgoing_ops l s)
+unfolding ops_of sent_of
+outgoing_fits l s sound on = ops_fit l s.place s.index s.chosen s.value s.write (is_here l s.place s.index sound on.location)
+
+-- ---- lists
 
 pub take_next : {A : Type 0} (k : ℕ) (x : A) (xs : List A) → slice_get xs k ≡ Some x → take (k + 1) xs ≡ take k xs ++ x ∷ []
 take_next k x xs e = take_more xs k x (slice_get_within xs k x e) ∙ ap (λ y. take k xs ++ y ∷ []) (get_or_from_slice_get xs k x x e)

@@ -1,8 +1,10 @@
 pub mod Access
 pub mod Lists
+pub mod Outgoing
 pub mod Narrow
 pub mod Step
 pub mod Runs
 pub mod Law
 pub mod Seats
 pub mod UnderWay
+pub mod Prelude

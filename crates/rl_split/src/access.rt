@@ -1,14 +1,9 @@
 //! The operations of an access, and the value that their answers bring.
-ghost use Rattle.std.specs.Prelude.{◌≡◌, ◌==◌, ℕ, ◌^◌, ◌<◌, ◌≤◌, [], false, length, slice_get, Some, All};
-ghost use Rattle.rl_bus.specs.Spread.{AreInCell};
-ghost use Rattle.rl_bus.specs.Lanes.{all_lanes};
-ghost use Rattle.rl_bus.specs.Wire.{Fits};
-ghost use Rattle.rl_map.specs.Layout.{place_at, words_of, IsLocation};
-ghost use Rattle.rl_map.specs.Words.{lanes_of};
-ghost use Rattle.rl_split.specs.Access.{IsChoice, all_bytes, lanes_for, op_for, kind_of, bus_bytes_of};
-ghost use Rattle.rl_split.specs.Access.{ops_of, orders_of, joined};
-ghost use Rattle.rl_split.specs.Lists.{ops_in, orders_in};
-ghost use Rattle.rl_split.specs.UnderWay.{whole_ops};
+ghost use Rattle.std.specs.Prelude.{◌≡◌, ◌==◌, ℕ, ◌^◌, ◌<◌, ◌≤◌, false, length, slice_get, Some, IfSome, All};
+ghost use Rattle.rl_split.specs.Prelude.{AreInCell, Fits, IsChoice, IsLocation, IsOutgoingOn, all_bytes, all_lanes};
+ghost use Rattle.rl_split.specs.Prelude.{bus_bytes_of, joined, kind_of, lanes_for, lanes_of, op_for, ops_in, ops_of};
+ghost use Rattle.rl_split.specs.Prelude.{orders_in, orders_of, place_at, sent_as, whole_ops, word_in, words_in};
+ghost use Rattle.rl_split.specs.Prelude.{words_of};
 
 use crate::answers::Answers;
 use crate::fields::carries_lanes;
@@ -59,12 +54,69 @@ fn is_whole(layout: &Layout, place: u32, chosen: u8) -> bool
     u16::from(chosen) == (1 << layout.bytes(place)) - 1
 }
 
+/// An access to a location of a place, which is sent word by word.
+///
+/// A word without a chosen byte isn't sent. A write carries each chosen byte of the value in its lane, and 0
+/// elsewhere; a read carries 0. The lanes are those of the chosen bytes, or all where the adapter carries no
+/// byte enables in the direction.
+#[derive(Clone, Copy)]
+pub struct Outgoing {
+    /// The place that it goes to.
+    pub place: u32,
+    /// The number of the location; 0 for a register.
+    pub index: u32,
+    /// Bit `j` says that byte `j` of the item takes part.
+    pub chosen: u8,
+    /// What a write puts there.
+    pub value: u64,
+    /// Whether it is a write.
+    pub write: bool,
+}
+
+/// A word of an access that is sent.
+#[derive(Clone, Copy)]
+pub struct OutgoingWord {
+    /// Its operation.
+    pub op: BusOp,
+    /// The lanes of its chosen bytes.
+    pub lanes: Lanes,
+    /// Its place in time among all words of the item.
+    pub order: u32,
+}
+
+impl Outgoing {
+    /// The `k`-th word of the place, counted from 0, as this access sends it; none where it has no chosen byte.
+    ///
+    /// It is inlined so that neither the word nor its lanes are put down in memory.
+    #[inline(always)]
+    pub fn word(&self, layout: &Layout, k: u32) -> Option<OutgoingWord>
+        requires outgoing { IsOutgoingOn layout.now self.now }
+        requires number { k < length (words_in layout.now self.now) }
+        ensures word { result ≡ sent_as layout.now self.now (word_in layout.now self.now k) }
+        ensures lanes { IfSome result (λ w. AreInCell w.lanes) }
+    {
+        let port = layout.port_of(self.place);
+        prove!(port < layout.ports());
+        let kind = layout.port_kind(port);
+        let bus_bytes = layout.port_bytes(port) as u8;
+        let word = layout.word(self.place, self.index, k);
+        let whole = is_whole(layout, self.place, self.chosen);
+        let lanes = lanes_sent(&word, self.chosen, whole);
+        if lanes.enabled == 0 {
+            return None;
+        }
+        let op = operation(&kind, bus_bytes, &lanes, &word, self.value, self.write);
+        Some(OutgoingWord {
+            op,
+            lanes,
+            order: word.order,
+        })
+    }
+}
+
 /// The operations of an access to a location of a place, in the order in which they are sent.
 ///
-/// Bit `j` of `chosen` says that byte `j` of the item takes part. A word without a chosen byte isn't sent.
-/// A write carries each chosen byte of `value` in its lane, and 0 elsewhere; a read carries 0. The lanes are
-/// those of the chosen bytes, or all where the adapter carries no byte enables in the direction. `index` is
-/// 0 for a register.
+/// Each is that of a word which [`Outgoing::word`] tells of, in a list.
 pub fn split(layout: &Layout, place: u32, index: u32, chosen: u8, value: u64, write: bool) -> Words
     requires location { IsLocation layout.now place index }
     requires chosen { IsChoice (place_at layout.now place).bytes chosen }
@@ -75,46 +127,21 @@ pub fn split(layout: &Layout, place: u32, index: u32, chosen: u8, value: u64, wr
     ensures few { length result ≤ 8 }
     ensures fits { All (Fits (kind_of layout.now place)) (ops_in result) }
 {
+    prove!(place < layout.places());
+    let outgoing = Outgoing {
+        place,
+        index,
+        chosen,
+        value,
+        write,
+    };
     let mut words = Words::new();
-    split_into(layout, place, index, chosen, value, write, &mut words);
-    words
-}
-
-/// The same into a list that has no operation yet.
-pub fn split_into(
-    layout: &Layout,
-    place: u32,
-    index: u32,
-    chosen: u8,
-    value: u64,
-    write: bool,
-    words: &mut Words,
-)
-    requires empty { words.old ≡ [] }
-    requires location { IsLocation layout.now place index }
-    requires chosen { IsChoice (place_at layout.now place).bytes chosen }
-    requires value { value < 256 ^ (place_at layout.now place).bytes }
-    ensures ops { ops_in words.new ≡ ops_of layout.now place index chosen value write }
-    ensures orders { orders_in words.new ≡ orders_of layout.now place index chosen }
-    ensures some { 0 < length words.new }
-    ensures few { length words.new ≤ 8 }
-    ensures fits { All (Fits (kind_of layout.now place)) (ops_in words.new) }
-{
-    let port = layout.port_of(place);
-    prove!(port < layout.ports());
-    let kind = layout.port_kind(port);
-    let bus_bytes = layout.port_bytes(port) as u8;
-    let whole = is_whole(layout, place, chosen);
     for k in 0..layout.words(place) {
-        let word = layout.word(place, index, k);
-        let lanes = lanes_sent(&word, chosen, whole);
-        if lanes.enabled != 0 {
-            words.push(
-                operation(&kind, bus_bytes, &lanes, &word, value, write),
-                word.order,
-            );
+        if let Some(word) = outgoing.word(layout, k) {
+            words.push(word.op, word.order);
         }
     }
+    words
 }
 
 /// The operation of one word of a whole access to a register at a place. `k` is the word's number, counted

@@ -55,6 +55,7 @@ fn field_at(chip: &Chip, field: u32) -> Field
 }
 
 /// Another field of the register has a bit in the bytes of the field.
+#[tactic(auto, using(crate::proofs::Registers::first_is, crate::proofs::Registers::count_is))]
 fn has_neighbour(chip: &Chip, field: u32) -> bool
     requires { field < length chip.now.fields }
     ensures { result ≡ has_neighbour chip.now field }

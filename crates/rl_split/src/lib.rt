@@ -17,7 +17,7 @@ mod lanes;
 pub mod law;
 mod words;
 
-pub use access::{join, join_whole, split, split_into, whole_op};
+pub use access::{Outgoing, OutgoingWord, join, join_whole, split, whole_op};
 pub use answers::Answers;
 pub use fields::narrow;
 pub use words::Words;

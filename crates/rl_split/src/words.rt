@@ -98,8 +98,8 @@ impl Model for Words {
 }
 
 impl Words {
-    /// No operation so far.
-    pub fn new() -> Words
+    // No operation so far.
+    pub(crate) fn new() -> Words
         ensures { result ≡ [] }
     {
         Words {

@@ -186,6 +186,12 @@ is_found m w which v ok there all e =
       short = subst (λ (u : Woven). length u.items < u.words) (sym here) left.short;
     }
 
+-- the same of a weave that is opened, where the access is open of what it was seen as
+pub found_in : (m : ModelData) (w seen : WeaveData) (which : ℕ) (v : Woven) → w ≡ seen → IsWeave w → Contains seen.still_open which → All (IsWovenOn m) seen.accesses →
+    v ≡ get_or w.accesses which v → IsFound m w which v
+found_in m w seen which v same ok there all e =
+    is_found m w which v ok (subst (λ (x : WeaveData). Contains x.still_open which) (sym same) there) (subst (λ (x : WeaveData). All (IsWovenOn m) x.accesses) (sym same) all) e
+
 or_second : (a b : Bool) → (a || b) ≡ false → b ≡ false
 or_second true b e = absurd cc
 or_second false b e = e

@@ -1,15 +1,14 @@
 //! Whether a model grants an access: its place, or the first cause against it.
 ghost use Rattle.std.specs.Prelude.{◌≡◌, ◌<◌, ◌^◌, length, nat_lt, Ok, IfOk};
-ghost use Rattle.rl_map.specs.Layout.{has_right};
 ghost use Rattle.rl_model.specs.declared.rows.Item.TheVariants as item;
 ghost use Rattle.rl_access.specs.Rules.{grant, item_size};
 ghost use Rattle.rl_weave.specs.Access.{op_of, IsNumbered};
 ghost use Rattle.rl_weave.specs.Weave.{place_granted, value_fits};
 
 use crate::access::{Access, WeaveFault};
-use bitflags::Flags;
 use rl_access::Model;
-use rl_model::{Item, Rights};
+use rl_map::has_right;
+use rl_model::Item;
 use rl_policy::mask;
 
 /// The place of an access, or the first cause of its refusal.
@@ -33,16 +32,6 @@ pub(crate) fn granted(model: &Model, access: &Access) -> Result<u32, WeaveFault>
         return Err(WeaveFault::TooWide);
     }
     Ok(place)
-}
-
-fn has_right(rights: Rights, write: bool) -> bool
-    ensures { result ≡ has_right rights write }
-{
-    if write {
-        rights.contains(Rights::WRITE)
-    } else {
-        rights.contains(Rights::READ)
-    }
 }
 
 /// Whether the register's bytes hold the value of a write.

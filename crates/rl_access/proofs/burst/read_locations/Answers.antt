@@ -17,7 +17,7 @@ loop-index-preserved g c =
     record {
       going = record {
         same = done.ensures.model ∙ before.going.same;
-        ready = done.ensures.ready;
+        ready = done.ensures.does.ready;
         later = omega (arith, before.going.later, told.cause.later);
         stays = told.steady ∙ before.going.stays;
       };
@@ -26,7 +26,7 @@ loop-index-preserved g c =
         event =
             done.result;
       })
-          before.running (reads_left c.args.mem c.args.map c.loop-index.index (c.args.first + c.args.count) c.loop-index-test.true) (record { performs = done.ensures.performs; model = refl })
+          before.running (reads_left c.args.mem c.args.map c.loop-index.index (c.args.first + c.args.count) c.loop-index-test.true) (record { performs = done.ensures.does.performs; model = refl })
           (sym c.is_bus_error.ensures ∙ c.if-is_bus_error.false) told.taken c.hand_over.new.tally told.counted;
     }
 
@@ -38,7 +38,7 @@ returns-in_err-hand_over-clause-run g c =
       event = done.result;
     })
     c.from_residual.ensures.0 c.loop-index.invariant.running (reads_left c.args.mem c.args.map c.loop-index.index (c.args.first + c.args.count) c.loop-index-test.true)
-    (record { performs = done.ensures.performs; model = refl })
+    (record { performs = done.ensures.does.performs; model = refl })
     c.in_err-hand_over.ensures.broken
 
 pub returns-then-is_bus_error-clause-run : goal.returns-then-is_bus_error-clause-run
@@ -47,7 +47,7 @@ returns-then-is_bus_error-clause-run g c =
     let told = c.in_ok-hand_over.ensures in
     run_stopped g.R.Recorder.takes g.R.Recorder.breaks c.args.rec.now c.loop-index.rec c.hand_over.new.rec _ _ _ _ _ _ _ c.loop-index.tally (record { model = done.new.model; event = done.result })
     c.loop-index.invariant.running (reads_left c.args.mem c.args.map c.loop-index.index (c.args.first + c.args.count) c.loop-index-test.true) (record {
-      performs = done.ensures.performs;
+      performs = done.ensures.does.performs;
       model = refl;
     })
     (sym c.is_bus_error.ensures ∙ c.if-is_bus_error.true) told.taken c.hand_over.new.tally told.counted

@@ -18,7 +18,7 @@ loop-k-preserved g c =
     record {
       going = record {
         same = done.ensures.model ∙ before.going.same;
-        ready = done.ensures.ready;
+        ready = done.ensures.does.ready;
         later = omega (arith, before.going.later, told.cause.later);
         stays = told.steady ∙ before.going.stays;
       };
@@ -26,7 +26,7 @@ loop-k-preserved g c =
         model = done.new.model;
         event = done.result;
       })
-          before.running (writes_left c.args.mem c.args.map c.args.first c.loop-k.k c.args.values.now 0 c.loop-k-test.true) (record { performs = done.ensures.performs; model = refl })
+          before.running (writes_left c.args.mem c.args.map c.args.first c.loop-k.k c.args.values.now 0 c.loop-k-test.true) (record { performs = done.ensures.does.performs; model = refl })
           (sym c.is_bus_error.ensures ∙ c.if-is_bus_error.false) told.taken c.hand_over.new.tally told.counted;
     }
 
@@ -39,7 +39,7 @@ returns-in_err-hand_over-clause-run g c =
           done.result;
     })
     c.from_residual.ensures.0 c.loop-k.invariant.running (writes_left c.args.mem c.args.map c.args.first c.loop-k.k c.args.values.now 0 c.loop-k-test.true) (record {
-      performs = done.ensures.performs;
+      performs = done.ensures.does.performs;
       model = refl;
     })
     c.in_err-hand_over.ensures.broken
@@ -49,7 +49,7 @@ returns-then-is_bus_error-clause-run g c =
     let done = c.mem_write-event in
     let told = c.in_ok-hand_over.ensures in
     run_stopped g.R.Recorder.takes g.R.Recorder.breaks c.args.rec.now c.loop-k.rec c.hand_over.new.rec _ _ _ _ _ _ _ c.loop-k.tally (record { model = done.new.model; event = done.result })
-    c.loop-k.invariant.running (writes_left c.args.mem c.args.map c.args.first c.loop-k.k c.args.values.now 0 c.loop-k-test.true) (record { performs = done.ensures.performs; model = refl })
+    c.loop-k.invariant.running (writes_left c.args.mem c.args.map c.args.first c.loop-k.k c.args.values.now 0 c.loop-k-test.true) (record { performs = done.ensures.does.performs; model = refl })
     (sym c.is_bus_error.ensures ∙ c.if-is_bus_error.true) told.taken c.hand_over.new.tally told.counted
 
 pub returns-clause-run : goal.returns-clause-run

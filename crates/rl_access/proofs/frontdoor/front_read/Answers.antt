@@ -6,12 +6,18 @@ use Rattle.rl_access.proofs.OverBus.{found_by, whole_read}
 use Rattle.rl_access.proofs.Performed.{read_performs}
 use Rattle.rl_access.proofs.frontdoor.front_read.Goals as goal
 
-pub returns-clause-performs : goal.returns-clause-performs
-returns-clause-performs g c =
+pub returns-clause-does : goal.returns-clause-does
+returns-clause-does g c =
     let m = c.args.model.now in
     let asked = op.Read c.args.reg c.args.map in
     let place = c.in-Ok.place in
     let found = found_by m (item.Reg c.args.reg) c.args.map c.place_of-place.result c.map_used.result false c.way.result c.place_of-place.ensures.place c.map_used.ensures.map c.way.ensures.grant in
     let granted : grant m asked ≡ Ok place = sym found.way ∙ c.in-Ok.is in
-    read_performs m (forgetting m place) _ asked (op.Read c.args.reg c.map_used.result) place (whole m c.args.reg place 0) false _
-    granted (ap (λ u. op.Read c.args.reg u) found.named) (whole_read m c.args.reg c.args.map place) c.read_register.ensures.read
+    record {
+      performs =
+          read_performs m (forgetting m place) _ asked (op.Read c.args.reg c.map_used.result) place (whole m c.args.reg place 0) false _
+          granted (ap (λ u. op.Read c.args.reg u) found.named) (whole_read m c.args.reg c.args.map place) c.read_register.ensures.read;
+      ready = c.read_register.ensures.ready;
+      parts = c.read_register.ensures.parts;
+      fits = c.read_register.ensures.fits;
+    }

@@ -12,8 +12,8 @@ use Rattle.rl_access.proofs.Wished.{brings_wishes, nothing_brought}
 use Rattle.rl_access.proofs.Performed.{write_performs, quiet_performs}
 use Rattle.rl_access.proofs.updates.update.Goals as goal
 
-pub returns-clause-performs : goal.returns-clause-performs
-returns-clause-performs g c =
+pub returns-clause-does : goal.returns-clause-does
+returns-clause-does g c =
     let m = c.args.model.now in
     let asked = op.Update c.args.reg c.args.map in
     let found = found_by m (item.Reg c.args.reg) c.args.map c.place_of-place.result c.map_used.result true c.way.result c.place_of-place.ensures.place c.map_used.ensures.map c.way.ensures.grant in
@@ -21,21 +21,33 @@ returns-clause-performs g c =
     let needed : needs_update m.mirror c.args.reg ≡ true = sym c.needs_update.ensures ∙ c.if-not-needs_update.false in
     let place = c.in-Ok.place in
     let word = c.update_word_of-word.result in
-    write_performs m (forgetting m place) _ asked (op.Update c.args.reg c.map_used.result) place (whole m c.args.reg place word) (end.Sent word) _
-    granted (ap (λ u. op.Update c.args.reg u) found.named)
-    (whole_update m c.args.reg c.args.map place word needed c.update_word_of-word.ensures.word) c.write_register.ensures.written
+    record {
+      performs =
+          write_performs m (forgetting m place) _ asked (op.Update c.args.reg c.map_used.result) place (whole m c.args.reg place word) (end.Sent word) _
+          granted (ap (λ u. op.Update c.args.reg u) found.named)
+          (whole_update m c.args.reg c.args.map place word needed c.update_word_of-word.ensures.word) c.write_register.ensures.written;
+      ready = c.write_register.ensures.ready;
+      parts = c.write_register.ensures.parts;
+      fits = c.write_register.ensures.fits;
+    }
 
-pub returns-then-not-needs_update-clause-performs : goal.returns-then-not-needs_update-clause-performs
-returns-then-not-needs_update-clause-performs g c =
+pub returns-then-not-needs_update-clause-does : goal.returns-then-not-needs_update-clause-does
+returns-then-not-needs_update-clause-does g c =
     let m = c.args.model.now in
     let asked = op.Update c.args.reg c.args.map in
     let found = found_by m (item.Reg c.args.reg) c.args.map c.place_of-place.result c.map_used.result true c.way.result c.place_of-place.ensures.place c.map_used.ensures.map c.way.ensures.grant in
     let granted : grant m asked ≡ Ok c.in-Ok.place = sym found.way ∙ c.in-Ok.is in
     let nothing : needs_update m.mirror c.args.reg ≡ false = sym c.needs_update.ensures ∙ c.if-not-needs_update.true in
     let names : op.Update c.args.reg c.map_used.result ≡ named m asked = ap (λ u. op.Update c.args.reg u) found.named in
-    quiet_performs m m asked (op.Update c.args.reg c.map_used.result) c.in-Ok.place c.args.reg c.args.reg end.Nothing [] c.event.result _
-    (g.D.Device.errors c.args.device.now) (g.D.Device.state c.args.device.now) granted names
-    (is_no_update m c.args.reg c.args.map c.in-Ok.place nothing) refl refl c.event.ensures.event
+    record {
+      performs =
+          quiet_performs m m asked (op.Update c.args.reg c.map_used.result) c.in-Ok.place c.args.reg c.args.reg end.Nothing [] c.event.result _
+          (g.D.Device.errors c.args.device.now) (g.D.Device.state c.args.device.now) granted names
+          (is_no_update m c.args.reg c.args.map c.in-Ok.place nothing) refl refl c.event.ensures.event;
+      ready = c.requires.ready;
+      parts = record { chip = refl; layout = refl };
+      fits = c.event.ensures.fits;
+    }
 
 pub returns-clause-wishes : goal.returns-clause-wishes
 returns-clause-wishes g c =

@@ -19,14 +19,14 @@ returns-then-not-is_done-clause-data g c = over_data c.select-index.new.model _ 
 
 pub returns-clause-data : goal.returns-clause-data
 returns-clause-data g c =
-    over_data c.mirror-access.new.model _ c.select-index.new.bank c.mirror-access.ensures.ready.device
-    (subst (λ chip. IsBankOf chip c.select-index.new.bank) (sym c.mirror-access.ensures.parts.chip) c.select-index.ensures.bank)
+    over_data c.mirror-access.new.model _ c.select-index.new.bank c.mirror-access.ensures.does.ready.device
+    (subst (λ chip. IsBankOf chip c.select-index.new.bank) (sym c.mirror-access.ensures.does.parts.chip) c.select-index.ensures.bank)
 
 pub returns-clause-found : goal.returns-clause-found
 returns-clause-found g c =
     read_finds c.args.bank.now c.select-index.new.bank _ _ _ c.args.map c.args.k c.window.result.data_reg c.args.check c.select-index.result c.mirror-access.result
     c.chip-sound.ensures.sound c.requires.bank c.size.ensures.sound (omega arith) c.select-index.ensures.selects (sym c.is_done.ensures ∙ c.if-not-is_done.false)
-    (ap (λ (w : Window). w.data_reg) (c.window.ensures.window ∙ c.select-index.ensures.same.window)) c.mirror-access.ensures.performs
+    (ap (λ (w : Window). w.data_reg) (c.window.ensures.window ∙ c.select-index.ensures.same.window)) c.mirror-access.ensures.does.performs
 
 pub returns-then-k-size-clause-agree : goal.returns-then-k-size-clause-agree
 returns-then-k-size-clause-agree g c = λ h. past_entries _ c.args.bank.now c.args.k _ h
@@ -43,4 +43,4 @@ returns-clause-agree g c = λ h.
     s.sound c.chip-left.ensures.sound s.bank c.window.ensures.sound s.parts.chip s.same.window
     (subst (λ (w : Window). IsOnData c.select-index.new.model (cond c.args.check (op.Check c.window.result.data_reg c.args.map) (op.Mirror c.window.result.data_reg c.args.map)) w.data_reg
     (read_step every)) c.window.ensures.window
-    (on_read c.select-index.new.model c.window.result.data_reg c.args.map c.args.check reg map)) c.mirror-access.ensures.performs
+    (on_read c.select-index.new.model c.window.result.data_reg c.args.map c.args.check reg map)) c.mirror-access.ensures.does.performs

@@ -18,8 +18,8 @@ returns-then-not-is_done-clause-data g c = over_data c.select-index.new.model _ 
 
 pub returns-clause-data : goal.returns-clause-data
 returns-clause-data g c =
-    over_data c.front_write-access.new.model _ c.select-index.new.bank c.front_write-access.ensures.ready.device
-    (subst (λ chip. IsBankOf chip c.select-index.new.bank) (sym c.front_write-access.ensures.parts.chip) c.select-index.ensures.bank)
+    over_data c.front_write-access.new.model _ c.select-index.new.bank c.front_write-access.ensures.does.ready.device
+    (subst (λ chip. IsBankOf chip c.select-index.new.bank) (sym c.front_write-access.ensures.does.parts.chip) c.select-index.ensures.bank)
 
 pub returns-then-k-size-clause-agree : goal.returns-then-k-size-clause-agree
 returns-then-k-size-clause-agree g c = λ h. past_entries _ c.args.bank.now c.args.k _ h
@@ -35,4 +35,4 @@ returns-clause-agree g c = λ h.
     entry_step _ _ _ c.args.bank.now c.select-index.new.bank c.args.k _ _ c.select-index.result c.front_write-access.result (s.agree h) (sym c.is_done.ensures ∙ c.if-not-is_done.false)
     s.sound c.chip-left.ensures.sound s.bank c.window.ensures.sound s.parts.chip s.same.window
     (subst (λ (w : Window). IsOnData c.select-index.new.model (op.Write c.window.result.data_reg c.args.map c.args.value) w.data_reg (write_step every c.args.value)) c.window.ensures.window
-    (on_write c.select-index.new.model c.window.result.data_reg c.args.value c.args.map reg map)) c.front_write-access.ensures.performs
+    (on_write c.select-index.new.model c.window.result.data_reg c.args.value c.args.map reg map)) c.front_write-access.ensures.does.performs

@@ -4,7 +4,7 @@ use Rattle.rl_seq.proofs.step.perform_step.Goals as goal
 
 pub returns-in_err-step : goal.returns-in_err-step
 returns-in_err-step g c =
-    let done = c.perform-event.ensures in
+    let done = c.perform-event.ensures.does in
     let failed = c.in_err-step.ensures in
     record {
       follows = follows_err g.R.Recorder _ _ _ c.args.tally.now _ _ _ c.from_residual.result
@@ -15,7 +15,7 @@ returns-in_err-step g c =
 
 pub returns : goal.returns
 returns g c =
-    let done = c.perform-event.ensures in
+    let done = c.perform-event.ensures.does in
     let took = c.in_ok-step.ensures in
     record {
       follows = follows_one g.R.Recorder _ _ _ _ _ _ c.args.op c.perform-event.result

@@ -7,30 +7,6 @@ use Rattle.rl_split.proofs.Registers.{first_is, count_is, is_neighbour, neighbou
 use Rattle.rl_split.proofs.fields.has_neighbour.Goals as goal
 use Rattle.rl_split.proofs.fields.has_neighbour.Goals.{else-other-field-via-then-other-field+else-share_byte, else-other-field-via-else-other-field}
 
-pub overflow_add-other-end : goal.overflow_add-other-end
-overflow_add-other-end c =
-    let chip = c.args.chip.now in
-    let own = c.field_at-own in
-    omega (
-      arith,
-      first_is chip own.result.reg c.first_field-first.result c.first_field-first.ensures.value,
-      count_is chip own.result.reg c.field_count.result c.field_count.ensures.value,
-      own.ensures.row,
-      own.ensures.few,
-    )
-
-pub field_at-requires : goal.field_at-requires
-field_at-requires c =
-    let chip = c.args.chip.now in
-    let own = c.field_at-own in
-    omega (
-      arith,
-      first_is chip own.result.reg c.first_field-first.result c.first_field-first.ensures.value,
-      count_is chip own.result.reg c.field_count.result c.field_count.ensures.value,
-      own.ensures.row,
-      c.loop-other-test.true,
-    )
-
 pub returns-then-share_byte : goal.returns-then-share_byte
 returns-then-share_byte c =
     let chip = c.args.chip.now in

@@ -1,7 +1,7 @@
 use Rattle.std.proofs.Common.{◌≡◌, ◌≤◌, map, take, length}
 use Rattle.rl_map.specs.Layout.{words_of}
 use Rattle.rl_split.specs.Access.{sent_words, op_of}
-use Rattle.rl_split.proofs.access.split_into.Given as goal
+use Rattle.rl_split.proofs.access.split.Given as goal
 
 abbrev pub invariant-loop-k : goal.invariant-loop-k
 invariant-loop-k l = record {
