@@ -1,23 +1,22 @@
 -- A run of a script does its tasks, or stops at the line that is refused.
-use Rattle.std.proofs.Common.{◌≡◌, ℕ, ◌+◌, List, [], ◌∷◌, ◌++◌, map, Option, Some, None, Result, Ok, Err, IfOk, IfSome, refl, sym, ap, subst, ◌∙◌, append_assoc}
+use Rattle.std.proofs.Common.{◌≡◌, ℕ, ◌+◌, List, [], ◌∷◌, ◌++◌, map, Option, Some, None, Result, Ok, Err, IfOk, refl, sym, ap, subst, ◌∙◌, append_assoc}
 use Rattle.rl_access.specs.HandsOver.{Told}
 use Rattle.rl_access.specs.Model.{ModelData, IsSameChip}
 use Rattle.rl_access.specs.World.{Step, World}
-use Rattle.rl_script.specs.declared.line.Line.{Line}
 use Rattle.rl_log.specs.declared.counts.Counts.{Counts}
 use Rattle.rl_log.specs.declared.refusal.LineRefusal.{LineRefusal}
 use Rattle.rl_log.specs.Course.{Course, nothing_done, told_of}
-use Rattle.rl_log.specs.Entry.{Entry, entry_of}
-use Rattle.rl_log.specs.Events.{Happened, events_from, happened, happened_in, happened_on}
+use Rattle.rl_log.specs.Entry.{Entry}
+use Rattle.rl_log.specs.Events.{Happened, events_from, happened, happened_on}
 use Rattle.rl_log.specs.Log.{Ending, after_text, comes_of, ends, goes_on, said, script_from, stops, there}
 use Rattle.rl_log.specs.Recording.{with_events}
-use Rattle.rl_log.proofs.EventLemmas.{IsFineEntry, entry_fine}
+use Rattle.rl_log.proofs.EventLemmas.{IsFineEntry, comes_fine}
 use Rattle.rl_grade.specs.declared.job.Job.{Job}
 use Rattle.rl_grade.specs.declared.job.Task.{Task}
 use Rattle.rl_grade.specs.Heard.{Heard, heard_at, heard_in}
 use Rattle.rl_grade.specs.Job.{course_of, heard_by}
-use Rattle.rl_grade.specs.Run.{ComesToItsEnd, DoesTasks, HeardAreEvents, RunDoesTasks, RunStopsThere, StopsAt, heard_from, heard_on, told_after}
-use Rattle.rl_grade.specs.Script.{RefusedLine, behind, job_asked, tasks_at, tasks_from, tasks_on}
+use Rattle.rl_grade.specs.Run.{ComesToItsEnd, HeardAreEvents, RunDoesTasks, RunStopsThere, StopsAt, heard_from, heard_on, told_after}
+use Rattle.rl_grade.specs.Script.{RefusedLine, job_asked, tasks_at, tasks_from, tasks_on}
 use Rattle.rl_grade.proofs.Asking.{Comes, comes}
 use Rattle.rl_grade.proofs.Keeping.{course_keeps, same_on}
 
@@ -169,14 +168,6 @@ told_steps : (m : ModelData) (steps : List Step) (more : List Happened)
     → map told_after (happened m steps ++ more) ≡ map told_of steps ++ map told_after more
 told_steps m [] more = refl
 told_steps m (s ∷ steps) more = ap (λ ts. told_of s ∷ ts) (told_steps s.world.model steps more)
-
-there_fine : (w : World) (o : Option Entry) → IfSome o (IsFineEntry w) → IfOk (there o) (IsFineEntry w)
-there_fine w None h = tt
-there_fine w (Some e) h = h
-
-comes_fine : (w : World) (s : Result Line LineRefusal) → IfOk (comes_of w s) (IsFineEntry w)
-comes_fine w (Ok l) = there_fine w (entry_of w l) (entry_fine w l)
-comes_fine w (Err why) = tt
 
 line_events : (number : ℕ) (w : World) (r : Result Entry LineRefusal) (heard : World → List Heard) (events : World → List Happened)
     → IfOk r (IsFineEntry w) → ((v : World) → map (λ h. h.told) (heard v) ≡ map told_after (events v))

@@ -1,13 +1,10 @@
 -- The words that the contracts of this crate use, passed on from one place. Declares nothing.
-pub use Rattle.rl_access.specs.Model.{IsReady, IsSameChip}
 pub use Rattle.rl_access.specs.Operation.{HasNumbers, is_single}
 pub use Rattle.rl_access.specs.World.{world}
 pub use Rattle.rl_bench.specs.Flaws.{IsFlawOf}
-pub use Rattle.rl_bench.specs.State.{bench_state}
-pub use Rattle.rl_bus.specs.Standing.{kinds_of}
 pub use Rattle.rl_log.specs.Entry.{op_course, sequence_course}
-pub use Rattle.rl_map.specs.Maps.{IsBuiltWith}
-pub use Rattle.rl_session.specs.Judged.{first_world}
+pub use Rattle.rl_play.specs.Prelude.{IsReady, IsSameChip}
+pub use Rattle.rl_session.specs.Prelude.{bench_state, kinds_of, IsBuiltWith, first_world}
 pub use Rattle.rl_grade.specs.Adapters.{fresh_standings}
 pub use Rattle.rl_grade.specs.Drive.{Drives, DrivesAll}
 pub use Rattle.rl_grade.specs.Find.{all_seen, first_find}

@@ -91,30 +91,7 @@ asked m _ reg h = absurd h
 
 same_kind : (m : ModelData) (o : Op) → is_any_check (named m o) ≡ is_any_check o
 same_kind m (op.Write reg map value) = refl
-same_kind m (op.Read reg map) = refl
-same_kind m (op.Mirror reg map) = refl
-same_kind m (op.Check reg map) = refl
-same_kind m (op.FieldWrite field map value) = refl
-same_kind m (op.FieldRead field map) = refl
-same_kind m (op.Set field value) = refl
-same_kind m (op.Show reg) = refl
-same_kind m (op.Update reg map) = refl
-same_kind m (op.BackWrite reg value) = refl
-same_kind m (op.BackRead reg) = refl
-same_kind m (op.BackCheck reg) = refl
-same_kind m (op.Peek reg) = refl
-same_kind m (op.Poke reg value) = refl
-same_kind m (op.MemWrite mem map index value) = refl
-same_kind m (op.MemRead mem map index) = refl
-same_kind m (op.MemCheck mem map index value) = refl
-same_kind m (op.BurstWrite mem map first count) = refl
-same_kind m (op.BurstRead mem map first count) = refl
-same_kind m (op.MemPeek mem index) = refl
-same_kind m (op.MemPoke mem index value) = refl
-same_kind m (op.OtherWrite reg map value) = refl
-same_kind m (op.OtherRead reg map) = refl
-same_kind m (op.Hw field value) = refl
-same_kind m (op.Reset kind) = refl
+same_kind m _ = refl
 
 -- a check of a location, with a map that was asked for
 pub record AskedAt (o : Op) (mem index value : ℕ) : Type 0 where
@@ -244,35 +221,13 @@ entry_fine w (line.BurstRead mem first count map) =
 entry_fine w (line.Seq which over) =
     made_fine w (block_asked w.model.chip over) (λ block. framed which over (sequence_course which block w)) (λ block.
     record { lawful = along_lawful w (plan_of which w.model block); tells = along_tells w (plan_of which w.model block) })
-entry_fine w (line.Write reg value map) = one_fine w (line.Write reg value map)
-entry_fine w (line.Read reg map) = one_fine w (line.Read reg map)
-entry_fine w (line.Mirror reg map) = one_fine w (line.Mirror reg map)
-entry_fine w (line.Check reg map) = one_fine w (line.Check reg map)
-entry_fine w (line.Update reg map) = one_fine w (line.Update reg map)
-entry_fine w (line.OtherWrite reg value map) = one_fine w (line.OtherWrite reg value map)
-entry_fine w (line.OtherRead reg map) = one_fine w (line.OtherRead reg map)
-entry_fine w (line.FieldWrite field value map) = one_fine w (line.FieldWrite field value map)
-entry_fine w (line.FieldRead field map) = one_fine w (line.FieldRead field map)
-entry_fine w (line.Set field value) = one_fine w (line.Set field value)
-entry_fine w (line.Hw field value) = one_fine w (line.Hw field value)
-entry_fine w (line.Show reg) = one_fine w (line.Show reg)
-entry_fine w (line.BackRead reg) = one_fine w (line.BackRead reg)
-entry_fine w (line.BackCheck reg) = one_fine w (line.BackCheck reg)
-entry_fine w (line.Peek reg) = one_fine w (line.Peek reg)
-entry_fine w (line.BackWrite reg value) = one_fine w (line.BackWrite reg value)
-entry_fine w (line.Poke reg value) = one_fine w (line.Poke reg value)
-entry_fine w (line.MemWrite mem index value map) = one_fine w (line.MemWrite mem index value map)
-entry_fine w (line.MemCheck mem index value map) = one_fine w (line.MemCheck mem index value map)
-entry_fine w (line.MemRead mem index map) = one_fine w (line.MemRead mem index map)
-entry_fine w (line.MemPeek mem index) = one_fine w (line.MemPeek mem index)
-entry_fine w (line.MemPoke mem index value) = one_fine w (line.MemPoke mem index value)
-entry_fine w (line.Reset kind) = one_fine w (line.Reset kind)
+entry_fine w l = one_fine w l
 
 there_fine : (w : World) (o : Option Entry) → IfSome o (IsFineEntry w) → IfOk (there o) (IsFineEntry w)
 there_fine w None h = tt
 there_fine w (Some e) h = h
 
-comes_fine : (w : World) (s : Result Line LineRefusal) → IfOk (comes_of w s) (IsFineEntry w)
+pub comes_fine : (w : World) (s : Result Line LineRefusal) → IfOk (comes_of w s) (IsFineEntry w)
 comes_fine w (Ok l) = there_fine w (entry_of w l) (entry_fine w l)
 comes_fine w (Err why) = tt
 

@@ -1,2 +1,3 @@
 pub mod EventLemmas
 pub mod ScriptLemmas
+pub mod Numbers

@@ -1,13 +1,19 @@
 -- The numbers of the names in a line, and the operation that a line names.
-use Rattle.std.specs.Prelude.{ℕ, ◌+◌, List, length, map as each, take, drop, position, bytes_eq, Option, Some, None, option_map}
+use Rattle.std.specs.Prelude.{ℕ, ◌+◌, List, length, map as each, take, drop, position, bytes_eq, if◌then◌else◌, Option, Some, None, option_map, option_and_then}
 use Rattle.rl_model.specs.Rows.{ChipData}
 use Rattle.rl_model.specs.Chip.{field_path}
 use Rattle.rl_map.specs.Layout.{LayoutData, map_named}
 use Rattle.rl_access.specs.declared.event.Op.{Op}
 use Rattle.rl_access.specs.declared.event.Op.TheVariants as op
 use Rattle.rl_access.specs.Model.{ModelData}
+use Rattle.rl_script.specs.declared.command.Item.{Item}
+use Rattle.rl_script.specs.declared.command.Item.TheVariants as item
+use Rattle.rl_script.specs.declared.command.Kind.{Kind}
+use Rattle.rl_script.specs.declared.command.Kind.TheVariants as kind
+use Rattle.rl_script.specs.declared.line_ref.ItemLine.{ItemLine}
 use Rattle.rl_script.specs.declared.line.Line.{Line}
 use Rattle.rl_script.specs.declared.line.Line.TheVariants as line
+use Rattle.rl_script.specs.Commands.{row_of, kind_of, said}
 
 -- ---- names
 
@@ -31,6 +37,12 @@ field_named c path = number_of (each (field_path c) c.fields) path
 abbrev pub kind_named : ChipData → List ℕ → Option ℕ
 kind_named c name = number_of c.kinds name
 
+-- what a command of this kind is on
+abbrev pub number_on : ChipData → Kind → List ℕ → Option ℕ
+number_on c kind.Register path = reg_named c path
+number_on c kind.Field path = field_named c path
+number_on c kind.Memory path = mem_named c path
+
 -- the map that a line asks for, if it names one; none where the one that it names isn't there
 abbrev pub map_asked : LayoutData → Option (List ℕ) → Option (Option ℕ)
 map_asked l None = Some None
@@ -52,35 +64,41 @@ abbrev pub with_map : Option ℕ → Option (Option ℕ) → (ℕ → Option ℕ
 with_map None map make = None
 with_map (Some number) map make = option_map (make number) map
 
+-- of a command on an item, by the numbers of the item and of the map
+abbrev pub op_with : Item → (number : ℕ) → (map : Option ℕ) → (first second : ℕ) → Op
+op_with item.Write reg map value _ = op.Write reg map value
+op_with item.Read reg map _ _ = op.Read reg map
+op_with item.Mirror reg map _ _ = op.Mirror reg map
+op_with item.Check reg map _ _ = op.Check reg map
+op_with item.Update reg map _ _ = op.Update reg map
+op_with item.OtherWrite reg map value _ = op.OtherWrite reg map value
+op_with item.OtherRead reg map _ _ = op.OtherRead reg map
+op_with item.FieldWrite field map value _ = op.FieldWrite field map value
+op_with item.FieldRead field map _ _ = op.FieldRead field map
+op_with item.Set field _ value _ = op.Set field value
+op_with item.Hw field _ value _ = op.Hw field value
+op_with item.Show reg _ _ _ = op.Show reg
+op_with item.BackRead reg _ _ _ = op.BackRead reg
+op_with item.BackCheck reg _ _ _ = op.BackCheck reg
+op_with item.Peek reg _ _ _ = op.Peek reg
+op_with item.BackWrite reg _ value _ = op.BackWrite reg value
+op_with item.Poke reg _ value _ = op.Poke reg value
+op_with item.MemWrite mem map index value = op.MemWrite mem map index value
+op_with item.MemCheck mem map index value = op.MemCheck mem map index value
+op_with item.MemRead mem map index _ = op.MemRead mem map index
+op_with item.BurstRead mem map first count = op.BurstRead mem map first count
+op_with item.MemPeek mem _ index _ = op.MemPeek mem index
+op_with item.MemPoke mem _ index value = op.MemPoke mem index value
+
+-- the map is looked for where the command takes one
+abbrev pub item_op : ModelData → ItemLine → Option Op
+item_op m s =
+    let number = number_on m.chip (kind_of s.item) s.path in
+    if (row_of s.item).map then with_map number (map_asked m.layout s.map) (λ n t. op_with s.item n t s.first s.second)
+    else with_number number (λ n. op_with s.item n None s.first s.second)
+
 -- a blank line, a burst and a sequence are no single operation
 abbrev pub op_named : ModelData → Line → Option Op
-op_named m (line.Write reg value map) = with_map (reg_named m.chip reg) (map_asked m.layout map) (λ r t. op.Write r t value)
-op_named m (line.Read reg map) = with_map (reg_named m.chip reg) (map_asked m.layout map) (λ r t. op.Read r t)
-op_named m (line.Mirror reg map) = with_map (reg_named m.chip reg) (map_asked m.layout map) (λ r t. op.Mirror r t)
-op_named m (line.Check reg map) = with_map (reg_named m.chip reg) (map_asked m.layout map) (λ r t. op.Check r t)
-op_named m (line.Update reg map) = with_map (reg_named m.chip reg) (map_asked m.layout map) (λ r t. op.Update r t)
-op_named m (line.OtherWrite reg value map) =
-    with_map (reg_named m.chip reg) (map_asked m.layout map) (λ r t. op.OtherWrite r t value)
-op_named m (line.OtherRead reg map) = with_map (reg_named m.chip reg) (map_asked m.layout map) (λ r t. op.OtherRead r t)
-op_named m (line.FieldWrite field value map) =
-    with_map (field_named m.chip field) (map_asked m.layout map) (λ f t. op.FieldWrite f t value)
-op_named m (line.FieldRead field map) =
-    with_map (field_named m.chip field) (map_asked m.layout map) (λ f t. op.FieldRead f t)
-op_named m (line.Set field value) = with_number (field_named m.chip field) (λ f. op.Set f value)
-op_named m (line.Hw field value) = with_number (field_named m.chip field) (λ f. op.Hw f value)
-op_named m (line.Show reg) = with_number (reg_named m.chip reg) (λ r. op.Show r)
-op_named m (line.BackRead reg) = with_number (reg_named m.chip reg) (λ r. op.BackRead r)
-op_named m (line.BackCheck reg) = with_number (reg_named m.chip reg) (λ r. op.BackCheck r)
-op_named m (line.Peek reg) = with_number (reg_named m.chip reg) (λ r. op.Peek r)
-op_named m (line.BackWrite reg value) = with_number (reg_named m.chip reg) (λ r. op.BackWrite r value)
-op_named m (line.Poke reg value) = with_number (reg_named m.chip reg) (λ r. op.Poke r value)
-op_named m (line.MemWrite mem index value map) =
-    with_map (mem_named m.chip mem) (map_asked m.layout map) (λ i t. op.MemWrite i t index value)
-op_named m (line.MemCheck mem index value map) =
-    with_map (mem_named m.chip mem) (map_asked m.layout map) (λ i t. op.MemCheck i t index value)
-op_named m (line.MemRead mem index map) =
-    with_map (mem_named m.chip mem) (map_asked m.layout map) (λ i t. op.MemRead i t index)
-op_named m (line.MemPeek mem index) = with_number (mem_named m.chip mem) (λ i. op.MemPeek i index)
-op_named m (line.MemPoke mem index value) = with_number (mem_named m.chip mem) (λ i. op.MemPoke i index value)
 op_named m (line.Reset kind) = with_number (kind_named m.chip kind) (λ k. op.Reset k)
-op_named m _ = None
+op_named m (line.BurstRead mem first count map) = None
+op_named m l = option_and_then (item_op m) (said l)

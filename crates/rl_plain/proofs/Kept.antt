@@ -14,12 +14,21 @@ use Rattle.rl_mirror.specs.Reachable.{IsReachable}
 use Rattle.rl_mirror.proofs.ReachLemmas.{write_reach, read_reach}
 use Rattle.rl_mirror.proofs.SpentLemmas.{length-spent_after}
 use Rattle.rl_mirror.proofs.WordLemmas.{word_is_value}
+use Rattle.rl_access.specs.declared.predictor.Gathered.{Gathered}
+use Rattle.rl_access.specs.Gathering.{IsPredictorOf}
+use Rattle.rl_access.specs.Model.{ModelData, IsModel}
 use Rattle.rl_plain.specs.OneStep.{Step, write_step, read_step, no_step}
 use Rattle.rl_plain.proofs.Followed.{FollowsStep}
 
 pub record IsKept (c : ChipData) (m : MirrorData) : Type 0 where
   pub built : IsMirrorOf c m
   pub reach : IsReachable c m
+
+-- a model stays one with other values and other gathered words
+pub model_with : (m : ModelData) (mirror : MirrorData) (gathered : List Gathered) → IsModel m → IsKept m.chip mirror → IsPredictorOf m.layout gathered
+    → IsModel (record m { mirror = mirror; gathered = gathered })
+model_with m mirror gathered ok kept predictor =
+    record { chip = ok.chip; layout = ok.layout; built = ok.built; mirror = kept.built; reach = kept.reach; predictor = predictor }
 
 -- ---- a register gets values
 

@@ -23,10 +23,12 @@ use Rattle.rl_access.specs.Rules.{Grant, grant, location_bytes}
 use Rattle.rl_access.proofs.Places.{fresh_predictor}
 use Rattle.rl_plain.specs.Agree.{Agree, IsMemoryAccess}
 use Rattle.rl_plain.specs.Machine.{Machine, mirror_of, seen, machine_after, machine_end, machine_differ, Done, done_by, machine_step}
+use Rattle.rl_plain.specs.Sorts as sort
+use Rattle.rl_plain.specs.Sorts.{Sort, sort_of, IsSort, IsOf, LeavesMemories}
 use Rattle.rl_plain.specs.Calls.{without_items, IsMachineOf, CallIsPlain, CallKeepsModel, IsOffMemory, RegisterCallIsPlain}
 use Rattle.rl_plain.proofs.AccessSteps.{access_step}
 use Rattle.rl_plain.proofs.Hardware.{volatile_where}
-use Rattle.rl_plain.proofs.Kept.{IsKept}
+use Rattle.rl_plain.proofs.Kept.{IsKept, model_with}
 use Rattle.rl_plain.proofs.MachineSteps.{HasContents, nowhere, everywhere, contents_stay, contents_stored, IsMachineStep}
 use Rattle.rl_plain.proofs.MemoryAccesses.{IsMemoryStep, stored, loaded, write_place, read_place, check_place, write_step_is, read_step_is, check_step_is, memory_agrees}
 use Rattle.rl_plain.proofs.QuietSteps.{quiet_step, back_step, wish_step, reset_step, memory_step, burst_step}
@@ -80,52 +82,56 @@ memory_access_step c l p adapters errors told new _ event place is numbers ok a 
 
 -- ---- each operation
 
+same_sort : (k : Sort) → IsSort k k
+same_sort sort.access = tt
+same_sort _ = tt
+
+is_of : (k : Sort) (op : Op) → sort_of op ≡ k → IsOf k op
+is_of k op e = subst (IsSort k) (sym e) (same_sort k)
+
+-- the sorts whose operations are each by the one call of the sort, and leave the memories
+abbrev IsPlainSort : Sort → Type 0
+IsPlainSort sort.access = Unit {0}
+IsPlainSort sort.wish = Unit {0}
+IsPlainSort sort.backdoor = Unit {0}
+IsPlainSort sort.burst = Unit {0}
+IsPlainSort _ = ⊥
+
+sort_step : {which : ℕ → ℕ → Type 0} (c : ChipData) (l : LayoutData) (p : Machine) (adapters : List Standing) (errors : ℕ) (told : Option State) (new : Scene) (op : Op) (event : Event) (place : ℕ) →
+    let s = scene (seen c l p) adapters errors told in
+    (k : Sort) → sort_of op ≡ k → IsPlainSort k → HasNumbers c (length l.maps) op → IsModel s.model → (a : Agree s) → HasContents which c a.device p → grant s.model op ≡ Ok place
+    → IsDone s new op place event → IsMachineStep which c l p new op place event
+sort_step c l p ad er t new op event place sort.access e plain numbers ok a has granted done = access_step c l p ad er t new op event place (is_of sort.access op e) numbers ok a has granted done
+sort_step c l p ad er t new op event place sort.wish e plain numbers ok a has granted done = wish_step c l p ad er t new op event place (is_of sort.wish op e) numbers ok a has done
+sort_step c l p ad er t new op event place sort.backdoor e plain numbers ok a has granted done = back_step c l p ad er t new op event place (is_of sort.backdoor op e) numbers ok a has done
+sort_step c l p ad er t new op event place sort.burst e plain numbers ok a has granted done = burst_step c l p ad er t new op event place (is_of sort.burst op e) ok a has done
+sort_step c l p ad er t new op event place _ e plain numbers ok a has granted done = absurd plain
+
 off_step : {which : ℕ → ℕ → Type 0} (c : ChipData) (l : LayoutData) (p : Machine) (adapters : List Standing) (errors : ℕ) (told : Option State) (new : Scene) (op : Op) (event : Event) (place : ℕ) →
     let s = scene (seen c l p) adapters errors told in
     IsOffMemory op → HasNumbers c (length l.maps) op → IsModel s.model → (a : Agree s) → HasContents which c a.device p → grant s.model op ≡ Ok place → IsDone s new op place event →
     IsMachineStep which c l p new op place event
-off_step c l p ad er t new (op.Write n map value) event place off numbers ok a has granted done = access_step c l p ad er t new (op.Write n map value) event place tt numbers ok a has granted done
-off_step c l p ad er t new (op.Read n map) event place off numbers ok a has granted done = access_step c l p ad er t new (op.Read n map) event place tt numbers ok a has granted done
-off_step c l p ad er t new (op.Mirror n map) event place off numbers ok a has granted done = access_step c l p ad er t new (op.Mirror n map) event place tt numbers ok a has granted done
-off_step c l p ad er t new (op.Check n map) event place off numbers ok a has granted done = access_step c l p ad er t new (op.Check n map) event place tt numbers ok a has granted done
-off_step c l p ad er t new (op.FieldWrite field map value) event place off numbers ok a has granted done = access_step c l p ad er t new (op.FieldWrite field map value) event place tt numbers ok a
-    has granted done
-off_step c l p ad er t new (op.FieldRead field map) event place off numbers ok a has granted done = access_step c l p ad er t new (op.FieldRead field map) event place tt numbers ok a has granted done
-off_step c l p ad er t new (op.Set field value) event place off numbers ok a has granted done = wish_step c l p ad er t new (op.Set field value) event place tt numbers ok a has done
-off_step c l p ad er t new (op.Show n) event place off numbers ok a has granted done = wish_step c l p ad er t new (op.Show n) event place tt numbers ok a has done
-off_step c l p ad er t new (op.Update n map) event place off numbers ok a has granted done = access_step c l p ad er t new (op.Update n map) event place tt numbers ok a has granted done
-off_step c l p ad er t new (op.BackWrite n value) event place off numbers ok a has granted done = back_step c l p ad er t new (op.BackWrite n value) event place tt numbers ok a has done
-off_step c l p ad er t new (op.BackRead n) event place off numbers ok a has granted done = back_step c l p ad er t new (op.BackRead n) event place tt numbers ok a has done
-off_step c l p ad er t new (op.BackCheck n) event place off numbers ok a has granted done = back_step c l p ad er t new (op.BackCheck n) event place tt numbers ok a has done
-off_step c l p ad er t new (op.Peek n) event place off numbers ok a has granted done = back_step c l p ad er t new (op.Peek n) event place tt numbers ok a has done
-off_step c l p ad er t new (op.Poke n value) event place off numbers ok a has granted done = back_step c l p ad er t new (op.Poke n value) event place tt numbers ok a has done
-off_step c l p ad er t new (op.BurstWrite mem map first count) event place off numbers ok a has granted done = burst_step c l p ad er t new (op.BurstWrite mem map first count) event place tt ok a has
-    done
-off_step c l p ad er t new (op.BurstRead mem map first count) event place off numbers ok a has granted done = burst_step c l p ad er t new (op.BurstRead mem map first count) event place tt ok a has
-    done
-off_step c l p ad er t new (op.OtherWrite n map value) event place off numbers ok a has granted done = access_step c l p ad er t new (op.OtherWrite n map value) event place tt numbers ok a has
-    granted done
-off_step c l p ad er t new (op.OtherRead n map) event place off numbers ok a has granted done = access_step c l p ad er t new (op.OtherRead n map) event place tt numbers ok a has granted done
 off_step c l p ad er t new (op.Hw field value) event place off numbers ok a has granted done =
     let clash : false ≡ true = sym (a.believed_is.steady field numbers) ∙ volatile_where (seen c l p) field value place granted in
     absurd (cc)
 off_step c l p ad er t new (op.Reset kind) event place off numbers ok a has granted done = reset_step c l p ad er t new kind event place ok a has done
-off_step c l p ad er t new _ event place off numbers ok a has granted done = absurd off
+off_step c l p ad er t new op event place off numbers ok a has granted done = sort_step c l p ad er t new op event place (sort_of op) refl off numbers ok a has granted done
+
+any_step : (c : ChipData) (l : LayoutData) (p : Machine) (adapters : List Standing) (errors : ℕ) (told : Option State) (new : Scene) (op : Op) (event : Event) (place : ℕ) →
+    let s = scene (seen c l p) adapters errors told in
+    (k : Sort) → sort_of op ≡ k → HasNumbers c (length l.maps) op → IsModel s.model → (a : Agree s) → HasContents everywhere c a.device p → grant s.model op ≡ Ok place
+    → IsDone s new op place event → IsMachineStep everywhere c l p new op place event
+any_step c l p ad er t new op event place sort.memory_access e numbers ok a has granted done =
+    memory_access_step c l p ad er t new op event place (is_of sort.memory_access op e) numbers ok a has granted done
+any_step c l p ad er t new op event place sort.memory_backdoor e numbers ok a has granted done =
+    memory_step c l p ad er t new op event place (is_of sort.memory_backdoor op e) numbers ok a has granted done
+any_step c l p ad er t new op event place _ e numbers ok a has granted done = off_step c l p ad er t new op event place (subst LeavesMemories (sym e) tt) numbers ok a has granted done
 
 each_step : (c : ChipData) (l : LayoutData) (p : Machine) (adapters : List Standing) (errors : ℕ) (told : Option State) (new : Scene) (op : Op) (event : Event) (place : ℕ) →
     let s = scene (seen c l p) adapters errors told in
     HasNumbers c (length l.maps) op → IsModel s.model → (a : Agree s) → HasContents everywhere c a.device p → grant s.model op ≡ Ok place → IsDone s new op place event →
     IsMachineStep everywhere c l p new op place event
-each_step c l p ad er t new (op.MemWrite mem map index value) event place numbers ok a has granted done = memory_access_step c l p ad er t new (op.MemWrite mem map index value) event place tt numbers
-    ok a has granted done
-each_step c l p ad er t new (op.MemRead mem map index) event place numbers ok a has granted done = memory_access_step c l p ad er t new (op.MemRead mem map index) event place tt numbers ok a has
-    granted done
-each_step c l p ad er t new (op.MemCheck mem map index value) event place numbers ok a has granted done = memory_access_step c l p ad er t new (op.MemCheck mem map index value) event place tt numbers
-    ok a has granted done
-each_step c l p ad er t new (op.MemPeek mem index) event place numbers ok a has granted done = memory_step c l p ad er t new (op.MemPeek mem index) event place tt numbers ok a has granted done
-each_step c l p ad er t new (op.MemPoke mem index value) event place numbers ok a has granted done = memory_step c l p ad er t new (op.MemPoke mem index value) event place tt numbers ok a has granted
-    done
-each_step c l p ad er t new other event place numbers ok a has granted done = off_step c l p ad er t new other event place tt numbers ok a has granted done
+each_step c l p ad er t new op event place numbers ok a has granted done = any_step c l p ad er t new op event place (sort_of op) refl numbers ok a has granted done
 
 -- ---- the device and the model are the machine's again
 
@@ -179,14 +185,8 @@ model_again : {which : ℕ → ℕ → Type 0} (c : ChipData) (l : LayoutData) (
 model_again c l p new op place event ok st =
     let q = machine_after c l op place p in
     let kept : IsKept c (mirror_of q) = subst (IsKept c) st.mirror st.kept in
-    subst IsModel (sym (step_model c l p new op place event st)) (record {
-      chip = ok.chip;
-      layout = ok.layout;
-      built = ok.built;
-      mirror = kept.built;
-      reach = kept.reach;
-      predictor = fresh_predictor l (length l.places) ok.layout refl;
-    })
+    subst IsModel (sym (step_model c l p new op place event st))
+    (model_with (seen c l p) (mirror_of q) (seen c l q).gathered ok kept (fresh_predictor l (length l.places) ok.layout refl))
 
 -- ---- the call
 

@@ -1,8 +1,7 @@
 -- Other masters' accesses to different registers, in any order.
-use Rattle.std.proofs.Common.{◌≡◌, ◌⊎◌, ℕ, ◌+◌, ◌-◌, ◌<◌, ◌≤◌, Bool, true, false, ◌&&◌, ◌||◌, cond, eqb, eq-eqb, ne_eqb, List, [], length}
-use Rattle.std.proofs.Common.{get_or, map, Option, None, Some, Result, Ok, Err, refl, sym, ap, ◌∙◌, subst, inl, inr, arith}
+use Rattle.std.proofs.Common.{◌≡◌, ℕ, ◌+◌, ◌-◌, ◌<◌, ◌≤◌, Bool, true, false, ◌&&◌, ◌||◌, cond, eqb, eq-eqb, ne_eqb, List, [], length}
+use Rattle.std.proofs.Common.{get_or, map, Option, None, Some, Ok, Err, refl, sym, ap, ◌∙◌, subst, inl, inr, arith}
 use Rattle.std.specs.Prelude.{slice_set}
-use Rattle.std.specs.List.{range_with_len}
 use Rattle.std.proofs.lemmas.Bool.{cases_eq}
 use Rattle.std.proofs.lemmas.List.{get_or_default, get_or-set_same, get_or-set_other, length-set, set_comm, same_lists}
 use Rattle.std.proofs.lemmas.List.FromFn.{get_or-map-range_with_len, length-map-range_with_len}
@@ -25,7 +24,7 @@ use Rattle.rl_access.specs.declared.event.Op.TheVariants as op
 use Rattle.rl_access.specs.Operation.{register_of}
 use Rattle.rl_access.specs.Rules.{Grant, grant, named}
 use Rattle.rl_plain.specs.Machine.{Machine, desired_after, done_by, machine_after, machine_differ, machine_end, machine_step, mark_after, mirror_of, register_at, seen, taking, told, value_at}
-use Rattle.rl_plain.specs.Masters.{Commute, IsOther, OtherStepsCommute}
+use Rattle.rl_plain.specs.Masters.{IsOther, OtherStepsCommute}
 use Rattle.rl_plain.specs.OneStep.{Step, write_step, read_step, no_step, register_after}
 use Rattle.rl_plain.proofs.Agreement.{spent-wstep, spent-rstep}
 
@@ -41,28 +40,30 @@ itself : (c : ChipData) (p : Machine) (reg : ℕ) → Shares c p p reg
 itself c p reg = record { bits = refl; desired = refl; marks = λ k low. refl }
 
 -- a step looks at no more of a register
-written_alike : (fs : List FieldSeen) (chosen : ℕ → Bool) (word : ℕ) (r x : Register) → r.bits ≡ x.bits → ((k : ℕ) → k < length fs → r.spent k ≡ x.spent k) →
-    (wstep fs chosen word r).bits ≡ (wstep fs chosen word x).bits
+pub written_by : (fs : List FieldSeen) (chosen : ℕ → Bool) (word : ℕ) (r x : Register) → r.bits ≡ x.bits
+    → ((k : ℕ) (old new : Bool) → k < length fs → after_write (policy_in fs k) old new (r.spent k) ≡ after_write (policy_in fs k) old new (x.spent k))
+    → (wstep fs chosen word r).bits ≡ (wstep fs chosen word x).bits
 unfolding wstep
-written_alike fs chosen word r x bits marks =
+written_by fs chosen word r x bits same =
     from_bits-same 64 (λ b. written_bit fs chosen r.spent (place_at fs b) (bit r.bits b) (bit word b)) (λ b. written_bit fs chosen x.spent (place_at fs b) (bit x.bits b) (bit word b))
     (λ b low. ap (λ n. written_bit fs chosen r.spent (place_at fs b) (bit n b) (bit word b)) bits ∙ by b (place_at fs b) refl)
   where
     by : (b : ℕ) (o : Option ℕ) → place_at fs b ≡ o → written_bit fs chosen r.spent o (bit x.bits b) (bit word b) ≡ written_bit fs chosen x.spent o (bit x.bits b) (bit word b)
     by b None at = refl
-    by b (Some k) at = ap (λ s. cond (chosen k) (after_write (policy_in fs k) (bit x.bits b) (bit word b) s) (bit x.bits b)) (marks k (place_is fs b k at).0)
+    by b (Some k) at = ap (λ v. cond (chosen k) v (bit x.bits b)) (same k (bit x.bits b) (bit word b) (place_is fs b k at).0)
 
-left_alike : (fs : List FieldSeen) (chosen : ℕ → Bool) (r x : Register) → r.bits ≡ x.bits → (rstep fs chosen r).bits ≡ (rstep fs chosen x).bits
+pub left_alike : (fs : List FieldSeen) (chosen : ℕ → Bool) (r x : Register) → r.bits ≡ x.bits → (rstep fs chosen r).bits ≡ (rstep fs chosen x).bits
 unfolding rstep
 left_alike fs chosen r x bits = ap (λ n. from_bits 64 (λ b. left_bit fs chosen (place_at fs b) (bit n b))) bits
 
-answers_alike : (fs : List FieldSeen) (chosen : ℕ → Bool) (r x : Register) → r.bits ≡ x.bits → ranswer fs chosen r ≡ ranswer fs chosen x
+pub answers_alike : (fs : List FieldSeen) (chosen : ℕ → Bool) (r x : Register) → r.bits ≡ x.bits → ranswer fs chosen r ≡ ranswer fs chosen x
 unfolding ranswer
 answers_alike fs chosen r x bits = ap (λ n. from_bits 64 (λ b. shown_bit fs chosen (place_at fs b) (bit n b))) bits
 
 bits_alike : (fs : List FieldSeen) (step : Step) (r x : Register) → r.bits ≡ x.bits → ((k : ℕ) → k < length fs → r.spent k ≡ x.spent k) → (register_after fs step r).bits ≡ (register_after fs step
     x).bits
-bits_alike fs (write_step chosen word) r x bits marks = written_alike fs chosen word r x bits marks
+bits_alike fs (write_step chosen word) r x bits marks =
+    written_by fs chosen word r x bits (λ k old new low. ap (after_write (policy_in fs k) old new) (marks k low))
 bits_alike fs (read_step chosen) r x bits marks = left_alike fs chosen r x bits
 bits_alike fs no_step r x bits marks = bits
 

@@ -39,11 +39,11 @@ use Rattle.rl_plain.proofs.Outcomes.{good_is}
 -- ---- what a grant says
 
 -- the place of a location that may be reached
-record IsGranted (m : ModelData) (mem index : ℕ) (write : Bool) (place : ℕ) : Type 0 where
-  there : IsWay m.layout (item.Mem mem) write place
-  index_in : index < memory_size m.chip mem
+pub record IsGranted (m : ModelData) (mem index : ℕ) (write : Bool) (place : ℕ) : Type 0 where
+  pub there : IsWay m.layout (item.Mem mem) write place
+  pub index_in : index < memory_size m.chip mem
 
-granted_at : (m : ModelData) (mem index : ℕ) (map : Option ℕ) (write : Bool) (place : ℕ) → at_location m mem index (way m (item.Mem mem) map write) ≡ Ok place → IsGranted m mem index write place
+pub granted_at : (m : ModelData) (mem index : ℕ) (map : Option ℕ) (write : Bool) (place : ℕ) → at_location m mem index (way m (item.Mem mem) map write) ≡ Ok place → IsGranted m mem index write place
 granted_at m mem index map write place e =
     let both = only_ok (way m (item.Mem mem) map write) (nat_lt index (memory_size m.chip mem)) OutOfRange place e in
     record { there = way_found m (item.Mem mem) map write place both.0; index_in = ltb-true index (memory_size m.chip mem) both.1 }
@@ -55,12 +55,12 @@ fits_at m mem value place g e =
     let both = only_ok g (nat_lt value (256 ^ item_size m.chip (item.Mem mem))) TooWide place e in
     (both.0, ltb-true value (256 ^ location_size m.chip mem) both.1)
 
-record IsWriteGranted (m : ModelData) (mem index value place : ℕ) : Type 0 where
-  granted : IsGranted m mem index true place
-  open_to : is_writable m.chip mem ≡ true
-  small : value < 256 ^ location_size m.chip mem
+pub record IsWriteGranted (m : ModelData) (mem index value place : ℕ) : Type 0 where
+  pub granted : IsGranted m mem index true place
+  pub open_to : is_writable m.chip mem ≡ true
+  pub small : value < 256 ^ location_size m.chip mem
 
-write_granted : (m : ModelData) (mem index value : ℕ) (map : Option ℕ) (place : ℕ) → grant m (op.MemWrite mem map index value) ≡ Ok place → IsWriteGranted m mem index value place
+pub write_granted : (m : ModelData) (mem index value : ℕ) (map : Option ℕ) (place : ℕ) → grant m (op.MemWrite mem map index value) ≡ Ok place → IsWriteGranted m mem index value place
 write_granted m mem index value map place e =
     let along = way m (item.Mem mem) map true in
     let first = fits_at m mem value place (at_location m mem index (writable m mem along)) e in
@@ -80,7 +80,7 @@ write_place m mem index value map place e = let by = write_granted m mem index v
 pub read_place : (m : ModelData) (mem index : ℕ) (map : Option ℕ) (place : ℕ) → grant m (op.MemRead mem map index) ≡ Ok place → index < memory_size m.chip mem
 read_place m mem index map place e = (granted_at m mem index map false place e).index_in
 
-check_granted : (m : ModelData) (mem index value : ℕ) (map : Option ℕ) (place : ℕ) → grant m (op.MemCheck mem map index value) ≡ Ok place → IsGranted m mem index false place
+pub check_granted : (m : ModelData) (mem index value : ℕ) (map : Option ℕ) (place : ℕ) → grant m (op.MemCheck mem map index value) ≡ Ok place → IsGranted m mem index false place
 check_granted m mem index value map place e = granted_at m mem index map false place (fits_at m mem value place (at_location m mem index (way m (item.Mem mem) map false)) e).0
 
 pub check_place : (m : ModelData) (mem index value : ℕ) (map : Option ℕ) (place : ℕ) → grant m (op.MemCheck mem map index value) ≡ Ok place → index < memory_size m.chip mem
@@ -107,11 +107,10 @@ location_for m mem index write place ok granted =
 bytes_there : (m : ModelData) (mem index : ℕ) (write : Bool) (place : ℕ) → IsModel m → IsGranted m mem index write place → (place_at m.layout place).bytes ≡ location_size m.chip mem
 bytes_there m mem index write place ok granted = place_size m (item.Mem mem) place ok granted.there.there
 
-stored_at : (s : Scene) (mem index value place : ℕ) (d : State) → IsModel s.model → IsReady s.model.chip s.model.layout d → mem < length s.model.chip.mems →
-    HasLocation d mem index (location_size s.model.chip mem) → IsWriteGranted s.model mem index value place →
-    IsStore s.model.chip s.model.layout d place mem index value (ops_of s.model.layout place index (location_bytes s.model mem) value true)
-stored_at s mem index value place d ok ready inside has by =
-    let m = s.model in
+pub stored_at : (m : ModelData) (mem index value place : ℕ) (d : State) → IsModel m → IsReady m.chip m.layout d → mem < length m.chip.mems →
+    HasLocation d mem index (location_size m.chip mem) → IsWriteGranted m mem index value place →
+    IsStore m.chip m.layout d place mem index value (ops_of m.layout place index (location_bytes m mem) value true)
+stored_at m mem index value place d ok ready inside has by =
     let c = m.chip in
     let l = m.layout in
     let size = bytes_there m mem index true place ok by.granted in
@@ -120,12 +119,11 @@ stored_at s mem index value place d ok ready inside has by =
     (memory_write_is_store c l d place mem index value (location_for m mem index true place ok by.granted) ready (subst (HasLocation d mem index) (sym size) has) open_to
     (subst (λ n. value < 256 ^ n) (sym size) by.small))
 
-loaded_at : (s : Scene) (mem index place : ℕ) (d : State) → IsModel s.model → IsReady s.model.chip s.model.layout d → HasLocation d mem index (location_size s.model.chip mem) →
-    IsGranted s.model mem index false place →
-    let chosen = location_bytes s.model mem in
-    IsLoad s.model.chip s.model.layout d place mem index (ops_of s.model.layout place index chosen 0 false) (joined s.model.layout place index chosen)
-loaded_at s mem index place d ok ready has granted =
-    let m = s.model in
+pub loaded_at : (m : ModelData) (mem index place : ℕ) (d : State) → IsModel m → IsReady m.chip m.layout d → HasLocation d mem index (location_size m.chip mem) →
+    IsGranted m mem index false place →
+    let chosen = location_bytes m mem in
+    IsLoad m.chip m.layout d place mem index (ops_of m.layout place index chosen 0 false) (joined m.layout place index chosen)
+loaded_at m mem index place d ok ready has granted =
     let l = m.layout in
     let size = bytes_there m mem index false place ok granted in
     subst (λ n. IsLoad m.chip l d place mem index (ops_of l place index (all_bytes n) 0 false) (joined l place index (all_bytes n))) size
@@ -156,7 +154,7 @@ write_step_is s new mem index value map event place ok a inside has granted done
     let m = s.model in
     let d = a.device in
     let ops = ops_of m.layout place index (location_bytes m mem) value true in
-    let w = stored_at s mem index value place d ok a.believed_is.ready inside has (write_granted m mem index value map place granted) in
+    let w = stored_at s.model mem index value place d ok a.believed_is.ready inside has (write_granted m mem index value map place granted) in
     let o : List TraceItem → Outcome = λ items. or_error (failed_at items) m (quiet end.Done m) in
     let run = has_run_as s new (op.MemWrite mem map index value) event place None d ops o done a.told
     (record { sends_are = refl; outcome_is = λ sampled items. refl; register = refl; goes = λ sampled items d. refl }) (all_written (answers_of d (port_for m.layout place) ops) ops w.answers) in
@@ -188,7 +186,7 @@ load_step_by s new op mem index event place found ok a has granted done sent =
     let chosen = location_bytes m mem in
     let ops = ops_of m.layout place index chosen 0 false in
     let held = slice_index d.locations (location d.setup mem index) in
-    let w = loaded_at s mem index place d ok a.believed_is.ready has granted in
+    let w = loaded_at s.model mem index place d ok a.believed_is.ready has granted in
     let o : List TraceItem → Outcome = load_outcome m mem place index found in
     let run = has_run_as s new op event place None d ops o done a.told sent w.answers in
     let value : location_value m mem place index event.trace ≡ held = ap (joined m.layout place index chosen) run.words ∙ w.value_is in

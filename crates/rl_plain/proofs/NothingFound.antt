@@ -17,22 +17,22 @@ use Rattle.rl_mirror.proofs.FieldLemmas.{field_list}
 use Rattle.rl_mirror.proofs.PlaceLemmas.{IsFieldList, is_place, covers_is}
 use Rattle.rl_plain.proofs.Registers.{bit-ranswer}
 
-shows : (p : Policy) (x : Bool) → is_write_only p ≡ false → value_read p x ≡ x
+pub shows : (p : Policy) (x : Bool) → is_write_only p ≡ false → value_read p x ≡ x
 shows Wo x e = absurd (cc)
 shows Woc x e = absurd (cc)
 shows Wos x e = absurd (cc)
 shows Wo1 x e = absurd (cc)
 shows _ x e = refl
 
-place_found : (o : Option ℕ) (k : ℕ) → is_place o k ≡ true → o ≡ Some k
+pub place_found : (o : Option ℕ) (k : ℕ) → is_place o k ≡ true → o ≡ Some k
 place_found None k e = absurd (cc)
 place_found (Some j) k e = ap Some (eqb-true j k e)
 
-covered : (f : FieldSeen) (i : ℕ) → i < f.shape.width → covers f.shape (f.shape.lsb + i) ≡ true
+pub covered : (f : FieldSeen) (i : ℕ) → i < f.shape.width → covers f.shape (f.shape.lsb + i) ≡ true
 covered f i l = grind (arith, nat_tests)
 
 -- the part of a field in what the register answers
-same_part : (bits : ℕ) (fs : List FieldSeen) (k : ℕ) (r : Register) → IsFieldList bits fs → k < length fs → is_write_only (policy_in fs k) ≡ false →
+pub same_part : (bits : ℕ) (fs : List FieldSeen) (k : ℕ) (r : Register) → IsFieldList bits fs → k < length fs → is_write_only (policy_in fs k) ≡ false →
     part_of (field_in fs k).shape (ranswer fs every r) ≡ part_of (field_in fs k).shape r.bits
 same_part bits fs k r list inside readable =
     let f = (field_in fs k).shape in

@@ -38,6 +38,8 @@ use Rattle.rl_access.specs.Items.{items_of, port_for}
 use Rattle.rl_access.specs.Model.{ModelData, IsModel}
 use Rattle.rl_access.specs.Operation.{location_size, HasNumbers}
 use Rattle.rl_access.specs.Rules.{grant, at_location, by_backdoor, memory_size, item_size, sends, named, outcome, event_of, every_field, back_written, back_value, back_left, low_bytes}
+use Rattle.rl_plain.specs.Sorts as sort
+use Rattle.rl_plain.specs.Sorts.{IsOf}
 use Rattle.rl_plain.specs.Agree.{Agree, IsBackdoor, IsWish, IsMemoryBackdoor}
 use Rattle.rl_plain.specs.Machine.{Machine, register_at, mirror_of, seen, with_both, with_wish, with_reset, machine_after, machine_end, machine_differ}
 use Rattle.rl_plain.proofs.AccessSteps.{check_finds}
@@ -54,9 +56,7 @@ use Rattle.rl_plain.proofs.Wishes.{stays_agreed, wish_done}
 
 -- a burst by its name alone: it is refused as that, or done as its locations
 abbrev pub IsBurstName : Op → Type 0
-IsBurstName (op.BurstWrite mem map first count) = Unit {0}
-IsBurstName (op.BurstRead mem map first count) = Unit {0}
-IsBurstName _ = ⊥
+IsBurstName op = IsOf sort.burst op
 
 -- ---- what an operation that sends nothing leaves and tells
 

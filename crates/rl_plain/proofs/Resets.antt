@@ -110,8 +110,8 @@ first_field c l reg b n e =
     let inside : n < length c.fields = subst (λ k. n < k) (length-map c.fields field_row) at.0 in
     (inside, at.1)
 
-field_found : (c : ChipData) (l : LayoutData) (reg b k : ℕ) → IsSound c → reg < length c.regs → place_at (fields_of c reg) b ≡ Some k → field_at (setup_of c l no_flaws) reg b ≡ Some (first_of c reg +
-    k)
+pub field_found : (c : ChipData) (l : LayoutData) (reg b k : ℕ) → IsSound c → reg < length c.regs → place_at (fields_of c reg) b ≡ Some k
+    → field_at (setup_of c l no_flaws) reg b ≡ Some (first_of c reg + k)
 field_found c l reg b k sound inside at = by (field_at (setup_of c l no_flaws) reg b) refl
   where
     by : (o : Option ℕ) → field_at (setup_of c l no_flaws) reg b ≡ o → o ≡ Some (first_of c reg + k)

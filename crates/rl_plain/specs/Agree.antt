@@ -14,12 +14,13 @@ use Rattle.rl_mirror.specs.Mirror.{MirrorData, mirrored_of, marks_in}
 use Rattle.rl_mirror.specs.Prediction.{fresh}
 use Rattle.rl_access.specs.declared.event.Event.{Event}
 use Rattle.rl_access.specs.declared.event.Op.{Op}
-use Rattle.rl_access.specs.declared.event.Op.TheVariants as op
 use Rattle.rl_access.specs.Call.{Scene, Performs}
 use Rattle.rl_access.specs.Gathering.{IsNothingGathered}
 use Rattle.rl_access.specs.Model.{IsModel}
 use Rattle.rl_access.specs.Operation.{location_size, HasNumbers}
 use Rattle.rl_access.specs.Rules.{memory_size}
+use Rattle.rl_plain.specs.Sorts as sort
+use Rattle.rl_plain.specs.Sorts.{IsOf}
 use Rattle.rl_plain.specs.OneStep.{IsAccess}
 
 -- what is believed of a register: its mirrored value, and the marks of its fields
@@ -62,33 +63,22 @@ KeepsAgreement IsOne =
 
 -- the operations that concern desired values alone, or nothing
 abbrev pub IsWish : Op → Type 0
-IsWish (op.Set field value) = Unit {0}
-IsWish (op.Show reg) = Unit {0}
-IsWish _ = ⊥
+IsWish op = IsOf sort.wish op
 
 -- those of the backdoor on registers
 abbrev pub IsBackdoor : Op → Type 0
-IsBackdoor (op.BackWrite reg value) = Unit {0}
-IsBackdoor (op.BackRead reg) = Unit {0}
-IsBackdoor (op.BackCheck reg) = Unit {0}
-IsBackdoor (op.Peek reg) = Unit {0}
-IsBackdoor (op.Poke reg value) = Unit {0}
-IsBackdoor _ = ⊥
+IsBackdoor op = IsOf sort.backdoor op
 
 -- and on memories
 abbrev pub IsMemoryBackdoor : Op → Type 0
-IsMemoryBackdoor (op.MemPeek mem index) = Unit {0}
-IsMemoryBackdoor (op.MemPoke mem index value) = Unit {0}
-IsMemoryBackdoor _ = ⊥
+IsMemoryBackdoor op = IsOf sort.memory_backdoor op
 
 abbrev pub IsReset : Op → Type 0
-IsReset (op.Reset kind) = Unit {0}
-IsReset _ = ⊥
+IsReset op = IsOf sort.reset op
 
 -- a change by the hardware, which is refused where no field is volatile
 abbrev pub IsHardware : Op → Type 0
-IsHardware (op.Hw field value) = Unit {0}
-IsHardware _ = ⊥
+IsHardware op = IsOf sort.hardware op
 
 abbrev pub AccessKeepsAgreement : Type 0
 AccessKeepsAgreement = KeepsAgreement IsAccess
@@ -112,10 +102,7 @@ HardwareKeepsAgreement = KeepsAgreement IsHardware
 
 -- on memories over the bus
 abbrev pub IsMemoryAccess : Op → Type 0
-IsMemoryAccess (op.MemWrite mem map index value) = Unit {0}
-IsMemoryAccess (op.MemRead mem map index) = Unit {0}
-IsMemoryAccess (op.MemCheck mem map index value) = Unit {0}
-IsMemoryAccess _ = ⊥
+IsMemoryAccess op = IsOf sort.memory_access op
 
 -- the device has each location of the memories, and nothing past its bytes in it
 abbrev pub HasLocations : ChipData → State → Type 0

@@ -10,7 +10,6 @@ use Rattle.rl_split.specs.Law.{HasLocation, no_flaws}
 use Rattle.rl_mirror.specs.Prediction.{fresh}
 use Rattle.rl_access.specs.declared.event.Event.{Event}
 use Rattle.rl_access.specs.declared.event.Op.{Op}
-use Rattle.rl_access.specs.declared.event.Op.TheVariants as op
 use Rattle.rl_access.specs.declared.event.Refused.{Refused}
 use Rattle.rl_access.specs.Call.{Scene, IsRefused, Performs}
 use Rattle.rl_access.specs.Gathering.{IsNothingGathered}
@@ -22,6 +21,7 @@ use Rattle.rl_access.specs.Runs.{RunsInto, RunsThrough, writes_of, reads_of}
 use Rattle.rl_seq.specs.declared.sequence.Sequence.{Sequence}
 use Rattle.rl_seq.specs.Plan.{Plan, stop, step, look, Breaks, Runs}
 use Rattle.rl_seq.specs.Sequences.{plan_of}
+use Rattle.rl_plain.specs.Sorts.{sort_of, LeavesMemories}
 use Rattle.rl_plain.specs.Agree.{HasNoVolatile, Agree}
 use Rattle.rl_plain.specs.Machine.{Machine, seen, first_machine, refused_at, machine_step}
 use Rattle.rl_plain.specs.Courses.{Course, through, along, first_along, burst}
@@ -68,12 +68,7 @@ CallKeepsModel =
 
 -- the operations that aren't on a location of a memory
 abbrev pub IsOffMemory : Op → Type 0
-IsOffMemory (op.MemWrite mem _ index value) = ⊥
-IsOffMemory (op.MemRead mem _ index) = ⊥
-IsOffMemory (op.MemCheck mem _ index value) = ⊥
-IsOffMemory (op.MemPeek mem index) = ⊥
-IsOffMemory (op.MemPoke mem index value) = ⊥
-IsOffMemory _ = Unit {0}
+IsOffMemory op = LeavesMemories (sort_of op)
 
 -- they are the machine's whatever the device has in the locations of its memories
 abbrev pub RegisterCallIsPlain : Type 0

@@ -1,3 +1,4 @@
+pub mod Sorts
 pub mod OneStep
 pub mod Agree
 pub mod Believed

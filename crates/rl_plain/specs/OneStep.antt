@@ -17,6 +17,8 @@ use Rattle.rl_access.specs.Model.{ModelData, IsModel}
 use Rattle.rl_access.specs.Operation.{reg_of, register_of, HasNumbers}
 use Rattle.rl_access.specs.Rules.{grant, is_alone, field_alone}
 use Rattle.rl_access.specs.Tally.{is_bus_error}
+use Rattle.rl_plain.specs.Sorts as sort
+use Rattle.rl_plain.specs.Sorts.{IsOf}
 
 -- ---- steps of a register
 
@@ -79,16 +81,7 @@ end_of m _ place r = end.Done
 
 -- the operations that reach a register over the bus
 abbrev pub IsAccess : Op → Type 0
-IsAccess (op.Write reg map value) = Unit {0}
-IsAccess (op.Read reg map) = Unit {0}
-IsAccess (op.Mirror reg map) = Unit {0}
-IsAccess (op.Check reg map) = Unit {0}
-IsAccess (op.FieldWrite field map value) = Unit {0}
-IsAccess (op.FieldRead field map) = Unit {0}
-IsAccess (op.Update reg map) = Unit {0}
-IsAccess (op.OtherWrite reg map value) = Unit {0}
-IsAccess (op.OtherRead reg map) = Unit {0}
-IsAccess _ = ⊥
+IsAccess op = IsOf sort.access op
 
 -- a model, and a device that tells its state: one without flaws whose beats are all 0, and that holds the register with
 -- one mark in each of its fields

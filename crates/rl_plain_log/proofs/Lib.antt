@@ -3,6 +3,5 @@ pub mod PlainCourse
 pub mod PlainEntries
 pub mod PlainLaws
 pub mod PlainNames
-pub mod PlainNumbers
 pub mod PlainSession
 pub mod PlainText

@@ -28,7 +28,7 @@ use Rattle.rl_log.specs.Recording.{with_events}
 use Rattle.rl_access.specs.World.{World, step_of}
 use Rattle.rl_plain_log.proofs.LogLines.{line_stays, refused_is_line, end_is_line}
 use Rattle.rl_plain_log.proofs.PlainCourse.{IsPlainWorld, one_plain, blank_plain, along_plain, write_burst_plain, read_burst_plain}
-use Rattle.rl_plain_log.proofs.PlainNumbers.{mem_in, map_in, op_numbers}
+use Rattle.rl_log.proofs.Numbers.{mem_in, map_in, op_numbers}
 use Rattle.rl_plain_log.proofs.PlainText.{IsPlainEntry, over_unbroken, entry_plain, framed_plain}
 
 -- both have no entry, or both one
@@ -99,29 +99,7 @@ module _ (law : CallIsPlain) (keeps : CallKeepsModel) (c : ChipData) (l : Layout
   entry_is_plain w p (line.BurstWrite mem first values map) h = write_plain w p mem first values map h
   entry_is_plain w p (line.BurstRead mem first count map) h = read_plain w p mem first count map h
   entry_is_plain w p (line.Seq which over) h = sequence_plain w p which over h
-  entry_is_plain w p (line.Write reg value map) h = op_plain w p (line.Write reg value map) h
-  entry_is_plain w p (line.Read reg map) h = op_plain w p (line.Read reg map) h
-  entry_is_plain w p (line.Mirror reg map) h = op_plain w p (line.Mirror reg map) h
-  entry_is_plain w p (line.Check reg map) h = op_plain w p (line.Check reg map) h
-  entry_is_plain w p (line.Update reg map) h = op_plain w p (line.Update reg map) h
-  entry_is_plain w p (line.OtherWrite reg value map) h = op_plain w p (line.OtherWrite reg value map) h
-  entry_is_plain w p (line.OtherRead reg map) h = op_plain w p (line.OtherRead reg map) h
-  entry_is_plain w p (line.FieldWrite field value map) h = op_plain w p (line.FieldWrite field value map) h
-  entry_is_plain w p (line.FieldRead field map) h = op_plain w p (line.FieldRead field map) h
-  entry_is_plain w p (line.Set field value) h = op_plain w p (line.Set field value) h
-  entry_is_plain w p (line.Hw field value) h = op_plain w p (line.Hw field value) h
-  entry_is_plain w p (line.Show reg) h = op_plain w p (line.Show reg) h
-  entry_is_plain w p (line.BackRead reg) h = op_plain w p (line.BackRead reg) h
-  entry_is_plain w p (line.BackCheck reg) h = op_plain w p (line.BackCheck reg) h
-  entry_is_plain w p (line.Peek reg) h = op_plain w p (line.Peek reg) h
-  entry_is_plain w p (line.BackWrite reg value) h = op_plain w p (line.BackWrite reg value) h
-  entry_is_plain w p (line.Poke reg value) h = op_plain w p (line.Poke reg value) h
-  entry_is_plain w p (line.MemWrite mem index value map) h = op_plain w p (line.MemWrite mem index value map) h
-  entry_is_plain w p (line.MemCheck mem index value map) h = op_plain w p (line.MemCheck mem index value map) h
-  entry_is_plain w p (line.MemRead mem index map) h = op_plain w p (line.MemRead mem index map) h
-  entry_is_plain w p (line.MemPeek mem index) h = op_plain w p (line.MemPeek mem index) h
-  entry_is_plain w p (line.MemPoke mem index value) h = op_plain w p (line.MemPoke mem index value) h
-  entry_is_plain w p (line.Reset kind) h = op_plain w p (line.Reset kind) h
+  entry_is_plain w p said h = op_plain w p said h
 
   there_plain : (o : Option Entry) (other : Option PlainEntry) → IsPlainOption c l o other → IsPlainResult c l (there o) (ok_or other NoSuchName)
   there_plain None None h = refl

@@ -197,28 +197,7 @@ pub item_asks : (m : ModelData) (i : Item) (path : List ℕ) (first second : ℕ
     → asked m (Ok (line_of i path first second map))
     ≡ ok_or (option_map single (op_named m (line_of i path first second map))) NoSuchName
 item_asks m item.BurstRead path first second map other = absurd (other refl)
-item_asks m item.Write path first second map other = refl
-item_asks m item.Read path first second map other = refl
-item_asks m item.Mirror path first second map other = refl
-item_asks m item.Check path first second map other = refl
-item_asks m item.Update path first second map other = refl
-item_asks m item.OtherWrite path first second map other = refl
-item_asks m item.OtherRead path first second map other = refl
-item_asks m item.FieldWrite path first second map other = refl
-item_asks m item.FieldRead path first second map other = refl
-item_asks m item.Set path first second map other = refl
-item_asks m item.Hw path first second map other = refl
-item_asks m item.Show path first second map other = refl
-item_asks m item.BackRead path first second map other = refl
-item_asks m item.BackCheck path first second map other = refl
-item_asks m item.Peek path first second map other = refl
-item_asks m item.BackWrite path first second map other = refl
-item_asks m item.Poke path first second map other = refl
-item_asks m item.MemWrite path first second map other = refl
-item_asks m item.MemCheck path first second map other = refl
-item_asks m item.MemRead path first second map other = refl
-item_asks m item.MemPeek path first second map other = refl
-item_asks m item.MemPoke path first second map other = refl
+item_asks m _ path first second map other = refl
 
 pub runs_as : (given other : Result Work LineRefusal) (before after : Point) (r : Result (Option LineRefusal) Failed)
     → given ≡ other → RunsOn other before after r → RunsOn given before after r

@@ -1,13 +1,20 @@
 -- A look-up that answers exactly the number of a name finds its first place among the names.
 use Rattle.std.proofs.Common.{◌≡◌, ℕ, ◌+◌, ◌<◌, Bool, true, false, cond, List, [], length, get_or, take, drop, map, nat_lt, Option}
 use Rattle.std.proofs.Common.{Some, None, refl, sym, ap, ◌∙◌, subst, arith, get_or-take, get_or-drop, length-take, length-drop}
-use Rattle.std.specs.Prelude.{slice_get, position, bytes_eq, option_map, ◌↔◌}
+use Rattle.std.specs.Prelude.{◌≢◌, IfSome, slice_get, position, bytes_eq, option_map, ◌↔◌}
 use Rattle.std.specs.List.{position_or_len}
 use Rattle.std.proofs.lemmas.Bool.Decides.{nat_tests}
 use Rattle.std.proofs.lemmas.List.Sums.{position_or_len_is}
 use Rattle.std.proofs.lemmas.Option.{slice_get_within, slice_get-get_or, get_or_from_slice_get, slice_get-map}
 use Rattle.std.proofs.lemmas.Slice.Eq.{bytes_eq-Decides}
-use Rattle.rl_log.specs.Named.{number_of}
+use Rattle.rl_access.specs.declared.event.Op.{Op}
+use Rattle.rl_access.specs.Model.{ModelData}
+use Rattle.rl_script.specs.declared.command.Item.{Item}
+use Rattle.rl_script.specs.declared.command.Item.TheVariants as item
+use Rattle.rl_script.specs.declared.line_ref.ItemLine.{ItemLine}
+use Rattle.rl_script.specs.Commands.{line_of, saying}
+use Rattle.rl_script.specs.Said.{item_said}
+use Rattle.rl_log.specs.Named.{number_of, item_op, op_named}
 
 lt_true : (a b : ℕ) → a < b → nat_lt a b ≡ true
 lt_true a b h = grind (arith, nat_tests)
@@ -98,3 +105,20 @@ found_row name_of rows name o h =
       λ e. (h n).1
           (sym (slice_get-map name_of rows n) ∙ e),
     ))
+
+-- ---- the operation of a line on an item
+
+by_item : (m : ModelData) (i : Item) (path : List ℕ) (first second : ℕ) (map : Option (List ℕ)) → i ≢ item.BurstRead
+    → op_named m (line_of i path first second map) ≡ item_op m (saying i path first second map)
+by_item m item.BurstRead path first second map other = absurd (other refl)
+by_item m _ path first second map other = refl
+
+pub item_op_is : (m : ModelData) (l : ItemLine) → l.item ≢ item.BurstRead → op_named m (item_said l) ≡ item_op m l
+item_op_is m l other = by_item m l.item l.path l.first l.second l.map other
+
+pub holds_where : (P : Op → Type 0) (r o : Option Op) → r ≡ o → ((x : Op) → o ≡ Some x → P x) → IfSome r P
+holds_where P r o e h = subst (λ q. IfSome q P) (sym e) (by_value o h)
+  where
+    by_value : (o : Option Op) → ((x : Op) → o ≡ Some x → P x) → IfSome o P
+    by_value None h = tt
+    by_value (Some x) h = h x refl

@@ -97,34 +97,7 @@ trace_entry w (line.BurstRead mem first count map) entry is =
 trace_entry w (line.Seq which over) entry is =
     trace_made w (block_asked w.model.chip over) (λ block. along w (plan_of which w.model block))
     (framed which over) entry (λ c. refl) (λ block. trace_along (plan_of which w.model block) w) is
-trace_entry w (line.Write reg value map) entry is = trace_op w (op_named w.model (line.Write reg value map)) entry is
-trace_entry w (line.Read reg map) entry is = trace_op w (op_named w.model (line.Read reg map)) entry is
-trace_entry w (line.Mirror reg map) entry is = trace_op w (op_named w.model (line.Mirror reg map)) entry is
-trace_entry w (line.Check reg map) entry is = trace_op w (op_named w.model (line.Check reg map)) entry is
-trace_entry w (line.Update reg map) entry is = trace_op w (op_named w.model (line.Update reg map)) entry is
-trace_entry w (line.OtherWrite reg value map) entry is =
-    trace_op w (op_named w.model (line.OtherWrite reg value map)) entry is
-trace_entry w (line.OtherRead reg map) entry is = trace_op w (op_named w.model (line.OtherRead reg map)) entry is
-trace_entry w (line.FieldWrite field value map) entry is =
-    trace_op w (op_named w.model (line.FieldWrite field value map)) entry is
-trace_entry w (line.FieldRead field map) entry is = trace_op w (op_named w.model (line.FieldRead field map)) entry is
-trace_entry w (line.Set field value) entry is = trace_op w (op_named w.model (line.Set field value)) entry is
-trace_entry w (line.Hw field value) entry is = trace_op w (op_named w.model (line.Hw field value)) entry is
-trace_entry w (line.Show reg) entry is = trace_op w (op_named w.model (line.Show reg)) entry is
-trace_entry w (line.BackRead reg) entry is = trace_op w (op_named w.model (line.BackRead reg)) entry is
-trace_entry w (line.BackCheck reg) entry is = trace_op w (op_named w.model (line.BackCheck reg)) entry is
-trace_entry w (line.Peek reg) entry is = trace_op w (op_named w.model (line.Peek reg)) entry is
-trace_entry w (line.BackWrite reg value) entry is = trace_op w (op_named w.model (line.BackWrite reg value)) entry is
-trace_entry w (line.Poke reg value) entry is = trace_op w (op_named w.model (line.Poke reg value)) entry is
-trace_entry w (line.MemWrite mem index value map) entry is =
-    trace_op w (op_named w.model (line.MemWrite mem index value map)) entry is
-trace_entry w (line.MemCheck mem index value map) entry is =
-    trace_op w (op_named w.model (line.MemCheck mem index value map)) entry is
-trace_entry w (line.MemRead mem index map) entry is = trace_op w (op_named w.model (line.MemRead mem index map)) entry is
-trace_entry w (line.MemPeek mem index) entry is = trace_op w (op_named w.model (line.MemPeek mem index)) entry is
-trace_entry w (line.MemPoke mem index value) entry is =
-    trace_op w (op_named w.model (line.MemPoke mem index value)) entry is
-trace_entry w (line.Reset kind) entry is = trace_op w (op_named w.model (line.Reset kind)) entry is
+trace_entry w l entry is = trace_op w (op_named w.model l) entry is
 
 -- ---- done as a whole, or not begun
 

@@ -1,5 +1,4 @@
 pub mod AnyDevice
-pub mod Commands
 pub mod Done
 pub mod Earlier
 pub mod Heard

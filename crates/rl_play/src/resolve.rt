@@ -1,13 +1,14 @@
 // The names in a line, as numbers of the model.
-ghost use Rattle.std.specs.Prelude.{◌≡◌, ◌<◌, true, false, length, IfSome};
+ghost use Rattle.std.specs.Prelude.{◌≡◌, ◌<◌, ℕ, true, length, IfSome};
 ghost use Rattle.rl_access.specs.Operation.{IsMapIn, HasNumbers, is_single};
+ghost use Rattle.rl_script.specs.declared.command.Kind.TheVariants as kind;
+ghost use Rattle.rl_script.specs.Commands.{kind_of};
 ghost use Rattle.rl_script.specs.Said.{item_said, line_said};
 ghost use Rattle.rl_log.specs.Named.{map_asked, reg_named, field_named, mem_named, block_named, block_asked};
-ghost use Rattle.rl_log.specs.Named.{kind_named, op_named};
-ghost use Rattle.rl_play.specs.Commands.{is_on_bus, is_on_field, is_on_memory, is_memory_by_backdoor, is_off_bus};
+ghost use Rattle.rl_log.specs.Named.{kind_named, number_on, op_with, item_op, op_named};
 
 use rl_access::{Model, Op};
-use rl_script::{IdentRef, Item, ItemLine, LineRef, PathRef};
+use rl_script::{IdentRef, Item, ItemLine, Kind, LineRef, PathRef};
 
 /// The map that is asked for, if one is. None where it isn't there.
 pub fn map_asked(model: &Model, name: &Option<IdentRef<'_>>) -> Option<Option<u32>>
@@ -24,15 +25,13 @@ pub fn map_asked(model: &Model, name: &Option<IdentRef<'_>>) -> Option<Option<u3
 }
 
 fn reg_at(model: &Model, path: &PathRef<'_>) -> Option<u32>
-    ensures named { result ≡ reg_named model.now.chip path.now }
-    ensures in_range { IfSome result (λ n. n < length model.now.chip.regs) }
+    ensures { result ≡ reg_named model.now.chip path.now }
 {
     model.chip().reg_by_path(path.text())
 }
 
 fn field_at(model: &Model, path: &PathRef<'_>) -> Option<u32>
-    ensures named { result ≡ field_named model.now.chip path.now }
-    ensures in_range { IfSome result (λ n. n < length model.now.chip.fields) }
+    ensures { result ≡ field_named model.now.chip path.now }
 {
     model.chip().field_by_path(path.text())
 }
@@ -53,175 +52,131 @@ fn block_at(model: &Model, path: &PathRef<'_>) -> Option<u32>
 }
 
 fn kind_named(model: &Model, name: &IdentRef<'_>) -> Option<u32>
-    ensures named { result ≡ kind_named model.now.chip name.now }
-    ensures in_range { IfSome result (λ n. n < length model.now.chip.kinds) }
+    ensures { result ≡ kind_named model.now.chip name.now }
 {
     model.chip().kind_by_name(name.text())
 }
 
-// The operation of a line on a register by another driver.
-fn other_op(model: &Model, line: &ItemLine<'_>) -> Option<Op>
-    ensures named { is_on_bus line.now.item ≡ false → is_on_field line.now.item ≡ false
-        → is_on_memory line.now.item ≡ false → is_memory_by_backdoor line.now.item ≡ false
-        → is_off_bus line.now.item ≡ false → result ≡ op_named model.now (item_said line.now) }
-    ensures numbers { IfSome result (HasNumbers model.now.chip (length model.now.layout.maps)) }
-    ensures single { IfSome result (λ op. is_single op ≡ true) }
+// The number of what a command of this kind is on.
+fn number_on(model: &Model, kind: Kind, path: &PathRef<'_>) -> Option<u32>
+    ensures { result ≡ number_on model.now.chip kind path.now }
+{
+    match kind {
+        Kind::Register => reg_at(model, path),
+        Kind::Field => field_at(model, path),
+        Kind::Memory => mem_at(model, path),
+    }
+}
+
+fn reg_op(item: Item, reg: u32, map: Option<u32>, value: u64) -> Op
+    requires { kind_of item ≡ kind.Register }
+    ensures { (second : ℕ) → result ≡ op_with item reg map value second }
+{
+    match item {
+        Item::Write => Op::Write { reg, map, value },
+        Item::Read => Op::Read { reg, map },
+        Item::Mirror => Op::Mirror { reg, map },
+        Item::Check => Op::Check { reg, map },
+        Item::Update => Op::Update { reg, map },
+        Item::OtherWrite => Op::OtherWrite { reg, map, value },
+        Item::OtherRead => Op::OtherRead { reg, map },
+        Item::Show => Op::Show { reg },
+        Item::BackRead => Op::BackRead { reg },
+        Item::BackCheck => Op::BackCheck { reg },
+        Item::Peek => Op::Peek { reg },
+        Item::BackWrite => Op::BackWrite { reg, value },
+        Item::Poke => Op::Poke { reg, value },
+        _ => unreachable!(),
+    }
+}
+
+fn field_op(item: Item, field: u32, map: Option<u32>, value: u64) -> Op
+    requires { kind_of item ≡ kind.Field }
+    ensures { (second : ℕ) → result ≡ op_with item field map value second }
+{
+    match item {
+        Item::FieldWrite => Op::FieldWrite { field, map, value },
+        Item::FieldRead => Op::FieldRead { field, map },
+        Item::Set => Op::Set { field, value },
+        Item::Hw => Op::Hw { field, value },
+        _ => unreachable!(),
+    }
+}
+
+fn mem_op(item: Item, mem: u32, map: Option<u32>, index: u64, value: u64) -> Op
+    requires { kind_of item ≡ kind.Memory }
+    ensures { result ≡ op_with item mem map index value }
+{
+    match item {
+        Item::MemWrite => Op::MemWrite {
+            mem,
+            map,
+            index,
+            value,
+        },
+        Item::MemCheck => Op::MemCheck {
+            mem,
+            map,
+            index,
+            value,
+        },
+        Item::MemRead => Op::MemRead { mem, map, index },
+        Item::BurstRead => Op::BurstRead {
+            mem,
+            map,
+            first: index,
+            count: value,
+        },
+        Item::MemPeek => Op::MemPeek { mem, index },
+        Item::MemPoke => Op::MemPoke { mem, index, value },
+        _ => unreachable!(),
+    }
+}
+
+// The operation of a command, by the numbers of what it is on and of its map.
+fn op_with(item: Item, number: u32, map: Option<u32>, first: u64, second: u64) -> Op
+    ensures { result ≡ op_with item number map first second }
+{
+    match item.kind() {
+        Kind::Register => reg_op(item, number, map, first),
+        Kind::Field => field_op(item, number, map, first),
+        Kind::Memory => mem_op(item, number, map, first, second),
+    }
+}
+
+// The operation of a line on an item, if its names are there.
+fn item_op(model: &Model, line: &ItemLine<'_>) -> Option<Op>
+    ensures { result ≡ item_op model.now line.now }
+{
+    let number = number_on(model, line.item.kind(), &line.path)?;
+    let map = if line.item.row().map {
+        map_asked(model, &line.map)?
+    } else {
+        None
+    };
+    Some(op_with(line.item, number, map, line.first, line.second))
+}
+
+// The operation of a line on an item that is no burst.
+#[tactic(auto, using(crate::proofs::NamedLemmas::item_op_is))]
+fn single_op(model: &Model, line: &ItemLine<'_>) -> Option<Op>
+    ensures { result ≡ op_named model.now (item_said line.now) }
 {
     match line.item {
-        Item::OtherWrite => Some(Op::OtherWrite {
-            reg: reg_at(model, &line.path)?,
-            map: map_asked(model, &line.map)?,
-            value: line.first,
-        }),
-        Item::OtherRead => Some(Op::OtherRead {
-            reg: reg_at(model, &line.path)?,
-            map: map_asked(model, &line.map)?,
+        Item::BurstRead => None,
+        _ => item_op(model, line),
+    }
+}
+
+fn line_op(model: &Model, line: &LineRef<'_>) -> Option<Op>
+    ensures { result ≡ op_named model.now (line_said line.now) }
+{
+    match line {
+        LineRef::OnItem(line) => single_op(model, line),
+        LineRef::Reset { kind } => Some(Op::Reset {
+            kind: kind_named(model, kind)?,
         }),
         _ => None,
-    }
-}
-
-// The operation of a line on a register by the backdoor or on the model alone.
-fn back_op(model: &Model, line: &ItemLine<'_>) -> Option<Op>
-    ensures named { is_on_bus line.now.item ≡ false → is_on_field line.now.item ≡ false
-        → is_on_memory line.now.item ≡ false → is_memory_by_backdoor line.now.item ≡ false
-        → result ≡ op_named model.now (item_said line.now) }
-    ensures numbers { IfSome result (HasNumbers model.now.chip (length model.now.layout.maps)) }
-    ensures single { IfSome result (λ op. is_single op ≡ true) }
-{
-    match line.item {
-        Item::Show => Some(Op::Show {
-            reg: reg_at(model, &line.path)?,
-        }),
-        Item::BackRead => Some(Op::BackRead {
-            reg: reg_at(model, &line.path)?,
-        }),
-        Item::BackCheck => Some(Op::BackCheck {
-            reg: reg_at(model, &line.path)?,
-        }),
-        Item::Peek => Some(Op::Peek {
-            reg: reg_at(model, &line.path)?,
-        }),
-        Item::BackWrite => Some(Op::BackWrite {
-            reg: reg_at(model, &line.path)?,
-            value: line.first,
-        }),
-        Item::Poke => Some(Op::Poke {
-            reg: reg_at(model, &line.path)?,
-            value: line.first,
-        }),
-        _ => other_op(model, line),
-    }
-}
-
-// The operation of a line on a memory by the backdoor.
-fn mem_back_op(model: &Model, line: &ItemLine<'_>) -> Option<Op>
-    ensures named { is_on_bus line.now.item ≡ false → is_on_field line.now.item ≡ false
-        → is_on_memory line.now.item ≡ false → result ≡ op_named model.now (item_said line.now) }
-    ensures numbers { IfSome result (HasNumbers model.now.chip (length model.now.layout.maps)) }
-    ensures single { IfSome result (λ op. is_single op ≡ true) }
-{
-    match line.item {
-        Item::MemPeek => Some(Op::MemPeek {
-            mem: mem_at(model, &line.path)?,
-            index: line.first,
-        }),
-        Item::MemPoke => Some(Op::MemPoke {
-            mem: mem_at(model, &line.path)?,
-            index: line.first,
-            value: line.second,
-        }),
-        _ => back_op(model, line),
-    }
-}
-
-// The operation of a line on a memory over the bus.
-fn mem_op(model: &Model, line: &ItemLine<'_>) -> Option<Op>
-    ensures named { is_on_bus line.now.item ≡ false → is_on_field line.now.item ≡ false
-        → result ≡ op_named model.now (item_said line.now) }
-    ensures numbers { IfSome result (HasNumbers model.now.chip (length model.now.layout.maps)) }
-    ensures single { IfSome result (λ op. is_single op ≡ true) }
-{
-    match line.item {
-        Item::MemWrite => Some(Op::MemWrite {
-            mem: mem_at(model, &line.path)?,
-            map: map_asked(model, &line.map)?,
-            index: line.first,
-            value: line.second,
-        }),
-        Item::MemCheck => Some(Op::MemCheck {
-            mem: mem_at(model, &line.path)?,
-            map: map_asked(model, &line.map)?,
-            index: line.first,
-            value: line.second,
-        }),
-        Item::MemRead => Some(Op::MemRead {
-            mem: mem_at(model, &line.path)?,
-            map: map_asked(model, &line.map)?,
-            index: line.first,
-        }),
-        _ => mem_back_op(model, line),
-    }
-}
-
-// The operation of a line on a field.
-fn field_op(model: &Model, line: &ItemLine<'_>) -> Option<Op>
-    ensures named { is_on_bus line.now.item ≡ false → result ≡ op_named model.now (item_said line.now) }
-    ensures numbers { IfSome result (HasNumbers model.now.chip (length model.now.layout.maps)) }
-    ensures single { IfSome result (λ op. is_single op ≡ true) }
-{
-    match line.item {
-        Item::FieldWrite => Some(Op::FieldWrite {
-            field: field_at(model, &line.path)?,
-            map: map_asked(model, &line.map)?,
-            value: line.first,
-        }),
-        Item::FieldRead => Some(Op::FieldRead {
-            field: field_at(model, &line.path)?,
-            map: map_asked(model, &line.map)?,
-        }),
-        Item::Set => Some(Op::Set {
-            field: field_at(model, &line.path)?,
-            value: line.first,
-        }),
-        Item::Hw => Some(Op::Hw {
-            field: field_at(model, &line.path)?,
-            value: line.first,
-        }),
-        _ => mem_op(model, line),
-    }
-}
-
-// The operation of a line on an item, if its names are there. Those on a register over the bus come first, as the most
-// frequent.
-fn item_op(model: &Model, line: &ItemLine<'_>) -> Option<Op>
-    ensures named { result ≡ op_named model.now (item_said line.now) }
-    ensures numbers { IfSome result (HasNumbers model.now.chip (length model.now.layout.maps)) }
-    ensures single { IfSome result (λ op. is_single op ≡ true) }
-{
-    match line.item {
-        Item::Write => Some(Op::Write {
-            reg: reg_at(model, &line.path)?,
-            map: map_asked(model, &line.map)?,
-            value: line.first,
-        }),
-        Item::Read => Some(Op::Read {
-            reg: reg_at(model, &line.path)?,
-            map: map_asked(model, &line.map)?,
-        }),
-        Item::Mirror => Some(Op::Mirror {
-            reg: reg_at(model, &line.path)?,
-            map: map_asked(model, &line.map)?,
-        }),
-        Item::Check => Some(Op::Check {
-            reg: reg_at(model, &line.path)?,
-            map: map_asked(model, &line.map)?,
-        }),
-        Item::Update => Some(Op::Update {
-            reg: reg_at(model, &line.path)?,
-            map: map_asked(model, &line.map)?,
-        }),
-        _ => field_op(model, line),
     }
 }
 
@@ -231,13 +186,7 @@ pub fn op_of(model: &Model, line: &LineRef<'_>) -> Option<Op>
     ensures numbers { IfSome result (HasNumbers model.now.chip (length model.now.layout.maps)) }
     ensures single { IfSome result (λ op. is_single op ≡ true) }
 {
-    match line {
-        LineRef::OnItem(line) => item_op(model, line),
-        LineRef::Reset { kind } => Some(Op::Reset {
-            kind: kind_named(model, kind)?,
-        }),
-        _ => None,
-    }
+    line_op(model, line)
 }
 
 /// The block that a sequence goes over: none stands for the whole chip. None where it isn't there.

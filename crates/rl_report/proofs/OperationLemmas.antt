@@ -1,17 +1,18 @@
 -- The text of an operation: its pieces, its line, and its bytes.
 use Rattle.std.proofs.Common.{◌≡◌, ℕ, Bool, true, false, if◌then◌else◌, List, [], ◌∷◌, ◌++◌, length, codes, decimal, map, Option}
 use Rattle.std.proofs.Common.{Some, None, unwrap_or, option_map, Result, refl, sym, ap, ◌∙◌, subst, append_assoc, append-nil}
-use Rattle.std.specs.Prelude.{IfSome}
+use Rattle.std.specs.Prelude.{◌*◌, IfSome, option_and_then}
+use Rattle.std.specs.Option.{option_map_or}
 use Rattle.std.proofs.lemmas.Bool.{true≢false}
 use Rattle.rl_policy.specs.Numbers.{hex_digits, spelled}
 use Rattle.rl_model.specs.declared.rows.Item.TheVariants as item
 use Rattle.rl_model.specs.Rows.{ChipData}
 use Rattle.rl_model.specs.Chip.{IsSound, path_of_item, field_path}
-use Rattle.rl_model.specs.Fields.{field_of}
+use Rattle.rl_model.specs.Fields.{field_of, size_of}
 use Rattle.rl_access.specs.declared.event.Op.{Op}
 use Rattle.rl_access.specs.declared.event.Op.TheVariants as op
 use Rattle.rl_access.specs.Model.{ModelData}
-use Rattle.rl_access.specs.Operation.{HasNumbers, reg_of}
+use Rattle.rl_access.specs.Operation.{HasNumbers, IsMapIn, reg_of, register_of, digits_of, location_size}
 use Rattle.rl_script.specs.declared.command.Command.TheVariants as command
 use Rattle.rl_script.specs.declared.command.Item.{Item}
 use Rattle.rl_script.specs.declared.command.Item.TheVariants as verb
@@ -24,7 +25,7 @@ use Rattle.rl_script.proofs.TextLemmas.{spaced-append}
 use Rattle.rl_report.specs.declared.operation.Spoken.{Spoken}
 use Rattle.rl_report.specs.declared.operation.Subject.{Subject}
 use Rattle.rl_report.specs.declared.operation.Subject.TheVariants.{Reg, Field, Mem}
-use Rattle.rl_report.specs.Operation.{spoken_of, spoken_line, subject_path, map_name, kind_text, line_of, counted_text, burst_text, op_text, IsSpokenIn}
+use Rattle.rl_report.specs.Operation.{spoken_of, subject_of, spoken_line, subject_path, map_name, kind_text, line_of, counted_text, burst_text, op_text, IsSubjectIn, IsSpokenIn}
 use Rattle.rl_report.specs.Pieces.{Gathers, joined}
 use Rattle.rl_report.specs.WithoutItems.{is_indented, HasNames}
 use Rattle.rl_report.proofs.NameTexts.{IsSpelling, unbroken-spelling, spelling-append, spelling-cons, spelling-fixed, spelling-spelled}
@@ -97,32 +98,71 @@ reset_pieces kind = refl
 pub from_some : {X : Type 0} (P : X → Type 0) (o : Option X) (x : X) → o ≡ Some x → IfSome o P → P x
 from_some P o x e h = subst (λ o. IfSome o P) e h
 
+-- a number, and a map where the command takes one
+abbrev pub Both : Bool → Type 0 → Type 0 → Type 0
+Both true N M = N × M
+Both false N M = N
+
+first_of_both : (takes : Bool) (N M : Type 0) → Both takes N M → N
+first_of_both true N M h = h.0
+first_of_both false N M h = h
+
+map_of_both : (takes : Bool) (N : Type 0) (maps : ℕ) (map : Option ℕ) → Both takes N (IsMapIn maps map) → (takes ≡ false → map ≡ None) → IsMapIn maps map
+map_of_both true N maps map h off = h.1
+map_of_both false N maps map h off = subst (IsMapIn maps) (sym (off refl)) tt
+
+none_where : {X : Type 0} (takes : Bool) (o : Option X) → (if takes then o else None) ≡ o → takes ≡ false → o ≡ None
+none_where true o e off = absurd (true≢false off)
+none_where false o e off = sym e
+
+-- a command that takes no map has none
+no_map_told : (o : Op) → IfSome (spoken_of o) (λ s. (if (row_of s.command).map then s.map else None) ≡ s.map)
+no_map_told (op.BurstWrite mem map first count) = tt
+no_map_told (op.BurstRead mem map first count) = tt
+no_map_told (op.Reset kind) = tt
+no_map_told _ = refl
+
+fits_spoken : (m : ModelData) (o : Option Spoken) → IfSome o (λ s. (if (row_of s.command).map then s.map else None) ≡ s.map)
+    → IfSome o (λ s. Both (row_of s.command).map (IsSubjectIn m.chip s.subject) (IsMapIn (length m.layout.maps) s.map)) → IfSome o (IsSpokenIn m)
+fits_spoken m None told h = tt
+fits_spoken m (Some s) told h =
+    let off = none_where (row_of s.command).map s.map told in
+    record {
+      subject = first_of_both (row_of s.command).map (IsSubjectIn m.chip s.subject) (IsMapIn (length m.layout.maps) s.map) h;
+      through = map_of_both (row_of s.command).map (IsSubjectIn m.chip s.subject) (length m.layout.maps) s.map h off;
+      on_bus = off;
+    }
+
 pub spoken_in : (m : ModelData) (o : Op) → HasNumbers m.chip (length m.layout.maps) o → IfSome (spoken_of o) (IsSpokenIn m)
-spoken_in m (op.Write reg map value) h = record { subject = h.0; through = h.1; on_bus = λ e. absurd (true≢false e) }
-spoken_in m (op.Read reg map) h = record { subject = h.0; through = h.1; on_bus = λ e. absurd (true≢false e) }
-spoken_in m (op.Mirror reg map) h = record { subject = h.0; through = h.1; on_bus = λ e. absurd (true≢false e) }
-spoken_in m (op.Check reg map) h = record { subject = h.0; through = h.1; on_bus = λ e. absurd (true≢false e) }
-spoken_in m (op.FieldWrite field map value) h = record { subject = h.0; through = h.1; on_bus = λ e. absurd (true≢false e) }
-spoken_in m (op.FieldRead field map) h = record { subject = h.0; through = h.1; on_bus = λ e. absurd (true≢false e) }
-spoken_in m (op.Set field value) h = record { subject = h; through = tt; on_bus = λ e. refl }
-spoken_in m (op.Show reg) h = record { subject = h; through = tt; on_bus = λ e. refl }
-spoken_in m (op.Update reg map) h = record { subject = h.0; through = h.1; on_bus = λ e. absurd (true≢false e) }
-spoken_in m (op.BackWrite reg value) h = record { subject = h; through = tt; on_bus = λ e. refl }
-spoken_in m (op.BackRead reg) h = record { subject = h; through = tt; on_bus = λ e. refl }
-spoken_in m (op.BackCheck reg) h = record { subject = h; through = tt; on_bus = λ e. refl }
-spoken_in m (op.Peek reg) h = record { subject = h; through = tt; on_bus = λ e. refl }
-spoken_in m (op.Poke reg value) h = record { subject = h; through = tt; on_bus = λ e. refl }
-spoken_in m (op.MemWrite mem map index value) h = record { subject = h.0; through = h.1; on_bus = λ e. absurd (true≢false e) }
-spoken_in m (op.MemRead mem map index) h = record { subject = h.0; through = h.1; on_bus = λ e. absurd (true≢false e) }
-spoken_in m (op.MemCheck mem map index value) h = record { subject = h.0; through = h.1; on_bus = λ e. absurd (true≢false e) }
 spoken_in m (op.BurstWrite mem map first count) h = tt
 spoken_in m (op.BurstRead mem map first count) h = tt
-spoken_in m (op.MemPeek mem index) h = record { subject = h; through = tt; on_bus = λ e. refl }
-spoken_in m (op.MemPoke mem index value) h = record { subject = h; through = tt; on_bus = λ e. refl }
-spoken_in m (op.OtherWrite reg map value) h = record { subject = h.0; through = h.1; on_bus = λ e. absurd (true≢false e) }
-spoken_in m (op.OtherRead reg map) h = record { subject = h.0; through = h.1; on_bus = λ e. absurd (true≢false e) }
-spoken_in m (op.Hw field value) h = record { subject = h; through = tt; on_bus = λ e. refl }
 spoken_in m (op.Reset kind) h = tt
+spoken_in m o h = fits_spoken m (spoken_of o) (no_map_told o) h
+
+-- ---- what it concerns, by what it is on
+
+abbrev pub register_on : ChipData → Subject → Option ℕ
+register_on c (Reg reg) = Some reg
+register_on c (Field field) = Some (reg_of c field)
+register_on c (Mem mem) = None
+
+pub register_by_subject : (c : ChipData) (o : Op) → register_of c o ≡ option_and_then (register_on c) (subject_of o)
+register_by_subject c (op.Write reg map value) = refl
+register_by_subject c _ = refl
+
+abbrev pub digits_on : ChipData → Subject → ℕ
+digits_on c (Reg reg) = 2 * size_of c reg
+digits_on c (Field field) = 2 * size_of c (reg_of c field)
+digits_on c (Mem mem) = 2 * location_size c mem
+
+-- of a read of a field they are the field's
+abbrev pub IsFieldRead : Op → Type 0
+IsFieldRead (op.FieldRead field map) = Unit {0}
+IsFieldRead _ = ⊥
+
+pub digits_by_subject : (c : ChipData) (o : Op) → (IsFieldRead o → ⊥) → digits_of c o ≡ option_map_or (digits_on c) (subject_of o) 0
+digits_by_subject c (op.FieldRead field map) other = absurd (other tt)
+digits_by_subject c _ other = refl
 
 pub text_is_spoken : (m : ModelData) (o : Op) (s : Spoken) → spoken_of o ≡ Some s → op_text m o ≡ spelling (spoken_line m s)
 text_is_spoken m (op.Reset kind) s e = absurd (cc)

@@ -54,6 +54,12 @@ spoken_of (op.OtherRead reg map) = Some (spoken verb.OtherRead (Reg reg) 0 0 map
 spoken_of (op.Hw field value) = Some (spoken verb.Hw (Field field) value 0 None)
 spoken_of (op.Reset kind) = None
 
+-- what an operation is on: none for a reset
+abbrev pub subject_of : Op → Option Subject
+subject_of (op.BurstWrite mem map first count) = Some (Mem mem)
+subject_of (op.BurstRead mem map first count) = Some (Mem mem)
+subject_of o = option_map (λ s. s.subject) (spoken_of o)
+
 -- ---- the names of its numbers
 
 abbrev pub subject_path : ChipData → Subject → List ℕ

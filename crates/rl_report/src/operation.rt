@@ -1,10 +1,10 @@
 // The text of an operation, in canonical spelling.
-ghost use Rattle.std.specs.Prelude.{◌≡◌, ◌+◌, ◌<◌, ◌≤◌, ◌++◌, length, true, Some, None, OnOk};
+ghost use Rattle.std.specs.Prelude.{◌≡◌, ◌+◌, ◌<◌, ◌≤◌, ◌++◌, length, true, Some, None, IfSome, OnOk};
 ghost use Rattle.rl_model.specs.Chip.{HasItem, path_of_item, field_path};
 ghost use Rattle.rl_model.specs.Fields.{field_of};
 ghost use Rattle.rl_access.specs.Operation.{HasNumbers, IsMapIn, reg_of};
 ghost use Rattle.rl_report.specs.declared.operation.Subject.TheVariants.{Reg, Field, Mem};
-ghost use Rattle.rl_report.specs.Operation.{spoken, spoken_of, is_on_field, is_on_location, is_burst};
+ghost use Rattle.rl_report.specs.Operation.{spoken, spoken_of, subject_of, is_on_field, is_on_location, is_burst};
 ghost use Rattle.rl_report.specs.Operation.{subject_path, kind_text, number_text, numbers_text, map_text, spoken_text};
 ghost use Rattle.rl_report.specs.Operation.{reset_text, counted_text, op_text, IsSubjectIn, IsSpokenIn};
 ghost use Rattle.rl_report.specs.Pieces.{GathersTo, SinkStays};
@@ -117,38 +117,68 @@ impl Spoken {
     fn on_reg(command: Verb, reg: u32, first: u64, map: Option<u32>) -> Spoken
         ensures { result ≡ spoken command (Reg reg) first 0 map }
     {
-        Spoken {
-            command,
-            subject: Subject::Reg(reg),
-            first,
-            second: 0,
-            map,
-        }
+        Spoken::on(command, Subject::Reg(reg), first, 0, map)
     }
 
     fn on_field(command: Verb, field: u32, first: u64, map: Option<u32>) -> Spoken
         ensures { result ≡ spoken command (Field field) first 0 map }
     {
-        Spoken {
-            command,
-            subject: Subject::Field(field),
-            first,
-            second: 0,
-            map,
-        }
+        Spoken::on(command, Subject::Field(field), first, 0, map)
     }
 
     fn on_mem(command: Verb, mem: u32, first: u64, second: u64, map: Option<u32>) -> Spoken
         ensures { result ≡ spoken command (Mem mem) first second map }
     {
+        Spoken::on(command, Subject::Mem(mem), first, second, map)
+    }
+
+    fn on(command: Verb, subject: Subject, first: u64, second: u64, map: Option<u32>) -> Spoken
+        ensures { result ≡ spoken command subject first second map }
+    {
         Spoken {
             command,
-            subject: Subject::Mem(mem),
+            subject,
             first,
             second,
             map,
         }
     }
+}
+
+// What an operation is on: none for a reset.
+#[inline(always)]
+pub(crate) fn subject_of(model: &Model, op: Op) -> Option<Subject>
+    requires { HasNumbers model.now.chip (length model.now.layout.maps) op }
+    ensures value { result ≡ subject_of op }
+    ensures in_range { IfSome result (IsSubjectIn model.now.chip) }
+{
+    Some(match op {
+        Op::Write { reg, .. }
+        | Op::Read { reg, .. }
+        | Op::Mirror { reg, .. }
+        | Op::Check { reg, .. }
+        | Op::Show { reg }
+        | Op::Update { reg, .. }
+        | Op::BackWrite { reg, .. }
+        | Op::BackRead { reg }
+        | Op::BackCheck { reg }
+        | Op::Peek { reg }
+        | Op::Poke { reg, .. }
+        | Op::OtherWrite { reg, .. }
+        | Op::OtherRead { reg, .. } => Subject::Reg(reg),
+        Op::FieldWrite { field, .. }
+        | Op::FieldRead { field, .. }
+        | Op::Set { field, .. }
+        | Op::Hw { field, .. } => Subject::Field(field),
+        Op::MemWrite { mem, .. }
+        | Op::MemRead { mem, .. }
+        | Op::MemCheck { mem, .. }
+        | Op::BurstWrite { mem, .. }
+        | Op::BurstRead { mem, .. }
+        | Op::MemPeek { mem, .. }
+        | Op::MemPoke { mem, .. } => Subject::Mem(mem),
+        Op::Reset { .. } => return None,
+    })
 }
 
 // The path of an item.

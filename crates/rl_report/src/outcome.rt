@@ -9,7 +9,7 @@ ghost use Rattle.rl_report.specs.Outcome as spec;
 ghost use Rattle.rl_report.specs.Numbers.{padded};
 ghost use Rattle.rl_report.specs.Pieces.{GathersTo, SinkStays, joined};
 
-use crate::operation::{name_of, register_with};
+use crate::operation::{Subject, name_of, register_with, subject_of};
 use crate::pieces::{gather, make_room};
 use crate::text::Text;
 use crate::{Failed, Sink};
@@ -34,30 +34,16 @@ fn why_text(why: Refused) -> &'static [u8]
 }
 
 // The register that an operation concerns: none where it concerns a memory or all registers.
+#[tactic(auto, using(crate::proofs::OperationLemmas::register_by_subject))]
 fn register_of(model: &Model, op: Op) -> Option<u32>
     requires { HasNumbers model.now.chip (length model.now.layout.maps) op }
     ensures value { result ≡ register_of model.now.chip op }
     ensures in_range { IfSome result (λ reg. reg < length model.now.chip.regs) }
 {
-    match op {
-        Op::Write { reg, .. }
-        | Op::Read { reg, .. }
-        | Op::Mirror { reg, .. }
-        | Op::Check { reg, .. }
-        | Op::Show { reg }
-        | Op::Update { reg, .. }
-        | Op::BackWrite { reg, .. }
-        | Op::BackRead { reg }
-        | Op::BackCheck { reg }
-        | Op::Peek { reg }
-        | Op::Poke { reg, .. }
-        | Op::OtherWrite { reg, .. }
-        | Op::OtherRead { reg, .. } => Some(reg),
-        Op::FieldWrite { field, .. }
-        | Op::FieldRead { field, .. }
-        | Op::Set { field, .. }
-        | Op::Hw { field, .. } => Some(register_with(model, field)),
-        _ => None,
+    match subject_of(model, op)? {
+        Subject::Reg(reg) => Some(reg),
+        Subject::Field(field) => Some(register_with(model, field)),
+        Subject::Mem(_) => None,
     }
 }
 
@@ -92,6 +78,7 @@ fn field_digits(model: &Model, field: u32) -> u32
 }
 
 // The digits of a value that an operation reads or sends.
+#[tactic(auto, using(crate::proofs::OperationLemmas::digits_by_subject))]
 fn digits_of(model: &Model, op: Op) -> u32
     requires numbers { HasNumbers model.now.chip (length model.now.layout.maps) op }
     requires ends { spec.is_reset op ≡ false }
@@ -99,32 +86,14 @@ fn digits_of(model: &Model, op: Op) -> u32
     ensures some { 1 ≤ result }
     ensures few { result ≤ 16 }
 {
-    match op {
-        Op::FieldRead { field, .. } => field_digits(model, field),
-        Op::MemWrite { mem, .. }
-        | Op::MemRead { mem, .. }
-        | Op::MemCheck { mem, .. }
-        | Op::BurstWrite { mem, .. }
-        | Op::BurstRead { mem, .. }
-        | Op::MemPeek { mem, .. }
-        | Op::MemPoke { mem, .. } => location_digits(model, mem),
-        Op::FieldWrite { field, .. } | Op::Set { field, .. } | Op::Hw { field, .. } => {
-            register_digits(model, register_with(model, field))
-        }
-        Op::Write { reg, .. }
-        | Op::Read { reg, .. }
-        | Op::Mirror { reg, .. }
-        | Op::Check { reg, .. }
-        | Op::Show { reg }
-        | Op::Update { reg, .. }
-        | Op::BackWrite { reg, .. }
-        | Op::BackRead { reg }
-        | Op::BackCheck { reg }
-        | Op::Peek { reg }
-        | Op::Poke { reg, .. }
-        | Op::OtherWrite { reg, .. }
-        | Op::OtherRead { reg, .. } => register_digits(model, reg),
-        Op::Reset { .. } => unreachable!(),
+    if let Op::FieldRead { field, .. } = op {
+        return field_digits(model, field);
+    }
+    match subject_of(model, op) {
+        Some(Subject::Reg(reg)) => register_digits(model, reg),
+        Some(Subject::Field(field)) => register_digits(model, register_with(model, field)),
+        Some(Subject::Mem(mem)) => location_digits(model, mem),
+        None => unreachable!(),
     }
 }
 

@@ -1,5 +1,5 @@
 -- A command on an item, its words cut from the left: the same as where they are counted first.
-use Rattle.std.proofs.Common.{◌≡◌, ℕ, suc, ◌+◌, Bool, true, false, List, [], ◌∷◌, length, Option, Result, Ok, Err, refl, arith, inl, inr, ne_eqb}
+use Rattle.std.proofs.Common.{◌≡◌, ℕ, zero, suc, ◌+◌, ◌≤◌, Bool, true, false, List, [], ◌∷◌, length, Option, Result, Ok, Err, refl, arith, inl, inr, ne_eqb}
 use Rattle.std.specs.Prelude.{nat_le, ◌==◌, if◌then◌else◌}
 use Rattle.std.proofs.lemmas.Bool.{cases_Bool}
 use Rattle.rl_policy.specs.Numbers.{number_of}
@@ -7,11 +7,11 @@ use Rattle.rl_script.specs.declared.fault.LineFault.{LineFault}
 use Rattle.rl_script.specs.declared.fault.LineFault.TheVariants.{WrongCount, CountOutOfRange}
 use Rattle.rl_script.specs.declared.line.Line.{Line}
 use Rattle.rl_script.specs.declared.command.Item.{Item}
-use Rattle.rl_script.specs.declared.command.Item.TheVariants as items
 use Rattle.rl_script.specs.Words.{begins_with, ends_with_map}
 use Rattle.rl_script.specs.Commands.{row_of, line_of, may_count}
 use Rattle.rl_script.specs.Reading.{◌>>=◌, word_at, path_of, path_at, number_at, number_if, fitting, map_if, item_at, item_of, has_map, one_if}
 use Rattle.rl_script.specs.Cut.{word_or, map_word, value_if, map_of, operands_of}
+use Rattle.rl_script.proofs.RowLemmas.{few_numbers}
 
 abbrev Words : Type 0
 Words = List (List ℕ)
@@ -207,28 +207,15 @@ row_two_map item (w0 ∷ w1 ∷ w2 ∷ w3 ∷ w4 ∷ ws) =
       | inr fails ↦ rw (fails, f) refl
     ]
 
+rows : (n : ℕ) (takes : Bool) (item : Item) (ws : Words) → n ≤ 2 → by_row n takes item ws ≡ cut_row n takes item ws
+rows zero false item ws few = row_none_bare item ws
+rows zero true item ws few = row_none_map item ws
+rows (suc zero) false item ws few = row_one_bare item ws
+rows (suc zero) true item ws few = row_one_map item ws
+rows (suc (suc zero)) false item ws few = row_two_bare item ws
+rows (suc (suc zero)) true item ws few = row_two_map item ws
+rows (suc (suc (suc n))) takes item ws few = absurd (omega arith)
+
 pub cut_is : (item : Item) (ws : Words) → item_of item ws ≡ item_cut item ws
 unfolding item_of item_at item_cut operands_of
-cut_is items.Write ws = row_one_map items.Write ws
-cut_is items.Read ws = row_none_map items.Read ws
-cut_is items.Mirror ws = row_none_map items.Mirror ws
-cut_is items.Check ws = row_none_map items.Check ws
-cut_is items.Update ws = row_none_map items.Update ws
-cut_is items.OtherWrite ws = row_one_map items.OtherWrite ws
-cut_is items.OtherRead ws = row_none_map items.OtherRead ws
-cut_is items.FieldWrite ws = row_one_map items.FieldWrite ws
-cut_is items.FieldRead ws = row_none_map items.FieldRead ws
-cut_is items.Set ws = row_one_bare items.Set ws
-cut_is items.Hw ws = row_one_bare items.Hw ws
-cut_is items.Show ws = row_none_bare items.Show ws
-cut_is items.BackRead ws = row_none_bare items.BackRead ws
-cut_is items.BackCheck ws = row_none_bare items.BackCheck ws
-cut_is items.Peek ws = row_none_bare items.Peek ws
-cut_is items.BackWrite ws = row_one_bare items.BackWrite ws
-cut_is items.Poke ws = row_one_bare items.Poke ws
-cut_is items.MemWrite ws = row_two_map items.MemWrite ws
-cut_is items.MemCheck ws = row_two_map items.MemCheck ws
-cut_is items.MemRead ws = row_one_map items.MemRead ws
-cut_is items.BurstRead ws = row_two_map items.BurstRead ws
-cut_is items.MemPeek ws = row_one_bare items.MemPeek ws
-cut_is items.MemPoke ws = row_two_bare items.MemPoke ws
+cut_is item ws = rows (row_of item).numbers (row_of item).map item ws (few_numbers item)

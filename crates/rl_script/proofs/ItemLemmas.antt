@@ -1,10 +1,11 @@
 -- A line with a command on one item, whatever the command.
-use Rattle.std.proofs.Common.{◌≡◌, ℕ, ◌^◌, ◌<◌, ◌≤◌, Bool, true, false, ◌&&◌, nat_le, IsTrue, List, ◌∷◌, Option, Some, None, refl}
+use Rattle.std.proofs.Common.{◌≡◌, ℕ, zero, suc, ◌^◌, ◌<◌, ◌≤◌, Bool, true, false, ◌&&◌, nat_le, IsTrue, if◌then◌else◌, List, [], ◌∷◌, take, Option, None, refl}
 use Rattle.std.specs.Prelude.{IfSome}
+use Rattle.std.specs.List.{AllByRecursion}
 use Rattle.std.proofs.lemmas.Bool.{leb-true}
 use Rattle.rl_script.specs.declared.command.Item.{Item}
 use Rattle.rl_script.specs.declared.command.Item.TheVariants as items
-use Rattle.rl_script.specs.Commands.{line_of, may_count}
+use Rattle.rl_script.specs.Commands.{row_of, line_of, may_count}
 use Rattle.rl_script.specs.Names.{is_name, is_path}
 use Rattle.rl_script.specs.Spelling.{item_words, numbers_in, map_in, words_of_line, IsLine, HasGoodCount}
 use Rattle.rl_script.specs.Bursts.{is_burst_write}
@@ -14,55 +15,23 @@ use Rattle.rl_script.proofs.AgainLemmas.{and_parts}
 pub item_line_words : (item : Item) (path : List ℕ) (first second : ℕ) (m : Option (List ℕ))
     → words_of_line (line_of item path first second m) ≡ item_words item path (numbers_in item first second) (map_in item m)
 item_line_words items.Write path first second m = refl
-item_line_words items.Read path first second m = refl
-item_line_words items.Mirror path first second m = refl
-item_line_words items.Check path first second m = refl
-item_line_words items.Update path first second m = refl
-item_line_words items.OtherWrite path first second m = refl
-item_line_words items.OtherRead path first second m = refl
-item_line_words items.FieldWrite path first second m = refl
-item_line_words items.FieldRead path first second m = refl
-item_line_words items.Set path first second m = refl
-item_line_words items.Hw path first second m = refl
-item_line_words items.Show path first second m = refl
-item_line_words items.BackRead path first second m = refl
-item_line_words items.BackCheck path first second m = refl
-item_line_words items.Peek path first second m = refl
-item_line_words items.BackWrite path first second m = refl
-item_line_words items.Poke path first second m = refl
-item_line_words items.MemWrite path first second m = refl
-item_line_words items.MemCheck path first second m = refl
-item_line_words items.MemRead path first second m = refl
-item_line_words items.BurstRead path first second m = refl
-item_line_words items.MemPeek path first second m = refl
-item_line_words items.MemPoke path first second m = refl
+item_line_words _ path first second m = refl
+
+good_numbers : (count first second : ℕ) → first < 2 ^ 64 → second < 2 ^ 64 → AllByRecursion (λ n. n < 2 ^ 64) (take count (first ∷ second ∷ []))
+good_numbers zero first second a b = tt
+good_numbers (suc zero) first second a b = (a, tt)
+good_numbers (suc (suc zero)) first second a b = (a, (b, tt))
+good_numbers (suc (suc (suc count))) first second a b = (a, (b, tt))
+
+good_map : (takes : Bool) (m : Option (List ℕ)) → IfSome m (λ name. IsTrue (is_name name)) → IfSome (if takes then m else None) (λ name. IsTrue (is_name name))
+good_map true m n = n
+good_map false m n = tt
 
 -- it is a line where its operands are what they should be
 pub item_line_is : (item : Item) (path : List ℕ) (first second : ℕ) (m : Option (List ℕ))
     → IsTrue (is_path path) → first < 2 ^ 64 → second < 2 ^ 64 → IfSome m (λ name. IsTrue (is_name name)) → IsLine (line_of item path first second m)
-item_line_is items.Write path first second m p a b n = (p, (a, tt), n)
-item_line_is items.Read path first second m p a b n = (p, tt, n)
-item_line_is items.Mirror path first second m p a b n = (p, tt, n)
-item_line_is items.Check path first second m p a b n = (p, tt, n)
-item_line_is items.Update path first second m p a b n = (p, tt, n)
-item_line_is items.OtherWrite path first second m p a b n = (p, (a, tt), n)
-item_line_is items.OtherRead path first second m p a b n = (p, tt, n)
-item_line_is items.FieldWrite path first second m p a b n = (p, (a, tt), n)
-item_line_is items.FieldRead path first second m p a b n = (p, tt, n)
-item_line_is items.Set path first second m p a b n = (p, (a, tt), tt)
-item_line_is items.Hw path first second m p a b n = (p, (a, tt), tt)
-item_line_is items.Show path first second m p a b n = (p, tt, tt)
-item_line_is items.BackRead path first second m p a b n = (p, tt, tt)
-item_line_is items.BackCheck path first second m p a b n = (p, tt, tt)
-item_line_is items.Peek path first second m p a b n = (p, tt, tt)
-item_line_is items.BackWrite path first second m p a b n = (p, (a, tt), tt)
-item_line_is items.Poke path first second m p a b n = (p, (a, tt), tt)
-item_line_is items.MemWrite path first second m p a b n = (p, (a, (b, tt)), n)
-item_line_is items.MemCheck path first second m p a b n = (p, (a, (b, tt)), n)
-item_line_is items.MemRead path first second m p a b n = (p, (a, tt), n)
-item_line_is items.BurstRead path first second m p a b n = (p, (a, (b, tt)), n)
-item_line_is items.MemPeek path first second m p a b n = (p, (a, tt), tt)
-item_line_is items.MemPoke path first second m p a b n = (p, (a, (b, tt)), tt)
+item_line_is items.Write path first second m p a b n = (p, good_numbers 1 first second a b, n)
+item_line_is item path first second m p a b n = (p, good_numbers (row_of item).numbers first second a b, good_map (row_of item).map m n)
 
 good_range : (n : ℕ) → (nat_le 1 n && nat_le n 256) ≡ true → (1 ≤ n) × (n ≤ 256)
 good_range n h = let both = and_parts (nat_le 1 n) (nat_le n 256) h in (leb-true 1 n both.0, leb-true n 256 both.1)

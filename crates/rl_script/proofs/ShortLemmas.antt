@@ -1,7 +1,8 @@
 -- A spelling is no longer than a line may be.
 use Rattle.std.proofs.Common.{◌≡◌, ℕ, zero, suc, ◌+◌, ◌*◌, ◌-◌, ◌^◌, ◌<◌, ◌≤◌, Bool, true, false, ◌&&◌, ◌==◌, nat_le, nat_lt, IsTrue, if◌then◌else◌, List}
 use Rattle.std.proofs.Common.{[], ◌∷◌, ◌++◌, codes, length, map, Option, Some, None, inl, inr, refl, sym, ap, ◌∙◌, subst, arith, length-append}
-use Rattle.std.specs.Prelude.{IfSome}
+use Rattle.std.specs.Prelude.{IfSome, MatchOption, take}
+use Rattle.std.specs.Option.{option_map_or}
 use Rattle.std.specs.List.{list_all, slice_split, onto_first, AllByRecursion}
 use Rattle.std.specs.Char.{digit_char}
 use Rattle.std.specs.Int.Digits.{digits_of}
@@ -14,10 +15,11 @@ use Rattle.rl_script.specs.declared.command.Item.TheVariants as items
 use Rattle.rl_script.specs.declared.line.Line.{Line}
 use Rattle.rl_script.specs.declared.line.Line.TheVariants as line
 use Rattle.rl_script.specs.declared.line.Sequence.{Sequence}
+use Rattle.rl_script.specs.declared.line_ref.ItemLine.{ItemLine}
 use Rattle.rl_script.specs.declared.line.Sequence.TheVariants as sequence
-use Rattle.rl_script.specs.Commands.{item_name, sequence_name}
+use Rattle.rl_script.specs.Commands.{row_of, said, item_name, sequence_name}
 use Rattle.rl_script.specs.Names.{is_name, is_dot, is_path, is_in_name, begins_name}
-use Rattle.rl_script.specs.Spelling.{spaced, joined, map_words, item_words, block_word, words_of_line, spelling, IsItem, IsLine}
+use Rattle.rl_script.specs.Spelling.{spaced, joined, map_words, item_words, numbers_in, block_word, said_words, other_words, spelling, IsItem, IsSaid, IsOther, IsLine}
 use Rattle.rl_script.specs.Bursts.{is_burst_write}
 use Rattle.rl_script.proofs.AgainLemmas.{and_parts}
 use Rattle.rl_script.proofs.TextLemmas.{spaced-append}
@@ -120,38 +122,28 @@ short_block : (block : Option (List ℕ)) → IfSome block (λ path. IsTrue (is_
 short_block None h = omega arith
 short_block (Some path) h = short_path path h
 
--- the canonical spelling of a line is short, but that of a burst that writes many values
-pub is_short : (l : Line) → IsLine l → is_burst_write l ≡ false → length (spelling l) ≤ 4096
-unfolding spelling
-is_short line.Blank is h = omega arith
-is_short (line.Write reg value m) is h = short_item items.Write reg (value ∷ []) m (omega arith) is
-is_short (line.Read reg m) is h = short_item items.Read reg [] m (omega arith) is
-is_short (line.Mirror reg m) is h = short_item items.Mirror reg [] m (omega arith) is
-is_short (line.Check reg m) is h = short_item items.Check reg [] m (omega arith) is
-is_short (line.Update reg m) is h = short_item items.Update reg [] m (omega arith) is
-is_short (line.OtherWrite reg value m) is h = short_item items.OtherWrite reg (value ∷ []) m (omega arith) is
-is_short (line.OtherRead reg m) is h = short_item items.OtherRead reg [] m (omega arith) is
-is_short (line.FieldWrite field value m) is h = short_item items.FieldWrite field (value ∷ []) m (omega arith) is
-is_short (line.FieldRead field m) is h = short_item items.FieldRead field [] m (omega arith) is
-is_short (line.Set field value) is h = short_item items.Set field (value ∷ []) None (omega arith) is
-is_short (line.Hw field value) is h = short_item items.Hw field (value ∷ []) None (omega arith) is
-is_short (line.Show reg) is h = short_item items.Show reg [] None (omega arith) is
-is_short (line.BackRead reg) is h = short_item items.BackRead reg [] None (omega arith) is
-is_short (line.BackCheck reg) is h = short_item items.BackCheck reg [] None (omega arith) is
-is_short (line.Peek reg) is h = short_item items.Peek reg [] None (omega arith) is
-is_short (line.BackWrite reg value) is h = short_item items.BackWrite reg (value ∷ []) None (omega arith) is
-is_short (line.Poke reg value) is h = short_item items.Poke reg (value ∷ []) None (omega arith) is
-is_short (line.MemWrite mem index value m) is h = short_item items.MemWrite mem (index ∷ value ∷ []) m (omega arith) is
-is_short (line.MemCheck mem index value m) is h = short_item items.MemCheck mem (index ∷ value ∷ []) m (omega arith) is
-is_short (line.MemRead mem index m) is h = short_item items.MemRead mem (index ∷ []) m (omega arith) is
-is_short (line.BurstRead mem first count m) is h = short_item items.BurstRead mem (first ∷ count ∷ []) m (omega arith) is
-is_short (line.MemPeek mem index) is h = short_item items.MemPeek mem (index ∷ []) None (omega arith) is
-is_short (line.MemPoke mem index value) is h = short_item items.MemPoke mem (index ∷ value ∷ []) None (omega arith) is
-is_short (line.BurstWrite mem first values m) is h = absurd (true≢false h)
-is_short (line.Reset kind) is h = let short = short_name kind is in let both = length-append kind [] in omega arith
-is_short (line.Seq which block) is h =
+few_in : (count first second : ℕ) → length (take count (first ∷ second ∷ [])) ≤ 2
+few_in zero first second = omega arith
+few_in (suc zero) first second = omega arith
+few_in (suc (suc zero)) first second = omega arith
+few_in (suc (suc (suc count))) first second = omega arith
+
+short_other : (l : Line) → IsOther l → is_burst_write l ≡ false → length (joined (other_words l)) ≤ 4096
+short_other (line.BurstWrite mem first values m) is h = absurd (true≢false h)
+short_other (line.Reset kind) is h = let short = short_name kind is in let both = length-append kind [] in omega arith
+short_other (line.Seq which block) is h =
     let name = short_sequence which in
     let over = short_block block is in
     let both = length-append (sequence_name which) (32 ∷ block_word block ++ []) in
     let last = length-append (block_word block) [] in
     omega arith
+short_other _ is h = omega arith
+
+by_said : (o : Option ItemLine) (l : Line) → MatchOption o (IsOther l) IsSaid → is_burst_write l ≡ false → length (joined (option_map_or said_words o (other_words l))) ≤ 4096
+by_said None l is h = short_other l is h
+by_said (Some s) l is h = short_item s.item s.path (numbers_in s.item s.first s.second) s.map (few_in (row_of s.item).numbers s.first s.second) is
+
+-- the canonical spelling of a line is short, but that of a burst that writes many values
+pub is_short : (l : Line) → IsLine l → is_burst_write l ≡ false → length (spelling l) ≤ 4096
+unfolding spelling
+is_short l is h = by_said (said l) l is h

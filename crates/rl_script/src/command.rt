@@ -76,10 +76,13 @@ pub enum Item {
 }
 
 /// What a command is on.
-#[derive(Clone, Copy)]
-pub(crate) enum Kind {
+#[derive(Clone, Copy, Debug, PartialEq, Eq)]
+pub enum Kind {
+    /// A register.
     Register,
+    /// A field of a register.
     Field,
+    /// A memory.
     Memory,
 }
 
@@ -307,7 +310,8 @@ impl Item {
         }
     }
 
-    fn kind(self) -> Kind
+    /// What the command is on.
+    pub fn kind(self) -> Kind
         ensures { result ≡ kind_of self }
     {
         match self {

@@ -17,7 +17,7 @@ mod values;
 mod words;
 mod write;
 
-pub use command::{Command, Item, Row};
+pub use command::{Command, Item, Kind, Row};
 pub use fault::LineFault;
 pub use law::{spelling_is_short, spelling_reads};
 pub use line::{Line, Sequence};

@@ -1,6 +1,10 @@
 //! What a line says.
+ghost use Rattle.std.specs.Prelude.{◌≡◌, None};
+ghost use Rattle.rl_script.specs.Commands.{said, said_of_memory, saying};
 
-use crate::names::{Ident, Path};
+use crate::command::Item;
+use crate::line_ref::ItemLine;
+use crate::names::{Ident, Path, name_ref};
 use crate::values::Values;
 
 /// A sequence of checks over the registers or memories of a block, as the test sequences of IEEE 1800.2.
@@ -164,4 +168,104 @@ pub enum Line {
         which: Sequence,
         block: Option<Path>,
     },
+}
+
+// With no map.
+fn plain<'a>(item: Item, path: &'a Path, first: u64, second: u64) -> ItemLine<'a>
+    ensures { result ≡ saying item path.now first second None }
+{
+    ItemLine {
+        item,
+        path: path.by_ref(),
+        first,
+        second,
+        map: None,
+    }
+}
+
+fn through<'a>(
+    item: Item,
+    path: &'a Path,
+    first: u64,
+    second: u64,
+    map: &'a Option<Ident>,
+) -> ItemLine<'a>
+    ensures { result ≡ saying item path.now first second map.now }
+{
+    ItemLine {
+        item,
+        path: path.by_ref(),
+        first,
+        second,
+        map: name_ref(map),
+    }
+}
+
+impl Line {
+    /// What it says where it is on one register, field or memory.
+    pub(crate) fn on_item(&self) -> Option<ItemLine<'_>>
+        ensures { result ≡ said self.now }
+    {
+        Some(match self {
+            Line::Write { reg, value, map } => through(Item::Write, reg, *value, 0, map),
+            Line::Read { reg, map } => through(Item::Read, reg, 0, 0, map),
+            Line::Mirror { reg, map } => through(Item::Mirror, reg, 0, 0, map),
+            Line::Check { reg, map } => through(Item::Check, reg, 0, 0, map),
+            Line::Update { reg, map } => through(Item::Update, reg, 0, 0, map),
+            Line::OtherWrite { reg, value, map } => through(Item::OtherWrite, reg, *value, 0, map),
+            Line::OtherRead { reg, map } => through(Item::OtherRead, reg, 0, 0, map),
+            Line::Show { reg } => plain(Item::Show, reg, 0, 0),
+            Line::BackRead { reg } => plain(Item::BackRead, reg, 0, 0),
+            Line::BackCheck { reg } => plain(Item::BackCheck, reg, 0, 0),
+            Line::Peek { reg } => plain(Item::Peek, reg, 0, 0),
+            Line::BackWrite { reg, value } => plain(Item::BackWrite, reg, *value, 0),
+            Line::Poke { reg, value } => plain(Item::Poke, reg, *value, 0),
+            Line::FieldWrite { field, value, map } => through(
+                Item::FieldWrite,
+                field,
+                *value,
+                0,
+                map,
+            ),
+            Line::FieldRead { field, map } => through(Item::FieldRead, field, 0, 0, map),
+            Line::Set { field, value } => plain(Item::Set, field, *value, 0),
+            Line::Hw { field, value } => plain(Item::Hw, field, *value, 0),
+            Line::MemWrite { .. }
+            | Line::MemCheck { .. }
+            | Line::MemRead { .. }
+            | Line::BurstRead { .. }
+            | Line::MemPeek { .. }
+            | Line::MemPoke { .. } => return self.on_memory(),
+            _ => return None,
+        })
+    }
+
+    fn on_memory(&self) -> Option<ItemLine<'_>>
+        ensures { result ≡ said_of_memory self.now }
+    {
+        Some(match self {
+            Line::MemWrite {
+                mem,
+                index,
+                value,
+                map,
+            } => through(Item::MemWrite, mem, *index, *value, map),
+            Line::MemCheck {
+                mem,
+                index,
+                value,
+                map,
+            } => through(Item::MemCheck, mem, *index, *value, map),
+            Line::MemRead { mem, index, map } => through(Item::MemRead, mem, *index, 0, map),
+            Line::BurstRead {
+                mem,
+                first,
+                count,
+                map,
+            } => through(Item::BurstRead, mem, *first, *count, map),
+            Line::MemPeek { mem, index } => plain(Item::MemPeek, mem, *index, 0),
+            Line::MemPoke { mem, index, value } => plain(Item::MemPoke, mem, *index, *value),
+            _ => return None,
+        })
+    }
 }

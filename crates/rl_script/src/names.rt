@@ -42,6 +42,12 @@ impl Path {
     {
         self.text.as_slice()
     }
+
+    pub(crate) fn by_ref(&self) -> PathRef<'_>
+        ensures { result ≡ self.now }
+    {
+        PathRef { text: self.text() }
+    }
 }
 
 /// One name, as of a map or a reset kind: a letter or `_`, then letters, digits and `_`, 1 to 32 bytes.
@@ -76,6 +82,12 @@ impl Ident {
         ensures name { IsTrue (is_name result.now) }
     {
         self.text.as_slice()
+    }
+
+    pub(crate) fn by_ref(&self) -> IdentRef<'_>
+        ensures { result ≡ self.now }
+    {
+        IdentRef { text: self.text() }
     }
 }
 
@@ -164,6 +176,16 @@ impl<'a> IdentRef<'a> {
         Ok(Ident {
             text: Vec::from_slice(alloc, self.text)?,
         })
+    }
+}
+
+/// The name where it stands, if there is one.
+pub(crate) fn name_ref(name: &Option<Ident>) -> Option<IdentRef<'_>>
+    ensures { result ≡ name.now }
+{
+    match name {
+        Some(name) => Some(name.by_ref()),
+        None => None,
     }
 }
 

@@ -1,14 +1,14 @@
 //! The canonical spelling of a line.
-ghost use Rattle.std.specs.Prelude.{◌≡◌, ◌∷◌, [], ◌++◌, map, IfOk, OnOk, Some};
+ghost use Rattle.std.specs.Prelude.{◌≡◌, ◌∷◌, [], ◌++◌, map, IfOk, OnOk};
 ghost use Rattle.rl_policy.specs.Numbers.{spelled};
-ghost use Rattle.rl_script.specs.Commands.{command_name, line_kind, sequence_name};
-ghost use Rattle.rl_script.specs.declared.command.Kind.TheVariants as Kind;
-ghost use Rattle.rl_script.specs.Spelling.{spaced, joined, map_words, item_words, burst_words, block_word};
-ghost use Rattle.rl_script.specs.Spelling.{words_of_line, spelling, MayBeWritten};
+ghost use Rattle.rl_script.specs.Commands.{command_name, sequence_name};
+ghost use Rattle.rl_script.specs.Spelling.{spaced, joined, map_words, numbers_in, said_words, burst_words};
+ghost use Rattle.rl_script.specs.Spelling.{other_words, block_word, words_of_line, spelling, MayBeWritten};
 
 use crate::command::{Command, Item};
 use crate::line::{Line, Sequence};
-use crate::names::{Ident, Path};
+use crate::line_ref::ItemLine;
+use crate::names::{IdentRef, Path, name_ref};
 use rl_policy::spell;
 use std::alloc::{AllocError, Global};
 
@@ -27,108 +27,26 @@ pub fn write_line(alloc: Global, line: &Line) -> Result<Vec<u8>, AllocError>
 fn put_line(out: &mut Vec<u8>, line: &Line) -> Result<(), AllocError>
     ensures { OnOk result (out.new.items ≡ out.old.items ++ joined (words_of_line line.now)) }
 {
+    match line.on_item() {
+        Some(said) => put_item(out, &said),
+        None => put_other(out, line),
+    }
+}
+
+/// Writes a line that is on no one item, or has many values.
+fn put_other(out: &mut Vec<u8>, line: &Line) -> Result<(), AllocError>
+    ensures { OnOk result (out.new.items ≡ out.old.items ++ joined (other_words line.now)) }
+{
     match line {
-        Line::Blank => Ok(()),
         Line::BurstWrite {
             mem,
             first,
             values,
             map,
-        } => put_burst(out, mem, *first, values.items(), map),
+        } => put_burst(out, mem, *first, values.items(), &name_ref(map)),
         Line::Reset { kind } => put_words(out, Command::Reset.name(), kind.text()),
         Line::Seq { which, block } => put_sequence(out, *which, block),
-        Line::FieldWrite { .. } | Line::FieldRead { .. } | Line::Set { .. } | Line::Hw { .. } =>
-            put_field_line(out, line),
-        Line::MemWrite { .. }
-        | Line::MemCheck { .. }
-        | Line::MemRead { .. }
-        | Line::BurstRead { .. }
-        | Line::MemPeek { .. }
-        | Line::MemPoke { .. } => put_memory_line(out, line),
-        _ => put_register_line(out, line),
-    }
-}
-
-fn put_register_line(out: &mut Vec<u8>, line: &Line) -> Result<(), AllocError>
-    requires { line_kind line.now ≡ Some Kind.Register }
-    ensures { OnOk result (out.new.items ≡ out.old.items ++ joined (words_of_line line.now)) }
-{
-    match line {
-        Line::Write { reg, value, map } => put_item(out, Item::Write, reg, &[*value], map),
-        Line::Read { reg, map } => put_item(out, Item::Read, reg, &[], map),
-        Line::Mirror { reg, map } => put_item(out, Item::Mirror, reg, &[], map),
-        Line::Check { reg, map } => put_item(out, Item::Check, reg, &[], map),
-        Line::Update { reg, map } => put_item(out, Item::Update, reg, &[], map),
-        Line::OtherWrite { reg, value, map } => put_item(
-            out,
-            Item::OtherWrite,
-            reg,
-            &[*value],
-            map,
-        ),
-        Line::OtherRead { reg, map } => put_item(out, Item::OtherRead, reg, &[], map),
-        Line::Show { reg } => put_item(out, Item::Show, reg, &[], &None),
-        Line::BackRead { reg } => put_item(out, Item::BackRead, reg, &[], &None),
-        Line::BackCheck { reg } => put_item(out, Item::BackCheck, reg, &[], &None),
-        Line::Peek { reg } => put_item(out, Item::Peek, reg, &[], &None),
-        Line::BackWrite { reg, value } => put_item(out, Item::BackWrite, reg, &[*value], &None),
-        Line::Poke { reg, value } => put_item(out, Item::Poke, reg, &[*value], &None),
-        _ => unreachable!(),
-    }
-}
-
-fn put_field_line(out: &mut Vec<u8>, line: &Line) -> Result<(), AllocError>
-    requires { line_kind line.now ≡ Some Kind.Field }
-    ensures { OnOk result (out.new.items ≡ out.old.items ++ joined (words_of_line line.now)) }
-{
-    match line {
-        Line::FieldWrite { field, value, map } => put_item(
-            out,
-            Item::FieldWrite,
-            field,
-            &[*value],
-            map,
-        ),
-        Line::FieldRead { field, map } => put_item(out, Item::FieldRead, field, &[], map),
-        Line::Set { field, value } => put_item(out, Item::Set, field, &[*value], &None),
-        Line::Hw { field, value } => put_item(out, Item::Hw, field, &[*value], &None),
-        _ => unreachable!(),
-    }
-}
-
-fn put_memory_line(out: &mut Vec<u8>, line: &Line) -> Result<(), AllocError>
-    requires { line_kind line.now ≡ Some Kind.Memory }
-    ensures { OnOk result (out.new.items ≡ out.old.items ++ joined (words_of_line line.now)) }
-{
-    match line {
-        Line::MemWrite {
-            mem,
-            index,
-            value,
-            map,
-        } => put_item(out, Item::MemWrite, mem, &[*index, *value], map),
-        Line::MemCheck {
-            mem,
-            index,
-            value,
-            map,
-        } => put_item(out, Item::MemCheck, mem, &[*index, *value], map),
-        Line::MemRead { mem, index, map } => put_item(out, Item::MemRead, mem, &[*index], map),
-        Line::BurstRead {
-            mem,
-            first,
-            count,
-            map,
-        } => put_item(out, Item::BurstRead, mem, &[*first, *count], map),
-        Line::MemPeek { mem, index } => put_item(out, Item::MemPeek, mem, &[*index], &None),
-        Line::MemPoke { mem, index, value } => put_item(
-            out,
-            Item::MemPoke,
-            mem,
-            &[*index, *value],
-            &None,
-        ),
-        _ => unreachable!(),
+        _ => Ok(()),
     }
 }
 
@@ -157,7 +75,18 @@ fn put_numbers(out: &mut Vec<u8>, numbers: &[u64]) -> Result<(), AllocError>
     Ok(())
 }
 
-fn put_map(out: &mut Vec<u8>, map: &Option<Ident>) -> Result<(), AllocError>
+/// Writes as many of two numbers as a command has.
+fn put_as_many(out: &mut Vec<u8>, item: Item, first: u64, second: u64) -> Result<(), AllocError>
+    ensures { OnOk result (out.new.items ≡ out.old.items ++ spaced (map spelled (numbers_in item first second))) }
+{
+    match item.row().numbers {
+        0 => Ok(()),
+        1 => put_number(out, first),
+        _ => put_numbers(out, &[first, second]),
+    }
+}
+
+fn put_map(out: &mut Vec<u8>, map: &Option<IdentRef<'_>>) -> Result<(), AllocError>
     ensures { OnOk result (out.new.items ≡ out.old.items ++ spaced (map_words map.now)) }
 {
     match map {
@@ -177,18 +106,12 @@ fn put_words(out: &mut Vec<u8>, name: &[u8], word: &[u8]) -> Result<(), AllocErr
     put_word(out, word)
 }
 
-fn put_item(
-    out: &mut Vec<u8>,
-    item: Item,
-    path: &Path,
-    numbers: &[u64],
-    map: &Option<Ident>,
-) -> Result<(), AllocError>
-    ensures { OnOk result (out.new.items ≡ out.old.items ++ joined (item_words item path.now numbers.now map.now)) }
+fn put_item(out: &mut Vec<u8>, said: &ItemLine<'_>) -> Result<(), AllocError>
+    ensures { OnOk result (out.new.items ≡ out.old.items ++ joined (said_words said.now)) }
 {
-    put_words(out, item.name(), path.text())?;
-    put_numbers(out, numbers)?;
-    put_map(out, map)
+    put_words(out, said.item.name(), said.path.text())?;
+    put_as_many(out, said.item, said.first, said.second)?;
+    put_map(out, &said.map)
 }
 
 fn put_burst(
@@ -196,7 +119,7 @@ fn put_burst(
     mem: &Path,
     first: u64,
     values: &[u64],
-    map: &Option<Ident>,
+    map: &Option<IdentRef<'_>>,
 ) -> Result<(), AllocError>
     ensures { OnOk result (out.new.items ≡ out.old.items ++ joined (burst_words mem.now first values.now map.now)) }
 {

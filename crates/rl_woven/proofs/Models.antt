@@ -11,7 +11,7 @@ use Rattle.rl_access.specs.Gathering.{IsPredictorOf, no_words, gathered_at}
 use Rattle.rl_access.specs.Model.{ModelData, IsModel}
 use Rattle.rl_access.specs.Observed.{Seen, seen as seen_of, is_whole}
 use Rattle.rl_plain.specs.Machine.{Machine, mirror_of, machine_step}
-use Rattle.rl_plain.proofs.Kept.{IsKept}
+use Rattle.rl_plain.proofs.Kept.{IsKept, model_with}
 use Rattle.rl_weave.specs.declared.woven.Woven.{Woven}
 use Rattle.rl_weave.specs.Access.{op_of, woven_at}
 use Rattle.rl_weave.specs.Weave.{is_over}
@@ -120,11 +120,4 @@ step_keeps_model s new begun d p w which step model told ok here half is =
         let same : x ≡ n =
         ap (λ c. let y : ModelData = record { chip = c; layout = m.layout; mirror = n.mirror; gathered = n.gathered } in y) (sym chip)
         ∙ ap (λ l. let y : ModelData = record { chip = n.chip; layout = l; mirror = n.mirror; gathered = n.gathered } in y) (sym layout) in
-        subst IsModel same (record {
-          chip = ok.chip;
-          layout = ok.layout;
-          built = ok.built;
-          mirror = kept.built;
-          reach = kept.reach;
-          predictor = predictor;
-        })
+        subst IsModel same (model_with m n.mirror n.gathered ok kept predictor)

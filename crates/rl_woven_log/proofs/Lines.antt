@@ -53,28 +53,7 @@ use Rattle.rl_woven_log.proofs.Words.{set, weaving, weaving_is}
 item_said_something : (i : Item) (path : List ℕ) (first second : ℕ) (map : Option (List ℕ))
     → is_blank (line_of i path first second map) ≡ false
 item_said_something item.Write path first second map = refl
-item_said_something item.Read path first second map = refl
-item_said_something item.Mirror path first second map = refl
-item_said_something item.Check path first second map = refl
-item_said_something item.Update path first second map = refl
-item_said_something item.OtherWrite path first second map = refl
-item_said_something item.OtherRead path first second map = refl
-item_said_something item.FieldWrite path first second map = refl
-item_said_something item.FieldRead path first second map = refl
-item_said_something item.Set path first second map = refl
-item_said_something item.Hw path first second map = refl
-item_said_something item.Show path first second map = refl
-item_said_something item.BackRead path first second map = refl
-item_said_something item.BackCheck path first second map = refl
-item_said_something item.Peek path first second map = refl
-item_said_something item.BackWrite path first second map = refl
-item_said_something item.Poke path first second map = refl
-item_said_something item.MemWrite path first second map = refl
-item_said_something item.MemCheck path first second map = refl
-item_said_something item.MemRead path first second map = refl
-item_said_something item.BurstRead path first second map = refl
-item_said_something item.MemPeek path first second map = refl
-item_said_something item.MemPoke path first second map = refl
+item_said_something _ path first second map = refl
 
 pub something_said : (l : LineRef) → l ≢ ref.Blank → is_blank (line_said l) ≡ false
 something_said ref.Blank h = absurd (h refl)
@@ -89,28 +68,7 @@ something_said (ref.Seq which block) h = refl
 pub named_op : (m : ModelData) (i : Item) (path : List ℕ) (first second : ℕ) (map : Option (List ℕ)) → i ≢ item.BurstRead
     → is_named m (line_of i path first second map) ≡ is_some (op_named m (line_of i path first second map))
 named_op m item.BurstRead path first second map h = absurd (h refl)
-named_op m item.Write path first second map h = refl
-named_op m item.Read path first second map h = refl
-named_op m item.Mirror path first second map h = refl
-named_op m item.Check path first second map h = refl
-named_op m item.Update path first second map h = refl
-named_op m item.OtherWrite path first second map h = refl
-named_op m item.OtherRead path first second map h = refl
-named_op m item.FieldWrite path first second map h = refl
-named_op m item.FieldRead path first second map h = refl
-named_op m item.Set path first second map h = refl
-named_op m item.Hw path first second map h = refl
-named_op m item.Show path first second map h = refl
-named_op m item.BackRead path first second map h = refl
-named_op m item.BackCheck path first second map h = refl
-named_op m item.Peek path first second map h = refl
-named_op m item.BackWrite path first second map h = refl
-named_op m item.Poke path first second map h = refl
-named_op m item.MemWrite path first second map h = refl
-named_op m item.MemCheck path first second map h = refl
-named_op m item.MemRead path first second map h = refl
-named_op m item.MemPeek path first second map h = refl
-named_op m item.MemPoke path first second map h = refl
+named_op m _ path first second map h = refl
 
 -- ---- a turn
 

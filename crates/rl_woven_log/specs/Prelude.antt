@@ -1,17 +1,9 @@
 -- The words that the contracts of this crate use, passed on from one place. Declares nothing.
 pub use Rattle.rl_access.specs.Event.{EventFits, ItemFits}
-pub use Rattle.rl_access.specs.Model.{IsReady, IsSameChip}
-pub use Rattle.rl_log.specs.Endings.{IsCounted}
-pub use Rattle.rl_log.specs.Log.{said_by}
-pub use Rattle.rl_log.specs.Telling.{Tells}
-pub use Rattle.rl_play.specs.Heard.{heard}
-pub use Rattle.rl_play.specs.Leaves.{stop_of, NotByCounts, StaysReady, Leaves, ReadsOn, CanGoOn}
-pub use Rattle.rl_play.specs.Moment.{moment_of}
+pub use Rattle.rl_play.specs.Prelude.{IsReady, IsSameChip, IsCounted, Tells, said_by, heard, stop_of, NotByCounts, StaysReady, Leaves, ReadsOn, CanGoOn, moment_of}
+pub use Rattle.rl_play.specs.Prelude.{SinkStays, input_of, read_of, line_said}
 pub use Rattle.rl_report.specs.Item.{item_line}
-pub use Rattle.rl_report.specs.Pieces.{Puts, SinkStays}
-pub use Rattle.rl_report.specs.Reading.{input_of}
-pub use Rattle.rl_script.specs.Reading.{read_of}
-pub use Rattle.rl_script.specs.Said.{line_said}
+pub use Rattle.rl_report.specs.Pieces.{Puts}
 pub use Rattle.rl_weave.specs.Weave.{IsWeave, IsWeaveOn, words_left}
 pub use Rattle.rl_woven_log.specs.Adding.{access_in, access_said, adding_line, is_named}
 pub use Rattle.rl_woven_log.specs.Refusals.{further_reason, refused_woven_text}

@@ -61,29 +61,7 @@ entry_named m p line.Blank op is = absurd (cc)
 entry_named m p (line.BurstWrite mem first values map) op is = absurd (cc)
 entry_named m p (line.BurstRead mem first count map) op is = absurd (cc)
 entry_named m p (line.Seq which over) op is = absurd (cc)
-entry_named m p (line.Write reg value map) op is = ap (option_map (entry_at m p)) is
-entry_named m p (line.Read reg map) op is = ap (option_map (entry_at m p)) is
-entry_named m p (line.Mirror reg map) op is = ap (option_map (entry_at m p)) is
-entry_named m p (line.Check reg map) op is = ap (option_map (entry_at m p)) is
-entry_named m p (line.Update reg map) op is = ap (option_map (entry_at m p)) is
-entry_named m p (line.OtherWrite reg value map) op is = ap (option_map (entry_at m p)) is
-entry_named m p (line.OtherRead reg map) op is = ap (option_map (entry_at m p)) is
-entry_named m p (line.FieldWrite field value map) op is = ap (option_map (entry_at m p)) is
-entry_named m p (line.FieldRead field map) op is = ap (option_map (entry_at m p)) is
-entry_named m p (line.Set field value) op is = ap (option_map (entry_at m p)) is
-entry_named m p (line.Hw field value) op is = ap (option_map (entry_at m p)) is
-entry_named m p (line.Show reg) op is = ap (option_map (entry_at m p)) is
-entry_named m p (line.BackRead reg) op is = ap (option_map (entry_at m p)) is
-entry_named m p (line.BackCheck reg) op is = ap (option_map (entry_at m p)) is
-entry_named m p (line.Peek reg) op is = ap (option_map (entry_at m p)) is
-entry_named m p (line.BackWrite reg value) op is = ap (option_map (entry_at m p)) is
-entry_named m p (line.Poke reg value) op is = ap (option_map (entry_at m p)) is
-entry_named m p (line.MemWrite mem index value map) op is = ap (option_map (entry_at m p)) is
-entry_named m p (line.MemCheck mem index value map) op is = ap (option_map (entry_at m p)) is
-entry_named m p (line.MemRead mem index map) op is = ap (option_map (entry_at m p)) is
-entry_named m p (line.MemPeek mem index) op is = ap (option_map (entry_at m p)) is
-entry_named m p (line.MemPoke mem index value) op is = ap (option_map (entry_at m p)) is
-entry_named m p (line.Reset kind) op is = ap (option_map (entry_at m p)) is
+entry_named m p _ op is = ap (option_map (entry_at m p)) is
 
 -- the events of the machine have no items
 bare_by : (c : ChipData) (l : LayoutData) (p : Machine) (op : Op) (g : Grant) → (done_by c l op p g).event.trace ≡ []

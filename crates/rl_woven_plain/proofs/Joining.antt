@@ -13,7 +13,7 @@ use Rattle.rl_access.specs.Model.{ModelData, IsModel}
 use Rattle.rl_access.specs.Rules.{Grant, grant}
 use Rattle.rl_access.proofs.Whole.{first_of_place}
 use Rattle.rl_log.specs.Named.{op_named}
-use Rattle.rl_plain_log.proofs.PlainNumbers.{op_numbers}
+use Rattle.rl_log.proofs.Numbers.{op_numbers}
 use Rattle.rl_script.specs.declared.line.Line.{Line}
 use Rattle.rl_weave.specs.declared.access.Access.{Access}
 use Rattle.rl_weave.specs.declared.access.WeaveFault.{WeaveFault}

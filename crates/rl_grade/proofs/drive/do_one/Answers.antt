@@ -7,9 +7,9 @@ pub returns-in_err-step-clause-drives : goal.returns-in_err-step-clause-drives
 returns-in_err-step-clause-drives g c =
     let broken = c.in_err-step.ensures.broken in
     drives_broken g.R.Recorder.takes g.R.Recorder.breaks _ _ _ _ _ _ _ c.from_residual.result c.from_residual.ensures.0 (here _ _ 0 _)
-    c.perform-event.ensures.performs broken
+    c.perform-event.ensures.does.performs broken
 
 pub returns-clause-drives : goal.returns-clause-drives
 returns-clause-drives g c =
     drives_one g.R.Recorder.takes g.R.Recorder.breaks _ _ _ _ _ _ _ (Ok _) (here _ _ 0 _)
-    c.perform-event.ensures.performs c.in_ok-step.ensures.taken tt
+    c.perform-event.ensures.does.performs c.in_ok-step.ensures.taken tt

@@ -11,5 +11,5 @@ returns-clause-logs g c =
     (g.D.Device.errors c.args.device.now) (g.D.Device.state c.args.device.now))
     (scene after.model (map (λ b. (goal.Adapter-dyn g (b.vtable, b.value)).standing b.value) after.adapters.items)
     (g.D.Device.errors after.device) (g.D.Device.state after.device)) c.args.op c.perform-event.result =
-    c.perform-event.ensures.performs in
+    c.perform-event.ensures.does.performs in
     op_logged _ _ _ _ _ _ _ _ _ performs c.record.ensures.whole c.record.ensures.part
