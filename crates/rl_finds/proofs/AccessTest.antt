@@ -1,11 +1,10 @@
 -- A deaf register in the access test: what is written there is believed, and the check by the backdoor finds what it kept.
-use Rattle.std.proofs.Common.{◌≡◌, ℕ, ◌+◌, ◌-◌, ◌*◌, ◌%◌, ◌^◌, ◌<◌, ◌≤◌, bit_and, Bool, true, false, not, ◌&&◌, List, length}
+use Rattle.std.proofs.Common.{◌≡◌, ℕ, ◌-◌, ◌*◌, ◌^◌, ◌<◌, ◌≤◌, Bool, true, false, not, ◌&&◌, List, length}
 use Rattle.std.proofs.Common.{Option, Some, Ok, Err, MatchResult, refl, sym, ap, ◌∙◌, subst, inr, arith}
 use Rattle.std.specs.Prelude.{slice_index}
 use Rattle.std.specs.Option.{option_map_or}
 use Rattle.std.proofs.Math.Pow.{pow_mono}
 use Rattle.std.proofs.lemmas.List.{get_or-set_other, length-set}
-use Rattle.std.proofs.lemmas.Nat.{and-not, and_mask, pow_pos}
 use Rattle.rl_policy.proofs.BitLemmas.{bit-and, bit-not, bit-ones}
 use Rattle.rl_policy.specs.Bits.{bit}
 use Rattle.rl_policy.specs.Table.{value_read}
@@ -38,8 +37,8 @@ use Rattle.rl_plain.proofs.Agreement.{IsSame, other_same}
 use Rattle.rl_plain.proofs.Answered.{done_of}
 use Rattle.rl_plain.proofs.Backdoor.{alone_by, peeked_is, raw_other}
 use Rattle.rl_plain.proofs.Followed.{FollowsStep}
-use Rattle.rl_plain.proofs.Kept.{IsKept, raw_built, read_kept}
-use Rattle.rl_seq.proofs.Choosing.{size_most}
+use Rattle.rl_plain.proofs.Kept.{IsKept, model_with, raw_built, read_kept}
+use Rattle.rl_seq.proofs.Choosing.{size_most, turned_below}
 use Rattle.rl_seq.specs.Choice.{turned_round}
 use Rattle.rl_finds.proofs.Bashing.{IsStuckSetup, Holding, unmarked_bits, from_own, write_done, check_done}
 use Rattle.rl_finds.proofs.Checks.{read_other}
@@ -101,14 +100,7 @@ deposit_stays : (s new : Scene) (t : Setup) (reg b : ℕ) (v : Bool) (q x : ℕ)
 unfolding poked
 deposit_stays s new t reg b v q x mirror h kept goes is other =
     let first : ModelData = record s.model { mirror = mirror } in
-    let ok : IsModel first = record {
-      chip = h.model.chip;
-      layout = h.model.layout;
-      built = h.model.built;
-      mirror = kept.built;
-      reach = kept.reach;
-      predictor = h.model.predictor;
-    } in
+    let ok : IsModel first = model_with s.model mirror s.model.gathered h.model kept h.model.predictor in
     record {
       model = subst IsModel (sym is) ok;
       chip = ap (λ (m : ModelData). m.chip) is;
@@ -219,15 +211,6 @@ back_checked c l t reg k b v s new place e h low at granted performs =
     }) h at
 
 -- ---- the word that is written
-
-turned_below : (v k : ℕ) → v < 2 ^ 64 → k ≤ 64 → bit_and (18446744073709551615 - v) (2 ^ k - 1) ≡ 2 ^ k - 1 - v % 2 ^ k
-turned_below v k fits few =
-    let some : 0 < 2 ^ k = pow_pos k in
-    let most : 2 ^ k ≤ 18446744073709551616 = pow_mono few in
-    let both : bit_and (18446744073709551615 - v) (2 ^ k - 1) + bit_and v (2 ^ k - 1) ≡ 2 ^ k - 1 = and-not 64 v (2 ^ k - 1) fits
-    (omega (arith, some, most)) in
-    let low : bit_and v (2 ^ k - 1) ≡ v % 2 ^ k = and_mask v k in
-    omega (arith, both, low)
 
 and_true : (b : Bool) → (b && true) ≡ b
 and_true true = refl

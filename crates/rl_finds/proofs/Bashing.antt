@@ -57,11 +57,11 @@ use Rattle.rl_plain.proofs.Followed.{IsPredictedWrite, IsPredictedRead}
 use Rattle.rl_plain.proofs.Granted.{way_found, place_for}
 use Rattle.rl_plain.proofs.Kept.{step_kept}
 use Rattle.rl_plain.proofs.Registers.{bit-ranswer}
-use Rattle.rl_finds.proofs.Checks.{forgotten_built}
+use Rattle.rl_finds.proofs.Checks.{over, some_is, done_over, forgotten_built}
 use Rattle.rl_finds.proofs.ReadsAlike.{IsReadOver, IsReadAlike, read_alike}
 use Rattle.rl_finds.proofs.StuckBit.{unstuck, plain, IsFirm, HoldsStuck, firm_holds, IsStill, all_still}
 use Rattle.rl_finds.proofs.Twins.{AreAlike, items_alike, writes_alike}
-use Rattle.rl_finds.proofs.Wrong.{shows}
+use Rattle.rl_plain.proofs.NothingFound.{shows}
 
 -- ---- what stands
 
@@ -84,13 +84,13 @@ pub record Holding (c : ChipData) (l : LayoutData) (t : Setup) (reg b : ℕ) (v 
   pub marks : length device.marks ≡ length c.regs
   pub here : bit (slice_index device.bits reg) b ≡ v
 
+pub holding_first : (t : Setup) (reg b : ℕ) (v : Bool) (s : Scene) (d : State) → IsModel s.model → s.device ≡ Some d → d.setup ≡ t
+    → ((port address : ℕ) → d.beats port address ≡ 0) → length d.bits ≡ length s.model.chip.regs → length d.marks ≡ length s.model.chip.regs
+    → bit (slice_index d.bits reg) b ≡ v → Holding s.model.chip s.model.layout t reg b v s
+holding_first t reg b v s d ok told setup beats bits marks here =
+    record { model = ok; chip = refl; layout = refl; device = d; told = told; setup = setup; beats = beats; bits = bits; marks = marks; here = here }
+
 -- ---- the operation over the device without it
-
-some_is : {A : Type 0} {x y : A} → Some x ≡ Some y → x ≡ y
-some_is e = cc
-
-abbrev pub over : Scene → State → Scene
-over s d = record s { device = Some d }
 
 -- a register with these bits and no mark
 abbrev pub unmarked_bits : ℕ → Register
@@ -115,20 +115,8 @@ over_done : (s new : Scene) (o : Op) (place : ℕ) (e : Event) (d : State) → s
     → found_by (plain d) o ≡ found_by d o → device_after s.model o (found_by d o) e.trace (plain d) ≡ state_after_all (plain d) e.trace
     → (done : IsDone s new o place e) → IsDone (over s (plain d)) (over new (state_after_all (plain d) e.trace)) o place e
 over_done s new o place e d told same found after done =
-    let adapter = standing_at s.adapters (adapter_for s.model.layout place) in
-    let port = port_for s.model.layout place in
-    let ops = sends s.model o place in
-    record {
-      sampled = done.sampled;
-      items = done.items;
-      adapters = done.adapters;
-      cause = done.cause;
-      event_is = done.event_is;
-      model = done.model;
-      found = λ x is. done.found d told ∙ sym found ∙ ap (λ (y : State). found_by y o) (some_is is);
-      answers = λ x is. done.answers d told ∙ sym (items_same adapter (plain d) d port ops same) ∙ ap (λ (y : State). items_of adapter y port ops) (some_is is);
-      goes = ap Some (sym after ∙ ap (λ n. device_after s.model o n e.trace (plain d)) (sym (done.found d told)));
-    }
+    done_over s new o place e d (plain d) (state_after_all (plain d) e.trace) told found
+    (λ a. items_same a (plain d) d (port_for s.model.layout place) (sends s.model o place) same) after done
 
 -- ---- an operation is a step of its register, and leaves what stands
 

@@ -43,10 +43,12 @@ use Rattle.rl_seq.proofs.Choosing.{any_found}
 use Rattle.rl_finds.specs.Resets.{IsNamedBy}
 use Rattle.rl_finds.specs.Stuck.{stuck_bit, bit_of, HasStuckBit, IsComparedBit, IsShownTurned, IsShownBeside, StuckBitIsNamed, StuckBitBesideIsNamed}
 use Rattle.rl_finds.specs.Visited.{RunsAll, HasEvent, IsVisited}
-use Rattle.rl_finds.proofs.Bashing.{IsStuckSetup, Holding, unmarked_bits, write_done, check_done, write_stays, check_stays, written_there, read_there, answered_there, turned_bit, other_bit}
+use Rattle.rl_finds.proofs.Bashing.{IsStuckSetup, Holding, holding_first, unmarked_bits, write_done, check_done, write_stays, check_stays}
+use Rattle.rl_finds.proofs.Bashing.{written_there, read_there, answered_there, turned_bit, other_bit}
 use Rattle.rl_finds.proofs.Reaching.{IsPlaceOf, is_place, check_is, bash_granted}
 use Rattle.rl_finds.proofs.StuckBit.{unstuck}
-use Rattle.rl_finds.proofs.Wrong.{IsBitOf, bit_of as own_bit, covered, row_is}
+use Rattle.rl_finds.proofs.Wrong.{IsBitOf, bit_of as own_bit, row_is}
+use Rattle.rl_plain.proofs.NothingFound.{covered}
 
 -- ---- the stuck bit, in its register
 
@@ -240,17 +242,43 @@ pub finds_if : (Stands : Scene → Type 0) (IsSo : Event → Type 0) (b : Bool) 
 finds_if Stands IsSo true p so finds = finds
 finds_if Stands IsSo false p so finds = absurd (cc)
 
-finds_each : (Stands : Scene → Type 0) (IsSo : Event → Type 0) (n k : ℕ) (f : ℕ → Plan) → k < n → ((j : ℕ) → j < n → Keeps Stands (f j))
+-- it leaves what stands, or one of its events is so
+abbrev pub Either : (Scene → Type 0) → (Event → Type 0) → Plan → Type 0
+Either Stands IsSo p = Keeps Stands p ⊎ Finds Stands IsSo p
+
+pub either_both : (Stands : Scene → Type 0) (IsSo : Event → Type 0) (p q : Plan) → Either Stands IsSo p → Either Stands IsSo q → Either Stands IsSo (followed_by p q)
+either_both Stands IsSo p q (inl k) (inl j) = inl (keeps_both Stands p q k j)
+either_both Stands IsSo p q (inl k) (inr f) = inr (finds_second Stands IsSo p q k f)
+either_both Stands IsSo p q (inr f) j = inr (finds_first Stands IsSo p q f)
+
+pub either_if : (Stands : Scene → Type 0) (IsSo : Event → Type 0) (b : Bool) (p : Plan) → (b ≡ true → Either Stands IsSo p) → Either Stands IsSo (only_if b p)
+either_if Stands IsSo true p h = h refl
+either_if Stands IsSo false p h = inl (keeps_stop Stands)
+
+pub either_each : (Stands : Scene → Type 0) (IsSo : Event → Type 0) (n : ℕ) (f : ℕ → Plan) → ((k : ℕ) → k < n → Either Stands IsSo (f k)) → Either Stands IsSo (each_below n f)
+either_each Stands IsSo zero f h = inl (keeps_stop Stands)
+either_each Stands IsSo (suc n) f h =
+    either_both Stands IsSo (each_below n f) (f n) (either_each Stands IsSo n f (λ j low. h j (omega (arith, low)))) (h n (omega arith))
+
+finds_now : (Stands : Scene → Type 0) (IsSo : Event → Type 0) (p q : Plan) → Either Stands IsSo p → Finds Stands IsSo q → Finds Stands IsSo (followed_by p q)
+finds_now Stands IsSo p q (inl k) f = finds_second Stands IsSo p q k f
+finds_now Stands IsSo p q (inr h) f = finds_first Stands IsSo p q h
+
+pub finds_among : (Stands : Scene → Type 0) (IsSo : Event → Type 0) (n k : ℕ) (f : ℕ → Plan) → k < n → ((j : ℕ) → j < n → Either Stands IsSo (f j))
     → Finds Stands IsSo (f k) → Finds Stands IsSo (each_below n f)
-finds_each Stands IsSo zero k f low keeps finds = absurd (omega (arith, low))
-finds_each Stands IsSo (suc n) k f low keeps finds =
-    by (cases_lt k n) (λ less. finds_each Stands IsSo n k f less (λ j under. keeps j (omega (arith, under))) finds)
+finds_among Stands IsSo zero k f low all finds = absurd (omega (arith, low))
+finds_among Stands IsSo (suc n) k f low all finds =
+    by (cases_lt k n) (λ less. finds_among Stands IsSo n k f less (λ j under. all j (omega (arith, under))) finds)
   where
     by : (k < n) ⊎ (n ≤ k) → (k < n → Finds Stands IsSo (each_below n f)) → Finds Stands IsSo (each_below (suc n) f)
     by (inl less) before = finds_first Stands IsSo (each_below n f) (f n) (before less)
     by (inr most) before =
         let same : k ≡ n = omega (arith, low, most) in
-        finds_second Stands IsSo (each_below n f) (f n) (keeps_each Stands n f (λ j under. keeps j (omega (arith, under)))) (subst (λ j. Finds Stands IsSo (f j)) same finds)
+        finds_now Stands IsSo (each_below n f) (f n) (either_each Stands IsSo n f (λ j under. all j (omega (arith, under)))) (subst (λ j. Finds Stands IsSo (f j)) same finds)
+
+finds_each : (Stands : Scene → Type 0) (IsSo : Event → Type 0) (n k : ℕ) (f : ℕ → Plan) → k < n → ((j : ℕ) → j < n → Keeps Stands (f j))
+    → Finds Stands IsSo (f k) → Finds Stands IsSo (each_below n f)
+finds_each Stands IsSo n k f low keeps finds = finds_among Stands IsSo n k f low (λ j under. inl (keeps j under)) finds
 
 -- ---- the plan of the sequence
 
@@ -428,18 +456,8 @@ named_by_try s new d block told stuck place j ok is has compared try v run =
       writes = rights.1;
       map_in = (ok.layout.each_place place v.place_in).map;
     } in
-    walk_finds s.model block t stuck.field reg k b stuck.bit stuck.value place j ok w try v s new told (record {
-      model = ok;
-      chip = refl;
-      layout = refl;
-      device = d;
-      told = is;
-      setup = has.setup;
-      beats = has.beats;
-      bits = has.bits;
-      marks = has.marks;
-      here = has.holds;
-    }) run
+    walk_finds s.model block t stuck.field reg k b stuck.bit stuck.value place j ok w try v s new told
+    (holding_first t reg b stuck.value s d ok is has.setup has.beats has.bits has.marks has.holds) run
 
 pub stuck_bit_is_named : StuckBitIsNamed
 stuck_bit_is_named s new d block told stuck place ok is has compared shown v run =

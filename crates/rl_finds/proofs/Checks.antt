@@ -6,7 +6,7 @@ use Rattle.std.proofs.lemmas.Bool.{cases_eq}
 use Rattle.std.proofs.lemmas.List.{get_or-set_same, get_or-set_other, length-set}
 use Rattle.rl_policy.proofs.BitLemmas.{bit-zero}
 use Rattle.rl_policy.specs.Bits.{bit}
-use Rattle.rl_bus.specs.Standing.{standing_at}
+use Rattle.rl_bus.specs.Standing.{Standing, standing_at}
 use Rattle.rl_bus.specs.State.{State}
 use Rattle.rl_model.specs.Rows.{ChipData}
 use Rattle.rl_model.specs.Fields.{fields_of}
@@ -17,6 +17,7 @@ use Rattle.rl_mirror.specs.Mirror.{MirrorData, mirrored_of}
 use Rattle.rl_mirror.specs.Prediction.{predict_read}
 use Rattle.rl_access.specs.declared.event.End.TheVariants as end
 use Rattle.rl_access.specs.declared.event.Event.{Event}
+use Rattle.rl_access.specs.declared.event.Op.{Op}
 use Rattle.rl_access.specs.declared.event.Op.TheVariants as op
 use Rattle.rl_access.specs.declared.predictor.Gathered.{Gathered}
 use Rattle.rl_access.specs.Call.{Scene, IsDone, IsRefused, Performs}
@@ -24,12 +25,12 @@ use Rattle.rl_access.specs.Gathering.{IsPredictorOf, no_words, gathered_at}
 use Rattle.rl_access.specs.Items.{failed_at, items_of, state_after_all, port_for, adapter_for}
 use Rattle.rl_access.specs.Model.{ModelData, IsModel}
 use Rattle.rl_access.specs.Operation.{HasNumbers}
-use Rattle.rl_access.specs.Rules.{Grant, grant, sends, forgetting, every_field, Outcome, or_error}
+use Rattle.rl_access.specs.Rules.{Grant, grant, sends, forgotten, forgetting, every_field, Outcome, or_error, found_by, device_after as device_then}
 use Rattle.rl_plain.specs.OneStep.{Meets, device_after, read_step}
 use Rattle.rl_plain.proofs.Agreement.{other_bits}
 use Rattle.rl_plain.proofs.Answered.{done_of}
 use Rattle.rl_plain.proofs.EachAccess.{access_is_step}
-use Rattle.rl_plain.proofs.Kept.{read_kept}
+use Rattle.rl_plain.proofs.Kept.{model_with, read_kept}
 use Rattle.rl_finds.proofs.Forgetting.{without, items_without, all_without}
 
 -- ---- the model after a check
@@ -67,14 +68,9 @@ unfolding predict_read
 read_other c reg value q m other = get_or-set_other m.mirrored reg q _ 0 other
 
 entered : (m : ModelData) (place : ℕ) → IsModel m → IsModel (forgetting m place)
-entered m place ok = record {
-  chip = ok.chip;
-  layout = ok.layout;
-  built = ok.built;
-  mirror = ok.mirror;
-  reach = ok.reach;
-  predictor = forgotten_built (port_at m.layout (place_at m.layout place).port).explicit m.layout m.gathered place ok.predictor;
-}
+entered m place ok =
+    model_with m m.mirror (forgotten m.layout place m.gathered) ok (record { built = ok.mirror; reach = ok.reach })
+    (forgotten_built (port_at m.layout (place_at m.layout place).port).explicit m.layout m.gathered place ok.predictor)
 
 -- the outcome of a check that read this value
 abbrev read_so : ModelData → (reg place value differ : ℕ) → Outcome
@@ -90,14 +86,7 @@ after_check m reg place value differ None ok inside =
     let first = entered m place ok in
     let kept = read_kept m.chip reg value every_field m.mirror ok.chip inside (record { built = ok.mirror; reach = ok.reach }) in
     record {
-      ok = record {
-        chip = ok.chip;
-        layout = ok.layout;
-        built = ok.built;
-        mirror = kept.built;
-        reach = kept.reach;
-        predictor = first.predictor;
-      };
+      ok = model_with m (predict_read m.chip reg value every_field m.mirror) (forgotten m.layout place m.gathered) ok kept first.predictor;
       chip = refl;
       layout = refl;
       others = λ q other. read_other m.chip reg value q m.mirror other;
@@ -121,18 +110,18 @@ pub record Holding (c : ChipData) (l : LayoutData) (reg bits mirrored : ℕ) (s 
 
 -- ---- a check over the device without them
 
-abbrev over : Scene → State → Scene
+abbrev pub over : Scene → State → Scene
 over s d = record s { device = Some d }
 
-some_is : {A : Type 0} {x y : A} → Some x ≡ Some y → x ≡ y
+pub some_is : {A : Type 0} {x y : A} → Some x ≡ Some y → x ≡ y
 some_is e = cc
 
-without_done : (s new : Scene) (reg place : ℕ) (map : Option ℕ) (e : Event) (d : State) → s.device ≡ Some d → IsDone s new (op.Check reg map) place e
-    → IsDone (over s (without d)) (over new (without (state_after_all d e.trace))) (op.Check reg map) place e
-without_done s new reg place map e d told done =
+-- an operation is done in the same way over another device that answers the same
+pub done_over : (s new : Scene) (o : Op) (place : ℕ) (e : Event) (d x y : State) → s.device ≡ Some d → found_by x o ≡ found_by d o
+    → ((a : Standing) → items_of a x (port_for s.model.layout place) (sends s.model o place) ≡ items_of a d (port_for s.model.layout place) (sends s.model o place))
+    → device_then s.model o (found_by d o) e.trace x ≡ y → IsDone s new o place e → IsDone (over s x) (over new y) o place e
+done_over s new o place e d x y told found same after done =
     let adapter = standing_at s.adapters (adapter_for s.model.layout place) in
-    let port = port_for s.model.layout place in
-    let ops = sends s.model (op.Check reg map) place in
     record {
       sampled = done.sampled;
       items = done.items;
@@ -140,10 +129,17 @@ without_done s new reg place map e d told done =
       cause = done.cause;
       event_is = done.event_is;
       model = done.model;
-      found = λ x same. done.found d told;
-      answers = λ x same. done.answers d told ∙ sym (items_without adapter d port ops) ∙ ap (λ (y : State). items_of adapter y port ops) (some_is same);
-      goes = ap Some (sym (all_without d e.trace));
+      found = λ z is. done.found d told ∙ sym found ∙ ap (λ (w : State). found_by w o) (some_is is);
+      answers = λ z is. done.answers d told ∙ sym (same adapter)
+          ∙ ap (λ (w : State). items_of adapter w (port_for s.model.layout place) (sends s.model o place)) (some_is is);
+      goes = ap Some (sym after ∙ ap (λ n. device_then s.model o n e.trace x) (sym (done.found d told)));
     }
+
+without_done : (s new : Scene) (reg place : ℕ) (map : Option ℕ) (e : Event) (d : State) → s.device ≡ Some d → IsDone s new (op.Check reg map) place e
+    → IsDone (over s (without d)) (over new (without (state_after_all d e.trace))) (op.Check reg map) place e
+without_done s new reg place map e d told done =
+    done_over s new (op.Check reg map) place e d (without d) (without (state_after_all d e.trace)) told refl
+    (λ a. items_without a d (port_for s.model.layout place) (sends s.model (op.Check reg map) place)) (all_without d e.trace) done
 
 -- a register without marks
 abbrev unmarked_register : State → ℕ → Register

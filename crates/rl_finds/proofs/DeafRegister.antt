@@ -1,8 +1,8 @@
 -- The access test over a deaf register: its first visit finds it, and those of other registers leave it as it is.
-use Rattle.std.proofs.Common.{◌≡◌, ◌≢◌, ◌⊎◌, ℕ, zero, suc, ◌+◌, ◌-◌, ◌*◌, ◌<◌, ◌≤◌, Bool, true, false, not, ◌&&◌, List, [], ◌∷◌, length, Option, None, Some, Ok, Err}
+use Rattle.std.proofs.Common.{◌≡◌, ◌≢◌, ◌⊎◌, ℕ, ◌+◌, ◌-◌, ◌*◌, ◌<◌, Bool, true, false, not, ◌&&◌, List, [], ◌∷◌, length, Option, None, Some, Ok, Err}
 use Rattle.std.proofs.Common.{if◌then◌else◌, refl, sym, ap, ◌∙◌, subst, inl, inr, arith}
 use Rattle.std.specs.Prelude.{unwrap_or}
-use Rattle.std.proofs.lemmas.Bool.{and_parts, cases_eq, cases_lt}
+use Rattle.std.proofs.lemmas.Bool.{and_parts, cases_eq}
 use Rattle.rl_policy.specs.Bits.{bit}
 use Rattle.rl_policy.specs.Table.{after_write}
 use Rattle.rl_bus.specs.declared.table.Cell.TheVariants as cell
@@ -32,53 +32,17 @@ use Rattle.rl_access.proofs.Beliefs.{check_names}
 use Rattle.rl_plain.specs.Agree.{believed}
 use Rattle.rl_seq.specs.declared.sequence.Sequence.TheVariants.{Access}
 use Rattle.rl_seq.specs.Choice.{is_of, may_read, may_write, is_reg_tested, has_writable_field, no_reg_access_test, turned_round}
-use Rattle.rl_seq.specs.Plan.{Plan, stop, step, followed_by, only_if, each_below}
+use Rattle.rl_seq.specs.Plan.{stop, step, each_below}
 use Rattle.rl_seq.specs.Sequences.{map_at, access_at, items_of, is_chosen, is_visited, at_place, visit, visit_all, walk}
 use Rattle.rl_finds.specs.Deaf.{deaf_items, IsTurned, DeafRegisterIsNamed}
 use Rattle.rl_finds.specs.Resets.{IsNamedBy}
 use Rattle.rl_finds.specs.Visited.{IsVisited}
 use Rattle.rl_finds.proofs.AccessTest.{Agreeing, write_agrees, check_agrees, back_write_agrees, back_check_agrees, back_checked, turned_there}
-use Rattle.rl_finds.proofs.Bashing.{IsStuckSetup, Holding, write_done, written_there}
-use Rattle.rl_finds.proofs.BitBash.{IsBit, readable_there, parts_apart, the_bit, Keeps, Finds, keeps_stop, keeps_step, keeps_both, finds_first, finds_second, finds_if}
+use Rattle.rl_finds.proofs.Bashing.{IsStuckSetup, Holding, holding_first, write_done, written_there}
+use Rattle.rl_finds.proofs.BitBash.{IsBit, readable_there, parts_apart, the_bit, Keeps, Finds, keeps_stop, keeps_step, finds_if, Either, either_if, either_each, finds_among}
 use Rattle.rl_finds.proofs.Reaching.{IsPlaceOf, is_place, write_is}
 use Rattle.rl_finds.proofs.StuckBit.{unstuck, IsFirm}
-use Rattle.rl_finds.proofs.Wrong.{shows}
-
--- ---- plans
-
--- it leaves what stands, or one of its events is so
-abbrev Either : (Scene → Type 0) → (Event → Type 0) → Plan → Type 0
-Either Stands IsSo p = Keeps Stands p ⊎ Finds Stands IsSo p
-
-either_both : (Stands : Scene → Type 0) (IsSo : Event → Type 0) (p q : Plan) → Either Stands IsSo p → Either Stands IsSo q → Either Stands IsSo (followed_by p q)
-either_both Stands IsSo p q (inl k) (inl j) = inl (keeps_both Stands p q k j)
-either_both Stands IsSo p q (inl k) (inr f) = inr (finds_second Stands IsSo p q k f)
-either_both Stands IsSo p q (inr f) j = inr (finds_first Stands IsSo p q f)
-
-either_if : (Stands : Scene → Type 0) (IsSo : Event → Type 0) (b : Bool) (p : Plan) → (b ≡ true → Either Stands IsSo p) → Either Stands IsSo (only_if b p)
-either_if Stands IsSo true p h = h refl
-either_if Stands IsSo false p h = inl (keeps_stop Stands)
-
-either_each : (Stands : Scene → Type 0) (IsSo : Event → Type 0) (n : ℕ) (f : ℕ → Plan) → ((k : ℕ) → k < n → Either Stands IsSo (f k)) → Either Stands IsSo (each_below n f)
-either_each Stands IsSo zero f h = inl (keeps_stop Stands)
-either_each Stands IsSo (suc n) f h =
-    either_both Stands IsSo (each_below n f) (f n) (either_each Stands IsSo n f (λ j low. h j (omega (arith, low)))) (h n (omega arith))
-
-finds_now : (Stands : Scene → Type 0) (IsSo : Event → Type 0) (p q : Plan) → Either Stands IsSo p → Finds Stands IsSo q → Finds Stands IsSo (followed_by p q)
-finds_now Stands IsSo p q (inl k) f = finds_second Stands IsSo p q k f
-finds_now Stands IsSo p q (inr h) f = finds_first Stands IsSo p q h
-
-finds_among : (Stands : Scene → Type 0) (IsSo : Event → Type 0) (n k : ℕ) (f : ℕ → Plan) → k < n → ((j : ℕ) → j < n → Either Stands IsSo (f j))
-    → Finds Stands IsSo (f k) → Finds Stands IsSo (each_below n f)
-finds_among Stands IsSo zero k f low all finds = absurd (omega (arith, low))
-finds_among Stands IsSo (suc n) k f low all finds =
-    by (cases_lt k n) (λ less. finds_among Stands IsSo n k f less (λ j under. all j (omega (arith, under))) finds)
-  where
-    by : (k < n) ⊎ (n ≤ k) → (k < n → Finds Stands IsSo (each_below n f)) → Finds Stands IsSo (each_below (suc n) f)
-    by (inl less) before = finds_first Stands IsSo (each_below n f) (f n) (before less)
-    by (inr most) before =
-        let same : k ≡ n = omega (arith, low, most) in
-        finds_now Stands IsSo (each_below n f) (f n) (either_each Stands IsSo n f (λ j under. all j (omega (arith, under)))) (subst (λ j. Finds Stands IsSo (f j)) same finds)
+use Rattle.rl_plain.proofs.NothingFound.{shows}
 
 -- ---- the deaf register
 
@@ -266,17 +230,6 @@ deaf_register_is_named s new d block told field i place ok is has bad v run =
       turned = subst (λ (f : FieldSeen). IsTurned f.shape.policy bad.value (kept.spent k)) (sym own.field_is) turned;
     } in
     deaf_walk s.model block t field b i bad.value kept place ok w v s new told (record {
-      holding = record {
-        model = ok;
-        chip = refl;
-        layout = refl;
-        device = d;
-        told = is;
-        setup = has.setup;
-        beats = has.beats;
-        bits = has.bits;
-        marks = has.marks;
-        here = bad.held;
-      };
+      holding = holding_first t reg b bad.value s d ok is has.setup has.beats has.bits has.marks bad.held;
       as_before = record { bits = refl; marks = λ k inside. refl };
     }) run

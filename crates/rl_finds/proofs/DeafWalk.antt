@@ -1,9 +1,8 @@
 -- Over a device with deaf items: no access of the walk changes the first location of a deaf memory, and its check is marked.
-use Rattle.std.proofs.Common.{◌≡◌, ◌≢◌, ◌⊎◌, ℕ, zero, suc, ◌+◌, ◌*◌, ◌^◌, ◌<◌, ◌==◌, eq-eqb, ne_eqb, nat_lt, Bool, true, false, ◌&&◌, List, [], ◌∷◌, length, map}
+use Rattle.std.proofs.Common.{◌≡◌, ◌≢◌, ◌⊎◌, ℕ, zero, suc, ◌+◌, ◌*◌, ◌^◌, ◌<◌, ◌==◌, eq-eqb, ne_eqb, Bool, true, false, ◌&&◌, List, [], ◌∷◌, length, map}
 use Rattle.std.proofs.Common.{replicate, All, Option, None, Some, option_map, Ok, Err, MatchResult, if◌then◌else◌, refl, sym, ap, ◌∙◌, subst, inl, inr, arith}
-use Rattle.std.specs.Prelude.{slice_index, slice_get, sum_by}
-use Rattle.std.specs.Option.{option_map_or}
-use Rattle.std.proofs.lemmas.Bool.{and_parts, cases_eq, ltb-true}
+use Rattle.std.specs.Prelude.{slice_index, sum_by}
+use Rattle.std.proofs.lemmas.Bool.{and_parts, cases_eq}
 use Rattle.std.proofs.lemmas.List.{get_or-replicate, length-replicate}
 use Rattle.std.proofs.lemmas.List.Elements.{All-map}
 use Rattle.std.proofs.lemmas.Nat.{pow_pos}
@@ -11,32 +10,29 @@ use Rattle.rl_bus.specs.declared.op.Answer.{Answer}
 use Rattle.rl_bus.specs.declared.op.BusOp.{BusOp}
 use Rattle.rl_bus.specs.declared.table.Cell.TheVariants.{Loc}
 use Rattle.rl_bus.specs.declared.table.ItemRow.{ItemRow}
-use Rattle.rl_bus.specs.Setup.{Setup, mem_of, location, is_deaf}
+use Rattle.rl_bus.specs.Setup.{Setup, location, is_deaf}
 use Rattle.rl_bus.specs.Standing.{standing_at}
 use Rattle.rl_bus.specs.State.{State}
 use Rattle.rl_model.specs.Rows.{ChipData}
 use Rattle.rl_model.specs.declared.rows.Item.TheVariants.{Mem}
-use Rattle.rl_map.specs.Layout.{LayoutData, place_at}
+use Rattle.rl_map.specs.Layout.{LayoutData}
 use Rattle.rl_map.specs.Tables.{setup_of}
-use Rattle.rl_split.specs.Access.{all_bytes, op_of, sent_of, ops_of, joined}
-use Rattle.rl_split.specs.Law.{no_flaws, IsReady, IsLocationOf, HasLocation, IsStore, IsLoad}
+use Rattle.rl_split.specs.Access.{op_of, sent_of, ops_of, joined}
+use Rattle.rl_split.specs.Law.{no_flaws, IsReady, HasLocation}
 use Rattle.rl_split.specs.Runs.{answers_of, state_after_all as ops_after}
-use Rattle.rl_split.proofs.Locations.{memory_write_is_store, memory_read_is_load}
 use Rattle.rl_mirror.proofs.WordLemmas.{bytes_pow}
 use Rattle.rl_access.specs.declared.event.End.TheVariants as end
 use Rattle.rl_access.specs.declared.event.Event.{Event}
 use Rattle.rl_access.specs.declared.event.Op.{Op}
 use Rattle.rl_access.specs.declared.event.Op.TheVariants as op
-use Rattle.rl_access.specs.declared.event.Refused.TheVariants.{NotWritable, OutOfRange, TooWide}
 use Rattle.rl_access.specs.declared.trace.TraceItem.{TraceItem}
 use Rattle.rl_access.specs.Call.{Scene, IsDone, IsRefused, Performs}
 use Rattle.rl_access.specs.HandsOver.{Told}
 use Rattle.rl_access.specs.Items.{failed_at, items_of, words_answered, state_after_all, port_for, adapter_for}
 use Rattle.rl_access.specs.Model.{ModelData, IsModel}
 use Rattle.rl_access.specs.Operation.{location_size, register_of, HasNumbers}
-use Rattle.rl_access.specs.Rules.{Grant, grant, named, way, only_where, at_location, writable, memory_size, is_writable, item_size, location_bytes, location_value, sends}
+use Rattle.rl_access.specs.Rules.{Grant, grant, named, memory_size, location_bytes, location_value, sends}
 use Rattle.rl_access.specs.Rules.{Outcome, or_error, outcome, event_at}
-use Rattle.rl_access.proofs.Places.{place_size}
 use Rattle.rl_access.proofs.Setups.{setup-state_after_all}
 use Rattle.rl_seq.specs.declared.sequence.Sequence.TheVariants.{MemWalk}
 use Rattle.rl_seq.specs.Choice.{is_of, may_read, may_write, turned_round}
@@ -46,8 +42,8 @@ use Rattle.rl_seq.specs.Sequences.{at_place, visit, visit_all, walk}
 use Rattle.rl_plain.specs.Agree.{IsMemoryAccess}
 use Rattle.rl_plain.proofs.Accesses.{all_written}
 use Rattle.rl_plain.proofs.Answered.{answered, none_failed, done_of}
-use Rattle.rl_plain.proofs.Granted.{only_ok, IsWay, way_found}
-use Rattle.rl_plain.proofs.Locations.{memory_row, location_within, apart}
+use Rattle.rl_plain.proofs.Locations.{location_within, apart}
+use Rattle.rl_plain.proofs.MemoryAccesses.{IsGranted, granted_at, write_granted, check_granted, stored_at, loaded_at}
 use Rattle.rl_plain.proofs.Outcomes.{good_is}
 use Rattle.rl_finds.specs.Deaf.{deaf_items, DeafMemoryIsFound}
 use Rattle.rl_finds.specs.Visited.{HasEvent, IsVisited}
@@ -55,86 +51,6 @@ use Rattle.rl_finds.proofs.Holding.{HoldsOne, in_first, in_second, in_chosen, in
 use Rattle.rl_finds.proofs.Reaching.{IsPlaceOf, is_place, mem_check_granted, location_in}
 use Rattle.rl_finds.proofs.Twins.{hearing, twin, AreAlike, none_fails, all_alike, heard, reads_heard}
 use Rattle.rl_finds.proofs.Untouched.{IsGuarded, rows_known, all_kept}
-
--- ---- a granted access
-
--- the place of a location that may be reached
-record IsReached (m : ModelData) (mem index : ℕ) (write : Bool) (place : ℕ) : Type 0 where
-  there : IsWay m.layout (Mem mem) write place
-  index_in : index < memory_size m.chip mem
-
-reached_at : (m : ModelData) (mem index : ℕ) (map : Option ℕ) (write : Bool) (place : ℕ) → at_location m mem index (way m (Mem mem) map write) ≡ Ok place
-    → IsReached m mem index write place
-reached_at m mem index map write place e =
-    let both = only_ok (way m (Mem mem) map write) (nat_lt index (memory_size m.chip mem)) OutOfRange place e in
-    record { there = way_found m (Mem mem) map write place both.0; index_in = ltb-true index (memory_size m.chip mem) both.1 }
-
-fits_at : (m : ModelData) (mem value place : ℕ) (g : Grant) → only_where g (nat_lt value (256 ^ item_size m.chip (Mem mem))) TooWide ≡ Ok place
-    → (g ≡ Ok place) × (value < 256 ^ location_size m.chip mem)
-fits_at m mem value place g e =
-    let both = only_ok g (nat_lt value (256 ^ item_size m.chip (Mem mem))) TooWide place e in
-    (both.0, ltb-true value (256 ^ location_size m.chip mem) both.1)
-
-check_reached : (m : ModelData) (mem index value : ℕ) (map : Option ℕ) (place : ℕ) → grant m (op.MemCheck mem map index value) ≡ Ok place → IsReached m mem index false place
-check_reached m mem index value map place e = reached_at m mem index map false place (fits_at m mem value place (at_location m mem index (way m (Mem mem) map false)) e).0
-
-record IsWriteReached (m : ModelData) (mem index value place : ℕ) : Type 0 where
-  reached : IsReached m mem index true place
-  open_to : is_writable m.chip mem ≡ true
-  small : value < 256 ^ location_size m.chip mem
-
-write_reached : (m : ModelData) (mem index value : ℕ) (map : Option ℕ) (place : ℕ) → grant m (op.MemWrite mem map index value) ≡ Ok place → IsWriteReached m mem index value place
-write_reached m mem index value map place e =
-    let along = way m (Mem mem) map true in
-    let first = fits_at m mem value place (at_location m mem index (writable m mem along)) e in
-    let second = only_ok (writable m mem along) (nat_lt index (memory_size m.chip mem)) OutOfRange place first.0 in
-    let third = only_ok along (is_writable m.chip mem) NotWritable place second.0 in
-    record {
-      reached = record { there = way_found m (Mem mem) map true place third.0; index_in = ltb-true index (memory_size m.chip mem) second.1 };
-      open_to = third.1;
-      small = first.1;
-    }
-
-size_of_some : {A : Type 0} (f : A → ℕ) (d : ℕ) (o : Option A) (n : ℕ) → option_map f o ≡ Some n → option_map_or f o d ≡ n
-size_of_some f d None n e = absurd (cc)
-size_of_some f d (Some a) n e = cc
-
-location_for : (m : ModelData) (mem index : ℕ) (write : Bool) (place : ℕ) → IsModel m → IsReached m mem index write place → IsLocationOf m.chip m.layout place mem index write
-location_for m mem index write place ok reached =
-    let at = reached.there in
-    let sizes = (ok.built place at.there.inside).1 mem at.there.item_is in
-    record {
-      layout = ok.layout;
-      place_in = at.there.inside;
-      index_in = subst (λ n. index < n) (size_of_some (λ m. m.size) 0 (slice_get m.chip.mems mem) (place_at m.layout place).size sizes) reached.index_in;
-      item = at.there.item_is;
-      right = at.right;
-    }
-
-bytes_there : (m : ModelData) (mem index : ℕ) (write : Bool) (place : ℕ) → IsModel m → IsReached m mem index write place → (place_at m.layout place).bytes ≡ location_size m.chip mem
-bytes_there m mem index write place ok reached = place_size m (Mem mem) place ok reached.there.there
-
-stored_at : (m : ModelData) (mem index value place : ℕ) (d : State) → IsModel m → IsReady m.chip m.layout d → mem < length m.chip.mems
-    → HasLocation d mem index (location_size m.chip mem) → IsWriteReached m mem index value place
-    → IsStore m.chip m.layout d place mem index value (ops_of m.layout place index (location_bytes m mem) value true)
-stored_at m mem index value place d ok ready inside has by =
-    let c = m.chip in
-    let l = m.layout in
-    let size = bytes_there m mem index true place ok by.reached in
-    let open_to : (mem_of d.setup mem).writable ≡ true = ap (λ (t : Setup). (mem_of t mem).writable) ready.setup ∙ (memory_row c l mem inside).writable ∙ by.open_to in
-    subst (λ n. IsStore c l d place mem index value (ops_of l place index (all_bytes n) value true)) size
-    (memory_write_is_store c l d place mem index value (location_for m mem index true place ok by.reached) ready (subst (HasLocation d mem index) (sym size) has) open_to
-    (subst (λ n. value < 256 ^ n) (sym size) by.small))
-
-loaded_at : (m : ModelData) (mem index place : ℕ) (d : State) → IsModel m → IsReady m.chip m.layout d → HasLocation d mem index (location_size m.chip mem)
-    → IsReached m mem index false place
-    → let chosen = location_bytes m mem in
-    IsLoad m.chip m.layout d place mem index (ops_of m.layout place index chosen 0 false) (joined m.layout place index chosen)
-loaded_at m mem index place d ok ready has reached =
-    let l = m.layout in
-    let size = bytes_there m mem index false place ok reached in
-    subst (λ n. IsLoad m.chip l d place mem index (ops_of l place index (all_bytes n) 0 false) (joined l place index (all_bytes n))) size
-    (memory_read_is_load m.chip l d place mem index (location_for m mem index false place ok reached) ready (subst (HasLocation d mem index) (sym size) has))
 
 -- ---- what stands
 
@@ -219,36 +135,38 @@ model_stays m (op.MemRead n map index) place sampled items is = either_model m (
 model_stays m (op.MemCheck n map index value) place sampled items is = either_model m (failed_at items) _ refl
 model_stays m _ place sampled items is = absurd is
 
+-- a read of a location, which sends these operations
+load_done : (s new : Scene) (t : Setup) (mem x place n index : ℕ) (o : Op) (e : Event) → IsModel s.model → IsDeafSetup s.model.chip s.model.layout t mem
+    → n < length s.model.chip.mems → (h : Holding s.model t mem x s) → IsGranted s.model n index false place
+    → sends s.model o place ≡ ops_of s.model.layout place index (location_bytes s.model n) 0 false → new.model ≡ s.model
+    → new.device ≡ Some (state_after_all h.device e.trace) → IsDone s new o place e → Holding s.model t mem x new
+load_done s new t mem x place n index o e ok deaf inside h by sent model goes done =
+    let m = s.model in
+    let d = h.device in
+    let has = has_blank m.chip m.layout t d n index deaf.hears h.setup h.locations inside by.index_in in
+    let load = loaded_at m n index place (blank d) ok (ready_twin m.chip m.layout t d _ deaf.hears h.setup h.beats h.bits h.marks) has by in
+    after_ops s new t mem x place o e (ops_of m.layout place index (location_bytes m n) 0 false) deaf h done sent model goes load.answers load.ready.beats
+
 memory_done : (s new : Scene) (t : Setup) (mem x place : ℕ) (o : Op) (e : Event) → IsModel s.model → IsDeafSetup s.model.chip s.model.layout t mem
     → IsMemoryAccess o → HasNumbers s.model.chip (length s.model.layout.maps) o → Holding s.model t mem x s → grant s.model o ≡ Ok place → IsDone s new o place e
     → Holding s.model t mem x new
 memory_done s new t mem x place (op.MemWrite n map index value) e ok deaf is numbers h granted done =
     let m = s.model in
     let d = h.device in
-    let by = write_reached m n index value map place granted in
-    let has = has_blank m.chip m.layout t d n index deaf.hears h.setup h.locations numbers.0 by.reached.index_in in
+    let by = write_granted m n index value map place granted in
+    let has = has_blank m.chip m.layout t d n index deaf.hears h.setup h.locations numbers.0 by.granted.index_in in
     let store = stored_at m n index value place (blank d) ok (ready_twin m.chip m.layout t d _ deaf.hears h.setup h.beats h.bits h.marks) numbers.0 has by in
     let ops = ops_of m.layout place index (location_bytes m n) value true in
     after_ops s new t mem x place (op.MemWrite n map index value) e ops deaf h done refl (done.model ∙ model_stays m (op.MemWrite n map index value) place done.sampled e.trace tt)
     (done.goes ∙ ap (option_map (λ (y : State). state_after_all y e.trace)) h.told) (all_written (answers_of (blank d) (port_for m.layout place) ops) ops store.answers) store.ready.beats
 memory_done s new t mem x place (op.MemCheck n map index value) e ok deaf is numbers h granted done =
-    let m = s.model in
-    let d = h.device in
-    let by = check_reached m n index value map place granted in
-    let has = has_blank m.chip m.layout t d n index deaf.hears h.setup h.locations numbers.0 by.index_in in
-    let load = loaded_at m n index place (blank d) ok (ready_twin m.chip m.layout t d _ deaf.hears h.setup h.beats h.bits h.marks) has by in
-    let ops = ops_of m.layout place index (location_bytes m n) 0 false in
-    after_ops s new t mem x place (op.MemCheck n map index value) e ops deaf h done refl (done.model ∙ model_stays m (op.MemCheck n map index value) place done.sampled e.trace tt)
-    (done.goes ∙ ap (option_map (λ (y : State). state_after_all y e.trace)) h.told) load.answers load.ready.beats
+    load_done s new t mem x place n index (op.MemCheck n map index value) e ok deaf numbers.0 h (check_granted s.model n index value map place granted) refl
+    (done.model ∙ model_stays s.model (op.MemCheck n map index value) place done.sampled e.trace tt)
+    (done.goes ∙ ap (option_map (λ (y : State). state_after_all y e.trace)) h.told) done
 memory_done s new t mem x place (op.MemRead n map index) e ok deaf is numbers h granted done =
-    let m = s.model in
-    let d = h.device in
-    let by = reached_at m n index map false place granted in
-    let has = has_blank m.chip m.layout t d n index deaf.hears h.setup h.locations numbers.0 by.index_in in
-    let load = loaded_at m n index place (blank d) ok (ready_twin m.chip m.layout t d _ deaf.hears h.setup h.beats h.bits h.marks) has by in
-    let ops = ops_of m.layout place index (location_bytes m n) 0 false in
-    after_ops s new t mem x place (op.MemRead n map index) e ops deaf h done refl (done.model ∙ model_stays m (op.MemRead n map index) place done.sampled e.trace tt)
-    (done.goes ∙ ap (option_map (λ (y : State). state_after_all y e.trace)) h.told) load.answers load.ready.beats
+    load_done s new t mem x place n index (op.MemRead n map index) e ok deaf numbers.0 h (granted_at s.model n index map false place granted) refl
+    (done.model ∙ model_stays s.model (op.MemRead n map index) place done.sampled e.trace tt)
+    (done.goes ∙ ap (option_map (λ (y : State). state_after_all y e.trace)) h.told) done
 memory_done s new t mem x place _ e ok deaf is numbers h granted done = absurd is
 
 memory_by : (s new : Scene) (t : Setup) (mem x : ℕ) (o : Op) (e : Event) (g : Grant) → grant s.model o ≡ g → IsModel s.model → IsDeafSetup s.model.chip s.model.layout t mem
@@ -287,7 +205,7 @@ check_done s new t mem x value place over e ok deaf inside fits other h granted 
     let d = h.device in
     let port = port_for l place in
     let adapter = standing_at s.adapters (adapter_for l place) in
-    let by = check_reached m mem 0 value over place granted in
+    let by = check_granted m mem 0 value over place granted in
     let chosen = location_bytes m mem in
     let ops = ops_of l place 0 chosen 0 false in
     let setup : (heard d).setup ≡ setup_of c l no_flaws = ap hearing h.setup ∙ deaf.hears in

@@ -37,6 +37,7 @@ use Rattle.rl_seq.specs.declared.sequence.Sequence.TheVariants.{HwReset}
 use Rattle.rl_seq.specs.Choice.{is_of, may_read}
 use Rattle.rl_seq.specs.Plan.{Plan, stop, each_below}
 use Rattle.rl_seq.specs.Sequences.{map_at, items_of, is_chosen, is_visited, at_place, visit, visit_all, walk}
+use Rattle.rl_plain.proofs.Kept.{model_with}
 use Rattle.rl_plain.proofs.Answered.{done_of}
 use Rattle.rl_finds.specs.Resets.{wrong_resets, HasWrongResets, IsResetOtherwise, IsNamedBy, WrongResetIsNamed}
 use Rattle.rl_finds.specs.Visited.{IsVisited}
@@ -44,7 +45,8 @@ use Rattle.rl_finds.proofs.Checks.{Holding, other_check, own_check}
 use Rattle.rl_finds.proofs.Comes.{ComesTo, Either, either_if, comes_if, either_each, comes_each, come_found}
 use Rattle.rl_finds.proofs.Forgetting.{setup_without, without}
 use Rattle.rl_finds.proofs.Reaching.{is_place, check_is}
-use Rattle.rl_finds.proofs.Wrong.{read_part, described_part, taken_part}
+use Rattle.rl_finds.proofs.Wrong.{described_part, taken_part}
+use Rattle.rl_plain.proofs.NothingFound.{same_part}
 
 -- ---- the plan
 
@@ -158,14 +160,9 @@ believed_again c m q inside =
     get_or-map-range_with_len (λ reg. after_reset (fields_of c reg) 0 (get_or m.mirrored reg 0)) 0 (length m.mirrored) q q 0 inside (omega arith)
 
 model_again : (m : ModelData) → IsModel m → IsModel (record m { mirror = reset m.chip 0 m.mirror })
-model_again m ok = record {
-  chip = ok.chip;
-  layout = ok.layout;
-  built = ok.built;
-  mirror = reset_built m.chip 0 m.mirror ok.chip ok.mirror;
-  reach = reset_reach m.chip 0 m.mirror ok.chip ok.mirror ok.reach;
-  predictor = ok.predictor;
-}
+model_again m ok =
+    model_with m (reset m.chip 0 m.mirror) m.gathered ok
+    (record { built = reset_built m.chip 0 m.mirror ok.chip ok.mirror; reach = reset_reach m.chip 0 m.mirror ok.chip ok.mirror ok.reach }) ok.predictor
 
 -- model and device after it
 pub record IsResetTo (s new : Scene) (d : State) : Type 0 where
@@ -232,7 +229,7 @@ names_it c l field bits mirrored sound inside compared apart s new o e own h per
         let readable : is_write_only (field_in fs k).shape.policy ≡ false = subst (λ (f : FieldSeen). is_write_only f.shape.policy ≡ false) (sym at.field) compared.readable in
         let read : part_of (field_of c field).shape (ranswer fs every r) ≡ part_of (field_of c field).shape bits =
         subst (λ (f : FieldSeen). part_of f.shape (ranswer fs every r) ≡ part_of f.shape bits) at.field
-        (read_part (8 * size_of c reg) fs k r (field_list c reg sound (seated c field sound inside).reg) at.place readable) in
+        (same_part (8 * size_of c reg) fs k r (field_list c reg sound (seated c field sound inside).reg) at.place readable) in
         let other : part_of (field_of c field).shape (ranswer fs every r) ≢ part_of (field_of c field).shape (mirrored_of s.model.mirror reg) =
         λ same. apart (sym read ∙ same ∙ ap (part_of (field_of c field).shape) h.believed) in
         let found : IsFoundOther (field_of c field).shape (ranswer fs every r) (mirrored_of s.model.mirror reg) = record { compared = compared; other = other } in

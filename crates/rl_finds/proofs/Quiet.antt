@@ -93,16 +93,12 @@ is_machine s ok w =
 
 pub nothing_is_named : NothingIsNamed
 nothing_is_named s new which block told ok w (inl all) =
-    let c = s.model.chip in
-    let l = s.model.layout in
     let p = machine_of s.model w.agree.device in
-    let plan = plan_of which c l block in
-    let course = plan_is_plain s new plan told p (plans_have_numbers which c l block ok.chip ok.layout) ok (is_machine s ok w) all in
-    each_told NamesNoField (λ e h. h) told (subst (All NamesNoField) (sym course.events) (along_names c l p plan))
+    let plan = plan_of which s.model.chip s.model.layout block in
+    let course = plan_is_plain s new plan told p (plans_have_numbers which s.model.chip s.model.layout block ok.chip ok.layout) ok (is_machine s ok w) all in
+    each_told NamesNoField (λ e h. h) told (subst (All NamesNoField) (sym course.events) (along_names s.model.chip s.model.layout p plan))
 nothing_is_named s new which block told ok w (inr some) =
-    let c = s.model.chip in
-    let l = s.model.layout in
     let p = machine_of s.model w.agree.device in
-    let plan = plan_of which c l block in
-    let course = broken_plan_is_plain s new plan told p (plans_have_numbers which c l block ok.chip ok.layout) ok (is_machine s ok w) some in
-    each_told NamesNoField (λ e h. h) told (subst (All NamesNoField) (sym course.events) (first_names c l p (length told) plan))
+    let plan = plan_of which s.model.chip s.model.layout block in
+    let course = broken_plan_is_plain s new plan told p (plans_have_numbers which s.model.chip s.model.layout block ok.chip ok.layout) ok (is_machine s ok w) some in
+    each_told NamesNoField (λ e h. h) told (subst (All NamesNoField) (sym course.events) (first_names s.model.chip s.model.layout p (length told) plan))

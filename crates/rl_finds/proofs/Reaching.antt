@@ -1,57 +1,29 @@
 -- Operations of sequences are accesses to a place, from any model of the chip and the layout.
-use Rattle.std.proofs.Common.{◌≡◌, ℕ, ◌*◌, ◌^◌, ◌<◌, nat_lt, bit_xor, if◌then◌else◌, Bool, true, false, ◌&&◌, length, Option, None, Some, option_map, Ok, Err, refl, sym, ap, ◌∙◌, subst, eq-eqb, arith}
+use Rattle.std.proofs.Common.{◌≡◌, ℕ, ◌*◌, ◌^◌, ◌<◌, nat_lt, bit_xor, if◌then◌else◌, Bool, true, false, length, Option, None, Some, option_map, Ok, Err, sym, ap, ◌∙◌, subst, arith}
 use Rattle.std.specs.Option.{option_map_or}
-use Rattle.std.proofs.lemmas.Bool.{and_parts, eqb-true, false_from_ne_true}
-use Rattle.std.proofs.lemmas.List.Sums.{position_or_len_is}
-use Rattle.std.proofs.lemmas.Nat.{mod_below, pow_pos, pow_below, xor_lt}
+use Rattle.std.proofs.lemmas.Nat.{mod_below, pow_pos}
 use borrow.Author.Tests.{lt-ltb}
 use Rattle.rl_model.specs.Rows.{ChipData}
 use Rattle.rl_model.specs.Fields.{size_of}
 use Rattle.rl_model.specs.declared.rows.Item.{Item}
 use Rattle.rl_model.specs.declared.rows.Item.TheVariants.{Reg, Mem}
-use Rattle.rl_map.specs.Layout.{LayoutData, place_at, place_of, no_place, same_item, is_in, has_right, IsLocation, IsSound}
+use Rattle.rl_map.specs.Layout.{LayoutData, place_at, place_of, has_right, IsLocation, IsSound}
 use Rattle.rl_map.specs.Maps.{IsBuiltWith}
-use Rattle.rl_map.specs.declared.rows.PlaceRow.{PlaceRow}
-use Rattle.rl_map.proofs.Accepting.{at_first}
 use Rattle.rl_map.proofs.Lookups.{same_from}
 use Rattle.rl_split.specs.Access.{all_bytes, ops_of}
 use Rattle.rl_mirror.specs.Mirror.{mirrored_of}
 use Rattle.rl_access.specs.declared.event.Op.TheVariants as op
-use Rattle.rl_access.specs.declared.event.Refused.{Refused}
 use Rattle.rl_access.specs.declared.event.Refused.TheVariants.{NoRight, NotWritable, OutOfRange, TooWide}
 use Rattle.rl_access.specs.Items.{failed_at}
 use Rattle.rl_access.specs.Model.{ModelData, IsModel}
 use Rattle.rl_access.specs.Operation.{location_size}
-use Rattle.rl_access.specs.Rules.{Grant, grant, only_where, placed, with_right, way, item_size, memory_size, is_writable}
+use Rattle.rl_access.specs.Rules.{grant, placed, with_right, way, item_size, memory_size, is_writable}
 use Rattle.rl_access.proofs.Bytes.{bytes_bits}
 use Rattle.rl_access.proofs.Places.{size_is}
 use Rattle.rl_seq.specs.Choice.{is_of, may_read, may_write, low_bits, turned_round}
 use Rattle.rl_seq.specs.Sequences.{map_at}
+use Rattle.rl_seq.proofs.Granting.{found, met, turned_fits, bashed_fits}
 use Rattle.rl_finds.proofs.Failing.{IsAccessAt, error_end}
-
--- ---- the place of an item in a map
-
-not_before : (l : LayoutData) (item : Item) (place k : ℕ) → IsSound l → place < length l.places → is_of l place item ≡ true → k < place
-    → (same_item (place_at l k).item item && is_in (Some (map_at l place)) (place_at l k).map) ≡ false
-not_before l item place k ok there mine low =
-    false_from_ne_true (same_item (place_at l k).item item && is_in (Some (map_at l place)) (place_at l k).map)
-    (λ picked.
-    let both = and_parts (same_item (place_at l k).item item) (is_in (Some (map_at l place)) (place_at l k).map) picked in
-    let items : (place_at l k).item ≡ (place_at l place).item = same_from (place_at l k).item item both.0
-    ∙ sym (same_from (place_at l place).item item mine) in
-    let maps : (place_at l k).map ≡ (place_at l place).map = eqb-true (place_at l k).map (map_at l place) both.1 in
-    let same : k ≡ place = ok.once k place (omega (arith, low, there)) there items maps in
-    omega (arith, same, low))
-
-found : (l : LayoutData) (item : Item) (place : ℕ) → IsSound l → place < length l.places → is_of l place item ≡ true
-    → place_of l item (Some (map_at l place)) ≡ Some place
-found l item place ok there mine =
-    let test : PlaceRow → Bool = λ p. same_item p.item item && is_in (Some (map_at l place)) p.map in
-    let passes : test (place_at l place) ≡ true = ap (λ b. b && is_in (Some (map_at l place)) (place_at l place).map) mine
-    ∙ eq-eqb (map_at l place) (map_at l place) refl in
-    at_first test l.places place
-    (position_or_len_is test l.places place no_place (omega (arith, there)) (λ k low. not_before l item place k ok there mine low)
-    (λ in_it. passes)) there
 
 -- a place of the item, in a layout of the chip
 pub record IsPlaceOf (c : ChipData) (l : LayoutData) (place : ℕ) (item : Item) : Type 0 where
@@ -77,16 +49,6 @@ way_to c l place item write p right m layout =
     ap (λ (x : LayoutData). with_right x write (placed (place_of x item (Some (map_at l place))))) layout
     ∙ ap (λ o. with_right l write (placed o)) (found l item place p.sound p.there p.mine)
     ∙ ap (λ b. if b then Ok place else Err NoRight) right
-
--- a condition that holds
-met : (g : Grant) (place : ℕ) (b : Bool) (why : Refused) → g ≡ Ok place → b ≡ true → only_where g b why ≡ Ok place
-met g place b why is so = ap (λ x. only_where x b why) is ∙ ap (λ c. if c then Ok place else Err why) so
-
-turned_fits : (c : ChipData) (item : Item) (v : ℕ) → nat_lt (turned_round c item v) (256 ^ item_size c item) ≡ true
-turned_fits c item v =
-    let bits = bytes_bits (item_size c item) in
-    let some = pow_pos (8 * item_size c item) in
-    lt-ltb (turned_round c item v) (256 ^ item_size c item) (omega (arith, bits, some))
 
 fits_for : (c : ChipData) (item : Item) (v : ℕ) (m : ModelData) → m.chip ≡ c → nat_lt (turned_round c item v) (256 ^ item_size m.chip item) ≡ true
 fits_for c item v m chip = subst (λ x. nat_lt (turned_round c item v) (256 ^ item_size x item) ≡ true) (sym chip) (turned_fits c item v)
@@ -118,20 +80,11 @@ write_is c l reg place v p right =
     }
 
 -- the word that turns a bit round is written too
-turned_fits_in : (m : ModelData) (reg bit : ℕ) → IsModel m → reg < length m.chip.regs → bit < 8 * size_of m.chip reg
-    → nat_lt (bit_xor (mirrored_of m.mirror reg) (2 ^ bit)) (256 ^ size_of m.chip reg) ≡ true
-turned_fits_in m reg bit ok there low =
-    let bits = bytes_bits (size_of m.chip reg) in
-    let fits = (ok.mirror.mirrored reg there).fits in
-    let one = pow_below bit (8 * size_of m.chip reg) low in
-    let both = xor_lt (8 * size_of m.chip reg) (mirrored_of m.mirror reg) (2 ^ bit) (omega (arith, bits, fits)) one in
-    lt-ltb (bit_xor (mirrored_of m.mirror reg) (2 ^ bit)) (256 ^ size_of m.chip reg) (omega (arith, bits, both))
-
 pub bash_granted : (c : ChipData) (l : LayoutData) (reg place bit : ℕ) → IsPlaceOf c l place (Reg reg) → may_write l place ≡ true → (m : ModelData) → IsModel m
     → m.chip ≡ c → m.layout ≡ l → reg < length m.chip.regs → bit < 8 * size_of m.chip reg
     → grant m (op.Write reg (Some (map_at l place)) (bit_xor (mirrored_of m.mirror reg) (2 ^ bit))) ≡ Ok place
 bash_granted c l reg place bit p right m ok chip layout there low =
-    met _ place _ TooWide (way_to c l place (Reg reg) true p right m layout) (turned_fits_in m reg bit ok there low)
+    met _ place _ TooWide (way_to c l place (Reg reg) true p right m layout) (bashed_fits m reg bit ok there low)
 
 pub mem_write_is : (c : ChipData) (l : LayoutData) (mem place index v : ℕ) → IsPlaceOf c l place (Mem mem) → may_write l place ≡ true
     → is_writable c mem ≡ true → index < memory_size c mem

@@ -1,47 +1,33 @@
 -- A field after a HARD reset: in the device, and as it is then believed.
-use Rattle.std.proofs.Common.{◌≡◌, ℕ, ◌+◌, ◌-◌, ◌*◌, ◌^◌, ◌<◌, Bool, true, false, eqb, eqb-true, List, length, map, Option, None, Some, is_some}
+use Rattle.std.proofs.Common.{◌≡◌, ℕ, ◌+◌, ◌-◌, ◌*◌, ◌^◌, ◌<◌, Bool, false, List, length, Some}
 use Rattle.std.proofs.Common.{refl, sym, ap, ◌∙◌, subst, arith}
 use Rattle.std.specs.Prelude.{slice_index}
 use Rattle.std.specs.Option.{option_map_or}
-use Rattle.std.proofs.lemmas.Bool.{and_parts}
-use Rattle.std.proofs.lemmas.Bool.Decides.{nat_tests}
-use Rattle.std.proofs.lemmas.List.{get_or-map, length-map}
-use Rattle.std.proofs.lemmas.List.Quantifiers.{position-Some}
-use Rattle.rl_policy.specs.Bits.{bit, is_within}
-use Rattle.rl_policy.specs.Table.{value_read, is_write_only}
-use Rattle.rl_policy.specs.declared.policy.Policy.{Policy}
-use Rattle.rl_policy.specs.declared.policy.Policy.TheVariants.{Wo, Woc, Wos, Wo1}
-use Rattle.rl_policy.proofs.BitLemmas.{bit-from_bits, from_bits-same, is_from_bits}
+use Rattle.std.proofs.lemmas.List.{get_or-map}
+use Rattle.rl_policy.specs.Bits.{bit}
+use Rattle.rl_policy.proofs.BitLemmas.{bit-from_bits, is_from_bits}
 use Rattle.rl_bus.specs.declared.table.FieldRow.{FieldRow}
 use Rattle.rl_bus.specs.declared.table.ResetRow.{ResetRow}
-use Rattle.rl_bus.specs.Setup.{Setup, Flaws, no_field as no_row, field_of as row_of_field, field_at, covers as covers_bit, reset_of, stuck_at, or_else, held}
+use Rattle.rl_bus.specs.Setup.{Setup, Flaws, no_field as no_row, field_of as row_of_field, field_at, reset_of, stuck_at, or_else, held}
 use Rattle.rl_bus.specs.State.{State, value_bit, reset_bit as device_bit, reg_reset}
 use Rattle.rl_model.specs.Rows.{FieldSeen, ChipData}
 use Rattle.rl_model.specs.Chip.{IsSound, value_for}
-use Rattle.rl_model.specs.Fields.{no_field, field_of, first_of, count_of, fields_of, field_in, policy_in, size_of, covers, place_at}
+use Rattle.rl_model.specs.Fields.{no_field, field_of, first_of, fields_of, field_in, size_of, place_at}
 use Rattle.rl_map.specs.Layout.{LayoutData}
 use Rattle.rl_map.specs.Tables.{field_row, setup_of}
 use Rattle.rl_split.specs.Law.{no_flaws}
-use Rattle.rl_split.specs.Step.{Register, every, ranswer, shown_bit}
 use Rattle.rl_mirror.specs.Fields.{part_of}
 use Rattle.rl_mirror.specs.Prediction.{reset_bit, after_reset}
-use Rattle.rl_mirror.proofs.FieldLemmas.{length-fields_of, field_in-fields_of, number_within, owner_is, apart_fields, field_list, seated}
+use Rattle.rl_mirror.proofs.FieldLemmas.{field_list, seated}
 use Rattle.rl_mirror.proofs.MirrorLemmas.{place_of}
-use Rattle.rl_mirror.proofs.PlaceLemmas.{IsFieldList, is_place, covers_is, place_is}
+use Rattle.rl_mirror.proofs.PlaceLemmas.{IsFieldList, covers_is}
 use Rattle.rl_mirror.proofs.WordLemmas.{bit-word_by_field}
 use Rattle.rl_access.specs.Operation.{reg_of}
-use Rattle.rl_plain.proofs.Backdoor.{is_field}
-use Rattle.rl_plain.proofs.Registers.{bit-ranswer}
+use Rattle.rl_plain.proofs.NothingFound.{place_found, covered}
+use Rattle.rl_plain.proofs.Resets.{field_found as plain_found}
 use Rattle.rl_finds.specs.Resets.{wrong_resets}
 
 -- ---- the bits of a field
-
-place_found : (o : Option ℕ) (k : ℕ) → is_place o k ≡ true → o ≡ Some k
-place_found None k e = absurd (cc)
-place_found (Some j) k e = ap Some (eqb-true j k e)
-
-pub covered : (f : FieldSeen) (i : ℕ) → i < f.shape.width → covers f.shape (f.shape.lsb + i) ≡ true
-covered f i l = grind (arith, nat_tests)
 
 -- each belongs to it
 pub record IsBitOf (fs : List FieldSeen) (k b : ℕ) : Type 0 where
@@ -56,25 +42,6 @@ bit_of bits fs k i list inside l =
       low = omega (arith, list.inside k inside, list.most, l);
       at = place_found (place_at fs (f.lsb + i)) k (sym (covers_is bits fs k (f.lsb + i) list inside) ∙ covered (field_in fs k) i l);
     }
-
--- ---- a compared field reads as its bits
-
-pub shows : (p : Policy) (x : Bool) → is_write_only p ≡ false → value_read p x ≡ x
-shows Wo x e = absurd (cc)
-shows Woc x e = absurd (cc)
-shows Wos x e = absurd (cc)
-shows Wo1 x e = absurd (cc)
-shows _ x e = refl
-
-pub read_part : (bits : ℕ) (fs : List FieldSeen) (k : ℕ) (r : Register) → IsFieldList bits fs → k < length fs → is_write_only (policy_in fs k) ≡ false
-    → part_of (field_in fs k).shape (ranswer fs every r) ≡ part_of (field_in fs k).shape r.bits
-read_part bits fs k r list inside readable =
-    let f = (field_in fs k).shape in
-    from_bits-same f.width (λ i. bit (ranswer fs every r) (f.lsb + i)) (λ i. bit r.bits (f.lsb + i))
-    (λ i l.
-    let b = f.lsb + i in
-    let here = bit_of bits fs k i list inside l in
-    bit-ranswer fs every r b here.low ∙ ap (λ o. shown_bit fs every o (bit r.bits b)) here.at ∙ shows (policy_in fs k) (bit r.bits b) readable)
 
 -- ---- as it is believed: the value that is described
 
@@ -104,14 +71,6 @@ pub row_is : (c : ChipData) (l : LayoutData) (f : Flaws) (field : ℕ) → field
 unfolding setup_of
 row_is c l f field inside = get_or-map field_row c.fields field no_field no_row inside
 
-first_field : (c : ChipData) (l : LayoutData) (f : Flaws) (reg b n : ℕ) → field_at (setup_of c l f) reg b ≡ Some n
-    → (n < length c.fields) × (covers_bit (row_of_field (setup_of c l f) n) reg b ≡ true)
-unfolding setup_of
-first_field c l f reg b n e =
-    let at = position-Some (λ (r : FieldRow). covers_bit r reg b) (map field_row c.fields) n no_row e in
-    let inside : n < length c.fields = subst (λ k. n < k) (length-map c.fields field_row) at.0 in
-    (inside, at.1)
-
 same_field : (c : ChipData) (l : LayoutData) (f : Flaws) (reg b : ℕ)
     → field_at (setup_of c l f) reg b ≡ field_at (setup_of c l no_flaws) reg b
 unfolding setup_of
@@ -120,26 +79,7 @@ same_field c l f reg b = refl
 -- the bit of a register's k-th field belongs to that field, counted through all registers
 pub field_found : (c : ChipData) (l : LayoutData) (f : Flaws) (reg b k : ℕ) → IsSound c → reg < length c.regs → place_at (fields_of c reg) b ≡ Some k
     → field_at (setup_of c l f) reg b ≡ Some (first_of c reg + k)
-field_found c l f reg b k sound inside at = by (field_at (setup_of c l f) reg b) refl
-  where
-    by : (o : Option ℕ) → field_at (setup_of c l f) reg b ≡ o → o ≡ Some (first_of c reg + k)
-    by None e =
-        let no : is_some (field_at (setup_of c l no_flaws) reg b) ≡ false = ap is_some (sym (same_field c l f reg b) ∙ e) in
-        let yes : is_some (place_at (fields_of c reg) b) ≡ true = ap is_some at in
-        let both : false ≡ true = sym no ∙ is_field c l reg b sound inside ∙ yes in
-        absurd (cc)
-    by (Some n) e =
-        let here = place_is (fields_of c reg) b k at in
-        let j = first_of c reg + k in
-        let found = first_field c l f reg b n e in
-        let row : covers_bit (field_row (field_of c n)) reg b ≡ true = subst (λ (r : FieldRow). covers_bit r reg b ≡ true) (row_is c l f n found.0) found.1 in
-        let parts = and_parts (eqb (field_of c n).shape.reg reg) (is_within (field_of c n).shape.lsb (field_of c n).shape.width b) row in
-        let own_n : (field_of c n).shape.reg ≡ reg = eqb-true (field_of c n).shape.reg reg parts.0 in
-        let all : length (fields_of c reg) ≡ count_of c reg = length-fields_of c reg sound inside in
-        let within : j < length c.fields = number_within c reg k sound inside here.0 in
-        let own_j : (field_of c j).shape.reg ≡ reg = owner_is c reg j sound inside (omega arith) (omega (arith, all, here.0)) in
-        let in_j : covers (field_of c j).shape b ≡ true = subst (λ (r : FieldSeen). covers r.shape b ≡ true) (field_in-fields_of c reg k sound inside here.0) here.1 in
-        ap Some (apart_fields c n j b sound found.0 within (own_n ∙ sym own_j) parts.1 in_j)
+field_found c l f reg b k sound inside at = same_field c l f reg b ∙ plain_found c l reg b k sound inside at
 
 none_stuck : (c : ChipData) (l : LayoutData) (resets : List ResetRow) (reg b : ℕ) (x : Bool) → or_else (stuck_at (setup_of c l (wrong_resets resets)) reg b) x ≡ x
 unfolding setup_of

@@ -1,42 +1,6 @@
 -- Texts that are put part by part.
-use Rattle.std.proofs.Common.{
-  codes,
-  ◌≡◌,
-  ℕ,
-  zero,
-  suc,
-  ◌+◌,
-  ◌-◌,
-  ◌*◌,
-  ◌%◌,
-  ◌^◌,
-  ◌<◌,
-  ◌≤◌,
-  List,
-  [],
-  ◌∷◌,
-  ◌++◌,
-  length,
-  drop,
-  get_or,
-  reverse,
-  Result,
-  Ok,
-  Err,
-  IsErr,
-  OnOk,
-  is_ok,
-  if◌then◌else◌,
-  Some,
-  sym,
-  ap,
-  subst,
-  ◌∙◌,
-  append_assoc,
-  append-nil,
-  zero-add,
-  arith,
-}
+use Rattle.std.proofs.Common.{codes, ◌≡◌, ℕ, zero, suc, ◌+◌, ◌-◌, ◌*◌, ◌%◌, ◌^◌, ◌<◌, ◌≤◌, List, [], ◌∷◌, ◌++◌, length, drop, get_or, reverse, Result, Ok, Err, IsErr, OnOk, is_ok}
+use Rattle.std.proofs.Common.{if◌then◌else◌, Some, sym, ap, subst, ◌∙◌, append_assoc, append-nil, zero-add, arith}
 use Rattle.std.specs.declared.option.Option.{Option}
 use Rattle.std.specs.List.{flat_map, range_with_len, slice_get}
 use Rattle.std.specs.Io.KnownBytes.{Appends}

@@ -1,5 +1,5 @@
 -- How a session opens, by its head.
-use Rattle.std.proofs.Common.{◌≡◌, ◌≢◌, ℕ, ◌<◌, ◌≤◌, List, ◌++◌, length, take, drop, codes, Result, Ok, Err, IfOk, IfErr, Some, None, refl, sym, ap, ◌∙◌}
+use Rattle.std.proofs.Common.{◌≡◌, ◌≢◌, ℕ, ◌<◌, ◌≤◌, Bool, true, false, ltb, List, ◌++◌, length, take, drop, codes, Result, Ok, Err, IfOk, IfErr, Some, None, refl, sym, ap, ◌∙◌}
 use Rattle.std.proofs.lemmas.Bool.{le-leb, lt-leb, lt-ltb, le-ltb}
 use Rattle.std.proofs.Math.Seq.{take-append_seam}
 use Rattle.std.specs.declared.option.Option.{Option}
@@ -31,21 +31,20 @@ past None bytes h = refl
 past (Some at) bytes h =
     ap (λ b. if b then Ok (take at bytes) else Err (no_head_text bytes)) (lt-leb at 1048576 (h at refl))
 
+no_head : (bytes : List ℕ) (long : Bool) → HasNoHead bytes → ltb 1048576 (length bytes) ≡ long
+    → head_of bytes ≡ Err (if long then codes "refused session: description too long\n" else codes "refused session: no separator\n")
+unfolding head_of
+no_head bytes long none is =
+    past (separator_at bytes) bytes none
+    ∙ ap (λ b. Err (if b then codes "refused session: description too long\n" else codes "refused session: no separator\n")) is
+
 pub missing_head : (bytes : List ℕ) → HasNoHead bytes → length bytes ≤ 1048576 → head_of bytes ≡ Err
     (codes "refused session: no separator\n")
-unfolding head_of
-missing_head bytes none few =
-    past (separator_at bytes) bytes none
-    ∙ ap (λ b. Err (if b then codes "refused session: description too long\n" else codes
-    "refused session: no separator\n")) (le-ltb 1048576 (length bytes) few)
+missing_head bytes none few = no_head bytes false none (le-ltb 1048576 (length bytes) few)
 
 pub long_head : (bytes : List ℕ) → HasNoHead bytes → 1048576 < length bytes → head_of bytes ≡ Err
     (codes "refused session: description too long\n")
-unfolding head_of
-long_head bytes none many =
-    past (separator_at bytes) bytes none
-    ∙ ap (λ b. Err (if b then codes "refused session: description too long\n" else codes
-    "refused session: no separator\n")) (lt-ltb 1048576 (length bytes) many)
+long_head bytes none many = no_head bytes true none (lt-ltb 1048576 (length bytes) many)
 
 pub opening_refused : (bytes line : List ℕ) (kinds : List AdapterKind) → head_of bytes ≡ Err line
     → opening_of bytes kinds ≡ Err line

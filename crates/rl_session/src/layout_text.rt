@@ -9,9 +9,8 @@ ghost use Rattle.rl_report.specs.Pieces.{Puts};
 ghost use Rattle.rl_session.specs.LayoutPieces.{heading_text, word_line, words_text, places_text};
 
 use crate::digits::front;
-use bitflags::Flags;
 use itoa::{Buffer, write_digits};
-use rl_map::{Layout, Word};
+use rl_map::{Layout, Word, has_right};
 use rl_model::{Chip, Rights};
 use rl_policy::spell;
 use rl_report::{Failed, Sink, put_all, put_pieces};
@@ -94,10 +93,12 @@ fn put_words<K: Sink>(sink: &mut K, layout: &Layout, place: u32) -> Result<(), F
 fn rights_text(rights: Rights) -> &'static [u8]
     ensures { result.now ≡ rights_text rights }
 {
-    let reads = rights.contains(Rights::READ);
-    let writes = rights.contains(Rights::WRITE);
-    if reads {
-        if writes { b"rw" } else { b"ro" }
+    if has_right(rights, false) {
+        if has_right(rights, true) {
+            b"rw"
+        } else {
+            b"ro"
+        }
     } else {
         b"wo"
     }

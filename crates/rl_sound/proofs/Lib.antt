@@ -1,4 +1,3 @@
-pub mod Chips
 pub mod Maps
 pub mod Places
 pub mod Shares

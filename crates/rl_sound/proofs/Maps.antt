@@ -1,43 +1,6 @@
 -- Maps that no condition refuses make sound tables.
-use Rattle.std.proofs.Common.{
-  ◌≡◌,
-  ℕ,
-  zero,
-  suc,
-  ◌+◌,
-  ◌<◌,
-  ◌≤◌,
-  Bool,
-  true,
-  false,
-  not,
-  ◌==◌,
-  ◌&&◌,
-  ◌||◌,
-  inl,
-  inr,
-  nat_lt,
-  nat_le,
-  List,
-  [],
-  ◌∷◌,
-  length,
-  get_or,
-  slice_get,
-  Option,
-  Some,
-  None,
-  is_some,
-  is_none,
-  unwrap_or,
-  refl,
-  sym,
-  ap,
-  ◌∙◌,
-  subst,
-  arith,
-  eqb-true,
-}
+use Rattle.std.proofs.Common.{◌≡◌, ℕ, zero, suc, ◌+◌, ◌<◌, ◌≤◌, Bool, true, false, not, ◌==◌, ◌&&◌, ◌||◌, inl, inr, nat_lt, nat_le, List, [], ◌∷◌, length, get_or, slice_get, Option, Some}
+use Rattle.std.proofs.Common.{None, is_some, is_none, unwrap_or, refl, sym, ap, ◌∙◌, subst, arith, eqb-true}
 use Rattle.std.specs.Prelude.{fold, bytes_eq}
 use Rattle.std.proofs.lemmas.Bool.{cases_Bool}
 use Rattle.std.proofs.lemmas.Bool.Decides.{nat_tests}

@@ -27,7 +27,7 @@ use Rattle.rl_plain_log.specs.PlainLog.{IsPlainLog}
 use Rattle.rl_plain_log.proofs.PlainLaws.{laws}
 use Rattle.rl_plain_log.proofs.PlainSession.{log_of_desc, log_of_refused}
 use Rattle.rl_sound.specs.Sound.{AreKinds, IsLayoutOf}
-use Rattle.rl_sound.proofs.Chips.{each_chip_sound}
+use Rattle.rl_model.proofs.ChipSound.{each_chip_sound}
 use Rattle.rl_sound.proofs.Layouts.{each_layout_sound}
 
 -- ---- a description

@@ -1,49 +1,6 @@
 -- Places that no condition refuses, but for shared addresses.
-use Rattle.std.proofs.Common.{
-  ◌≡◌,
-  ℕ,
-  zero,
-  suc,
-  ◌+◌,
-  ◌*◌,
-  ◌<◌,
-  ◌≤◌,
-  Bool,
-  true,
-  false,
-  not,
-  ◌&&◌,
-  nat_lt,
-  nat_le,
-  List,
-  [],
-  ◌∷◌,
-  ◌++◌,
-  length,
-  map,
-  get_or,
-  slice_get,
-  take,
-  drop,
-  sum_by,
-  Option,
-  Some,
-  None,
-  is_some,
-  is_none,
-  unwrap_or,
-  option_map,
-  refl,
-  sym,
-  ap,
-  ◌∙◌,
-  subst,
-  arith,
-  append_assoc,
-  append-nil,
-  length-append,
-  length-take,
-}
+use Rattle.std.proofs.Common.{◌≡◌, ℕ, zero, suc, ◌+◌, ◌<◌, ◌≤◌, Bool, false, ◌&&◌, nat_lt, nat_le, List, [], ◌∷◌, ◌++◌, length, map, slice_get, take, drop, sum_by}
+use Rattle.std.proofs.Common.{Option, Some, None, is_none, unwrap_or, option_map, refl, sym, ap, ◌∙◌, subst, arith, append_assoc, append-nil, length-append, length-take}
 use Rattle.std.specs.Option.{option_or}
 use Rattle.std.specs.Prelude.{bytes_eq, position}
 use Rattle.std.proofs.lemmas.Bool.Decides.{nat_tests}
@@ -64,11 +21,11 @@ use Rattle.rl_map.specs.declared.parts.PlacePart.{PlacePart}
 use Rattle.rl_map.specs.declared.rows.MapRow.{MapRow}
 use Rattle.rl_map.specs.declared.rows.PortRow.{PortRow}
 use Rattle.rl_map.specs.declared.rows.PlaceRow.{PlaceRow}
-use Rattle.rl_map.specs.Building.{AreTables, IsPlacedIn, IsPlaceRow, HasRoom, IsSeated, ArePlaces, placed_in, rows_of, rows_of_all}
+use Rattle.rl_map.specs.Building.{AreTables, IsPlacedIn, IsPlaceRow, IsSeated, ArePlaces, placed_in, rows_of, rows_of_all}
 use Rattle.rl_map.specs.Faults.{row_at, is_mem, is_placed, word_count, some_byte, is_above, is_unaligned}
-use Rattle.rl_map.specs.Layout.{no_map, no_place}
+use Rattle.rl_map.specs.Layout.{no_map}
 use Rattle.rl_map.specs.Level.{has_fifo}
-use Rattle.rl_map.specs.Maps.{map_number, map_with, item_at, item_bytes, item_size, place_row, IsPlaceIn}
+use Rattle.rl_map.specs.Maps.{map_number, map_with, item_at, item_bytes, item_size, place_row}
 use Rattle.rl_map.specs.Steps.{own_checks, own_fault, own_faults, place_of_part}
 use Rattle.rl_map.proofs.Bools.{ge_from}
 use Rattle.rl_map.proofs.Placing.{places_more, length-rows_of}
@@ -76,50 +33,62 @@ use Rattle.rl_sound.proofs.Maps.{passed}
 
 -- ---- an item
 
--- it is there, and its numbers are within the limits
-record IsItem (chip : ChipData) (i : Item) : Type 0 where
-  bytes : bytes_of chip i ≡ Some (item_bytes chip i)
-  some : 1 ≤ item_bytes chip i
-  most : item_bytes chip i ≤ 8
-  size : 1 ≤ item_size chip i
-  sizes : item_size chip i ≤ 65536
-  reg : (r : ℕ) → i ≡ item.Reg r → item_size chip i ≡ 1
-  mem : (m : ℕ) → i ≡ item.Mem m → option_map (λ m. m.size) (slice_get chip.mems m) ≡ Some (item_size chip i)
-
 size_low : (mems : List MemRow) (n : ℕ) (m : MemRow) → slice_get mems n ≡ Some m → m.size ≤ sum_by (λ m. m.size) mems
 size_low [] n m at = absurd (cc)
 size_low (x ∷ xs) zero m at =
     let is : x ≡ m = cc in omega (arith, ap (λ (m : MemRow). m.size) is, sum_by-cons (λ (m : MemRow). m.size) x xs)
 size_low (x ∷ xs) (suc n) m at = omega (arith, size_low xs n m at, sum_by-cons (λ (m : MemRow). m.size) x xs)
 
-item_fits : (chip : ChipData) (i : Item) → IsSound chip → HasItem chip i → IsItem chip i
-item_fits chip (item.Reg n) ok low =
+-- a place of this map and this item
+abbrev row_with : ChipData → List MapRow → PlacePart → Option ℕ → Option Item → PlaceRow
+row_with chip maps part number found = record {
+  map = unwrap_or number 0;
+  item = unwrap_or found (item.Reg 0);
+  offset = part.offset;
+  rights = part.rights;
+  bytes = item_bytes chip (unwrap_or found (item.Reg 0));
+  size = item_size chip (unwrap_or found (item.Reg 0));
+  port = (map_with maps number).port;
+  fifo = has_fifo (map_with maps number).path;
+}
+
+-- an item that is there has numbers within the limits, and so has a place of it
+item_placed : (chip : ChipData) (maps : List MapRow) (part : PlacePart) (map : ℕ) (i : Item) → IsSound chip → map < length maps → HasItem chip i
+    → IsPlacedIn chip maps (row_with chip maps part (Some map) (Some i))
+item_placed chip maps part map (item.Reg n) ok in_maps low =
     let (r, at) = there chip.regs n low in
     let fits = ok.each_reg n r at in
     let is : item_bytes chip (item.Reg n) ≡ r.bytes = ap (λ (o : Option RegRow). unwrap_or (option_map (λ r. r.bytes) o) 0) at in
     record {
-      bytes = ap (option_map (λ (r : RegRow). r.bytes)) at ∙ ap Some (sym is);
+      map = in_maps;
+      port = refl;
       some = omega (arith, is, fits.0);
       most = omega (arith, is, fits.1);
       size = omega arith;
       sizes = omega arith;
       reg = λ r is. refl;
-      mem = λ m is. absurd (cc);
+      fifo = refl;
+      known = (ap (option_map (λ (r : RegRow). r.bytes)) at ∙ ap Some (sym is), λ m is. absurd (cc));
     }
-item_fits chip (item.Mem n) ok low =
+item_placed chip maps part map (item.Mem n) ok in_maps low =
     let (m, at) = there chip.mems n low in
     let fits = ok.each_mem n m at in
     let is : item_bytes chip (item.Mem n) ≡ m.bytes = ap (λ (o : Option MemRow). unwrap_or (option_map (λ m. m.bytes) o) 0) at in
     let size : item_size chip (item.Mem n) ≡ m.size = ap (λ (o : Option MemRow). unwrap_or (option_map (λ m. m.size) o) 0) at in
     record {
-      bytes = ap (option_map (λ (m : MemRow). m.bytes)) at ∙ ap Some (sym is);
+      map = in_maps;
+      port = refl;
       some = omega (arith, is, fits.0);
       most = omega (arith, is, fits.1);
       size = omega (arith, size, fits.2);
       sizes = omega (arith, size, size_low chip.mems n m at, ok.locations);
       reg = λ r is. absurd (cc);
-      mem = λ k same. let e : n ≡ k = cc in subst (λ k. option_map (λ (m : MemRow). m.size) (slice_get chip.mems k) ≡ Some (item_size chip (item.Mem n))) e
-          (ap (option_map (λ (m : MemRow). m.size)) at ∙ ap Some (sym size));
+      fifo = refl;
+      known = (
+        ap (option_map (λ (m : MemRow). m.bytes)) at ∙ ap Some (sym is),
+        λ k same. let e : n ≡ k = cc in subst (λ k. option_map (λ (m : MemRow). m.size) (slice_get chip.mems k) ≡ Some (item_size chip (item.Mem n))) e
+            (ap (option_map (λ (m : MemRow). m.size)) at ∙ ap Some (sym size)),
+      );
     }
 
 -- what a look-up finds is there
@@ -143,19 +112,6 @@ item_found chip path i is =
 
 -- ---- a place
 
--- a place of this map and this item
-abbrev row_with : ChipData → List MapRow → PlacePart → Option ℕ → Option Item → PlaceRow
-row_with chip maps part number found = record {
-  map = unwrap_or number 0;
-  item = unwrap_or found (item.Reg 0);
-  offset = part.offset;
-  rights = part.rights;
-  bytes = item_bytes chip (unwrap_or found (item.Reg 0));
-  size = item_size chip (unwrap_or found (item.Reg 0));
-  port = (map_with maps number).port;
-  fifo = has_fifo (map_with maps number).path;
-}
-
 row_fits : (chip : ChipData) (maps : List MapRow) (part : PlacePart) → IsSound chip → (number : Option ℕ) (found : Option Item)
     → map_number maps part.map ≡ number → item_at chip part.item ≡ found → is_none number ≡ false → is_none found ≡ false
     → IsPlacedIn chip maps (row_with chip maps part number found)
@@ -163,18 +119,7 @@ row_fits chip maps part ok None found p q a b = absurd (cc)
 row_fits chip maps part ok (Some n) None p q a b = absurd (cc)
 row_fits chip maps part ok (Some n) (Some i) p q a b =
     let at = position-Some (λ (r : MapRow). bytes_eq r.name part.map) maps n no_map p in
-    let fits = item_fits chip i ok (item_found chip part.item i q) in
-    record {
-      map = at.0;
-      port = refl;
-      some = fits.some;
-      most = fits.most;
-      size = fits.size;
-      sizes = fits.sizes;
-      reg = fits.reg;
-      fifo = refl;
-      known = (fits.bytes, fits.mem);
-    }
+    item_placed chip maps part n i ok at.0 (item_found chip part.item i q)
 
 is_memory : (i : Item) (m : ℕ) (fifo : Bool) → i ≡ item.Mem m → (is_mem i && fifo) ≡ false → fifo ≡ false
 is_memory (item.Reg n) m fifo is none = absurd (cc)

@@ -1,4 +1,4 @@
-use Rattle.rl_sound.proofs.Chips.{each_chip_sound}
+use Rattle.rl_model.proofs.ChipSound.{each_chip_sound}
 use Rattle.rl_sound.proofs.law.each_chip_is_sound.Goals as goal
 
 pub returns : goal.returns
