@@ -1,8 +1,8 @@
 //! Runs a session on a device that stands behind standard output and input, as the bench of an RTL simulator.
 #![tactic(auto)]
 
-use rl_apb::ApbAdapter;
-use rl_bus::{Adapters, PlainAdapter};
+use rl_apb::fresh_adapters;
+use rl_bus::Adapters;
 use rl_link::ByLine;
 use rl_linked::run_linked;
 use rl_log::Status;
@@ -23,14 +23,7 @@ fn run_files(rt: &HostRuntime, session: &str, log: &str) -> Result<u8, AllocErro
     let Some(log) = create_file(rt, PROGRAM, log) else {
         return Ok(Status::SinkFault.code());
     };
-    let plain = PlainAdapter {
-        next_tag: 0,
-        trail: 0,
-    };
-    let apb = ApbAdapter {
-        next_serial: 0,
-        trail: 0,
-    };
+    let (plain, apb) = fresh_adapters();
     let mut adapters: Adapters = Vec::new(alloc);
     adapters.push(Box::new(alloc, plain)?)?;
     adapters.push(Box::new(alloc, apb)?)?;

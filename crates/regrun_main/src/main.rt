@@ -2,8 +2,8 @@
 #![tactic(auto)]
 
 use regrun::{Status, regrun};
-use rl_apb::ApbAdapter;
-use rl_bus::{Adapters, PlainAdapter};
+use rl_apb::fresh_adapters;
+use rl_bus::Adapters;
 use rl_program::{code_of, words};
 use rl_report::{StdSink, StdSource};
 use std::io;
@@ -14,19 +14,12 @@ use std::rt::Env;
 fn run(rt: &(impl Env + AllocGlobal + Input + Print)) -> io::Result<u8> {
     let alloc = rt.alloc();
     let words = words(rt)?;
-    let plain = PlainAdapter {
-        next_tag: 0,
-        trail: 0,
-    };
-    let apb = ApbAdapter {
-        next_serial: 0,
-        trail: 0,
-    };
+    let mut source = StdSource::new(rt.reader());
+    let mut sink = StdSink::new(io::writer(rt));
+    let (plain, apb) = fresh_adapters();
     let mut adapters: Adapters = Vec::new(alloc);
     adapters.push(Box::new(alloc, plain)?)?;
     adapters.push(Box::new(alloc, apb)?)?;
-    let mut source = StdSource::new(rt.reader());
-    let mut sink = StdSink::new(io::writer(rt));
     Ok(regrun(alloc, &words, &mut source, &mut sink, &mut adapters).code())
 }
 

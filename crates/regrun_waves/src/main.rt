@@ -4,8 +4,8 @@
 mod session;
 
 use crate::session::{Ran, run_waves};
-use rl_apb::ApbAdapter;
-use rl_bus::{Adapters, PlainAdapter};
+use rl_apb::fresh_adapters;
+use rl_bus::Adapters;
 use rl_dump::Fault;
 use rl_log::Status;
 use rl_program::{code_of, create_file, open_file, words};
@@ -49,14 +49,7 @@ fn run_files(rt: &HostRuntime, path: &str, waves: &str) -> Result<u8, AllocError
     let Some(vcd) = create_file(rt, PROGRAM, waves) else {
         return Ok(Status::SinkFault.code());
     };
-    let plain = PlainAdapter {
-        next_tag: 0,
-        trail: 0,
-    };
-    let apb = ApbAdapter {
-        next_serial: 0,
-        trail: 0,
-    };
+    let (plain, apb) = fresh_adapters();
     let mut adapters: Adapters = Vec::new(alloc);
     adapters.push(Box::new(alloc, plain)?)?;
     adapters.push(Box::new(alloc, apb)?)?;

@@ -11,7 +11,7 @@ use rl_desc::Desc;
 use rl_log::Status;
 use rl_model::{Chip, Item};
 use rl_opening::refused;
-use rl_report::{Failed, Sink, put_all};
+use rl_report::{Failed, Sink, put_all, put_pieces};
 
 /// Why a description that can be run on a device model can't be run over a link.
 #[derive(Clone, Copy, Debug, PartialEq, Eq)]
@@ -71,10 +71,13 @@ fn put_backdoor<Q: Sink>(log: &mut Q, array: &[u8], row: u32) -> Result<(), Fail
     ensures ends_kept { Q.ends log.new ≡ Q.ends log.old }
 {
     let mut number = Buffer::new();
-    put_all(log, b"refused description ")?;
-    put_all(log, array)?;
-    put_all(log, number.format(u64::from(row) + 1).as_bytes())?;
-    put_all(log, b": no backdoor over a link\n")
+    let pieces: [&[u8]; 4] = [
+        b"refused description ",
+        array,
+        number.format(u64::from(row) + 1).as_bytes(),
+        b": no backdoor over a link\n",
+    ];
+    put_pieces(log, &pieces)
 }
 
 /// Writes the last line of a session that is refused so.

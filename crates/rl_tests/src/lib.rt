@@ -1,28 +1,10 @@
 //! Tests of the public calls over parts that a caller brings: an adapter, a device, sources and sinks that no other
 //! crate has.
 //!
-//! What a command can show stands in `rows/`; here is what it can't: sources and sinks that fail or wait, words that
-//! are sent alone, and a predictor by itself. All stands apart from the crates that it tests, since a crate with tests
+//! What a command can show stands in `rows/`; here is what it can't: sources and sinks that fail or wait, and a
+//! predictor by itself. All stands apart from the crates that it tests, since a crate with tests
 //! is proved twice.
 #![tactic(auto)]
 
 #[cfg(test)]
-mod accesses;
-#[cfg(test)]
-mod adapter;
-#[cfg(test)]
-mod device;
-#[cfg(test)]
-mod fixture;
-#[cfg(test)]
-mod playing;
-#[cfg(test)]
-mod sessions;
-#[cfg(test)]
-mod sink;
-#[cfg(test)]
-mod talk;
-#[cfg(test)]
-mod watching;
-#[cfg(test)]
-mod words;
+mod tests;

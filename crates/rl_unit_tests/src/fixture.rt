@@ -1,6 +1,6 @@
 // What tables of texts are read by, and the kinds of the two adapters.
-use rl_apb::ApbAdapter;
-use rl_bus::{Adapter, AdapterKind, PlainAdapter};
+use rl_apb::fresh_adapters;
+use rl_bus::{Adapter, AdapterKind};
 use rl_model::Name;
 use std::alloc::{AllocError, Global};
 use std::str::SplitWhitespace;
@@ -21,13 +21,6 @@ pub(crate) fn number(text: &str) -> u64 {
 
 /// Those of a plain adapter and of one of APB.
 pub(crate) fn kinds() -> [AdapterKind; 2] {
-    let plain = PlainAdapter {
-        next_tag: 0,
-        trail: 0,
-    };
-    let apb = ApbAdapter {
-        next_serial: 0,
-        trail: 0,
-    };
+    let (plain, apb) = fresh_adapters();
     [plain.kind(), apb.kind()]
 }

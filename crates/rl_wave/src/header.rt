@@ -74,6 +74,7 @@ fn push_vars(text: &mut Vec<u8>, bus: Bus, bytes: u32) -> Result<(), AllocError>
 }
 
 // Appends the pins of a bus before its first transfer.
+#[tactic(auto, using(crate::proofs::TextLemmas::more, crate::proofs::TextLemmas::last))]
 fn push_idle(text: &mut Vec<u8>, bus: Bus) -> Result<(), AllocError>
     requires { bus.bytes ≤ 4 }
     ensures { OnOk result (text.new.items ≡ text.old.items ++ idle_text bus) }

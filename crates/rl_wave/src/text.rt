@@ -54,6 +54,7 @@ fn bit_digit(value: bool) -> &'static [u8]
 }
 
 // Appends a signal's value.
+#[tactic(auto, using(crate::proofs::TextLemmas::more, crate::proofs::TextLemmas::last))]
 pub(crate) fn push_bit(
     text: &mut Vec<u8>,
     letter: u8,
@@ -69,6 +70,7 @@ pub(crate) fn push_bit(
 }
 
 // Appends a signal's value, of so many digits.
+#[tactic(auto, using(crate::proofs::TextLemmas::more, crate::proofs::TextLemmas::last))]
 pub(crate) fn push_word(
     text: &mut Vec<u8>,
     letter: u8,

@@ -36,6 +36,7 @@ impl From<AllocError> for Fault {
 }
 
 // Appends a clock cycle before its changes.
+#[tactic(auto, using(crate::proofs::TextLemmas::more, crate::proofs::TextLemmas::last))]
 fn open_cycle(text: &mut Vec<u8>, n: u64) -> Result<(), AllocError>
     ensures { OnOk result (text.new.items ≡ text.old.items ++ opening_text n) }
 {
@@ -48,6 +49,7 @@ fn open_cycle(text: &mut Vec<u8>, n: u64) -> Result<(), AllocError>
 }
 
 // Appends the end of a clock cycle.
+#[tactic(auto, using(crate::proofs::TextLemmas::more, crate::proofs::TextLemmas::last))]
 fn close_cycle(text: &mut Vec<u8>, n: u64) -> Result<(), AllocError>
     ensures { OnOk result (text.new.items ≡ text.old.items ++ closing_text n) }
 {
@@ -58,6 +60,7 @@ fn close_cycle(text: &mut Vec<u8>, n: u64) -> Result<(), AllocError>
 }
 
 // Appends a clock cycle in which the pins change so.
+#[tactic(auto, using(crate::proofs::TextLemmas::more, crate::proofs::TextLemmas::last))]
 fn push_cycle(
     text: &mut Vec<u8>,
     n: u64,
@@ -85,6 +88,7 @@ fn push_characters(text: &mut Vec<u8>, label: &[u8]) -> Result<(), AllocError>
 }
 
 // Appends the operation beside the pins.
+#[tactic(auto, using(crate::proofs::TextLemmas::more, crate::proofs::TextLemmas::last))]
 fn push_label(text: &mut Vec<u8>, label: &[u8]) -> Result<(), AllocError>
     ensures { OnOk result (text.new.items ≡ text.old.items ++ label_text label.now) }
 {
@@ -95,6 +99,7 @@ fn push_label(text: &mut Vec<u8>, label: &[u8]) -> Result<(), AllocError>
 }
 
 // Appends the setup phase, in which the operation appears.
+#[tactic(auto, using(crate::proofs::TextLemmas::more, crate::proofs::TextLemmas::last))]
 fn push_setup(
     text: &mut Vec<u8>,
     n: u64,
@@ -135,6 +140,7 @@ fn push_access(
 }
 
 // Appends the idle cycle behind a transfer, in which its operation disappears.
+#[tactic(auto, using(crate::proofs::TextLemmas::more, crate::proofs::TextLemmas::last))]
 fn push_end(text: &mut Vec<u8>, n: u64, bus: Bus, last: &Pins) -> Result<(), AllocError>
     requires { bus.bytes ≤ 4 }
     ensures { OnOk result (text.new.items ≡ text.old.items

@@ -1,0 +1,10 @@
+-- Each access may be made.
+use Rattle.std.proofs.Common.{map}
+use Rattle.rl_access.specs.Model.{IsReady}
+use Rattle.rl_mam.specs.Mam.{IsManagerOf}
+use Rattle.rl_access_tests.proofs.tests.regions.all_accessed.Given as goal
+
+abbrev pub invariant-loop-access : goal.invariant-loop-access
+invariant-loop-access g l =
+    IsReady l.model (map (λ b. (goal.Adapter-dyn g (b.vtable, b.value)).standing b.value) l.adapters.items) (g.D.Device.state l.device)
+    × IsManagerOf l.model.chip l.mam

@@ -1,0 +1,9 @@
+// The tests, a file for what each is of, and what they share.
+
+mod fixture;
+mod indexed;
+mod quiet;
+mod regions;
+mod registers;
+mod words;
+mod woven;

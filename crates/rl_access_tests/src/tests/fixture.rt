@@ -1,0 +1,116 @@
+// Adapters, what a description describes, and what is done with it.
+ghost use Rattle.std.specs.Prelude.{◌≡◌, ◌<◌, ◌^◌, IfOk, None, Some, length, map};
+ghost use Rattle.rl_access.specs.Model.{IsReady};
+ghost use Rattle.rl_bench.specs.State.{bench_state};
+
+use crate::tests::indexed::{Case, banks_built, run};
+use crate::tests::quiet::{Failing, Quiet};
+use crate::tests::regions::regions_accessed;
+use crate::tests::words::{Row, all_sent, bits_adopted};
+use crate::tests::woven::{Group, all_woven, rows_added};
+use rl_access::Model;
+use rl_bench::Bench;
+use rl_bus::{Adapter, Adapters, PlainAdapter};
+use rl_session::{described, open};
+use std::alloc::{AllocGlobal, Global};
+use std::process::Abort;
+use std::test::Fail;
+
+const PLAIN: PlainAdapter = PlainAdapter {
+    next_tag: 0,
+    trail: 0,
+};
+
+// One plain adapter.
+fn plain_adapter(alloc: Global) -> Result<Adapters, Fail>
+    ensures { IfOk result (λ adapters. length (map standing adapters.items) < 2 ^ 32) }
+{
+    let mut adapters: Adapters = Vec::new(alloc);
+    adapters.push(Box::new(alloc, PLAIN)?)?;
+    Ok(adapters)
+}
+
+// The model and the device of a description. The model goes with a device that doesn't tell its state, too.
+fn opened(alloc: Global, adapters: &Adapters, text: &str) -> Result<(Model, Bench), Fail>
+    requires { length (map standing adapters.now.items) < 2 ^ 32 }
+    ensures bench { IfOk result (λ opened.
+        IsReady opened.0 (map standing adapters.now.items) (Some (bench_state opened.1))) }
+    ensures quiet { IfOk result (λ opened. IsReady opened.0 (map standing adapters.now.items) None) }
+{
+    let desc = described(alloc, text.as_bytes(), adapters)?;
+    Ok(open(alloc, desc)?)
+}
+
+/// What is done over a chip.
+#[derive(Drop)]
+pub(crate) enum Task {
+    /// Accesses by index.
+    Index(&'static Case),
+    /// The same over a device that doesn't tell its state, and fails the item of this number.
+    IndexQuietly(u64, &'static Case),
+    /// Banks are built.
+    Banks,
+    /// Words are sent alone.
+    Send(&'static [Row]),
+    /// The same over a device that doesn't tell its state, and fails each third item.
+    SendQuietly(&'static [Row]),
+    /// A value is adopted.
+    Adopt,
+    /// Regions are given out and accessed.
+    Regions,
+    /// Accesses are woven.
+    Weave(&'static [Group]),
+    /// Accesses are added to a weave.
+    Add,
+}
+
+fn perform(
+    rt: &(impl Abort + AllocGlobal),
+    task: &Task,
+    model: &mut Model,
+    device: &mut Bench,
+    adapters: &mut Adapters,
+) -> Result<(), Fail>
+    requires bench { IsReady model.old (map standing adapters.old.items) (Some (bench_state device.old)) }
+    requires quiet { IsReady model.old (map standing adapters.old.items) None }
+{
+    match task {
+        Task::Index(case) => run(rt, model, device, adapters, case),
+        Task::IndexQuietly(failing, case) => {
+            let mut quiet = Quiet::failing(Failing::Nth(*failing));
+            run(rt, model, &mut quiet, adapters, case)
+        }
+        Task::Banks => banks_built(rt, model, device),
+        Task::Send(rows) => all_sent(rt, model, device, adapters, rows),
+        Task::SendQuietly(rows) => {
+            let mut quiet = Quiet::failing(Failing::EachThird);
+            all_sent(rt, model, &mut quiet, adapters, rows)
+        }
+        Task::Adopt => bits_adopted(rt, model),
+        Task::Regions => regions_accessed(rt, model, device, adapters),
+        Task::Weave(groups) => all_woven(rt, model, device, adapters, groups),
+        Task::Add => rows_added(rt, model),
+    }
+}
+
+fn performed_with(
+    rt: &(impl Abort + AllocGlobal),
+    text: &str,
+    task: &Task,
+    adapters: &mut Adapters,
+) -> Result<(), Fail>
+    requires { length (map standing adapters.old.items) < 2 ^ 32 }
+{
+    let (mut model, mut device) = opened(rt.alloc(), adapters, text)?;
+    perform(rt, task, &mut model, &mut device, adapters)
+}
+
+/// Does a task over the chip of a description and a plain adapter.
+pub(crate) fn performed(
+    rt: &(impl Abort + AllocGlobal),
+    text: &str,
+    task: &Task,
+) -> Result<(), Fail> {
+    let mut adapters = plain_adapter(rt.alloc())?;
+    performed_with(rt, text, task, &mut adapters)
+}

@@ -1,0 +1,258 @@
+// The worked rows, the first and the last entry, what a device with a flaw shows, and what one that fails an item does.
+use super::calls::{Call, Case, NO_SUCH_ENTRY, Seen, WRITTEN};
+use rl_access::{End, Refused};
+
+// Two entries are written, and one of them is read.
+const TWO_ENTRIES: Case = Case {
+    flaws: "",
+    index: "ix",
+    data: "rw",
+    rows: &[
+        (Call::Write(1, 0x1234), WRITTEN),
+        (Call::Write(2, 0x5678), WRITTEN),
+        (
+            Call::Read(1),
+            (Some(End::Done), Some(End::Value { value: 0x1234 }), 0, 3),
+        ),
+        (Call::Write(4, 0x9abc), NO_SUCH_ENTRY),
+    ],
+    entries: (
+        [0x0000, 0x1234, 0x5678, 0x0000],
+        [0x0000, 0x1234, 0x5678, 0x0000],
+    ),
+};
+
+// The first and the last entry, what is past it, and a value that the data register can't hold.
+const AT_THE_ENDS: Case = Case {
+    flaws: "",
+    index: "ix",
+    data: "rw",
+    rows: &[
+        (Call::Write(3, 0xffff), WRITTEN),
+        (Call::Write(0, 0x8001), WRITTEN),
+        (
+            Call::Check(3),
+            (Some(End::Done), Some(End::Value { value: 0xffff }), 0, 3),
+        ),
+        (
+            Call::Check(0),
+            (Some(End::Done), Some(End::Value { value: 0x8001 }), 0, 3),
+        ),
+        (Call::Check(u32::MAX), NO_SUCH_ENTRY),
+        (
+            Call::Write(1, 0x1_0000),
+            (
+                Some(End::Done),
+                Some(End::Refused {
+                    why: Refused::TooWide,
+                }),
+                0,
+                1,
+            ),
+        ),
+    ],
+    entries: (
+        [0x8001, 0x0000, 0x0000, 0xffff],
+        [0x8001, 0x0000, 0x0000, 0xffff],
+    ),
+};
+
+// An entry takes the step of the data register's policy, and the others stay.
+const CLEARED_BY_ONE: Case = Case {
+    flaws: "",
+    index: "ix",
+    data: "w1c",
+    rows: &[(Call::Write(1, 0x00ff), WRITTEN)],
+    entries: (
+        [0xffff, 0xff00, 0xffff, 0xffff],
+        [0xffff, 0xff00, 0xffff, 0xffff],
+    ),
+};
+
+const CLEARED_BY_READING: Case = Case {
+    flaws: "",
+    index: "ix",
+    data: "rc",
+    rows: &[
+        (
+            Call::Read(2),
+            (Some(End::Done), Some(End::Value { value: 0xffff }), 0, 3),
+        ),
+        (
+            Call::Check(2),
+            (Some(End::Done), Some(End::Value { value: 0 }), 0, 3),
+        ),
+    ],
+    entries: (
+        [0xffff, 0xffff, 0x0000, 0xffff],
+        [0xffff, 0xffff, 0x0000, 0xffff],
+    ),
+};
+
+const REFUSED: Seen = (
+    Some(End::Refused {
+        why: Refused::NoRight,
+    }),
+    None,
+    0,
+    0,
+);
+
+// Where the index register may not be written nothing is sent.
+const LOCKED: Case = Case {
+    flaws: "",
+    index: "locked",
+    data: "rw",
+    rows: &[(Call::Write(1, 0x1234), REFUSED), (Call::Check(0), REFUSED)],
+    entries: ([0; 4], [0; 4]),
+};
+
+// A check names the field of an entry that isn't as it was written.
+const STUCK: Case = Case {
+    flaws: "[[flaw]]\nkind = 'stuck'\nfield = 'rw.v'\nbit = 0\nvalue = 1\n",
+    index: "ix",
+    data: "rw",
+    rows: &[
+        (Call::Write(1, 0x1234), WRITTEN),
+        (Call::Write(2, 0x5679), WRITTEN),
+        (
+            Call::Check(1),
+            (Some(End::Done), Some(End::Value { value: 0x1235 }), 1, 3),
+        ),
+        (
+            Call::Check(2),
+            (Some(End::Done), Some(End::Value { value: 0x5679 }), 0, 3),
+        ),
+        (
+            Call::Check(3),
+            (Some(End::Done), Some(End::Value { value: 0x0001 }), 1, 3),
+        ),
+    ],
+    entries: (
+        [0x0001, 0x1235, 0x5679, 0x0001],
+        [0x0000, 0x1235, 0x5679, 0x0001],
+    ),
+};
+
+// An index register that takes no write: the value goes to the entry that is selected.
+const DEAF: Case = Case {
+    flaws: "[[flaw]]\nkind = 'deaf'\nitem = 'ix'\n",
+    index: "ix",
+    data: "rw",
+    rows: &[
+        (Call::Write(1, 0x1234), WRITTEN),
+        (
+            Call::Check(1),
+            (Some(End::Done), Some(End::Value { value: 0x1234 }), 0, 3),
+        ),
+        (
+            Call::Check(2),
+            (Some(End::Done), Some(End::Value { value: 0x1234 }), 1, 3),
+        ),
+    ],
+    entries: ([0x1234, 0, 0, 0], [0, 0x1234, 0x1234, 0]),
+};
+
+const FAILED: Seen = (Some(End::BusError { word: 0 }), None, 0, 1);
+
+// The index register isn't heard.
+const UNHEARD: Case = Case {
+    flaws: "[[flaw]]\nkind = 'error-range'\nmap = 'bus'\nfrom = 0\nto = 0\n",
+    index: "ix",
+    data: "rw",
+    rows: &[(Call::Write(1, 0x1234), FAILED), (Call::Check(0), FAILED)],
+    entries: ([0; 4], [0; 4]),
+};
+
+// The fifth item is the first one of the second access to the data register. The index has changed by then.
+const FIFTH: Case = Case {
+    flaws: "[[flaw]]\nkind = 'error-nth'\nnth = 5\n",
+    index: "ix",
+    data: "rw",
+    rows: &[
+        (Call::Write(1, 0x1234), WRITTEN),
+        (
+            Call::Write(2, 0x5678),
+            (Some(End::Done), Some(End::BusError { word: 0 }), 0, 2),
+        ),
+        (
+            Call::Check(1),
+            (Some(End::Done), Some(End::Value { value: 0x1234 }), 0, 3),
+        ),
+        (
+            Call::Check(2),
+            (Some(End::Done), Some(End::Value { value: 0x0000 }), 0, 3),
+        ),
+    ],
+    entries: (
+        [0x0000, 0x1234, 0x0000, 0x0000],
+        [0x0000, 0x1234, 0x0000, 0x0000],
+    ),
+};
+
+// The second byte of the data register fails: its first byte is written, and the model isn't told.
+static HALF: Case = Case {
+    flaws: "",
+    index: "ix",
+    data: "rw",
+    rows: &[
+        (
+            Call::Write(1, 0x1234),
+            (Some(End::Done), Some(End::BusError { word: 1 }), 0, 3),
+        ),
+        (
+            Call::Read(0),
+            (Some(End::Done), Some(End::Value { value: 0x0000 }), 0, 3),
+        ),
+    ],
+    entries: ([0, 0x0034, 0, 0], [0; 4]),
+};
+
+// The index of the second access fails, and both sides stay at the entry of the first one.
+static ONCE: Case = Case {
+    flaws: "",
+    index: "ix",
+    data: "rw",
+    rows: &[
+        (Call::Write(1, 0x1234), WRITTEN),
+        (Call::Write(2, 0x5678), FAILED),
+        (
+            Call::Check(1),
+            (Some(End::Done), Some(End::Value { value: 0x1234 }), 0, 3),
+        ),
+    ],
+    entries: ([0, 0x1234, 0, 0], [0, 0x1234, 0, 0]),
+};
+
+// The tables by functions, so that no proof reads them.
+
+static ANYWHERE: [Case; 2] = [TWO_ENTRIES, AT_THE_ENDS];
+
+static BY_POLICY: [Case; 3] = [CLEARED_BY_ONE, CLEARED_BY_READING, LOCKED];
+
+/// What goes over any device.
+pub(crate) fn anywhere() -> &'static [Case] {
+    &ANYWHERE
+}
+
+/// What shows the policy and the rights of a register.
+pub(crate) fn by_policy() -> &'static [Case] {
+    &BY_POLICY
+}
+
+static FLAWED: [Case; 4] = [STUCK, DEAF, UNHEARD, FIFTH];
+
+/// What a flaw shows.
+pub(crate) fn flawed() -> &'static [Case] {
+    &FLAWED
+}
+
+/// Over a device that fails its third item.
+pub(crate) fn half() -> &'static Case {
+    &HALF
+}
+
+/// Over a device that fails its fourth item.
+pub(crate) fn once() -> &'static Case {
+    &ONCE
+}

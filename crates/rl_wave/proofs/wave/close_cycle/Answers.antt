@@ -1,5 +1,0 @@
-use Rattle.rl_wave.proofs.TextLemmas.{last, more}
-use Rattle.rl_wave.proofs.wave.close_cycle.Goals as goal
-
-pub returns : goal.returns
-returns c = more _ _ _ _ _ c.in_ok-push.ensures (more _ _ _ _ _ c.in_ok-push_decimal.ensures (last _ _ _ c.in_ok-push-2.ensures))

@@ -1,5 +1,0 @@
-use Rattle.rl_wave.proofs.TextLemmas.{last, more}
-use Rattle.rl_wave.proofs.wave.push_cycle.Goals as goal
-
-pub returns : goal.returns
-returns c = more _ _ _ _ _ c.in_ok-open_cycle.ensures (more _ _ _ _ _ c.in_ok-push_changes.ensures (last _ _ _ c.in_ok-close_cycle.ensures))
