@@ -1,6 +1,6 @@
 -- A spelling is no longer than a line may be.
-use Rattle.std.proofs.Common.{◌≡◌, ℕ, zero, suc, ◌+◌, ◌*◌, ◌-◌, ◌^◌, ◌<◌, ◌≤◌, Bool, true, false, ◌&&◌, ◌==◌, nat_le, nat_lt, IsTrue, if◌then◌else◌, List}
-use Rattle.std.proofs.Common.{[], ◌∷◌, ◌++◌, codes, length, map, Option, Some, None, inl, inr, refl, sym, ap, ◌∙◌, subst, arith, length-append}
+use Rattle.std.proofs.Common.{◌≡◌, ℕ, zero, suc, ◌+◌, ◌*◌, ◌^◌, ◌<◌, ◌≤◌, Bool, true, false, ◌==◌, nat_le, nat_lt, IsTrue, if◌then◌else◌, List}
+use Rattle.std.proofs.Common.{[], ◌∷◌, ◌++◌, length, map, Option, Some, None, inl, inr, refl, ap, ◌∙◌, arith, length-append}
 use Rattle.std.specs.Prelude.{IfSome, MatchOption, take}
 use Rattle.std.specs.Option.{option_map_or}
 use Rattle.std.specs.List.{list_all, slice_split, onto_first, AllByRecursion}
@@ -18,7 +18,7 @@ use Rattle.rl_script.specs.declared.line.Sequence.{Sequence}
 use Rattle.rl_script.specs.declared.line_ref.ItemLine.{ItemLine}
 use Rattle.rl_script.specs.declared.line.Sequence.TheVariants as sequence
 use Rattle.rl_script.specs.Commands.{row_of, said, item_name, sequence_name}
-use Rattle.rl_script.specs.Names.{is_name, is_dot, is_path, is_in_name, begins_name}
+use Rattle.rl_script.specs.Names.{is_name, is_dot, is_path}
 use Rattle.rl_script.specs.Spelling.{spaced, joined, map_words, item_words, numbers_in, block_word, said_words, other_words, spelling, IsItem, IsSaid, IsOther, IsLine}
 use Rattle.rl_script.specs.Bursts.{is_burst_write}
 use Rattle.rl_script.proofs.AgainLemmas.{and_parts}

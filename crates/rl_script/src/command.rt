@@ -417,7 +417,8 @@ const SEQUENCES: [Sequence; 5] = [
 ];
 
 impl Sequence {
-    pub(crate) fn name(self) -> &'static [u8]
+    /// The word for it in a script.
+    pub fn name(self) -> &'static [u8]
         ensures { result.now ≡ sequence_name self }
     {
         match self {

@@ -2,7 +2,7 @@
 ghost use Rattle.std.specs.Prelude.{◌≡◌};
 ghost use Rattle.rl_script.specs.declared.fault.LineFault.TheVariants.{Memory};
 
-use std::alloc::{AllocError, AllocFailed};
+use std::alloc::AllocError;
 use thiserror::Error;
 
 /// Why a line is refused: the first condition that it fails, in the order of these variants, or want
@@ -40,18 +40,11 @@ pub enum LineFault {
     Memory,
 }
 
-impl From<AllocError> for LineFault {
+/// An allocation that failed, whether or not it hands its value back.
+impl<E: Into<AllocError> + Drop> From<E> for LineFault {
     ghost from_gives = { λ _ e. e ≡ Memory };
 
-    fn from(_e: AllocError) -> LineFault {
-        LineFault::Memory
-    }
-}
-
-impl<T: Drop> From<AllocFailed<T>> for LineFault {
-    ghost from_gives = { λ _ e. e ≡ Memory };
-
-    fn from(_e: AllocFailed<T>) -> LineFault {
+    fn from(_e: E) -> LineFault {
         LineFault::Memory
     }
 }

@@ -104,6 +104,8 @@ fn chunks_are_ascii(bytes: &[u8]) -> bool
     true
 }
 
+/// A command on an item. Its words are cut from the left, in place of being counted first.
+#[tactic(auto, unfolding(crate::proofs::CutLemmas::item_cut), using(crate::proofs::CutLemmas::cut_is))]
 fn read_item(item: Item, text: &[u8]) -> Result<LineRef<'_>, LineFault>
     requires { AreAscii text.now }
     ensures { Gives line_said result (item_of item (words_of text.now)) }
@@ -159,7 +161,7 @@ fn read_burst_write(alloc: Global, text: &[u8]) -> Result<LineRef<'_>, LineFault
     read_burst(alloc, words.count - fixed, words.has_map, text)
 }
 
-#[tactic(auto, unfolding(crate::specs::Kept::kept_burst_at))]
+#[tactic(auto, unfolding(crate::specs::Kept::kept_burst_at, crate::specs::Reading::burst_by))]
 fn read_burst(
     alloc: Global,
     count: usize,

@@ -1,8 +1,9 @@
 use Rattle.std.proofs.Common.{not, ◌∙◌, rules, tests}
 use Rattle.std.proofs.lemmas.Iterator.{YieldsList-from_slice}
 use Rattle.std.proofs.lemmas.Iterator.Search.{position_from_yields_List}
+use Rattle.rl_policy.proofs.Positions.{or_length}
 use Rattle.rl_script.specs.Names.{is_in_name}
-use Rattle.rl_script.proofs.WordLemmas.{or_length, within}
+use Rattle.rl_script.proofs.WordLemmas.{within}
 use Rattle.rl_script.proofs.names.count_in_name.Goals as goal
 
 pub returns : goal.returns

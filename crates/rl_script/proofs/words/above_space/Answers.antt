@@ -2,7 +2,8 @@ use Rattle.std.proofs.Common.{◌∙◌, rules, tests}
 use Rattle.std.specs.Prelude.{nat_le}
 use Rattle.std.proofs.lemmas.Iterator.{YieldsList-from_slice}
 use Rattle.std.proofs.lemmas.Iterator.Search.{position_from_yields_List}
-use Rattle.rl_script.proofs.WordLemmas.{or_length, within}
+use Rattle.rl_policy.proofs.Positions.{or_length}
+use Rattle.rl_script.proofs.WordLemmas.{within}
 use Rattle.rl_script.proofs.words.above_space.Goals as goal
 
 pub returns : goal.returns
