@@ -1,5 +1,5 @@
 -- The first condition that fails for maps and places.
-use Rattle.std.specs.Prelude.{◌≡◌, ◌≢◌, ℕ, ◌+◌, ◌*◌, ◌%◌, ◌==◌, min, nat_lt, nat_le, ◌&&◌, ◌||◌, Bool, true, false, not, if◌then◌else◌, List, [], ◌∷◌, ◌++◌, length}
+use Rattle.std.specs.Prelude.{◌≡◌, ◌≢◌, ℕ, ◌+◌, ◌*◌, ◌%◌, ◌==◌, min, nat_lt, nat_le, ◌&&◌, ◌||◌, Bool, true, false, not, List, [], ◌∷◌, ◌++◌, length}
 use Rattle.std.specs.Prelude.{map, filter, fold, flat_map, slice_index_or, Option, Some, None, is_some, is_none, option_map, unwrap_or, Result, Ok, Err, position}
 use Rattle.std.specs.List.{list_any, range_with_len}
 use Rattle.rl_model.specs.declared.fault.Array.{Array}
@@ -8,7 +8,7 @@ use Rattle.rl_model.specs.declared.fault.Spot.{Spot}
 use Rattle.rl_model.specs.declared.rows.Item.{Item}
 use Rattle.rl_model.specs.declared.rows.Item.TheVariants as item
 use Rattle.rl_model.specs.Rows.{ChipData}
-use Rattle.rl_model.specs.Rules.{is_name, or_else}
+use Rattle.rl_model.specs.Rules.{is_name, or_else, first_failing, row_of}
 use Rattle.rl_bus.specs.declared.op.AdapterKind.{AdapterKind}
 use Rattle.rl_map.specs.declared.fault.MapCause.{MapCause}
 use Rattle.rl_map.specs.declared.fault.MapCause.TheVariants.{TooMany, BadName, DuplicateName, NoSuchMap, TooDeep, BadBytes, NoSuchAdapter, NoSuchItem}
@@ -34,13 +34,12 @@ use Rattle.rl_map.specs.Maps.{MapTables, no_tables, with_map, tables_of, path_un
 abbrev pub Check : Type 0
 Check = Bool × MapCause
 
--- the first that fails
+-- the first that fails at a spot
 abbrev pub first_of : Spot → List Check → Option MapFault
-first_of spot [] = None
-first_of spot (c ∷ cs) = if c.0 then Some (Bad c.1 spot) else first_of spot cs
+first_of spot cs = first_failing (λ cause. Bad cause spot) cs
 
 abbrev pub row_at : Array → ℕ → Spot
-row_at a row = record { array = a; row = row; field = None }
+row_at a row = row_of a row
 
 -- ---- maps
 

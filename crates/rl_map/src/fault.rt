@@ -3,7 +3,7 @@ ghost use Rattle.std.specs.Prelude.{◌≡◌, Some, None};
 ghost use Rattle.rl_map.specs.declared.fault.MapFault.TheVariants.{Memory};
 
 use rl_model::{Array, Spot};
-use std::alloc::{AllocError, AllocFailed};
+use std::alloc::AllocError;
 
 /// The conditions of maps and places. They are this project's own.
 #[derive(Clone, Copy, Debug, PartialEq, Eq)]
@@ -52,18 +52,11 @@ pub enum MapFault {
     Memory,
 }
 
-impl From<AllocError> for MapFault {
+/// An allocation that failed, whether or not it hands its value back.
+impl<E: Into<AllocError> + Drop> From<E> for MapFault {
     ghost from_gives = { λ _ e. e ≡ Memory };
 
-    fn from(_e: AllocError) -> MapFault {
-        MapFault::Memory
-    }
-}
-
-impl<T: Drop> From<AllocFailed<T>> for MapFault {
-    ghost from_gives = { λ _ e. e ≡ Memory };
-
-    fn from(_e: AllocFailed<T>) -> MapFault {
+    fn from(_e: E) -> MapFault {
         MapFault::Memory
     }
 }

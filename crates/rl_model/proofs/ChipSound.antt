@@ -1,5 +1,5 @@
 -- A chip of parts that no condition refuses is sound.
-use Rattle.std.proofs.Common.{◌≡◌, ℕ, suc, ◌+◌, ◌≤◌, ◌<◌, false, not, nat_lt, nat_le, List, [], ◌∷◌, ◌++◌, length, map, take, Option, None, refl, sym, ap, ◌∙◌, subst, arith, length-append}
+use Rattle.std.proofs.Common.{◌≡◌, ℕ, ◌+◌, ◌≤◌, ◌<◌, false, not, nat_lt, nat_le, List, [], ◌∷◌, ◌++◌, length, map, take, Option, None, refl, ap, ◌∙◌, subst, arith, length-append}
 use Rattle.std.proofs.lemmas.Bool.Decides.{nat_tests}
 use Rattle.std.proofs.lemmas.List.{length-map}
 use Rattle.rl_model.specs.declared.fault.Array.{Array}
@@ -12,7 +12,7 @@ use Rattle.rl_model.specs.Data.{FieldData, RegData, PartsData}
 use Rattle.rl_model.specs.Rows.{ChipData}
 use Rattle.rl_model.specs.Rules.{Check, first_of, field_of, field_checks, scope_path, reg_path, mem_path, row_of, path_fault, kinds_with, kinds_fault, kinds_after, all_kinds, scopes_fault}
 use Rattle.rl_model.specs.Rules.{fields_fault, regs_fault, mems_fault, has_parent, is_name, names_in, path_of}
-use Rattle.rl_model.specs.Build.{first_kinds, mem_seen, regs_seen, chip_of, chip_fault}
+use Rattle.rl_model.specs.Build.{first_kinds, mem_seen, chip_of, chip_fault}
 use Rattle.rl_model.specs.Chip.{IsSound}
 use Rattle.rl_model.specs.Paths.{is_among}
 use Rattle.rl_model.proofs.BuildLemmas.{length-regs_seen}

@@ -53,7 +53,7 @@ pub record AreOwn (c : ChipData) (row : RegRow) (own : List FieldSeen) : Type 0 
   pub count : length own ≡ row.count
   pub each : (k : ℕ) → k < row.count → slice_get own k ≡ slice_get c.fields (row.first + k)
 
-pub named_None : (c : ChipData) → IsSound c → (reg : ℕ) (row : RegRow) (own : List FieldSeen) (name : List ℕ) → slice_get c.regs reg ≡ Some row → AreOwn c row own
+named_None : (c : ChipData) → IsSound c → (reg : ℕ) (row : RegRow) (own : List FieldSeen) (name : List ℕ) → slice_get c.regs reg ≡ Some row → AreOwn c row own
     → position (has_name name) own ≡ None → (n : ℕ) → (None ≡ Some n) ↔ IsNamed c reg name n
 named_None c s reg row own name at_reg o none n = (
   λ e. absurd (none-some n e),
@@ -64,7 +64,7 @@ named_None c s reg row own name at_reg o none n = (
       absurd (false≢true (sym (none_at (has_name name) own p.place p.field off at_own) ∙ (bytes_eq-Decides p.field.name name).1 p.named)),
 )
 
-pub named_Some : (c : ChipData) → IsSound c → (reg : ℕ) (row : RegRow) (own : List FieldSeen) (name : List ℕ) (place : ℕ) → slice_get c.regs reg ≡ Some row → AreOwn c row own
+named_Some : (c : ChipData) → IsSound c → (reg : ℕ) (row : RegRow) (own : List FieldSeen) (name : List ℕ) (place : ℕ) → slice_get c.regs reg ≡ Some row → AreOwn c row own
     → position (has_name name) own ≡ Some place → (n : ℕ) → (Some (row.first + place) ≡ Some n) ↔ IsNamed c reg name n
 named_Some c s reg row own name place at_reg o found n =
     let lt_own : place < length own = (position-Some (has_name name) own place none_field found).0 in
@@ -179,10 +179,17 @@ get-drop xs zero k = let e : 0 + k ≡ k = omega arith in rw e
 get-drop [] (suc a) k = refl
 get-drop (x ∷ xs) (suc a) k = let e : suc a + k ≡ suc (a + k) = omega arith in rw e (get-drop xs a k)
 
-pub own_fields : (c : ChipData) → IsSound c → (reg : ℕ) (row : RegRow) → slice_get c.regs reg ≡ Some row → AreOwn c row (take (row.first + row.count - row.first) (drop row.first c.fields))
+own_fields : (c : ChipData) → IsSound c → (reg : ℕ) (row : RegRow) → slice_get c.regs reg ≡ Some row → AreOwn c row (take (row.first + row.count - row.first) (drop row.first c.fields))
 own_fields c s reg row at =
     let fits = s.each_reg reg row at in
     record {
       count = omega (arith, length-take-le (row.first + row.count - row.first) (drop row.first c.fields), length-drop row.first c.fields, fits.2);
       each = λ k lt. get-take (drop row.first c.fields) k (row.first + row.count - row.first) (omega arith) ∙ get-drop c.fields row.first k;
     }
+
+-- a search in them by name
+pub named_in : (c : ChipData) → IsSound c → (reg : ℕ) (row : RegRow) (name : List ℕ) (found : Option ℕ) → slice_get c.regs reg ≡ Some row
+    → position (has_name name) (take (row.first + row.count - row.first) (drop row.first c.fields)) ≡ found
+    → (n : ℕ) → (option_map (λ place. row.first + place) found ≡ Some n) ↔ IsNamed c reg name n
+named_in c s reg row name None at none = named_None c s reg row _ name at (own_fields c s reg row at) none
+named_in c s reg row name (Some place) at found = named_Some c s reg row _ name place at (own_fields c s reg row at) found

@@ -9,26 +9,31 @@ use Rattle.std.specs.List.{list_any, list_all}
 use Rattle.rl_model.specs.declared.fault.Array.TheVariants as array
 use Rattle.rl_model.specs.declared.fault.Spot.{Spot}
 use Rattle.rl_model.specs.declared.fault.ModelCause.TheVariants.{BadWidth}
+use Rattle.rl_model.specs.declared.fault.ModelFault.TheVariants.{Bad}
 use Rattle.rl_model.specs.declared.rows.RegRow.{RegRow}
 use Rattle.rl_model.specs.Data.{FieldData, RegData}
 use Rattle.rl_model.specs.Rows.{FieldSeen}
-use Rattle.rl_model.specs.Rules.{Check, first_of, or_else, repeats, field_of, row_of, is_name, overlaps, field_checks, kinds_with, kinds_after, fields_fault, is_bad_width, reg_path, regs_fault}
+use Rattle.rl_model.specs.Rules.{Check, first_failing, first_of, or_else, repeats, field_of, row_of, is_name, overlaps, field_checks, kinds_with, kinds_after}
+use Rattle.rl_model.specs.Rules.{fields_fault, is_bad_width, reg_path, regs_fault}
 use Rattle.rl_model.specs.Build.{field_seen, all_fields, reg_seen, regs_seen}
 
 -- ---- conditions that did not fail
 
-pub passed : (spot : Spot) (cs : List Check) → first_of spot cs ≡ None → (k : ℕ) (c : Check) → slice_get cs k ≡ Some c → c.0 ≡ false
-passed spot [] h k c at = absurd (none-some c at)
-passed spot (d ∷ ds) h zero c at =
+pub none_fails : {Cause Fault : Type 0} (fault : Cause → Fault) (cs : List (Bool × Cause)) → first_failing fault cs ≡ None → (k : ℕ) (c : Bool × Cause) → slice_get cs k ≡ Some c → c.0 ≡ false
+none_fails fault [] h k c at = absurd (none-some c at)
+none_fails fault (d ∷ ds) h zero c at =
     elim (cases_Bool d.0) [
       | inl fails ↦ let bad = rw fails at h in absurd (let no : ⊥ = cc in no)
       | inr holds ↦ rw (← same_Some _ _ at) holds
     ]
-passed spot (d ∷ ds) h (suc k) c at =
+none_fails fault (d ∷ ds) h (suc k) c at =
     elim (cases_Bool d.0) [
       | inl fails ↦ let bad = rw fails at h in absurd (let no : ⊥ = cc in no)
-      | inr holds ↦ passed spot ds (rw holds at h) k c at
+      | inr holds ↦ none_fails fault ds (rw holds at h) k c at
     ]
+
+pub passed : (spot : Spot) (cs : List Check) → first_of spot cs ≡ None → (k : ℕ) (c : Check) → slice_get cs k ≡ Some c → c.0 ≡ false
+passed spot = none_fails (λ cause. Bad cause spot)
 
 pub both_None : {X : Type 0} (a b : Option X) → or_else a b ≡ None → (a ≡ None) × (b ≡ None)
 both_None None b h = (refl, h)

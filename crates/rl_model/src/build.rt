@@ -6,7 +6,7 @@ ghost use Rattle.rl_model.specs.Rules as rules;
 ghost use Rattle.rl_model.specs.Stages.{TakesOwnBits, numbered, field_next, fields_next, all_next};
 ghost use Rattle.rl_model.specs.Build.{regs_seen, mem_seen, first_kinds, chip_of, chip_fault};
 
-use crate::check::{add_path, check_field, is_bad_width};
+use crate::check::{add_path, check_field, check_width};
 use crate::chip::Chip;
 use crate::fault::{Array, ModelCause, ModelFault, Spot};
 use crate::limits::{MOST_KINDS, MOST_LOCATIONS, MOST_MEMS, MOST_REGS, MOST_SCOPES};
@@ -205,9 +205,7 @@ fn add_regs(
     for part in parts {
         let spot = row_of(Array::Reg, row);
         add_path(alloc, paths, spot, MOST_REGS, scopes, &part.of, &part.name)?;
-        if is_bad_width(part.bytes) {
-            return Err(spot.refuses(ModelCause::BadWidth));
-        }
+        check_width(part.bytes, spot)?;
         let first = fields.len() as u32;
         add_fields(alloc, kinds, &mut fields, part, spot)?;
         regs.push(RegRow {
@@ -239,9 +237,7 @@ fn add_mems(
     for part in parts {
         let spot = row_of(Array::Mem, row);
         add_path(alloc, paths, spot, MOST_MEMS, blocks, &part.of, &part.name)?;
-        if is_bad_width(part.bytes) {
-            return Err(spot.refuses(ModelCause::BadWidth));
-        }
+        check_width(part.bytes, spot)?;
         if part.size < 1 || part.size > MOST_LOCATIONS {
             return Err(spot.refuses(ModelCause::BadSize));
         }

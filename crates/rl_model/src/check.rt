@@ -1,6 +1,6 @@
 //! The conditions that parts must meet.
-ghost use Rattle.std.specs.Prelude.{◌≡◌, ◌+◌, ◌*◌, ◌<◌, ◌≤◌, ◌++◌, ◌∷◌, [], ⊤, IfOk, OnOk, length, nat_lt, nat_le};
-ghost use Rattle.std.specs.Prelude.{◌^◌, bytes_eq};
+ghost use Rattle.std.specs.Prelude.{◌≡◌, ◌+◌, ◌*◌, ◌<◌, ◌≤◌, ◌++◌, ◌∷◌, [], ⊤, IfOk, IfErr, OnOk, OnErr, length};
+ghost use Rattle.std.specs.Prelude.{◌^◌, bytes_eq, false, true, nat_lt, nat_le};
 ghost use Rattle.std.specs.List.{list_any, list_all};
 ghost use Rattle.rl_model.specs.Rules.{is_letter, is_name_byte, is_name, path_of, names_in, has_parent, first_of};
 ghost use Rattle.rl_model.specs.Rules.{path_fault, overlaps, same_kind, repeats, field_checks, is_bad_width, Passes};
@@ -41,12 +41,7 @@ pub fn is_name(text: &[u8]) -> bool
 fn are_name_bytes(text: &[u8]) -> bool
     ensures { result ≡ list_all is_name_byte text.now }
 {
-    for c in text {
-        if !is_name_byte(*c) {
-            return false;
-        }
-    }
-    true
+    text.iter().all(|c| is_name_byte(*c))
 }
 
 fn path_of(alloc: Global, of: &Option<Name>, name: &Name) -> Result<Vec<u8>, AllocError>
@@ -114,10 +109,16 @@ pub(crate) fn add_path(
     Ok(())
 }
 
-pub(crate) fn is_bad_width(bytes: u64) -> bool
-    ensures { result ≡ is_bad_width bytes }
+/// Tests the bytes of a register, or of a location of a memory.
+pub(crate) fn check_width(bytes: u64, spot: Spot) -> Result<(), ModelFault>
+    ensures fits { OnOk result (is_bad_width bytes ≡ false) }
+    ensures bad { OnErr result (is_bad_width bytes ≡ true) }
+    ensures cause { IfErr result (λ why. why ≡ ModelFault.Bad ModelCause.BadWidth spot) }
 {
-    bytes < 1 || bytes > MOST_BYTES
+    if bytes < 1 || bytes > MOST_BYTES {
+        return Err(spot.refuses(ModelCause::BadWidth));
+    }
+    Ok(())
 }
 
 fn overlaps(field: &FieldPart, other: &FieldPart) -> bool
@@ -139,12 +140,7 @@ fn is_outside(lsb: u64, width: u64, bits: u64) -> bool
 fn has_name(fields: &[FieldPart], name: &Name) -> bool
     ensures { result ≡ list_any (λ g. bytes_eq name.now g.name) fields.now }
 {
-    for field in fields {
-        if name.text() == field.name.text() {
-            return true;
-        }
-    }
-    false
+    fields.iter().any(|field| name.text() == field.name.text())
 }
 
 fn have_overlap(fields: &[FieldPart], field: &FieldPart) -> bool
@@ -162,23 +158,13 @@ fn have_overlap(fields: &[FieldPart], field: &FieldPart) -> bool
 fn are_named(resets: &[ResetPart]) -> bool
     ensures { result ≡ list_all (λ r. is_name r.kind) resets.now }
 {
-    for reset in resets {
-        if !is_name(reset.kind.text()) {
-            return false;
-        }
-    }
-    true
+    resets.iter().all(|reset| is_name(reset.kind.text()))
 }
 
 fn has_kind(resets: &[ResetPart], kind: &Name) -> bool
     ensures { result ≡ list_any (λ s. bytes_eq kind.now s.kind) resets.now }
 {
-    for reset in resets {
-        if kind.text() == reset.kind.text() {
-            return true;
-        }
-    }
-    false
+    resets.iter().any(|reset| kind.text() == reset.kind.text())
 }
 
 /// Whether a kind comes twice among a few.

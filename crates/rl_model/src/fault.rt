@@ -2,7 +2,7 @@
 ghost use Rattle.std.specs.Prelude.{◌≡◌, Some, None};
 ghost use Rattle.rl_model.specs.declared.fault.ModelFault.TheVariants.{Memory};
 
-use std::alloc::{AllocError, AllocFailed};
+use std::alloc::AllocError;
 
 /// The arrays of a description. Those past `Mem` are of the layers above a chip.
 #[derive(Clone, Copy, Debug, PartialEq, Eq)]
@@ -77,18 +77,11 @@ pub enum ModelFault {
     Memory,
 }
 
-impl From<AllocError> for ModelFault {
+/// An allocation that failed, whether or not it hands its value back.
+impl<E: Into<AllocError> + Drop> From<E> for ModelFault {
     ghost from_gives = { λ _ e. e ≡ Memory };
 
-    fn from(_e: AllocError) -> ModelFault {
-        ModelFault::Memory
-    }
-}
-
-impl<T: Drop> From<AllocFailed<T>> for ModelFault {
-    ghost from_gives = { λ _ e. e ≡ Memory };
-
-    fn from(_e: AllocFailed<T>) -> ModelFault {
+    fn from(_e: E) -> ModelFault {
         ModelFault::Memory
     }
 }

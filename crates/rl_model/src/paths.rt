@@ -1,5 +1,6 @@
 //! Texts, each with the number of its place.
-use crate::text::{Text, TextRef};
+use crate::name::Name;
+use crate::text::TextRef;
 use indexmap::IndexSet;
 use std::alloc::{AllocError, Global};
 use std::marker::Model;
@@ -7,7 +8,7 @@ use std::marker::Model;
 /// Texts that differ, in the order in which they came.
 #[derive(Drop)]
 pub struct Paths {
-    index: IndexSet<Text>,
+    index: IndexSet<Name>,
 }
 
 impl Model for Paths {
@@ -46,7 +47,7 @@ impl Paths {
         ensures number { IfOk result (λ i. i ≡ number_in self.old text.items) }
         ensures added { IfOk result (λ _. self.new ≡ with_text self.old text.items) }
     {
-        let (number, _) = self.index.insert_full(Text::new(text))?;
+        let (number, _) = self.index.insert_full(Name::of(text))?;
         Ok(number)
     }
 
@@ -90,6 +91,6 @@ impl Paths {
         requires { number < length self.now }
         ensures { slice_get self.now number ≡ Some result.now }
     {
-        self.index.get_index(number).unwrap().as_slice()
+        self.index.get_index(number).unwrap().text()
     }
 }
