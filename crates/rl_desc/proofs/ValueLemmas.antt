@@ -1,15 +1,27 @@
 -- Values, one after the other.
-use Rattle.std.proofs.Common.{◌≡◌, ℕ, List, [], ◌∷◌, ◌++◌, Some, Result, Ok, Err, refl, sym, ap, append_assoc}
+use Rattle.std.proofs.Common.{◌≡◌, ℕ, ◌&&◌, List, [], ◌∷◌, ◌++◌, Some, is_some, Result, Ok, Err, refl, sym, ap, append_assoc}
 use Rattle.std.proofs.lemmas.Option.{none-some, same_Some}
 use Rattle.std.specs.Int.RustNames.{bit_or}
-use Rattle.toml.specs.Data.{Data, Members, member, Items, item}
+use Rattle.std.specs.List.{list_all}
+use Rattle.toml.specs.declared.value.Value.{Value}
+use Rattle.toml.specs.Data.{Data, Members, member, Items, item, as_str, as_table}
+use Rattle.toml.specs.View.{view, items_view}
 use Rattle.rl_model.specs.declared.sets.Skip.{Skip}
 use Rattle.rl_desc.specs.Words.{exclusion_named, skip}
 use Rattle.rl_desc.specs.declared.key.Key.{Key}
 use Rattle.rl_desc.specs.declared.fault.DescCause.{DescCause}
 use Rattle.rl_model.specs.declared.parts.ResetPart.{ResetPart}
-use Rattle.rl_desc.specs.Shapes.{◌>>=◌, number, word, excluded, kinds}
+use Rattle.rl_desc.specs.Shapes.{◌>>=◌, number, word, are_tables, are_texts, excluded, kinds}
 use Rattle.rl_desc.specs.Refusals.{value_of}
+
+-- what all items of an array are
+pub all_tables : (vs : List Value) → list_all (λ v. is_some (as_table (view v))) vs ≡ are_tables (items_view vs)
+all_tables [] = refl
+all_tables (v ∷ vs) = ap (λ t. is_some (as_table (view v)) && t) (all_tables vs)
+
+pub all_texts : (vs : List Value) → list_all (λ v. is_some (as_str (view v))) vs ≡ are_texts (items_view vs)
+all_texts [] = refl
+all_texts (v ∷ vs) = ap (λ t. is_some (as_str (view v)) && t) (all_texts vs)
 
 pub ok_from_value : {X : Type 0} (r : Result X DescCause) (x : X) → value_of r ≡ Some x → r ≡ Ok x
 ok_from_value (Ok y) x h = ap Ok (same_Some y x h)

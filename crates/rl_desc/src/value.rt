@@ -146,12 +146,7 @@ impl<'a> Held<'a> for &'a [Value] {
 fn are_tables(items: &[Value]) -> bool
     ensures { result ≡ are_tables (items_view items.now) }
 {
-    for item in items {
-        if !item.is_table() {
-            return false;
-        }
-    }
-    true
+    items.iter().all(|item| item.is_table())
 }
 
 impl<'a> Held<'a> for Skip {
@@ -172,12 +167,7 @@ impl<'a> Held<'a> for Skip {
 fn are_texts(items: &[Value]) -> bool
     ensures { result ≡ are_texts (items_view items.now) }
 {
-    for item in items {
-        if !item.is_str() {
-            return false;
-        }
-    }
-    true
+    items.iter().all(|item| item.is_str())
 }
 
 fn excluded(items: &[Value], at: At) -> Result<Skip, DescFault>

@@ -21,7 +21,7 @@ use Rattle.rl_map.specs.declared.word.Word.{Word}
 use Rattle.rl_map.specs.Layout.{LayoutData, place_at as row_at, words_of, row_of, cell_of}
 use Rattle.rl_map.specs.Tables.{setup_of}
 use Rattle.rl_split.specs.Access.{all_bytes, lanes_for, sent_words, op_of, ops_of, sent_of, joined, joined_bit}
-use Rattle.rl_split.specs.Law.{no_flaws, IsLocationOf, MemoryWriteIsStore, MemoryReadIsLoad}
+use Rattle.rl_split.specs.Law.{no_flaws, IsReady, IsLocationOf, HasLocation, IsStore, IsLoad, MemoryWriteIsStore, MemoryReadIsLoad}
 use Rattle.rl_split.specs.Runs.{state_after_all, answers_of, counted_on}
 use Rattle.rl_split.proofs.Carried.{spread_gathered}
 use Rattle.rl_split.proofs.Chosen.{sent_touches, sent_split}
@@ -268,67 +268,82 @@ shown_value : (t x : Bool) → (t ≡ false → x ≡ false) → (t && x) ≡ x
 shown_value true x f = refl
 shown_value false x f = sym (f refl)
 
+module _ (c : ChipData) (l : LayoutData) (s : State) (place mem index : ℕ) where
+  abbrev bytes : ℕ
+  bytes = (row_at l place).bytes
+
+  abbrev all : ℕ
+  all = all_bytes bytes
+
+  abbrev there : Setup
+  there = setup_of c l no_flaws
+
+  abbrev port : ℕ
+  port = (row_at l place).port
+
+  abbrev sent : List Word
+  sent = sent_words all (words_of l place index)
+
+  -- what the location has
+  abbrev old : ℕ
+  old = slice_index s.locations (location there mem index)
+
+  old_fits : IsReady c l s → HasLocation s mem index bytes → old < 256 ^ bytes
+  old_fits ready has = subst (λ n. slice_index s.locations n < 256 ^ bytes) (same_place s there mem index ready.setup) has.fits
+
+  stored : (value : ℕ) → IsLocationOf c l place mem index true → IsReady c l s → HasLocation s mem index bytes → (mem_of s.setup mem).writable ≡ true → value < 256 ^ bytes
+      → IsStore c l s place mem index value (ops_of l place index all value true)
+  unfolding ops_of sent_of
+  stored value at ready has open_to small =
+      let op = op_of l place all value true in
+      let here = here_of c l place mem index true at in
+      let spot = same_place s there mem index ready.setup in
+      let fits = old_fits ready has in
+      let run = stores_run there port mem index (row_of l place index) op (lanes_for all) sent (flawless c l) (ap (λ u. (mem_of u mem).writable) (sym ready.setup) ∙ open_to) (λ w. refl) [] sent s
+      (turns c l place index all value true (Loc mem index) here at.right (cells_of l place mem index at.item) (all_reached l place index true here)) refl ready.setup (first_stands s port sent
+      ready.beats)
+      (subst (λ n. n < length s.locations) spot has.inside) in
+      let is_value : store_all op (lanes_for all) old sent ≡ value =
+      same_from_bits 64 _ _ (store_small op (lanes_for all) sent old (below_all bytes old here.row.most fits)) (below_all bytes value here.row.most small)
+      (λ b low. store_bits op (lanes_for all) value sent old (carry_parts l place all value sent (sent_split all (words_of l place index) here.words.parts)) b low
+      ∙ ap (λ t. cond t (bit value b) (bit old b)) (all_touched l place index b here)
+      ∙ chosen_value (ltb (b / 8) bytes) (bit value b) (bit old b) (past bytes value b small) (past bytes old b fits)) in
+      let after = state_after_all s port (map op sent) in
+      record {
+        answers = run.answers ∙ answers_alike l place all value sent;
+        state = same_state after (record s { locations = set s.locations (location s.setup mem index) value; items = counted_on (length (map op sent)) s.items })
+            run.setup run.bits run.marks (run.locations ∙ ap (set s.locations (location there mem index)) is_value ∙ ap (λ n. set s.locations n value) (sym spot)) (λ p a. run.beats p a ∙ sym
+            (ready.beats p a))
+            (run.items ∙ ap (λ n. counted_on n s.items) (sym (length-map sent op)));
+        ready = record { setup = run.setup ∙ ready.setup; beats = run.beats; bits = ap length run.bits ∙ ready.bits; marks = ap length run.marks ∙ ready.marks };
+      }
+
+  loaded : IsLocationOf c l place mem index false → IsReady c l s → HasLocation s mem index bytes → IsLoad c l s place mem index (ops_of l place index all 0 false) (joined l place index all)
+  unfolding ops_of sent_of joined
+  loaded at ready has =
+      let op = op_of l place all 0 false in
+      let here = here_of c l place mem index false at in
+      let run = loads_run there port mem index (row_of l place index) op (lanes_for all) sent (flawless c l) (λ w. refl) [] sent s
+      (turns c l place index all 0 false (Loc mem index) here at.right (cells_of l place mem index at.item) (all_reached l place index false here)) refl ready.setup (first_stands s port sent
+      ready.beats) in
+      let words = map (λ w. shown_in (lanes_for all w) old) sent in
+      let fits = old_fits ready has in
+      let is_value : from_bits 64 (joined_bit all sent words) ≡ old =
+      sym (is_from_bits 64 old _ (below_all bytes old here.row.most fits)
+      (λ b low. sym (load_bits all sent old (sent_split all (words_of l place index) here.words.parts) b ∙ ap (λ t. t && bit old b) (all_touched l place index b here)
+      ∙ shown_value (ltb (b / 8) bytes) (bit old b) (past bytes old b fits)))) in
+      let after = state_after_all s port (map op sent) in
+      record {
+        answers = subst (All (λ a. a.failed ≡ false)) (sym run.answers) (none_failed words);
+        value_is = ap (λ answers. from_bits 64 (joined_bit all sent (map (λ (a : Answer). a.word) answers))) run.answers ∙ ap (λ xs. from_bits 64 (joined_bit all sent xs)) (words_back words) ∙
+            is_value ∙ ap (slice_index s.locations) (sym (same_place s there mem index ready.setup));
+        state = same_state after (record s { items = counted_on (length (map op sent)) s.items }) run.setup run.bits run.marks run.locations (λ p a. run.beats p a ∙ sym (ready.beats p a))
+            (run.items ∙ ap (λ n. counted_on n s.items) (sym (length-map sent op)));
+        ready = record { setup = run.setup ∙ ready.setup; beats = run.beats; bits = ap length run.bits ∙ ready.bits; marks = ap length run.marks ∙ ready.marks };
+      }
+
 pub memory_write_is_store : MemoryWriteIsStore
-unfolding ops_of sent_of
-memory_write_is_store c l s place mem index value at ready has open_to small =
-    let bytes = (row_at l place).bytes in
-    let chosen = all_bytes bytes in
-    let t = setup_of c l no_flaws in
-    let port = (row_at l place).port in
-    let op = op_of l place chosen value true in
-    let lanes = lanes_for chosen in
-    let sent = sent_words chosen (words_of l place index) in
-    let here = here_of c l place mem index true at in
-    let spot = same_place s t mem index ready.setup in
-    let old = slice_index s.locations (location t mem index) in
-    let old_fits : old < 256 ^ bytes = subst (λ n. slice_index s.locations n < 256 ^ bytes) spot has.fits in
-    let run = stores_run t port mem index (row_of l place index) op lanes sent (flawless c l) (ap (λ u. (mem_of u mem).writable) (sym ready.setup) ∙ open_to) (λ w. refl) [] sent s
-    (turns c l place index chosen value true (Loc mem index) here at.right (cells_of l place mem index at.item) (all_reached l place index true here)) refl ready.setup (first_stands s port sent
-    ready.beats)
-    (subst (λ n. n < length s.locations) spot has.inside) in
-    let is_value : store_all op lanes old sent ≡ value =
-    same_from_bits 64 _ _ (store_small op lanes sent old (below_all bytes old here.row.most old_fits)) (below_all bytes value here.row.most small)
-    (λ b low. store_bits op lanes value sent old (carry_parts l place chosen value sent (sent_split chosen (words_of l place index) here.words.parts)) b low
-    ∙ ap (λ t. cond t (bit value b) (bit old b)) (all_touched l place index b here)
-    ∙ chosen_value (ltb (b / 8) bytes) (bit value b) (bit old b) (past bytes value b small) (past bytes old b old_fits)) in
-    let after = state_after_all s port (map op sent) in
-    record {
-      answers = run.answers ∙ answers_alike l place chosen value sent;
-      state = same_state after (record s { locations = set s.locations (location s.setup mem index) value; items = counted_on (length (map op sent)) s.items })
-          run.setup run.bits run.marks (run.locations ∙ ap (set s.locations (location t mem index)) is_value ∙ ap (λ n. set s.locations n value) (sym spot)) (λ p a. run.beats p a ∙ sym
-          (ready.beats p a))
-          (run.items ∙ ap (λ n. counted_on n s.items) (sym (length-map sent op)));
-      ready = record { setup = run.setup ∙ ready.setup; beats = run.beats; bits = ap length run.bits ∙ ready.bits; marks = ap length run.marks ∙ ready.marks };
-    }
+memory_write_is_store c l s place mem index value at ready has open_to small = stored c l s place mem index value at ready has open_to small
 
 pub memory_read_is_load : MemoryReadIsLoad
-unfolding ops_of sent_of joined
-memory_read_is_load c l s place mem index at ready has =
-    let bytes = (row_at l place).bytes in
-    let chosen = all_bytes bytes in
-    let t = setup_of c l no_flaws in
-    let port = (row_at l place).port in
-    let op = op_of l place chosen 0 false in
-    let lanes = lanes_for chosen in
-    let sent = sent_words chosen (words_of l place index) in
-    let here = here_of c l place mem index false at in
-    let spot = same_place s t mem index ready.setup in
-    let old = slice_index s.locations (location t mem index) in
-    let old_fits : old < 256 ^ bytes = subst (λ n. slice_index s.locations n < 256 ^ bytes) spot has.fits in
-    let run = loads_run t port mem index (row_of l place index) op lanes sent (flawless c l) (λ w. refl) [] sent s
-    (turns c l place index chosen 0 false (Loc mem index) here at.right (cells_of l place mem index at.item) (all_reached l place index false here)) refl ready.setup (first_stands s port sent
-    ready.beats) in
-    let words = map (λ w. shown_in (lanes w) old) sent in
-    let is_value : from_bits 64 (joined_bit chosen sent words) ≡ old =
-    sym (is_from_bits 64 old _ (below_all bytes old here.row.most old_fits)
-    (λ b low. sym (load_bits chosen sent old (sent_split chosen (words_of l place index) here.words.parts) b ∙ ap (λ t. t && bit old b) (all_touched l place index b here)
-    ∙ shown_value (ltb (b / 8) bytes) (bit old b) (past bytes old b old_fits)))) in
-    let after = state_after_all s port (map op sent) in
-    record {
-      answers = subst (All (λ a. a.failed ≡ false)) (sym run.answers) (none_failed words);
-      value_is = ap (λ answers. from_bits 64 (joined_bit chosen sent (map (λ (a : Answer). a.word) answers))) run.answers ∙ ap (λ xs. from_bits 64 (joined_bit chosen sent xs)) (words_back words) ∙
-          is_value ∙ ap (slice_index s.locations) (sym spot);
-      state = same_state after (record s { items = counted_on (length (map op sent)) s.items }) run.setup run.bits run.marks run.locations (λ p a. run.beats p a ∙ sym (ready.beats p a))
-          (run.items ∙ ap (λ n. counted_on n s.items) (sym (length-map sent op)));
-      ready = record { setup = run.setup ∙ ready.setup; beats = run.beats; bits = ap length run.bits ∙ ready.bits; marks = ap length run.marks ∙ ready.marks };
-    }
+memory_read_is_load c l s place mem index at ready has = loaded c l s place mem index at ready has

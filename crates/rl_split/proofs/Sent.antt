@@ -69,6 +69,22 @@ pub seconds : (op : Word → BusOp) (ws : List Word) → map (λ (p : Pair). p.1
 seconds op [] = refl
 seconds op (w ∷ ws) = ap (λ xs. w.order ∷ xs) (seconds op ws)
 
+-- what is kept of the words of an access: the operation and the order of each that is sent
+pub record IsKept (l : LayoutData) (place index chosen value : ℕ) (write : Bool) (kept : List Pair) : Type 0 where
+  pub pairs : kept ≡ map (λ w. (op_of l place chosen value write w, w.order)) (sent_words chosen (words_of l place index))
+  pub ops : map (λ (p : Pair). p.0) kept ≡ map (op_of l place chosen value write) (sent_words chosen (words_of l place index))
+  pub orders : map (λ (p : Pair). p.1) kept ≡ map (λ w. w.order) (sent_words chosen (words_of l place index))
+
+-- once the words are gone through
+pub all_kept : (l : LayoutData) (place index chosen value k : ℕ) (write : Bool) (kept : List Pair) → length (words_of l place index) ≤ k →
+    kept ≡ map (λ w. (op_of l place chosen value write w, w.order)) (sent_words chosen (take k (words_of l place index))) → IsKept l place index chosen value write kept
+all_kept l place index chosen value k write kept end is =
+    let op = op_of l place chosen value write in
+    let words = words_of l place index in
+    let pair : Word → Pair = λ w. (op w, w.order) in
+    let all : kept ≡ map pair (sent_words chosen words) = is ∙ ap (λ ws. map pair (sent_words chosen ws)) (take_all k words end) in
+    record { pairs = all; ops = ap (map (λ (p : Pair). p.0)) all ∙ firsts op (sent_words chosen words); orders = ap (map (λ (p : Pair). p.1)) all ∙ seconds op (sent_words chosen words) }
+
 -- ---- some word is sent
 
 none_chosen : (chosen bytes j : ℕ) → ((b : ℕ) → (ltb (b / 8) bytes && bit chosen (b / 8)) ≡ false) → chosen < 2 ^ bytes → bit chosen j ≡ false

@@ -107,38 +107,32 @@ bit-marks_with : (fields : List FieldSeen) (spent : ℕ → Bool) (m b : ℕ) �
 unfolding marks_with
 bit-marks_with fields spent m b low = bit-from_bits 64 _ b low
 
-written_bits : (c : ChipData) (l : LayoutData) (s : State) (place reg bytes value : ℕ) (chosen : ℕ → Bool) (r : Register) → Sends c l place reg bytes value true chosen → Holds c s reg r →
-    (put_all (setup_of c l no_flaws) reg (op_of l place bytes value true) (lanes_for bytes) (held_at s reg) (sent_words bytes (words_of l place 0))).bits ≡ (wstep (fields_of c reg) chosen value
-    r).bits
-unfolding wstep
-written_bits c l s place reg bytes value chosen r sends holds =
-    let t = setup_of c l no_flaws in
-    let sent = sent_words bytes (words_of l place 0) in
-    let fields = fields_of c reg in
-    let touched = are_touched (lanes_for bytes) sent in
-    let m = slice_index s.marks reg in
-    is_from_bits 64 _ _ (put_some t reg l place bytes value sent (held_at s reg) sends.some).0
-    (λ b low.
-    put_bits t reg (op_of l place bytes value true) (lanes_for bytes) value sent (held_at s reg) (carry_parts l place bytes value sent sends.split) b low
-    ∙ ap (λ o. bit_written o (bit (slice_index s.bits reg) b) (bit m b) (bit value b) (touched b)) (policy_by_place c l reg b sends.sound sends.row)
-    ∙ ap (λ x. bit_written (option_map (policy_in fields) (place_at fields b)) (bit x b) (bit m b) (bit value b) (touched b)) holds.bits
-    ∙ written_by_place fields chosen r.spent (place_at fields b) (bit r.bits b) (bit m b) (bit value b) (touched b) (λ k e. sends.reach b k low e) (λ k e. holds.marks b k low e))
-
-written_marks : (c : ChipData) (l : LayoutData) (s : State) (place reg bytes value : ℕ) (chosen : ℕ → Bool) (r : Register) → Sends c l place reg bytes value true chosen → Holds c s reg r →
-    (put_all (setup_of c l no_flaws) reg (op_of l place bytes value true) (lanes_for bytes) (held_at s reg) (sent_words bytes (words_of l place 0))).marks ≡ marks_with (fields_of c reg)
-    (wstep (fields_of c reg) chosen value r).spent (slice_index s.marks reg)
+-- the bits and the marks that a register is left with
+written : (c : ChipData) (l : LayoutData) (s : State) (place reg bytes value : ℕ) (chosen : ℕ → Bool) (r : Register) → Sends c l place reg bytes value true chosen → Holds c s reg r →
+    let after = put_all (setup_of c l no_flaws) reg (op_of l place bytes value true) (lanes_for bytes) (held_at s reg) (sent_words bytes (words_of l place 0)) in
+    let stepped = wstep (fields_of c reg) chosen value r in
+    (after.bits ≡ stepped.bits) × (after.marks ≡ marks_with (fields_of c reg) stepped.spent (slice_index s.marks reg))
 unfolding wstep marks_with
-written_marks c l s place reg bytes value chosen r sends holds =
+written c l s place reg bytes value chosen r sends holds =
     let t = setup_of c l no_flaws in
+    let op = op_of l place bytes value true in
     let sent = sent_words bytes (words_of l place 0) in
     let fields = fields_of c reg in
     let touched = are_touched (lanes_for bytes) sent in
     let m = slice_index s.marks reg in
-    is_from_bits 64 _ _ (put_some t reg l place bytes value sent (held_at s reg) sends.some).1
-    (λ b low.
-    put_marks t reg (op_of l place bytes value true) (lanes_for bytes) sent (held_at s reg) b low
-    ∙ ap (λ o. mark_written o (bit m b) (touched b)) (policy_by_place c l reg b sends.sound sends.row)
-    ∙ marked_by_place fields chosen r.spent (place_at fields b) (bit m b) (touched b) (λ k e. sends.reach b k low e) (λ k e. holds.marks b k low e))
+    let small = put_some t reg l place bytes value sent (held_at s reg) sends.some in (
+      is_from_bits 64 _ _ small.0
+          (λ b low.
+          put_bits t reg op (lanes_for bytes) value sent (held_at s reg) (carry_parts l place bytes value sent sends.split) b low
+          ∙ ap (λ o. bit_written o (bit (slice_index s.bits reg) b) (bit m b) (bit value b) (touched b)) (policy_by_place c l reg b sends.sound sends.row)
+          ∙ ap (λ x. bit_written (option_map (policy_in fields) (place_at fields b)) (bit x b) (bit m b) (bit value b) (touched b)) holds.bits
+          ∙ written_by_place fields chosen r.spent (place_at fields b) (bit r.bits b) (bit m b) (bit value b) (touched b) (λ k e. sends.reach b k low e) (λ k e. holds.marks b k low e)),
+      is_from_bits 64 _ _ small.1
+          (λ b low.
+          put_marks t reg op (lanes_for bytes) sent (held_at s reg) b low
+          ∙ ap (λ o. mark_written o (bit m b) (touched b)) (policy_by_place c l reg b sends.sound sends.row)
+          ∙ marked_by_place fields chosen r.spent (place_at fields b) (bit m b) (touched b) (λ k e. sends.reach b k low e) (λ k e. holds.marks b k low e)),
+    )
 
 holds_stepped : (c : ChipData) (s : State) (reg count : ℕ) (r : Register) → reg < length s.bits → reg < length s.marks → Holds c (after_wstep c s reg r count) reg r
 holds_stepped c s reg count r inside marked = record {
@@ -170,10 +164,11 @@ write_is_step c l s place reg bytes value chosen r sends ready holds =
     in
     let after = state_after_all s port (map op sent) in
     let stepped = after_wstep c s reg next (length (map op sent)) in
+    let left = written c l s place reg bytes value chosen r sends holds in
     let is : after ≡ stepped =
     same_state after stepped run.setup
-    (run.bits ∙ ap (set s.bits reg) (written_bits c l s place reg bytes value chosen r sends holds))
-    (run.marks ∙ ap (set s.marks reg) (written_marks c l s place reg bytes value chosen r sends holds))
+    (run.bits ∙ ap (set s.bits reg) left.0)
+    (run.marks ∙ ap (set s.marks reg) left.1)
     run.locations (λ p a. run.beats p a ∙ sym (ready.beats p a))
     (run.items ∙ ap (λ n. counted_on n s.items) (sym (length-map sent op))) in
     record {

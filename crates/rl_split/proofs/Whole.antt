@@ -42,6 +42,14 @@ op_at_place l place port bus_bytes chosen value write w kind op at its_kind its_
     ∙ ap (λ n. op_for (port_at l port).kind n chosen value write w) its_bytes
     ∙ ap (λ p. op_for (port_at l p).kind (port_at l p).bytes chosen value write w) at
 
+-- the operation that is made for a word of a whole access is the one of that word
+pub whole_is : (l : LayoutData) (place k port bus_bytes value : ℕ) (write : Bool) (w : Word) (kind : AdapterKind) (sent : Lanes) (op : BusOp) → IsHere l place 0 →
+    slice_get (words_of l place 0) k ≡ Some w → sent ≡ lanes_of w → port ≡ (place_at l place).port → kind ≡ (port_at l port).kind → bus_bytes ≡ (port_at l port).bytes →
+    ((chosen : ℕ) → sent ≡ lanes_for chosen w → op ≡ op_for kind bus_bytes chosen value write w) → op ≡ op_of l place (all_bytes (place_at l place).bytes) value write w
+whole_is l place k port bus_bytes value write w kind sent op here e as_stands at its_kind its_bytes is =
+    let all = all_bytes (place_at l place).bytes in
+    op_at_place l place port bus_bytes all value write w kind op at its_kind its_bytes (is all (as_stands ∙ lanes_whole l place 0 k w here e))
+
 pub op_of_word : (l : LayoutData) (place k value : ℕ) (write : Bool) (w : Word) → IsHere l place 0 → slice_get (words_of l place 0) k ≡ Some w →
     slice_get (whole_ops l place value write) k ≡ Some (op_of l place (all_bytes (place_at l place).bytes) value write w)
 unfolding ops_of sent_of

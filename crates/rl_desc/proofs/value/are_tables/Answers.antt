@@ -1,0 +1,11 @@
+use Rattle.std.proofs.Common.{◌∙◌, is_some, rules, tests}
+use Rattle.std.proofs.lemmas.Iterator.{YieldsList-from_slice}
+use Rattle.std.proofs.lemmas.Iterator.Search.{all_from_yields_List}
+use Rattle.toml.specs.Data.{as_table}
+use Rattle.toml.specs.View.{view}
+use Rattle.rl_desc.proofs.ValueLemmas.{all_tables}
+use Rattle.rl_desc.proofs.value.are_tables.Goals as goal
+
+pub returns : goal.returns
+returns c =
+    all_from_yields_List (λ v. is_some (as_table (view v))) _ _ _ c.all.ensures.ran (YieldsList-from_slice c.args.items.now cc) (λ x b q k. search (rules, tests)) ∙ all_tables c.args.items.now
