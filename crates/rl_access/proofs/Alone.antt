@@ -17,6 +17,7 @@ use Rattle.rl_access.specs.Operation.{reg_of}
 use Rattle.rl_access.proofs.Bytes.{bytes_bits}
 use Rattle.rl_access.proofs.Narrow.{below_by_bits, and_false, field_chosen}
 use Rattle.rl_access.proofs.Places.{place_size, first_location}
+use Rattle.rl_access.proofs.Seated.{seated}
 
 pub map_or_of : {A : Type 0} (f : A → ℕ) (o : Option A) (x d : ℕ) → option_map f o ≡ Some x → option_map_or f o d ≡ x
 map_or_of f None x d e = cc
@@ -24,6 +25,20 @@ map_or_of f (Some a) x d e = cc
 
 pub first_is : (c : ChipData) (reg first : ℕ) → option_map (λ r. r.first) (slice_get c.regs reg) ≡ Some first → first_of c reg ≡ first
 first_is c reg first e = map_or_of (λ r. r.first) (slice_get c.regs reg) first 0 e
+
+-- the field's number, counted from the register's first one
+pub record IsCountedFrom (first field : ℕ) : Type 0 where
+  pub from : first ≤ field
+  pub few : field < first + 64
+
+pub counted_from : (n m : ModelData) (field : ℕ) (f : Field) (first : ℕ) → n ≡ m → IsModel n → field < length m.chip.fields → f ≡ (field_of m.chip field).shape →
+    option_map (λ r. r.first) (slice_get n.chip.regs f.reg) ≡ Some first → IsCountedFrom first field
+counted_from n m field f first same ok inside shape value =
+    let here : IsModel m = subst IsModel same ok in
+    let is = first_is m.chip f.reg first (subst (λ (x : ModelData). option_map (λ r. r.first) (slice_get x.chip.regs f.reg) ≡ Some first) same value) in
+    let mine : first_of m.chip (reg_of m.chip field) ≡ first = ap (λ (g : Field). first_of m.chip g.reg) (sym shape) ∙ is in
+    let s = seated m.chip field here.chip inside in
+    record { from = omega (arith, s.from, mine); few = omega (arith, s.few, mine) }
 
 -- a field's value with 0 beside it has its register's bytes
 pub put_small : (lsb width bytes v w : ℕ) → lsb + width ≤ 8 * bytes → bytes ≤ 8 → w ≡ from_bits 64 (put_bit lsb width (bit v) (bit 0)) → w < 256 ^ bytes

@@ -2,7 +2,7 @@
 use Rattle.std.proofs.Common.{◌≡◌, ℕ, ◌≤◌, Bool, true, false, if◌then◌else◌, List, [], Option, None, Some, option_map, Ok, Err, refl, sym, ap, ◌∙◌, subst, arith}
 use Rattle.std.proofs.lemmas.List.{set-get_or}
 use Rattle.rl_bus.specs.Standing.{Standing, standing_at, nobody}
-use Rattle.rl_bus.specs.State.{State, poked, hw_set, reset_by}
+use Rattle.rl_bus.specs.State.{State, peeked, poked, hw_set, reset_by}
 use Rattle.rl_bus.specs.declared.op.BusOp.{BusOp}
 use Rattle.rl_bus.specs.declared.table.Cell.TheVariants as cell
 use Rattle.rl_mirror.specs.Compared.{differ}
@@ -24,7 +24,7 @@ use Rattle.rl_access.specs.Operation.{reg_of}
 use Rattle.rl_access.specs.Rules.{Grant, quiet, taking_raw, every_field, owned_of, back_written, back_value, back_left, back_outcome, grant, named, sends, outcome, Outcome, register_event}
 use Rattle.rl_access.specs.Rules.{memory_event, event_at, event_of, refused_event, found_by, device_after, by_backdoor}
 use Rattle.rl_access.specs.Call.{scene, Performs}
-use Rattle.rl_access.proofs.Performed.{performs_done, performs_refused}
+use Rattle.rl_access.proofs.Performed.{goes_on, performs_done, performs_refused}
 
 -- ---- done
 
@@ -144,46 +144,39 @@ read_behind m new told after check reg bits value left marked f is_value is_left
       goes = subst (λ w. after ≡ option_map (λ d. poked d (cell.Reg reg) w) told) after_it goes;
     }
 
-pub back_read_performs : (m new : ModelData) (errors later : ℕ) (told after : Option State) (reg value differ place : ℕ) (items : List TraceItem) (event : Event) → grant m (op.BackRead reg) ≡ Ok place
-    → IsReadBehind m new told after false reg value differ → items ≡ [] → event ≡ register_event (op.BackRead reg) reg items (record { end = end.Value value; model = new; differ = differ }) →
-    errors ≤ later
-    → (adapters : List Standing) → Performs (scene m adapters errors told) (scene new adapters later after) (op.BackRead reg) event
-back_read_performs m new errors later told after reg value differ place items event granted r empty is_event causes =
-    quiet_performs m new errors later told after (op.BackRead reg) place r.sampled event granted refl
-    (told_event (op.BackRead reg) reg items (record { end = end.Value value; model = new; differ = differ }) (back_outcome m false reg r.sampled) event is_event empty r.outcome)
-    (ap (λ (o : Outcome). o.model) r.outcome) causes r.found r.goes
-
-pub back_check_performs : (m new : ModelData) (errors later : ℕ) (told after : Option State) (reg value differ place : ℕ) (items : List TraceItem) (event : Event) →
-    grant m (op.BackCheck reg) ≡ Ok place
-    → IsReadBehind m new told after true reg value differ → items ≡ [] → event ≡ register_event (op.BackCheck reg) reg items (record { end = end.Value value; model = new; differ = differ }) →
-    errors ≤ later
-    → (adapters : List Standing) → Performs (scene m adapters errors told) (scene new adapters later after) (op.BackCheck reg) event
-back_check_performs m new errors later told after reg value differ place items event granted r empty is_event causes =
-    quiet_performs m new errors later told after (op.BackCheck reg) place r.sampled event granted refl
-    (told_event (op.BackCheck reg) reg items (record { end = end.Value value; model = new; differ = differ }) (back_outcome m true reg r.sampled) event is_event empty r.outcome)
-    (ap (λ (o : Outcome). o.model) r.outcome) causes r.found r.goes
-
 -- a read, or a check
 abbrev pub reading : Bool → (reg : ℕ) → Op
 reading check reg = if check then op.BackCheck reg else op.BackRead reg
+
+-- what the two have alike
+record IsReading (m : ModelData) (check : Bool) (reg place : ℕ) (read : Op) : Type 0 where
+  nothing : sends m read place ≡ []
+  event_is : (o : Outcome) → register_event read reg [] o ≡ event_of m (named m read) [] o
+  outcome_is : (sampled : ℕ) → back_outcome m check reg sampled ≡ outcome m read place sampled []
+  finds : (d : State) → peeked d (cell.Reg reg) ≡ found_by d read
+  leaves : (sampled : ℕ) (d : State) → poked d (cell.Reg reg) (back_left m reg sampled) ≡ device_after m read sampled [] d
+
+is_reading : (m : ModelData) (check : Bool) (reg place : ℕ) → IsReading m check reg place (reading check reg)
+is_reading m true reg place = record { nothing = refl; event_is = λ o. refl; outcome_is = λ sampled. refl; finds = λ d. refl; leaves = λ sampled d. refl }
+is_reading m false reg place = record { nothing = refl; event_is = λ o. refl; outcome_is = λ sampled. refl; finds = λ d. refl; leaves = λ sampled d. refl }
+
+reading_granted : (m : ModelData) (check : Bool) (reg : ℕ) → grant m (reading check reg) ≡ by_backdoor m (item.Reg reg)
+reading_granted m true reg = refl
+reading_granted m false reg = refl
 
 pub reading_performs : (check : Bool) (m new : ModelData) (errors later : ℕ) (told after : Option State) (named_as : Op) (reg value differ place : ℕ)
     (items : List TraceItem) (event : Event) → named_as ≡ reading check reg → by_backdoor m (item.Reg reg) ≡ Ok place
     → IsReadBehind m new told after check reg value differ → items ≡ []
     → event ≡ register_event named_as reg items (record { end = end.Value value; model = new; differ = differ }) → errors ≤ later
     → (adapters : List Standing) → Performs (scene m adapters errors told) (scene new adapters later after) (reading check reg) event
-reading_performs true m new errors later told after named_as reg value differ place items event names granted r empty is_event causes =
+reading_performs check m new errors later told after named_as reg value differ place items event names granted r empty is_event causes =
+    let is = is_reading m check reg place in
     let o : Outcome = record { end = end.Value value; model = new; differ = differ } in
-    back_check_performs m new errors later told after reg value differ place items event granted r empty
-    (is_event ∙ ap (λ x. register_event x reg items o) names) causes
-reading_performs false m new errors later told after named_as reg value differ place items event names granted r empty is_event causes =
-    let o : Outcome = record { end = end.Value value; model = new; differ = differ } in
-    back_read_performs m new errors later told after reg value differ place items event granted r empty
-    (is_event ∙ ap (λ x. register_event x reg items o) names) causes
-
-reading_granted : (m : ModelData) (check : Bool) (reg : ℕ) → grant m (reading check reg) ≡ by_backdoor m (item.Reg reg)
-reading_granted m true reg = refl
-reading_granted m false reg = refl
+    let good = outcome m (reading check reg) place r.sampled [] in
+    let done : o ≡ good = r.outcome ∙ is.outcome_is r.sampled in
+    quiet_performs m new errors later told after (reading check reg) place r.sampled event (reading_granted m check reg ∙ granted) is.nothing
+    (told_event (reading check reg) reg items o good event (is_event ∙ ap (λ x. register_event x reg items o) names) empty done ∙ is.event_is good)
+    (ap (λ (x : Outcome). x.model) done) causes (λ d at. r.found d at ∙ is.finds d) (r.goes ∙ goes_on _ _ (is.leaves r.sampled) told)
 
 reading_refused : (m : ModelData) (check : Bool) (reg : ℕ) (why : Refused) →
     register_event (reading check reg) reg [] (quiet (end.Refused why) m) ≡ refused_event m (named m (reading check reg)) why

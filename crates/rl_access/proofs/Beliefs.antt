@@ -1,5 +1,6 @@
 -- What an operation that ended by a bus error leaves, and what a check names.
-use Rattle.std.proofs.Common.{◌≡◌, ◌≢◌, ◌⊎◌, ⊎_elim, ℕ, ◌<◌, ◌≤◌, ◌==◌, ◌&&◌, not, Bool, true, false, if◌then◌else◌, List, [], Option, None, Some, Ok, Err, MatchResult, length, refl, sym, ap, ◌∙◌}
+use Rattle.std.proofs.Common.{◌≡◌, ◌≢◌, ◌⊎◌, ⊎_elim, ℕ, ◌<◌, ◌≤◌, ◌==◌, ◌&&◌, not, Bool, true, false, if◌then◌else◌, List, [], Option, None, Some, Ok, Err, MatchResult, length}
+use Rattle.std.proofs.Common.{refl, sym, ap, ◌∙◌, subst}
 use Rattle.std.proofs.lemmas.Bool.{and_parts, and_from, not-true, eqb-false, ne_eqb, cases_lt, cases_Bool}
 use Rattle.rl_policy.specs.Bits.{bit}
 use Rattle.rl_policy.specs.Table.{is_write_only}
@@ -29,13 +30,13 @@ use Rattle.rl_access.specs.Rules.{end_in_field, back_value}
 
 -- ---- an event tells its outcome
 
-end_told : (r : Option ℕ) (op : Op) (items : List TraceItem) (o : Outcome) → (event_at r op items o).end ≡ o.end
-end_told None op items o = refl
-end_told (Some reg) op items o = refl
+pub record TellsOutcome (e : Event) (o : Outcome) : Type 0 where
+  pub end_is : e.end ≡ o.end
+  pub differ_is : e.differ ≡ o.differ
 
-differ_told : (r : Option ℕ) (op : Op) (items : List TraceItem) (o : Outcome) → (event_at r op items o).differ ≡ o.differ
-differ_told None op items o = refl
-differ_told (Some reg) op items o = refl
+pub event_tells : (r : Option ℕ) (op : Op) (items : List TraceItem) (o : Outcome) → TellsOutcome (event_at r op items o) o
+event_tells None op items o = record { end_is = refl; differ_is = refl }
+event_tells (Some reg) op items o = record { end_is = refl; differ_is = refl }
 
 -- ---- a bus error
 
@@ -97,20 +98,13 @@ outcome_keeps m (op.OtherRead reg map) place sampled items =
     kept_read m (forgetting m place) false (whole m reg place 0) items refl
 outcome_keeps m _ place sampled items = λ k e. absurd (cc)
 
--- the event of what was done ends as its outcome
-end_done : (s new : Scene) (op : Op) (place : ℕ) (event : Event) (d : IsDone s new op place event)
-    → event.end ≡ (outcome s.model op place d.sampled event.trace).end
-end_done s new op place event d =
-    ap (λ (e : Event). e.end) d.event_is
-    ∙ end_told (register_of s.model.chip (named s.model op)) (named s.model op) event.trace
-    (outcome s.model op place d.sampled event.trace)
-
-differ_done : (s new : Scene) (op : Op) (place : ℕ) (event : Event) (d : IsDone s new op place event)
-    → event.differ ≡ (outcome s.model op place d.sampled event.trace).differ
-differ_done s new op place event d =
-    ap (λ (e : Event). e.differ) d.event_is
-    ∙ differ_told (register_of s.model.chip (named s.model op)) (named s.model op) event.trace
-    (outcome s.model op place d.sampled event.trace)
+-- the event of what was done tells its outcome
+pub done_tells : (s new : Scene) (op : Op) (place : ℕ) (event : Event) (d : IsDone s new op place event)
+    → TellsOutcome event (outcome s.model op place d.sampled event.trace)
+done_tells s new op place event d =
+    let o = outcome s.model op place d.sampled event.trace in
+    subst (λ e. TellsOutcome e o) (sym d.event_is)
+    (event_tells (register_of s.model.chip (named s.model op)) (named s.model op) event.trace o)
 
 kept : (m new : ModelData) → new.mirror ≡ m.mirror → KeepsBeliefs m new
 kept m new same = record {
@@ -124,7 +118,7 @@ error_by : (s new : Scene) (op : Op) (event : Event) (k : ℕ) (g : Grant)
     → event.end ≡ end.BusError k → KeepsBeliefs s.model new.model
 error_by s new op event k (Ok place) d e =
     kept s.model new.model (ap (λ (x : ModelData). x.mirror) d.model
-    ∙ outcome_keeps s.model op place d.sampled event.trace k (sym (end_done s new op place event d) ∙ e))
+    ∙ outcome_keeps s.model op place d.sampled event.trace k (sym (done_tells s new op place event d).end_is ∙ e))
 error_by s new op event k (Err why) r e = kept s.model new.model (ap (λ (x : Scene). x.model.mirror) r.unchanged)
 
 pub error_keeps : (s new : Scene) (op : Op) (event : Event) (k : ℕ) → Performs s new op event → event.end ≡ end.BusError k
@@ -200,15 +194,10 @@ check_outcome m (op.BackCheck checked) reg place sampled read items same e =
     ∙ ap (λ r. differ m.chip r read m.mirror) same
 check_outcome m _ reg place sampled read items same e = absurd same
 
-refused_end : (s new : Scene) (op : Op) (why : Refused) (event : Event) → IsRefused s new op why event → event.end ≡ end.Refused why
-refused_end s new op why event r =
-    ap (λ (e : Event). e.end) r.event_is
-    ∙ end_told (register_of s.model.chip (named s.model op)) (named s.model op) [] (quiet (end.Refused why) s.model)
-
-refused_differ : (s new : Scene) (op : Op) (why : Refused) (event : Event) → IsRefused s new op why event → event.differ ≡ 0
-refused_differ s new op why event r =
-    ap (λ (e : Event). e.differ) r.event_is
-    ∙ differ_told (register_of s.model.chip (named s.model op)) (named s.model op) [] (quiet (end.Refused why) s.model)
+refused_tells : (s new : Scene) (op : Op) (why : Refused) (event : Event) → IsRefused s new op why event → TellsOutcome event (quiet (end.Refused why) s.model)
+refused_tells s new op why event r =
+    subst (λ e. TellsOutcome e (quiet (end.Refused why) s.model)) (sym r.event_is)
+    (event_tells (register_of s.model.chip (named s.model op)) (named s.model op) [] (quiet (end.Refused why) s.model))
 
 no_value : (e : End) (why : Refused) (read : ℕ) → e ≡ end.Refused why → e ≡ end.Value read → ⊥
 no_value e why read refused value = absurd (let no : end.Refused why ≡ end.Value read = sym refused ∙ value in cc)
@@ -217,9 +206,9 @@ check_by : (s new : Scene) (op : Op) (event : Event) (reg read : ℕ) (g : Grant
     → MatchResult g (λ place. IsDone s new op place event) (λ why. IsRefused s new op why event)
     → ChecksRegister op reg → event.end ≡ end.Value read → event.differ ≡ differ s.model.chip reg read s.model.mirror
 check_by s new op event reg read (Ok place) d is e =
-    differ_done s new op place event d
-    ∙ check_outcome s.model op reg place d.sampled read event.trace is (sym (end_done s new op place event d) ∙ e)
-check_by s new op event reg read (Err why) r is e = absurd (no_value event.end why read (refused_end s new op why event r) e)
+    (done_tells s new op place event d).differ_is
+    ∙ check_outcome s.model op reg place d.sampled read event.trace is (sym (done_tells s new op place event d).end_is ∙ e)
+check_by s new op event reg read (Err why) r is e = absurd (no_value event.end why read ((refused_tells s new op why event r).end_is) e)
 
 pub check_names : (s new : Scene) (op : Op) (event : Event) (reg read k : ℕ) → Performs s new op event
     → ChecksRegister op reg → event.end ≡ end.Value read
@@ -252,11 +241,11 @@ location_by : (s new : Scene) (event : Event) (mem index value read : ℕ) (map 
     (λ why. IsRefused s new (op.MemCheck mem map index value) why event)
     → event.end ≡ end.Value read → event.differ ≡ mark (read == value)
 location_by s new event mem index value read map (Ok place) d e =
-    differ_done s new (op.MemCheck mem map index value) place event d
+    (done_tells s new (op.MemCheck mem map index value) place event d).differ_is
     ∙ value_read (failed_at event.trace) s.model _ (λ v. mark (v == value)) _ read
-    (sym (end_done s new (op.MemCheck mem map index value) place event d) ∙ e)
+    (sym (done_tells s new (op.MemCheck mem map index value) place event d).end_is ∙ e)
 location_by s new event mem index value read map (Err why) r e =
-    absurd (no_value event.end why read (refused_end s new (op.MemCheck mem map index value) why event r) e)
+    absurd (no_value event.end why read ((refused_tells s new (op.MemCheck mem map index value) why event r).end_is) e)
 
 pub location_marks : (s new : Scene) (event : Event) (mem index value read : ℕ) (map : Option ℕ)
     → Performs s new (op.MemCheck mem map index value) event → event.end ≡ end.Value read
@@ -313,12 +302,12 @@ nothing_by : (s new : Scene) (op : Op) (event : Event) (g : Grant)
     → MatchResult g (λ place. IsDone s new op place event) (λ why. IsRefused s new op why event)
     → (is_any_check op ≡ false) ⊎ HasReadNothing event.end → event.differ ≡ 0
 nothing_by s new op event (Ok place) d h =
-    differ_done s new op place event d ∙ ⊎_elim
+    (done_tells s new op place event d).differ_is ∙ ⊎_elim
     (λ none. no_check_differs s.model op place d.sampled event.trace none)
     (λ none. ⊎_elim (λ check. no_value_differs s.model op place d.sampled event.trace check
-    (λ read e. none read (end_done s new op place event d ∙ e)))
+    (λ read e. none read ((done_tells s new op place event d).end_is ∙ e)))
     (λ other. no_check_differs s.model op place d.sampled event.trace other) (cases_Bool (is_any_check op))) h
-nothing_by s new op event (Err why) r h = refused_differ s new op why event r
+nothing_by s new op event (Err why) r h = (refused_tells s new op why event r).differ_is
 
 pub nothing_differs : (s new : Scene) (op : Op) (event : Event) → Performs s new op event
     → (is_any_check op ≡ false) ⊎ HasReadNothing event.end → event.differ ≡ 0

@@ -1,5 +1,5 @@
 -- What the answers to the words of a read bring, one after another.
-use Rattle.std.proofs.Common.{◌≡◌, ℕ, ◌+◌, ◌^◌, ◌<◌, ◌≤◌, true, false, List, [], ◌∷◌, ◌++◌, length, sym, ap, ◌∙◌, arith}
+use Rattle.std.proofs.Common.{◌≡◌, ℕ, Option, Some, ◌+◌, ◌^◌, ◌<◌, ◌≤◌, true, false, List, [], ◌∷◌, ◌++◌, length, sym, ap, ◌∙◌, arith}
 use Rattle.std.specs.Prelude.{bit_or}
 use Rattle.std.proofs.lemmas.List.{map-append, length-map}
 use Rattle.rl_policy.specs.Bits.{bit, from_bits}
@@ -7,10 +7,10 @@ use Rattle.rl_policy.proofs.BitLemmas.{bit-or, bit-zero, is_from_bits}
 use Rattle.rl_bus.specs.Spread.{spread_bit}
 use Rattle.rl_map.specs.Layout.{LayoutData}
 use Rattle.rl_split.specs.Access.{joined_bit}
-use Rattle.rl_split.specs.Outgoing.{words_in, word_in, sent_of_first}
+use Rattle.rl_split.specs.Outgoing.{words_in, word_in, sent_as, sent_of_first}
 use Rattle.rl_split.specs.declared.access.OutgoingWord.{OutgoingWord}
 use Rattle.rl_split.specs.declared.access.Outgoing.{Outgoing}
-use Rattle.rl_split.proofs.Sent.{IsNextSent, value_more, or_small, all_joined}
+use Rattle.rl_split.proofs.Sent.{IsNextSent, next_sent, value_more, or_small, all_joined}
 use Rattle.rl_access.specs.declared.trace.TraceItem.{TraceItem}
 use Rattle.rl_access.specs.Access.{IsBrought}
 use Rattle.rl_access.specs.Items.{words_answered, word_answered, has_failed}
@@ -24,6 +24,11 @@ IsSoFar l s k items value = s.write ≡ false → value ≡ from_bits 64 (joined
 -- none was sent
 pub none_so_far : (l : LayoutData) (s : Outgoing) → IsSoFar l s 0 [] 0
 none_so_far l s reads = is_from_bits 64 0 _ (omega arith) (λ b low. bit-zero b)
+
+-- the word that is sent next
+pub next_word : (l : LayoutData) (s : Outgoing) (k : ℕ) {n : ℕ} {found : Option OutgoingWord} {next : OutgoingWord} → k < n → n ≡ length (words_in l s) →
+    found ≡ sent_as l s (word_in l s k) → found ≡ Some next → IsNextSent l s k next
+next_word l s k {n} {found} {next} low count is some = next_sent l s k found next (omega (arith, low, count)) is some
 
 -- one answer more
 pub brought_more : (l : LayoutData) (s : Outgoing) (k : ℕ) (next : OutgoingWord) (items : List TraceItem) (item : TraceItem) (value bits : ℕ) → IsNextSent l s k next →

@@ -9,14 +9,6 @@ bytes_digits n =
     let e : 2 * n ≡ n + n = omega arith in
     ap (λ k. 16 ^ k) e ∙ pow-add 16 n n ∙ sym (mul-pow 16 16 n)
 
--- and so do eight bits
-pub bytes_bits : (n : ℕ) → 2 ^ (8 * n) ≡ 256 ^ n
-bytes_bits zero = refl
-bytes_bits (suc n) =
-    let e : 8 * suc n ≡ 8 + 8 * n = omega arith in
-    let f : suc n ≡ 1 + n = omega arith in
-    ap (λ k. 2 ^ k) e ∙ pow-add 2 8 (8 * n) ∙ ap (λ k. 256 * k) (bytes_bits n) ∙ sym (ap (λ k. 256 ^ k) f ∙ pow-add 256 1 n)
-
 -- four bits make a digit
 pub digit_bits : (n : ℕ) → 2 ^ (4 * n) ≡ 16 ^ n
 digit_bits zero = refl
@@ -24,6 +16,12 @@ digit_bits (suc n) =
     let e : 4 * suc n ≡ 4 + 4 * n = omega arith in
     let f : suc n ≡ 1 + n = omega arith in
     ap (λ k. 2 ^ k) e ∙ pow-add 2 4 (4 * n) ∙ ap (λ k. 16 * k) (digit_bits n) ∙ sym (ap (λ k. 16 ^ k) f ∙ pow-add 16 1 n)
+
+-- and so do eight bits
+pub bytes_bits : (n : ℕ) → 2 ^ (8 * n) ≡ 256 ^ n
+bytes_bits n =
+    let e : 8 * n ≡ 4 * (2 * n) = omega arith in
+    ap (λ k. 2 ^ k) e ∙ digit_bits (2 * n) ∙ bytes_digits n
 
 -- what the bytes hold, their digits hold
 pub below_digits : (n v : ℕ) → v < 256 ^ n → v < 16 ^ (2 * n)

@@ -2,12 +2,12 @@ pub mod Alone
 pub mod BackPerforms
 pub mod Beliefs
 pub mod Brought
+pub mod Bursting
 pub mod Bytes
 pub mod Concluded
 pub mod Seated
 pub mod Gathers
 pub mod Granted
-pub mod Going
 pub mod Locations
 pub mod MemoryPerforms
 pub mod MemoryRows

@@ -1,13 +1,19 @@
 -- Locations of memories.
-use Rattle.std.proofs.Common.{◌≡◌, ℕ, ◌*◌, ◌^◌, ◌<◌, ◌≤◌, Bool, Some, sym, ap, ◌∙◌, subst}
+use Rattle.std.proofs.Common.{◌≡◌, ℕ, ◌*◌, ◌^◌, ◌<◌, ◌≤◌, Bool, List, Option, Some, sym, ap, ◌∙◌, subst}
 use Rattle.rl_policy.specs.Bits.{from_bits}
 use Rattle.rl_policy.proofs.BitLemmas.{from_bits-lt}
+use Rattle.rl_bus.specs.Standing.{Standing}
+use Rattle.rl_bus.specs.State.{State}
 use Rattle.rl_model.specs.Rows.{ChipData}
 use Rattle.rl_model.specs.Chip.{bytes_of}
 use Rattle.rl_model.specs.declared.rows.Item.TheVariants as item
-use Rattle.rl_map.specs.Layout.{place_at}
+use Rattle.rl_map.specs.Layout.{LayoutData, place_at}
 use Rattle.rl_split.specs.Access.{IsChoice, all_bytes}
+use Rattle.rl_split.specs.Outgoing.{outgoing_ops}
+use Rattle.rl_split.specs.declared.access.Outgoing.{Outgoing}
+use Rattle.rl_access.specs.declared.trace.TraceItem.{TraceItem}
 use Rattle.rl_access.specs.Access.{IsPlaceFor}
+use Rattle.rl_access.specs.Items.{AreSent, adapter_for, port_for}
 use Rattle.rl_access.specs.Model.{ModelData, IsModel}
 use Rattle.rl_access.specs.Operation.{location_size}
 use Rattle.rl_access.specs.Rules.{low_bytes}
@@ -36,3 +42,10 @@ location_digits m mem place value ok there low = below_digits (location_size m.c
 -- the lowest bytes of a word
 pub taken_low : (c : ChipData) (mem bytes value word : ℕ) → bytes_of c (item.Mem mem) ≡ Some bytes → value ≡ low_bytes bytes word → value ≡ low_bytes (location_size c mem) word
 taken_low c mem bytes value word e is = is ∙ ap (λ n. low_bytes n word) (sym (size_is c (item.Mem mem) bytes e))
+
+-- what went out, by an equal access
+pub same_sent : {items : List TraceItem} {before now : List Standing} {errors later : ℕ} {state after : Option State} (l : LayoutData) (o it : Outgoing) → o ≡ it →
+    AreSent (adapter_for l o.place) (port_for l o.place) (outgoing_ops l o) items before now errors later state after →
+    AreSent (adapter_for l it.place) (port_for l it.place) (outgoing_ops l it) items before now errors later state after
+same_sent {items} {before} {now} {errors} {later} {state} {after} l o it same sent =
+    subst (λ (x : Outgoing). AreSent (adapter_for l x.place) (port_for l x.place) (outgoing_ops l x) items before now errors later state after) same sent

@@ -15,7 +15,7 @@ use Rattle.rl_access.specs.Items.{IsAnswerSmall, item_of, AreItemsOf}
 use Rattle.rl_access.specs.Model.{ModelData}
 use Rattle.rl_access.proofs.Ready.{fits_there}
 use Rattle.rl_access.proofs.Traces.{items_fit}
-use Rattle.rl_access.proofs.UnderWay.{IsNext, IsSentInOrder, under_way_first, under_way_next, under_way_failed, under_way_done}
+use Rattle.rl_access.proofs.UnderWay.{IsNext, IsSentInOrder, under_way_first, under_way_next, under_way_failed, under_way_done, next_of}
 
 none_past : {A : Type 0} (P : A → Type 0) → All P []
 none_past P k d low = absurd (omega arith)
@@ -29,17 +29,7 @@ pub one_sent : {first new : List Standing} {which port errors later : ℕ} {op :
     AnswerHasCause errors later item.answer → IsStep state after port op item.answer →
     IsSentInOrder first new which port (op ∷ []) (item ∷ []) errors later state after
 one_sent {first} {new} {which} {port} {errors} {later} {op} {item} {state} {after} within sent tiny moves keeps cause step =
-    let next : IsNext first first new which port (op ∷ []) 0 item errors later state after = record {
-      within = within;
-      index = omega arith;
-      sent = sent;
-      tiny = tiny;
-      moves = moves;
-      keeps = keeps;
-      cause = cause;
-      step = step;
-    } in
-    by item.answer.failed refl next
+    by item.answer.failed refl (next_of within refl sent tiny moves keeps cause step)
   where
     by : (b : Bool) → item.answer.failed ≡ b → IsNext first first new which port (op ∷ []) 0 item errors later state after → IsSentInOrder first new which port (op ∷ []) (item ∷ []) errors later
         state after

@@ -21,7 +21,7 @@ use Rattle.rl_access.specs.Model.{ModelData, IsSameChip}
 use Rattle.rl_access.specs.Operation.{reg_of}
 use Rattle.rl_access.specs.Rules.{Grant, placed, with_right, with_watch, way, watched_way, map_of_place, map_used, grant, named, forgetting, forgetting_field, whole, field_written, field_read}
 use Rattle.rl_access.specs.Rules.{field_alone, is_alone, access_ops, Outcome, or_error, write_outcome, read_outcome, value_of, end_in_field, in_field, register_event, quiet}
-use Rattle.rl_access.proofs.Performed.{IsOverBus, IsWriteOf, IsReadOf, IsQuiet, sent_over_bus}
+use Rattle.rl_access.proofs.Performed.{IsOverBus, IsAccessOf, IsWriteOf, IsReadOf, IsQuiet, sent_over_bus}
 
 -- ---- the way, and the map that is named
 
@@ -65,6 +65,11 @@ parts_around m entry new field place write is same = record {
   layout = same.layout ∙ ap (λ (x : ModelData). x.layout) is;
 }
 
+-- an access at the place, which begins by forgetting what was gathered there
+begun : {m : ModelData} {op : Op} {reg place value : ℕ} {write : Bool} {o : List TraceItem → Outcome} →
+    IsOverBus m op place reg (access_ops (forgetting m place) (whole m reg place value) write) o → IsAccessOf m op place (forgetting m place) (whole m reg place value) write o
+begun is = record { over_bus = is; layout_is = refl; place_is = refl }
+
 -- ---- writes
 
 is_write_by : (m : ModelData) (op : Op) (place : ℕ) (first entry : ModelData) (it a : Access) (good : End) → IsWriteOf m op place first it good → entry ≡ first → a ≡ it →
@@ -73,48 +78,24 @@ is_write_by m op place first entry it a good is from same =
     subst (λ (x : Access). IsWriteOf m op place entry x good) (sym same) (subst (λ (e : ModelData). IsWriteOf m op place e it good) (sym from) is)
 
 pub whole_write : (m : ModelData) (reg : ℕ) (map : Option ℕ) (value place : ℕ) → IsWriteOf m (op.Write reg map value) place (forgetting m place) (whole m reg place value) end.Done
-whole_write m reg map value place = record {
-  over_bus = record { sends_are = refl; outcome_is = λ items. refl; register = refl; sampled = λ d. refl; device = λ items d. refl };
-  layout_is = refl;
-  place_is = refl;
-}
+whole_write m reg map value place = begun (record { sends_are = refl; outcome_is = λ items. refl; register = refl; sampled = λ d. refl; device = λ items d. refl })
 
 pub other_whole_write : (m : ModelData) (reg : ℕ) (map : Option ℕ) (value place : ℕ) → IsWriteOf m (op.OtherWrite reg map value) place (forgetting m place) (whole m reg place value) end.Done
-other_whole_write m reg map value place = record {
-  over_bus = record { sends_are = refl; outcome_is = λ items. refl; register = refl; sampled = λ d. refl; device = λ items d. refl };
-  layout_is = refl;
-  place_is = refl;
-}
+other_whole_write m reg map value place = begun (record { sends_are = refl; outcome_is = λ items. refl; register = refl; sampled = λ d. refl; device = λ items d. refl })
 
 -- ---- reads
 
 pub whole_read : (m : ModelData) (reg : ℕ) (map : Option ℕ) (place : ℕ) → IsReadOf m (op.Read reg map) place (forgetting m place) (whole m reg place 0) false
-whole_read m reg map place = record {
-  over_bus = record { sends_are = refl; outcome_is = λ items. refl; register = refl; sampled = λ d. refl; device = λ items d. refl };
-  layout_is = refl;
-  place_is = refl;
-}
+whole_read m reg map place = begun (record { sends_are = refl; outcome_is = λ items. refl; register = refl; sampled = λ d. refl; device = λ items d. refl })
 
 whole_mirror : (m : ModelData) (reg : ℕ) (map : Option ℕ) (place : ℕ) → IsReadOf m (op.Mirror reg map) place (forgetting m place) (whole m reg place 0) false
-whole_mirror m reg map place = record {
-  over_bus = record { sends_are = refl; outcome_is = λ items. refl; register = refl; sampled = λ d. refl; device = λ items d. refl };
-  layout_is = refl;
-  place_is = refl;
-}
+whole_mirror m reg map place = begun (record { sends_are = refl; outcome_is = λ items. refl; register = refl; sampled = λ d. refl; device = λ items d. refl })
 
 whole_check : (m : ModelData) (reg : ℕ) (map : Option ℕ) (place : ℕ) → IsReadOf m (op.Check reg map) place (forgetting m place) (whole m reg place 0) true
-whole_check m reg map place = record {
-  over_bus = record { sends_are = refl; outcome_is = λ items. refl; register = refl; sampled = λ d. refl; device = λ items d. refl };
-  layout_is = refl;
-  place_is = refl;
-}
+whole_check m reg map place = begun (record { sends_are = refl; outcome_is = λ items. refl; register = refl; sampled = λ d. refl; device = λ items d. refl })
 
 pub other_whole_read : (m : ModelData) (reg : ℕ) (map : Option ℕ) (place : ℕ) → IsReadOf m (op.OtherRead reg map) place (forgetting m place) (whole m reg place 0) false
-other_whole_read m reg map place = record {
-  over_bus = record { sends_are = refl; outcome_is = λ items. refl; register = refl; sampled = λ d. refl; device = λ items d. refl };
-  layout_is = refl;
-  place_is = refl;
-}
+other_whole_read m reg map place = begun (record { sends_are = refl; outcome_is = λ items. refl; register = refl; sampled = λ d. refl; device = λ items d. refl })
 
 -- a read to learn the value, or a check
 abbrev pub mirroring : Bool → (reg : ℕ) → Option ℕ → Op

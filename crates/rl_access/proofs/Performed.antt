@@ -10,9 +10,10 @@ use Rattle.rl_access.specs.declared.event.Event.{Event}
 use Rattle.rl_access.specs.declared.event.Op.{Op}
 use Rattle.rl_access.specs.declared.event.Refused.{Refused}
 use Rattle.rl_access.specs.declared.trace.TraceItem.{TraceItem}
-use Rattle.rl_access.specs.Call.{Scene, scene, IsRefused, IsDone, Performs, IsReadBy, IsWrittenBy, WereSent}
+use Rattle.rl_access.specs.Call.{Scene, scene, Does, IsAccessed, IsRefused, IsDone, Performs, WereSent}
+use Rattle.rl_access.specs.Event.{EventFits}
 use Rattle.rl_access.specs.Items.{AreItemsOf, AreSent, HasCauses, items_of, state_after_all, port_for, adapter_for}
-use Rattle.rl_access.specs.Model.{ModelData}
+use Rattle.rl_access.specs.Model.{ModelData, IsReady, IsSameChip}
 use Rattle.rl_access.specs.Operation.{register_of}
 use Rattle.rl_access.specs.Rules.{Grant, Outcome, grant, named, sends, outcome, event_at, event_of, register_event, quiet, access_ops, write_outcome, read_outcome, refused_event, found_by}
 use Rattle.rl_access.specs.Rules.{device_after}
@@ -38,7 +39,7 @@ pub record IsOverBus (m : ModelData) (op : Op) (place : ℕ) (reg : ℕ) (ops : 
   pub sampled : (d : State) → 0 ≡ found_by d op
   pub device : (items : List TraceItem) (d : State) → device_after m op 0 items d ≡ state_after_all d items
 
-goes_on : (f g : State → State) → ((d : State) → f d ≡ g d) → (state : Option State) → option_map f state ≡ option_map g state
+pub goes_on : (f g : State → State) → ((d : State) → f d ≡ g d) → (state : Option State) → option_map f state ≡ option_map g state
 goes_on f g same None = refl
 goes_on f g same (Some d) = ap Some (same d)
 
@@ -85,54 +86,42 @@ pub record IsAccessOf (m : ModelData) (op : Op) (place : ℕ) (entry : ModelData
 access_performs : {before now : List Standing} {errors later : ℕ} {state after : Option State} (m entry new : ModelData) (op told : Op) (place : ℕ)
     (a : Access) (write : Bool) (o : List TraceItem → Outcome) (event : Event) →
     grant m op ≡ Ok place → told ≡ named m op → IsAccessOf m op place entry a write o →
-    WereSent (scene entry before errors state) (scene new now later after) a write event.trace →
-    event ≡ register_event told a.reg event.trace (o event.trace) → new ≡ (o event.trace).model →
+    IsAccessed (scene entry before errors state) (scene new now later after) told a write o event →
     Performs (scene m before errors state) (scene new now later after) op event
-access_performs {before} {now} {errors} {later} {state} {after} m entry new op told place a write o event granted names is sent event_is model =
+access_performs {before} {now} {errors} {later} {state} {after} m entry new op told place a write o event granted names is done =
     sent_over_bus m new op told place a.reg (access_ops entry a write) o event before now errors later state after granted names is.over_bus
-    (sent_there m entry new a write place event.trace before now errors later state after is.layout_is is.place_is sent) event_is model
+    (sent_there m entry new a write place event.trace before now errors later state after is.layout_is is.place_is done.sent) done.event_is done.model
+
+-- and what it leaves for the next call
+pub access_does : {before now : List Standing} {errors later : ℕ} {state after : Option State} (m entry new : ModelData) (op told : Op) (place : ℕ)
+    (a : Access) (write : Bool) (o : List TraceItem → Outcome) (event : Event) →
+    grant m op ≡ Ok place → told ≡ named m op → IsAccessOf m op place entry a write o →
+    IsAccessed (scene entry before errors state) (scene new now later after) told a write o event →
+    IsReady new now after → IsSameChip m new → EventFits new event →
+    Does (scene m before errors state) (scene new now later after) op event
+access_does m entry new op told place a write o event granted names is done ready parts fits = record {
+  performs = access_performs m entry new op told place a write o event granted names is done;
+  ready = ready;
+  parts = parts;
+  fits = fits;
+}
 
 -- a write that ends so where no item failed
 abbrev pub IsWriteOf : ModelData → Op → (place : ℕ) → (entry : ModelData) → Access → (good : End) → Type 0
 IsWriteOf m op place entry a good = IsAccessOf m op place entry a true (write_outcome entry good a)
 
-pub write_performs : {before now : List Standing} {errors later : ℕ} {state after : Option State} (m entry new : ModelData) (op told : Op) (place : ℕ)
-    (a : Access) (good : End) (event : Event) →
-    grant m op ≡ Ok place → told ≡ named m op → IsWriteOf m op place entry a good →
-    IsWrittenBy (scene entry before errors state) (scene new now later after) told a good event →
-    Performs (scene m before errors state) (scene new now later after) op event
-write_performs m entry new op told place a good event granted names is done =
-    access_performs m entry new op told place a true (write_outcome entry good a) event granted names is done.sent done.event_is done.model
-
 -- a read, or a check
 abbrev pub IsReadOf : ModelData → Op → (place : ℕ) → (entry : ModelData) → Access → (check : Bool) → Type 0
 IsReadOf m op place entry a check = IsAccessOf m op place entry a false (read_outcome entry check a)
 
-pub read_performs : {before now : List Standing} {errors later : ℕ} {state after : Option State} (m entry new : ModelData) (op told : Op) (place : ℕ)
-    (a : Access) (check : Bool) (event : Event) →
-    grant m op ≡ Ok place → told ≡ named m op → IsReadOf m op place entry a check →
-    IsReadBy (scene entry before errors state) (scene new now later after) told a check event →
-    Performs (scene m before errors state) (scene new now later after) op event
-read_performs m entry new op told place a check event granted names is done =
-    access_performs m entry new op told place a false (read_outcome entry check a) event granted names is done.sent done.event_is done.model
-
--- ---- the same from an equal model, by an equal access
-
-pub written_so : {before now : List Standing} {errors later : ℕ} {state after : Option State} (entry first new : ModelData) (op : Op) (a it : Access)
-    (good : End) (event : Event) → entry ≡ first → a ≡ it →
-    IsWrittenBy (scene entry before errors state) (scene new now later after) op a good event →
-    IsWrittenBy (scene first before errors state) (scene new now later after) op it good event
-written_so {before} {now} {errors} {later} {state} {after} entry first new op a it good event from same done =
-    subst (λ (x : Access). IsWrittenBy (scene first before errors state) (scene new now later after) op x good event) same
-    (subst (λ (x : ModelData). IsWrittenBy (scene x before errors state) (scene new now later after) op a good event) from done)
-
-pub read_so : {before now : List Standing} {errors later : ℕ} {state after : Option State} (entry first new : ModelData) (op : Op) (a it : Access)
-    (check : Bool) (event : Event) → entry ≡ first → a ≡ it →
-    IsReadBy (scene entry before errors state) (scene new now later after) op a check event →
-    IsReadBy (scene first before errors state) (scene new now later after) op it check event
-read_so {before} {now} {errors} {later} {state} {after} entry first new op a it check event from same done =
-    subst (λ (x : Access). IsReadBy (scene first before errors state) (scene new now later after) op x check event) same
-    (subst (λ (x : ModelData). IsReadBy (scene x before errors state) (scene new now later after) op a check event) from done)
+-- the same from an equal model, by an equal access
+pub accessed_so : {before now : List Standing} {errors later : ℕ} {state after : Option State} (o : ModelData → Access → List TraceItem → Outcome)
+    (entry first new : ModelData) (op : Op) (a it : Access) (write : Bool) (event : Event) → entry ≡ first → a ≡ it →
+    IsAccessed (scene entry before errors state) (scene new now later after) op a write (o entry a) event →
+    IsAccessed (scene first before errors state) (scene new now later after) op it write (o first it) event
+accessed_so {before} {now} {errors} {later} {state} {after} o entry first new op a it write event from same done =
+    subst (λ (x : Access). IsAccessed (scene first before errors state) (scene new now later after) op x write (o first x) event) same
+    (subst (λ (x : ModelData). IsAccessed (scene x before errors state) (scene new now later after) op a write (o x a) event) from done)
 
 -- ---- an operation that sends nothing, and leaves the device
 

@@ -1,9 +1,8 @@
--- A right is a bit of a set of rights.
+-- The largest value of a width.
 use Rattle.std.proofs.Common.{◌≡◌, ℕ, ◌-◌, ◌^◌, nat_le, nat_lt, refl, sym, ◌∙◌, arith}
 use borrow.Author.Tests.{le-leb, lt-leb, lt-ltb, le-ltb}
 use Rattle.std.proofs.lemmas.Nat.{pow_pos}
 use Rattle.rl_access.proofs.Narrow.{by_test}
-pub use Rattle.rl_map.proofs.Rights.{reads, writes}
 
 -- a value is at most the largest one exactly where it is below the limit
 pub most_below : (value width most : ℕ) → most ≡ 2 ^ width - 1 → nat_le value most ≡ nat_lt value (2 ^ width)

@@ -38,11 +38,11 @@ or-false : (b : Bool) → (b || false) ≡ b
 or-false true = refl
 or-false false = refl
 
-or_first : (a b : Bool) → (a || b) ≡ false → a ≡ false
+pub or_first : (a b : Bool) → (a || b) ≡ false → a ≡ false
 or_first true b h = h
 or_first false b h = refl
 
-or_second : (a b : Bool) → (a || b) ≡ false → b ≡ false
+pub or_second : (a b : Bool) → (a || b) ≡ false → b ≡ false
 or_second true b h = cc
 or_second false b h = h
 
@@ -277,19 +277,17 @@ under_way_done {first} {now} {which} {port} {ops} {i} {items} {errors_before} {e
       };
     }
 
--- the next item, of the adapters themselves
-pub next_of : {A : Type 0} (f : A → Standing) (first now new : List A) {which port : ℕ} {ops : List BusOp} {i : ℕ} {op : BusOp} {item : TraceItem} {errors errors_after : ℕ} {state after : Option
-    State} →
-    which < length (map f first) → slice_get ops i ≡ Some op → item ≡ item_of (standing_at (map f now) which) port op item.answer → IsAnswerSmall item → map f new ≡ moved_on (map f now) which item.op
-    item.answer → kinds_of (map f new) ≡ kinds_of (map f now) →
-    AnswerHasCause errors errors_after item.answer → IsStep state after port op item.answer →
-    IsNext (map f first) (map f now) (map f new) which port ops i item errors errors_after state after
-next_of f first now new {which} {port} {ops} {i} {op} {item} {errors} {errors_after} {state} {after} within index sent tiny moves keeps cause step =
+-- the next item is the operation of that number
+pub next_of : {first now new : List Standing} {which port : ℕ} {ops : List BusOp} {i : ℕ} {op : BusOp} {item : TraceItem} {errors errors_after : ℕ} {state after : Option State} →
+    which < length first → slice_get ops i ≡ Some op → item ≡ item_of (standing_at now which) port op item.answer → IsAnswerSmall item → new ≡ moved_on now which item.op item.answer →
+    kinds_of new ≡ kinds_of now → AnswerHasCause errors errors_after item.answer → IsStep state after port op item.answer →
+    IsNext first now new which port ops i item errors errors_after state after
+next_of {first} {now} {new} {which} {port} {ops} {i} {op} {item} {errors} {errors_after} {state} {after} within index sent tiny moves keeps cause step =
     let is : op ≡ get_or ops i no_op = sym (get_or_from_slice_get ops i op no_op index) in
     record {
       within = within;
       index = slice_get_within ops i op index;
-      sent = sent ∙ ap (λ o. item_of (standing_at (map f now) which) port o item.answer) is;
+      sent = sent ∙ ap (λ o. item_of (standing_at now which) port o item.answer) is;
       tiny = tiny;
       moves = moves;
       keeps = keeps;

@@ -30,7 +30,7 @@ use Rattle.rl_access.specs.Observed.{Seen, seen, reg_in, word_told, is_whole, pr
 use Rattle.rl_access.specs.Rules.{every_field}
 use Rattle.rl_access.proofs.Bytes.{bytes_bits}
 use Rattle.rl_access.proofs.Gathers.{watched_is, one_observed}
-use Rattle.rl_access.proofs.UnderWay.{no_op}
+use Rattle.rl_access.proofs.UnderWay.{no_op, or_first, or_second}
 use Rattle.rl_access.proofs.Whole.{all_sent, first_of_place}
 
 -- ---- what a written word brings back
@@ -111,14 +111,6 @@ words_in l place chosen value [] = refl
 words_in l place chosen value (w ∷ ws) = ap (λ xs. word_of chosen value w ∷ xs) (words_in l place chosen value ws)
 
 -- ---- one after another
-
-or_first : (a b : Bool) → (a || b) ≡ false → a ≡ false
-or_first true b h = h
-or_first false b h = refl
-
-or_second : (a b : Bool) → (a || b) ≡ false → b ≡ false
-or_second true b h = cc
-or_second false b h = h
 
 -- the operations have the direction and the addresses of the place's words
 record AreWordsOf (l : LayoutData) (place : ℕ) (write : Bool) (ops : List BusOp) : Type 0 where

@@ -11,7 +11,7 @@ use Rattle.rl_access.specs.declared.trace.TraceItem.{TraceItem}
 use Rattle.rl_access.specs.Items.{AreItemsOf, AreSent, HasCauses, items_of, moved_on_by_all, port_for, adapter_for}
 use Rattle.rl_access.specs.Event.{EventFits}
 use Rattle.rl_access.specs.Model.{ModelData, IsDeviceOf, IsReady, IsSameChip}
-use Rattle.rl_access.specs.Rules.{grant, named, sends, outcome, event_of, refused_event, found_by, device_after, access_ops, register_event, write_outcome, read_outcome}
+use Rattle.rl_access.specs.Rules.{grant, named, sends, Outcome, outcome, event_of, refused_event, found_by, device_after, access_ops, register_event, write_outcome, read_outcome}
 
 -- what a call meets and leaves
 pub record Scene : Type 0 where
@@ -56,17 +56,19 @@ WereSent s new a write items =
     AreSent (adapter_for s.model.layout a.place) (port_for s.model.layout a.place) (access_ops s.model a write) items
     s.adapters new.adapters s.errors new.errors s.device new.device
 
+-- it was written, or read, and this was made of its items
+pub record IsAccessed (s new : Scene) (op : Op) (a : Access) (write : Bool) (o : List TraceItem → Outcome) (event : Event) : Type 0 where
+  pub sent : WereSent s new a write event.trace
+  pub event_is : event ≡ register_event op a.reg event.trace (o event.trace)
+  pub model : new.model ≡ (o event.trace).model
+
 -- it was written, and where no item failed the operation ended so
-pub record IsWrittenBy (s new : Scene) (op : Op) (a : Access) (good : End) (event : Event) : Type 0 where
-  pub sent : WereSent s new a true event.trace
-  pub event_is : event ≡ register_event op a.reg event.trace (write_outcome s.model good a event.trace)
-  pub model : new.model ≡ (write_outcome s.model good a event.trace).model
+abbrev pub IsWrittenBy : Scene → Scene → Op → Access → (good : End) → Event → Type 0
+IsWrittenBy s new op a good event = IsAccessed s new op a true (write_outcome s.model good a) event
 
 -- it was read
-pub record IsReadBy (s new : Scene) (op : Op) (a : Access) (check : Bool) (event : Event) : Type 0 where
-  pub sent : WereSent s new a false event.trace
-  pub event_is : event ≡ register_event op a.reg event.trace (read_outcome s.model check a event.trace)
-  pub model : new.model ≡ (read_outcome s.model check a event.trace).model
+abbrev pub IsReadBy : Scene → Scene → Op → Access → (check : Bool) → Event → Type 0
+IsReadBy s new op a check event = IsAccessed s new op a false (read_outcome s.model check a) event
 
 -- ---- one operation
 

@@ -144,45 +144,32 @@ is_off_bus _ = false
 
 -- ---- how it may end
 
+-- refused, before anything was sent
+abbrev pub ends_refused : End → Bool
+ends_refused (end.Refused why) = true
+ends_refused _ = false
+
+-- by a bus error, or refused
+abbrev pub ends_short : End → Bool
+ends_short (end.BusError word) = true
+ends_short e = ends_refused e
+
 abbrev pub ends_done : End → Bool
 ends_done end.Done = true
-ends_done (end.Value value) = false
-ends_done (end.Sent word) = false
-ends_done end.Nothing = false
-ends_done (end.BusError word) = true
-ends_done (end.Refused why) = true
+ends_done e = ends_short e
 
 abbrev pub ends_with_value : End → Bool
-ends_with_value end.Done = false
 ends_with_value (end.Value value) = true
-ends_with_value (end.Sent word) = false
-ends_with_value end.Nothing = false
-ends_with_value (end.BusError word) = true
-ends_with_value (end.Refused why) = true
+ends_with_value e = ends_short e
 
 abbrev pub ends_as_update : End → Bool
-ends_as_update end.Done = false
-ends_as_update (end.Value value) = false
 ends_as_update (end.Sent word) = true
 ends_as_update end.Nothing = true
-ends_as_update (end.BusError word) = true
-ends_as_update (end.Refused why) = true
-
-abbrev pub ends_refused : End → Bool
-ends_refused end.Done = false
-ends_refused (end.Value value) = false
-ends_refused (end.Sent word) = false
-ends_refused end.Nothing = false
-ends_refused (end.BusError word) = false
-ends_refused (end.Refused why) = true
+ends_as_update e = ends_short e
 
 abbrev pub ends_as_reset : End → Bool
 ends_as_reset end.Done = true
-ends_as_reset (end.Value value) = false
-ends_as_reset (end.Sent word) = false
-ends_as_reset end.Nothing = false
-ends_as_reset (end.BusError word) = false
-ends_as_reset (end.Refused why) = true
+ends_as_reset e = ends_refused e
 
 abbrev pub has_end : Op → End → Bool
 has_end (op.Write reg map value) e = ends_done e

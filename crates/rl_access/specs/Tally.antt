@@ -6,12 +6,8 @@ use Rattle.rl_access.specs.declared.event.Event.{Event}
 use Rattle.rl_access.specs.declared.event.Tally.{Tally}
 
 abbrev pub is_bus_error : End → Bool
-is_bus_error end.Done = false
-is_bus_error (end.Value value) = false
-is_bus_error (end.Sent word) = false
-is_bus_error end.Nothing = false
 is_bus_error (end.BusError word) = true
-is_bus_error (end.Refused why) = false
+is_bus_error _ = false
 
 -- a count stays at its limit
 abbrev pub more : ℕ → ℕ → ℕ

@@ -18,7 +18,14 @@ use rl_policy::take;
 use rl_split::Outgoing;
 
 /// An access to a location: to all its bytes.
-fn outgoing_at(model: &Model, mem: u32, place: u32, index: u32, value: u64, write: bool) -> Outgoing
+pub(crate) fn outgoing_at(
+    model: &Model,
+    mem: u32,
+    place: u32,
+    index: u32,
+    value: u64,
+    write: bool,
+) -> Outgoing
     requires mem { mem < length model.now.chip.mems }
     requires place { IsPlaceFor model.now (item.Mem mem) place }
     requires index { index < memory_size model.now.chip mem }
@@ -35,7 +42,8 @@ fn outgoing_at(model: &Model, mem: u32, place: u32, index: u32, value: u64, writ
     }
 }
 
-fn end_of_write(trace: &Trace) -> End
+/// How a write of a location ended.
+pub(crate) fn end_of_write(trace: &Trace) -> End
     ensures end { (model : ModelData) → result ≡ (or_error (failed_at trace.now) model (quiet end.Done model)).end }
     ensures ends { ends_done result ≡ true }
     ensures within { (digits : ℕ) → IsEndWithin digits result }
@@ -65,38 +73,7 @@ fn end_of_read(model: &Model, mem: u32, place: u32, index: u32, value: u64, trac
     }
 }
 
-pub(crate) fn write_location<D: Device>(
-    model: &Model,
-    device: &mut D,
-    adapters: &mut Adapters,
-    mem: u32,
-    place: u32,
-    index: u64,
-    value: u64,
-    trace: &mut Trace,
-) -> End
-    requires empty { trace.old ≡ [] }
-    requires ready { IsReady model.now (each standing adapters.old.items) (D.state device.old) }
-    requires mem { mem < length model.now.chip.mems }
-    requires place { IsPlaceFor model.now (item.Mem mem) place }
-    requires index { index < memory_size model.now.chip mem }
-    requires small { index < 65536 }
-    requires value { value < 256 ^ location_size model.now.chip mem }
-    ensures ready { IsReady model.now (each standing adapters.new.items) (D.state device.new) }
-    ensures sent { AreSent (adapter_for model.now.layout place) (port_for model.now.layout place)
-        (ops_of model.now.layout place index (location_bytes model.now mem) value true) trace.new
-        (each standing adapters.old.items) (each standing adapters.new.items)
-        (D.errors device.old) (D.errors device.new) (D.state device.old) (D.state device.new) }
-    ensures end { result ≡ (or_error (failed_at trace.new) model.now (quiet end.Done model.now)).end }
-    ensures items { All (ItemFits model.now.layout) trace.new }
-    ensures ends { ends_done result ≡ true }
-    ensures within { IsEndWithin (2 * location_size model.now.chip mem) result }
-{
-    let outgoing = outgoing_at(model, mem, place, index as u32, value, true);
-    send(model, device, adapters, &outgoing, trace);
-    end_of_write(trace)
-}
-
+/// Reads a location: how that ended.
 pub(crate) fn read_location<D: Device>(
     model: &Model,
     device: &mut D,

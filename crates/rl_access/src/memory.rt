@@ -3,8 +3,11 @@ ghost use Rattle.std.specs.Prelude.{◌≡◌, ◌<◌, ◌≤◌, map as each, 
 ghost use Rattle.rl_access.specs.Prelude.{Does, EventFits, IsDeviceOf, IsMapIn, IsReady, PerformsOffBus, grant};
 ghost use Rattle.rl_access.specs.Prelude.{scene_of, value_differs};
 
+use crate::engine::send;
 use crate::event::{End, Event, Op};
-use crate::location::{deposit_location, location_sampled, read_location, write_location};
+use crate::location::{
+    deposit_location, end_of_write, location_sampled, outgoing_at, read_location,
+};
 use crate::model::Model;
 use rl_bus::{Adapter, Adapters, Device};
 use rl_model::Item;
@@ -42,8 +45,9 @@ pub fn mem_write<D: Device>(
         Err(why) => return model.refuse_memory(op, why),
     };
     let mut event = Event::begun(op);
-    let trace = &mut event.trace;
-    let end = write_location(model, device, adapters, mem, place, index, value, trace);
+    let outgoing = outgoing_at(model, mem, place, index as u32, value, true);
+    send(model, device, adapters, &outgoing, &mut event.trace);
+    let end = end_of_write(&event.trace);
     model.conclude_memory(end, 0, &mut event);
     event
 }

@@ -1,15 +1,15 @@
 //! Whether an operation is refused: by the first cause that holds, before it sends anything.
 ghost use Rattle.std.specs.Prelude.{◌≡◌, ◌<◌, ◌≤◌, ◌^◌, ◌+◌, length, nat_lt, Ok, IfOk, IfSome, Some};
 ghost use Rattle.rl_access.specs.Prelude.{IsPlaceFor, field_of, memory_size, only_where};
-ghost use Rattle.rl_map.specs.Layout.{place_of, has_right};
+ghost use Rattle.rl_map.specs.Layout.{place_of};
 ghost use Rattle.rl_model.specs.Chip.{HasItem};
 ghost use Rattle.rl_access.specs.Rules.{placed, with_right, with_watch, by_backdoor, fitting, fitting_field};
 ghost use Rattle.rl_access.specs.Rules.{at_location, at_locations, writable, item_size};
 
 use crate::event::Refused;
 use crate::model::Model;
-use bitflags::Flags;
-use rl_model::{Item, Rights};
+use rl_map::has_right;
+use rl_model::Item;
 use rl_policy::mask;
 
 /// The place of an operation that was granted so far, or the first cause of its refusal.
@@ -32,16 +32,6 @@ fn fits_bits(value: u64, width: u32) -> bool
     ensures { result ≡ nat_lt value (2 ^ width) }
 {
     value <= mask(width)
-}
-
-fn has_right(rights: Rights, write: bool) -> bool
-    ensures { result ≡ has_right rights write }
-{
-    if write {
-        rights.contains(Rights::WRITE)
-    } else {
-        rights.contains(Rights::READ)
-    }
 }
 
 impl Model {

@@ -37,12 +37,8 @@ entries_stepped b m k step =
     slice_set (entries_believed b m) k (register_after (fields_of m.chip b.window.data_reg) step (entry_at b m k)).bits
 
 abbrev pub is_refused : End → Bool
-is_refused end.Done = false
-is_refused (end.Value value) = false
-is_refused (end.Sent word) = false
-is_refused end.Nothing = false
-is_refused (end.BusError word) = false
 is_refused (end.Refused why) = true
+is_refused _ = false
 
 -- entry k takes the step where the data register was accessed, and else every entry stays
 abbrev pub entries_after : BankData → ModelData → (k : ℕ) → Step → Indexed → List ℕ

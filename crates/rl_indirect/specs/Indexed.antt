@@ -16,11 +16,7 @@ use Rattle.rl_indirect.specs.Bank.{BankData, SettlesDevice, bank_believed, model
 
 abbrev pub is_done : End → Bool
 is_done end.Done = true
-is_done (end.Value value) = false
-is_done (end.Sent word) = false
-is_done end.Nothing = false
-is_done (end.BusError word) = false
-is_done (end.Refused why) = false
+is_done _ = false
 
 -- The index register is written, and the device follows it. The model follows where the write was done.
 pub record Selects (b new : BankData) (s t : Scene) (map : Option ℕ) (k : ℕ) (index : Event) : Type 0 where

@@ -1,15 +1,9 @@
 use Rattle.std.proofs.Common.{◌+◌, ◌-◌}
-use Rattle.rl_access.proofs.Going.{IsGoingBy, scene_by}
-use Rattle.rl_access.proofs.Running.{IsRunning}
+use Rattle.rl_access.proofs.Bursting.{IsBurstingBy}
 use Rattle.rl_access.specs.Runs.{reads_of}
 use Rattle.rl_access.proofs.burst.read_locations.Given as goal
 
 abbrev pub invariant-loop-index : goal.invariant-loop-index
-invariant-loop-index g l = record {
-  going : IsGoingBy (λ b. (goal.Adapter-dyn g (b.vtable, b.value)).standing b.value) l.fn.model l.model l.adapters.items (g.D.Device.state l.device)
-      (g.R.Recorder.faults l.fn.rec) (g.R.Recorder.faults l.rec) (g.R.Recorder.steady l.fn.rec) (g.R.Recorder.steady l.rec);
-  running : IsRunning g.R.Recorder.takes g.R.Recorder.breaks l.fn.rec l.rec
-      (scene_by (λ b. (goal.Adapter-dyn g (b.vtable, b.value)).standing b.value) l.fn.model l.fn.adapters.items (g.D.Device.errors l.fn.device) (g.D.Device.state l.fn.device))
-      (scene_by (λ b. (goal.Adapter-dyn g (b.vtable, b.value)).standing b.value) l.model l.adapters.items (g.D.Device.errors l.device) (g.D.Device.state l.device))
-      (reads_of l.mem l.map l.first l.count) (reads_of l.mem l.map l.index (l.first + l.count - l.index)) l.tally;
-}
+invariant-loop-index g l =
+    IsBurstingBy (λ b. (goal.Adapter-dyn g (b.vtable, b.value)).standing b.value) g.D.Device g.R.Recorder l.fn.model l.model l.fn.adapters.items l.adapters.items l.fn.device l.device
+    l.fn.rec l.rec (reads_of l.mem l.map l.first l.count) (reads_of l.mem l.map l.index (l.first + l.count - l.index)) l.tally

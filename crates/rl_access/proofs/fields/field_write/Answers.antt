@@ -7,7 +7,7 @@ use Rattle.rl_access.specs.declared.event.Op.TheVariants as op
 use Rattle.rl_access.specs.Operation.{reg_of}
 use Rattle.rl_access.specs.Rules.{fitting_field, grant, register_event, write_outcome}
 use Rattle.rl_access.proofs.OverBus.{field_place_is, parts_around, found_by, is_field_write}
-use Rattle.rl_access.proofs.Performed.{write_performs}
+use Rattle.rl_access.proofs.Performed.{access_does}
 use Rattle.rl_access.proofs.fields.field_write.Goals as goal
 
 pub returns-clause-does : goal.returns-clause-does
@@ -23,17 +23,12 @@ returns-clause-does g c =
     let access = c.field_written-access.result in
     let event = c.write_as.new.event in
     let place = c.in-Ok.place in
-    record {
-      performs =
-          write_performs m entry c.write_as.new.model asked (op.FieldWrite c.args.field c.map_used.result c.args.value) place access end.Done event granted
-          (ap (λ u. op.FieldWrite c.args.field u c.args.value) found.named)
-          (is_field_write m c.args.field c.args.map c.args.value place entry access c.forget_around.ensures c.field_written-access.ensures.access) (record {
-            sent = c.write_as.ensures.sent;
-            event_is = c.write_as.ensures.event ∙ ap (λ (x : Event). register_event x.op access.reg event.trace
-                (write_outcome entry end.Done access event.trace)) c.begun-event.ensures;
-            model = c.write_as.ensures.model;
-          });
-      ready = c.write_as.ensures.ready;
-      parts = parts_around m entry c.write_as.new.model c.args.field place true c.forget_around.ensures c.write_as.ensures.parts;
-      fits = c.write_as.ensures.fits;
-    }
+    access_does m entry c.write_as.new.model asked (op.FieldWrite c.args.field c.map_used.result c.args.value) place access true _ event granted
+    (ap (λ u. op.FieldWrite c.args.field u c.args.value) found.named)
+    (is_field_write m c.args.field c.args.map c.args.value place entry access c.forget_around.ensures c.field_written-access.ensures.access) (record {
+      sent = c.write_as.ensures.sent;
+      event_is = c.write_as.ensures.event ∙ ap (λ (x : Event). register_event x.op access.reg event.trace
+          (write_outcome entry end.Done access event.trace)) c.begun-event.ensures;
+      model = c.write_as.ensures.model;
+    })
+    c.write_as.ensures.ready (parts_around m entry c.write_as.new.model c.args.field place true c.forget_around.ensures c.write_as.ensures.parts) c.write_as.ensures.fits

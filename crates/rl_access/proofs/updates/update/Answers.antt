@@ -9,7 +9,7 @@ use Rattle.rl_model.specs.Fields.{size_of}
 use Rattle.rl_access.proofs.Bytes.{below_digits}
 use Rattle.rl_access.proofs.OverBus.{found_by, whole_update, is_no_update}
 use Rattle.rl_access.proofs.Wished.{brings_wishes, nothing_brought}
-use Rattle.rl_access.proofs.Performed.{write_performs, quiet_performs}
+use Rattle.rl_access.proofs.Performed.{access_does, quiet_performs}
 use Rattle.rl_access.proofs.updates.update.Goals as goal
 
 pub returns-clause-does : goal.returns-clause-does
@@ -21,15 +21,9 @@ returns-clause-does g c =
     let needed : needs_update m.mirror c.args.reg ≡ true = sym c.needs_update.ensures ∙ c.if-not-needs_update.false in
     let place = c.in-Ok.place in
     let word = c.update_word_of-word.result in
-    record {
-      performs =
-          write_performs m (forgetting m place) _ asked (op.Update c.args.reg c.map_used.result) place (whole m c.args.reg place word) (end.Sent word) _
-          granted (ap (λ u. op.Update c.args.reg u) found.named)
-          (whole_update m c.args.reg c.args.map place word needed c.update_word_of-word.ensures.word) c.write_register.ensures.written;
-      ready = c.write_register.ensures.ready;
-      parts = c.write_register.ensures.parts;
-      fits = c.write_register.ensures.fits;
-    }
+    access_does m (forgetting m place) _ asked (op.Update c.args.reg c.map_used.result) place (whole m c.args.reg place word) true _ _ granted
+    (ap (λ u. op.Update c.args.reg u) found.named) (whole_update m c.args.reg c.args.map place word needed c.update_word_of-word.ensures.word)
+    c.write_register.ensures.written c.write_register.ensures.ready c.write_register.ensures.parts c.write_register.ensures.fits
 
 pub returns-then-not-needs_update-clause-does : goal.returns-then-not-needs_update-clause-does
 returns-then-not-needs_update-clause-does g c =
