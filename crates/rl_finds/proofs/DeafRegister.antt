@@ -31,7 +31,7 @@ use Rattle.rl_access.specs.Rules.{grant}
 use Rattle.rl_access.proofs.Beliefs.{check_names}
 use Rattle.rl_plain.specs.Agree.{believed}
 use Rattle.rl_seq.specs.declared.sequence.Sequence.TheVariants.{Access}
-use Rattle.rl_seq.specs.Choice.{is_of, may_read, may_write, is_reg_tested, has_writable_field, no_reg_access_test, turned_round}
+use Rattle.rl_seq.specs.Choice.{is_of, may_read, may_write, is_reg_tested, has_writable_field, turned_round, exclusion_from}
 use Rattle.rl_seq.specs.Plan.{stop, step, each_below}
 use Rattle.rl_seq.specs.Sequences.{map_at, access_at, items_of, is_chosen, is_visited, at_place, visit, visit_all, walk}
 use Rattle.rl_finds.specs.Deaf.{deaf_items, IsTurned, DeafRegisterIsNamed}
@@ -130,8 +130,8 @@ other_keeps c l t reg b v kept q map is inside in_map other s new told h run =
 
 behind_of : (c : ChipData) (l : LayoutData) (block : Option ℕ) (reg : ℕ) → is_chosen Access c l block reg ≡ true → unwrap_or (backdoor_of c (Reg reg)) false ≡ true
 behind_of c l block reg chosen =
-    let both = and_parts (is_reg_tested c reg block no_reg_access_test && unwrap_or (backdoor_of c (Reg reg)) false) (has_writable_field c reg) chosen in
-    (and_parts (is_reg_tested c reg block no_reg_access_test) (unwrap_or (backdoor_of c (Reg reg)) false) both.0).1
+    let both = and_parts (is_reg_tested c reg block (exclusion_from Access) && unwrap_or (backdoor_of c (Reg reg)) false) (has_writable_field c reg) chosen in
+    (and_parts (is_reg_tested c reg block (exclusion_from Access)) (unwrap_or (backdoor_of c (Reg reg)) false) both.0).1
 
 -- a place of this register
 own_place : (m : ModelData) (t : Setup) (field b i : ℕ) (v : Bool) (kept : Register) (place : ℕ) → IsModel m → IsDeafVisit m.chip m.layout t field b i v kept → place < length m.layout.places

@@ -16,7 +16,7 @@ use Rattle.rl_access.specs.Model.{IsModel}
 use Rattle.rl_access.specs.Rules.{memory_size, is_writable}
 use Rattle.rl_seq.specs.declared.sequence.Sequence.{Sequence}
 use Rattle.rl_seq.specs.declared.sequence.Sequence.TheVariants.{HwReset, BitBash, Access, Shared, MemWalk}
-use Rattle.rl_seq.specs.Choice.{is_of, may_read, may_write, is_bit_compared, is_tested, no_mem_walk_test, turned_round}
+use Rattle.rl_seq.specs.Choice.{is_of, may_read, may_write, is_bit_compared, is_tested, turned_round, exclusion_from}
 use Rattle.rl_seq.specs.Plan.{Plan, followed_by, each_below}
 use Rattle.rl_seq.specs.Sequences.{map_at, check_at, bash_once, bash_bit, check_other, fill, settle_before, check_last, walk_location}
 use Rattle.rl_seq.specs.Sequences.{items_of, item_of, is_chosen, has_rights, is_visited, at_place, visit, visit_all, walk, plan_of}
@@ -85,7 +85,7 @@ held_at Shared c l block reg place index at some =
 held_at MemWalk c l block mem place index at some =
     let map = map_at l place in
     let low = location_in c l mem place index at.place_is at.built at.location in
-    let writable = (and_parts (is_tested c (Mem mem) block no_mem_walk_test) (is_writable c mem) at.chosen).1 in
+    let writable = (and_parts (is_tested c (Mem mem) block (exclusion_from MemWalk)) (is_writable c mem) at.chosen).1 in
     let right = (and_parts (may_read l place) (may_write l place) at.rights).1 in
     in_each (IsAccessAt c l place index) (memory_size c mem) index (walk_location c mem map) low
     (in_first (IsAccessAt c l place index) (fill c mem map index) (followed_by (settle_before c mem map index) (check_last c mem map index))

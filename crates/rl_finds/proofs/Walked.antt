@@ -12,7 +12,7 @@ use Rattle.rl_access.specs.declared.event.Op.TheVariants as op
 use Rattle.rl_access.specs.Model.{ModelData, IsModel}
 use Rattle.rl_access.specs.Rules.{grant, memory_size, is_writable}
 use Rattle.rl_seq.specs.declared.sequence.Sequence.TheVariants.{MemWalk}
-use Rattle.rl_seq.specs.Choice.{is_of, is_tested, may_read, may_write, no_mem_walk_test, low_bits, turned_round}
+use Rattle.rl_seq.specs.Choice.{is_of, is_tested, may_read, may_write, low_bits, turned_round, exclusion_from}
 use Rattle.rl_seq.specs.Plan.{Plan, stop, step, look, followed_by, only_if, each_below}
 use Rattle.rl_seq.specs.Sequences.{map_at, check_filled, write_number, settle_before, check_last, walk_location, is_chosen, is_visited, at_place, visit, visit_all, walk}
 use Rattle.rl_plain.specs.Courses.{along}
@@ -213,7 +213,7 @@ at_memory m block mem place ok there chosen visited p =
       at = is_place c l place (Mem mem) ok.layout ok.built there both.0;
       reads = rights.0;
       writing = rights.1;
-      writable = (and_parts (is_tested c (Mem mem) block no_mem_walk_test) (is_writable c mem) chosen).1;
+      writable = (and_parts (is_tested c (Mem mem) block (exclusion_from MemWalk)) (is_writable c mem) chosen).1;
     } in
     forget c l p (IsBefore c mem (memory_size c mem)) (at_place MemWalk c l mem place)
     (each_leads c l (IsBefore c mem) (memory_size c mem) (walk_location c mem (map_at l place)) (λ k low. walked c l mem place k w low) p tt)

@@ -86,12 +86,12 @@ field_asked c reg first count k f sound there firsts counts low asked =
     field_answer c (first + k) f (omega (arith, starts, many, within, low)) asked ∙ ap (λ n. (field_of c (n + k)).shape) (sym starts)
 
 -- whether it isn't RO
-pub writable_at : (c : ChipData) (reg first count k : ℕ) (f : Field) (b : Bool) → IsSound c → reg < length c.regs
+pub writable_at : (c : ChipData) (reg k : ℕ) {first count : ℕ} {f : Field} {b : Bool} → IsSound c → reg < length c.regs
     → option_map (λ r. r.first) (slice_get c.regs reg) ≡ Some first → option_map (λ r. r.count) (slice_get c.regs reg) ≡ Some count
     → k < count → option_map (λ f. f.shape) (slice_get c.fields (first + k)) ≡ Some f
     → b ≡ is_read_only f.policy
     → not b ≡ not (is_read_only (field_of c (first_of c reg + k)).shape.policy)
-writable_at c reg first count k f b sound there firsts counts low asked is =
+writable_at c reg k {first} {count} {f} {b} sound there firsts counts low asked is =
     ap not (is ∙ ap (λ (g : Field). is_read_only g.policy) (field_asked c reg first count k f sound there firsts counts low asked))
 
 -- the bit belongs to it, and checks compare it
@@ -100,10 +100,10 @@ is_compared_at c reg bit k =
     let f = (field_of c (first_of c reg + k)).shape in
     is_within f.lsb f.width bit && is_compared f
 
-pub compared_at : (c : ChipData) (reg bit first count k : ℕ) (f : Field) (b : Bool) → IsSound c → reg < length c.regs
+pub compared_at : (c : ChipData) (reg bit k : ℕ) {first count : ℕ} {f : Field} {b : Bool} → IsSound c → reg < length c.regs
     → option_map (λ r. r.first) (slice_get c.regs reg) ≡ Some first → option_map (λ r. r.count) (slice_get c.regs reg) ≡ Some count
     → k < count → option_map (λ f. f.shape) (slice_get c.fields (first + k)) ≡ Some f
     → b ≡ (is_within f.lsb f.width bit && is_compared f)
     → b ≡ is_compared_at c reg bit k
-compared_at c reg bit first count k f b sound there firsts counts low asked is =
+compared_at c reg bit k {first} {count} {f} {b} sound there firsts counts low asked is =
     is ∙ ap (λ (g : Field). is_within g.lsb g.width bit && is_compared g) (field_asked c reg first count k f sound there firsts counts low asked)

@@ -1,7 +1,9 @@
 -- Plans that are followed one after another, with all that stays.
-use Rattle.std.proofs.Common.{◌≡◌, ℕ, ◌+◌, ◌<◌, true, false, Option, Result, Ok, Err, OnOk, OnErr, refl, sym, ap, ◌∙◌, arith}
+use Rattle.std.proofs.Common.{◌≡◌, ℕ, ◌+◌, ◌<◌, true, false, List, Option, Result, Ok, Err, OnOk, OnErr, refl, sym, ap, ◌∙◌, arith}
 use Rattle.std.specs.Result.{IsErr}
 use Rattle.rl_bus.specs.Causes.{HasCause}
+use Rattle.rl_bus.specs.Standing.{Standing}
+use Rattle.rl_bus.specs.declared.device.Device.{Ghosts as Device}
 use Rattle.rl_access.specs.Call.{Scene, Performs}
 use Rattle.rl_access.specs.Model.{ModelData, IsReady, IsSameChip}
 use Rattle.rl_access.specs.Runs.{no_tally}
@@ -13,7 +15,7 @@ use Rattle.rl_access.specs.declared.recorder.Recorder.{Ghosts as Recorder}
 use Rattle.rl_seq.specs.declared.sequence.Sequence.{Sequence}
 use Rattle.rl_seq.specs.Plan.{Plan, stop, step, look, followed_by, each_below}
 use Rattle.rl_seq.specs.Sequences.{walk, beginning_of, plan_of}
-use Rattle.rl_seq.specs.Stage.{Stage, Stays, Follows, IsRunOf}
+use Rattle.rl_seq.specs.Stage.{Stage, stage_of, Stays, Follows, IsRunOf}
 use Rattle.rl_seq.proofs.Planned.{walks_one, walks_none, walks_then, walks_broke, walks_below, walks_look, walks_same, walks_alike, Alike, grown, same_plan, sequence_done, sequence_broke}
 
 pub same_parts : (m : ModelData) → IsSameChip m m
@@ -114,6 +116,10 @@ module _ {R : Type 0} (r : Recorder R) where
   -- a plan was followed to its end
   abbrev pub Followed : Stage R → Stage R → Tally → Tally → Plan → Type 0
   Followed s new before after p = Follows {T = Unit {0}} {E = Unit {0}} r s new before after p (Ok tt)
+
+  -- with the adapters in boxes
+  abbrev pub FollowedBy : {A D : Type 0} → (A → Standing) → Device D → (first now : ModelData) → (before after : List A) → (d e : D) → (old rec : R) → (t0 t1 : Tally) → Plan → Type 0
+  FollowedBy f device first now before after d e old rec t0 t1 p = Followed (stage_of f device first before d old) (stage_of f device now after e rec) t0 t1 p
 
   pub each_first : (s : Stage R) (tally : Tally) (f : ℕ → Plan) → IsReady s.scene.model s.scene.adapters s.scene.device
       → Followed s s tally tally (each_below 0 f)

@@ -23,7 +23,7 @@ use Rattle.rl_access.specs.declared.event.Refused.TheVariants.{NoRight, NoBackdo
 use Rattle.rl_access.proofs.Bytes.{bytes_bits}
 use Rattle.rl_seq.specs.declared.sequence.Sequence.{Sequence}
 use Rattle.rl_seq.specs.declared.sequence.Sequence.TheVariants.{HwReset, BitBash, Access, Shared, MemWalk}
-use Rattle.rl_seq.specs.Choice.{is_bit_compared, is_of, may_read, may_write, is_reg_tested, is_tested, has_writable_field, no_reg_access_test, no_mem_walk_test, low_bits, turned_round}
+use Rattle.rl_seq.specs.Choice.{is_bit_compared, is_of, may_read, may_write, is_reg_tested, is_tested, has_writable_field, low_bits, turned_round, exclusion_from}
 use Rattle.rl_seq.specs.Plan.{Plan, stop, step, look, followed_by, only_if, each_below}
 use Rattle.rl_seq.specs.Sequences.{map_at, check_at, bash_once, bash_bit, check_other, fill, check_filled, write_number, settle_before, check_last, walk_location, items_of, item_of, has_rights}
 use Rattle.rl_seq.specs.Sequences.{is_chosen, is_visited, at_place, visit, visit_all, walk, beginning_of}
@@ -191,11 +191,11 @@ is_right : (which : Sequence) (c : ChipData) (l : LayoutData) (block : Option �
 is_right HwReset c l block reg so = tt
 is_right BitBash c l block reg so = tt
 is_right Access c l block reg so =
-    (and_parts (is_reg_tested c reg block no_reg_access_test) (unwrap_or (backdoor_of c (Reg reg)) false)
-    (and_parts (is_reg_tested c reg block no_reg_access_test && unwrap_or (backdoor_of c (Reg reg)) false)
+    (and_parts (is_reg_tested c reg block (exclusion_from Access)) (unwrap_or (backdoor_of c (Reg reg)) false)
+    (and_parts (is_reg_tested c reg block (exclusion_from Access) && unwrap_or (backdoor_of c (Reg reg)) false)
     (has_writable_field c reg) so).0).1
 is_right Shared c l block reg so = tt
-is_right MemWalk c l block mem so = (and_parts (is_tested c (Mem mem) block no_mem_walk_test) (is_writable c mem) so).1
+is_right MemWalk c l block mem so = (and_parts (is_tested c (Mem mem) block (exclusion_from MemWalk)) (is_writable c mem) so).1
 
 -- the rights that it needs are there
 abbrev HasRights : Sequence → LayoutData → ℕ → Type 0

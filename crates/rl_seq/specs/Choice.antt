@@ -12,16 +12,20 @@ use Rattle.rl_policy.specs.Bits.{is_within}
 use Rattle.rl_policy.specs.declared.policy.Policy.{Policy}
 use Rattle.rl_policy.specs.declared.policy.Policy.TheVariants.{Ro}
 use Rattle.rl_access.specs.Rules.{is_writable, item_size}
+use Rattle.rl_seq.specs.declared.sequence.Sequence.{Sequence}
+use Rattle.rl_seq.specs.declared.sequence.Sequence.TheVariants.{HwReset, BitBash, Access, Shared, MemWalk}
 
--- the exclusions, as bits
+-- the exclusion from every sequence, as a bit
 abbrev pub no_reg_tests : ℕ
 no_reg_tests = 1
 
-abbrev pub no_reg_hw_reset_test : ℕ
-no_reg_hw_reset_test = 2
-
-abbrev pub no_reg_bit_bash_test : ℕ
-no_reg_bit_bash_test = 4
+-- and the one from each
+abbrev pub exclusion_from : Sequence → ℕ
+exclusion_from HwReset = 2
+exclusion_from BitBash = 4
+exclusion_from Access = 8
+exclusion_from Shared = 16
+exclusion_from MemWalk = 32
 
 -- an exclusion names the item
 abbrev pub is_excluded : ChipData → Item → ℕ → Bool
@@ -62,15 +66,6 @@ is_bit_compared c reg bit = any_below (count_of c reg) (λ k.
 
 -- ---- access, shared access and memory walk
 
-abbrev pub no_reg_access_test : ℕ
-no_reg_access_test = 8
-
-abbrev pub no_reg_shared_access_test : ℕ
-no_reg_shared_access_test = 16
-
-abbrev pub no_mem_walk_test : ℕ
-no_mem_walk_test = 32
-
 -- the low bits, as many as the item's bytes have
 abbrev pub low_bits : ChipData → Item → ℕ → ℕ
 low_bits c item v = v % 2 ^ (8 * item_size c item)
@@ -90,7 +85,7 @@ has_writable_field c reg =
 
 abbrev pub is_accessed : ChipData → ℕ → Option ℕ → Bool
 is_accessed c reg block =
-    (is_reg_tested c reg block no_reg_access_test && unwrap_or (backdoor_of c (Reg reg)) false) && has_writable_field c reg
+    (is_reg_tested c reg block (exclusion_from Access) && unwrap_or (backdoor_of c (Reg reg)) false) && has_writable_field c reg
 
 -- how many numbers below the count
 abbrev pub count_below : ℕ → (ℕ → Bool) → ℕ
@@ -102,7 +97,7 @@ places_of l item = count_below (length l.places) (λ k. is_of l k item)
 
 abbrev pub is_shared : ChipData → LayoutData → ℕ → Option ℕ → Bool
 is_shared c l reg block =
-    is_reg_tested c reg block no_reg_shared_access_test && nat_le 2 (places_of l (Reg reg))
+    is_reg_tested c reg block (exclusion_from Shared) && nat_le 2 (places_of l (Reg reg))
 
 abbrev pub is_walked : ChipData → ℕ → Option ℕ → Bool
-is_walked c mem block = is_tested c (Mem mem) block no_mem_walk_test && is_writable c mem
+is_walked c mem block = is_tested c (Mem mem) block (exclusion_from MemWalk) && is_writable c mem

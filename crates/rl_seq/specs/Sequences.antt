@@ -11,7 +11,7 @@ use Rattle.rl_access.specs.declared.event.Op.TheVariants as op
 use Rattle.rl_access.specs.Rules.{memory_size}
 use Rattle.rl_seq.specs.declared.sequence.Sequence.{Sequence}
 use Rattle.rl_seq.specs.declared.sequence.Sequence.TheVariants.{HwReset, BitBash, Access, Shared, MemWalk}
-use Rattle.rl_seq.specs.Choice.{is_reg_tested, is_accessed, is_shared, is_walked, is_of, may_read, may_write, is_bit_compared, low_bits, turned_round, no_reg_hw_reset_test, no_reg_bit_bash_test}
+use Rattle.rl_seq.specs.Choice.{is_reg_tested, is_accessed, is_shared, is_walked, is_of, may_read, may_write, is_bit_compared, low_bits, turned_round, exclusion_from}
 use Rattle.rl_seq.specs.Plan.{Plan, stop, step, look, followed_by, only_if, each_below}
 
 abbrev pub map_at : LayoutData → ℕ → ℕ
@@ -91,8 +91,8 @@ item_of _ n = Reg n
 
 -- the sequence chooses the register or memory
 abbrev pub is_chosen : Sequence → ChipData → LayoutData → Option ℕ → ℕ → Bool
-is_chosen HwReset c l block reg = is_reg_tested c reg block no_reg_hw_reset_test
-is_chosen BitBash c l block reg = is_reg_tested c reg block no_reg_bit_bash_test
+is_chosen HwReset c l block reg = is_reg_tested c reg block (exclusion_from HwReset)
+is_chosen BitBash c l block reg = is_reg_tested c reg block (exclusion_from BitBash)
 is_chosen Access c l block reg = is_accessed c reg block
 is_chosen Shared c l block reg = is_shared c l reg block
 is_chosen MemWalk c l block mem = is_walked c mem block

@@ -8,8 +8,8 @@ ghost use Rattle.rl_seq.specs.Choice.{may_write, places_of, is_bit_compared, has
 ghost use Rattle.rl_seq.specs.Choice.{low_bits, turned_round};
 
 use bitflags::Flags;
-use rl_map::Layout;
-use rl_model::{Chip, Field, Item, Rights, Skip};
+use rl_map::{Layout, has_right};
+use rl_model::{Chip, Field, Item, Skip};
 use rl_policy::{Policy, mask, write_only};
 
 /// Whether the item is within the block, and no exclusion names it.
@@ -82,7 +82,7 @@ pub(crate) fn may_read(layout: &Layout, place: u32) -> bool
     requires { place < length layout.now.places }
     ensures { result ≡ may_read layout.now place }
 {
-    layout.rights(place).contains(Rights::READ)
+    has_right(layout.rights(place), false)
 }
 
 /// Whether the place has the right to write.
@@ -90,7 +90,7 @@ pub(crate) fn may_write(layout: &Layout, place: u32) -> bool
     requires { place < length layout.now.places }
     ensures { result ≡ may_write layout.now place }
 {
-    layout.rights(place).contains(Rights::WRITE)
+    has_right(layout.rights(place), true)
 }
 
 /// How many places the item has.

@@ -6,8 +6,7 @@ use Rattle.rl_seq.proofs.choice.is_bit_compared.Goals as goal
 pub returns-then-is_compared_in : goal.returns-then-is_compared_in
 returns-then-is_compared_in c =
     let chip = c.args.chip.now in
-    let here = compared_at chip c.args.reg c.args.bit c.first_field-first.result c.field_count-k-end.result c.loop-k.k
-    c.field.result c.is_compared_in.result c.first_field-first.ensures.sound c.requires c.first_field-first.ensures.value
+    let here = compared_at chip c.args.reg c.args.bit c.loop-k.k c.first_field-first.ensures.sound c.requires c.first_field-first.ensures.value
     c.field_count-k-end.ensures.value c.loop-k-test.true c.field.ensures.value c.is_compared_in.ensures in
     let many : count_of chip c.args.reg ≡ c.field_count-k-end.result = mapped_or
     (λ r. r.count) _ 0 c.field_count-k-end.result c.field_count-k-end.ensures.value in
@@ -17,7 +16,6 @@ returns-then-is_compared_in c =
 pub loop-k-preserved : goal.loop-k-preserved
 loop-k-preserved c =
     let chip = c.args.chip.now in
-    let here = compared_at chip c.args.reg c.args.bit c.first_field-first.result c.field_count-k-end.result c.loop-k.k
-    c.field.result c.is_compared_in.result c.first_field-first.ensures.sound c.requires c.first_field-first.ensures.value
+    let here = compared_at chip c.args.reg c.args.bit c.loop-k.k c.first_field-first.ensures.sound c.requires c.first_field-first.ensures.value
     c.field_count-k-end.ensures.value c.loop-k-test.true c.field.ensures.value c.is_compared_in.ensures in
     any_more (is_compared_at chip c.args.reg c.args.bit) c.loop-k.k c.loop-k.invariant (sym here ∙ c.if-is_compared_in.false)
