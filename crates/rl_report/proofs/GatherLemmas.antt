@@ -1,10 +1,11 @@
 -- Pieces that are gathered in a text, one after another.
-use Rattle.std.proofs.Common.{◌≡◌, ℕ, List, [], ◌∷◌, ◌++◌, Result, Ok, Err, IsErr, sym, ap, ◌∙◌, subst, append_assoc, append-nil}
+use Rattle.std.proofs.Common.{◌≡◌, ℕ, List, [], ◌∷◌, ◌++◌, Bool, true, if◌then◌else◌, Result, Ok, Err, IsErr, sym, ap, ◌∙◌, subst, append_assoc, append-nil}
 use Rattle.std.specs.declared.option.Option.{Option}
 use Rattle.std.proofs.KnownBytes.{Appends-nil, Appends-trans}
 use Rattle.std.proofs.lemmas.Bool.{true≢false}
-use Rattle.rl_report.specs.Pieces.{AppendsFront, Puts, Gathered, Gathers, joined}
-use Rattle.rl_report.proofs.PieceLemmas.{front_before, puts_after, puts_stopped}
+use Rattle.rl_report.specs.declared.sink.Sink.{Ghosts as Sink}
+use Rattle.rl_report.specs.Pieces.{AppendsFront, Puts, PutsText, SinkStays, Gathered, Gathers, joined}
+use Rattle.rl_report.proofs.PieceLemmas.{front_before, puts_after, puts_stopped, stays_then, stays_stopped}
 
 -- a piece was appended, and nothing was written
 pub pushed : (a : Option (List ℕ)) (t u x : List ℕ) → u ≡ t ++ x → Gathered a a t u x
@@ -54,6 +55,11 @@ pub gathers_more : {T E : Type 0} (a b c : Option (List ℕ)) (t u v x : List �
 unfolding joined
 gathers_more a b c t u v x xs r p q = gathers_after a b c t u v x (joined xs) r p q
 
+-- a text that is there
+pub gathers_if : {T E : Type 0} {a b : Option (List ℕ)} {t v x : List ℕ} {r : Result T E} (there : Bool) → there ≡ true → Gathers a b t v x r
+    → Gathers a b t v (if there then x else []) r
+gathers_if {a = a} {b = b} {t = t} {v = v} {x = x} {r = r} there e p = subst (λ c. Gathers a b t v (if c then x else []) r) (sym e) p
+
 -- the last piece
 pub gathers_last : {T E : Type 0} (a b : Option (List ℕ)) (t v x : List ℕ) (r : Result T E) → Gathers a b t v x r → Gathers a b t v (joined (x ∷ [])) r
 unfolding joined
@@ -78,6 +84,19 @@ pub gathered_more : (a b c : Option (List ℕ)) (t u v x : List ℕ) (xs : List 
 unfolding joined
 gathered_more a b c t u v x xs p q = both a b c t u v x (joined xs) p q
 
+pub gathered_last : (a b : Option (List ℕ)) (t u x : List ℕ) → Gathered a b t u x → Gathered a b t u (joined (x ∷ []))
+unfolding joined
+gathered_last a b t u x p = subst (Gathered a b t u) (sym (append-nil x)) p
+
+-- the first piece, a later one, the last one was cut
+pub first_cut : (a b : Option (List ℕ)) (t x : List ℕ) (xs : List (List ℕ)) → AppendsFront a b (t ++ x) → AppendsFront a b (t ++ joined (x ∷ xs))
+unfolding joined
+first_cut a b t x xs q = before a b t x (joined xs) q
+
+pub later_cut : (a b c : Option (List ℕ)) (t u x : List ℕ) (xs : List (List ℕ)) → Gathered a b t u x → AppendsFront b c (u ++ joined xs) → AppendsFront a c (t ++ joined (x ∷ xs))
+unfolding joined
+later_cut a b c t u x xs p q = behind a b c t u x (joined xs) p q
+
 -- room was made first, or was not
 pub room_made : {T E : Type 0} (a b c : Option (List ℕ)) (t u v x : List ℕ) (r : Result T E) → Gathered a b t u [] → Gathers b c u v x r → Gathers a c t v x r
 room_made a b c t u v x r p q = gathers_after a b c t u v [] x r p q
@@ -93,11 +112,20 @@ written_through a b c t u x (Err z) none p q =
     room_made a b c t u u x (Err z) p (record { whole = tt; part = subst (AppendsFront b c) (ap (λ l. l ++ x) (sym none)) q.part })
 
 -- a text that began with nothing is written
-pub all_written : {T E : Type 0} (a b c : Option (List ℕ)) (s t bs : List ℕ) (r : Result T E) → s ≡ [] → Gathered a b s t bs → Puts b c t r → Puts a c bs r
+all_written : {T E : Type 0} (a b c : Option (List ℕ)) (s t bs : List ℕ) (r : Result T E) → s ≡ [] → Gathered a b s t bs → Puts b c t r → Puts a c bs r
 all_written a b c s t bs r none p q = subst (λ l. Puts a c l r) (p.split ∙ ap (λ l. l ++ bs) none) (puts_after a b c p.gone t r p.appended q)
 
-pub stopped_before : {T E : Type 0} (a b : Option (List ℕ)) (s bs : List ℕ) (r : Result T E) → s ≡ [] → IsErr r → AppendsFront a b (s ++ bs) → Puts a b bs r
-stopped_before a b s bs r none e p = puts_stopped a b bs r e (subst (AppendsFront a b) (ap (λ l. l ++ bs) none) p)
+pub text_written : {K U F T E : Type 0} (sink : Sink K) (a b c : K) (s t bs : List ℕ) (v : U) (r : Result T E) → s ≡ []
+    → Gathered (sink.written a) (sink.written b) s t bs → SinkStays {T = U} {E = F} sink a b (Ok v) → PutsText sink b c t r → PutsText sink a c bs r
+text_written sink a b c s t bs v r none put kept last =
+    record { bytes = all_written _ _ _ s t bs r none put last.bytes; stays = stays_then sink a b c v r kept last.stays }
+
+pub text_cut : {K U F T E : Type 0} (sink : Sink K) (a b : K) (s bs : List ℕ) (e : F) (r : Result T E) → s ≡ [] → IsErr r
+    → AppendsFront (sink.written a) (sink.written b) (s ++ bs) → SinkStays {T = U} {E = F} sink a b (Err e) → PutsText sink a b bs r
+text_cut sink a b s bs e r none is put kept = record {
+  bytes = puts_stopped _ _ bs r is (subst (AppendsFront (sink.written a) (sink.written b)) (ap (λ l. l ++ bs) none) put);
+  stays = stays_stopped sink a b e r is kept;
+}
 
 -- ---- texts that are gathered part by part
 

@@ -1,6 +1,6 @@
 -- What a line reader hands out, by what it holds.
 use Rattle.std.proofs.Common.{◌≡◌, ℕ, zero, suc, ◌+◌, ◌<◌, ◌≤◌, Bool, true, false, cond, eqb, List, [], ◌∷◌, ◌++◌, Some, None}
-use Rattle.std.proofs.Common.{IfSome, length, slice_range, take, drop, unwrap_or, refl, sym, ap, ◌∙◌, append_assoc, length-append, arith}
+use Rattle.std.proofs.Common.{IfSome, length, slice_range, take, drop, ◌-◌, unwrap_or, refl, sym, ap, ◌∙◌, append_assoc, length-append, arith}
 use Rattle.std.specs.declared.option.Option.{Option}
 use Rattle.std.specs.Io.KnownBytes.{prepend_known}
 use Rattle.std.specs.Io.BufRead.{strip_last}
@@ -10,7 +10,7 @@ use Rattle.std.proofs.lemmas.Bool.Decides.{nat_tests}
 use Rattle.memchr.specs.Find.{IsFirstByte, Nowhere, Passes, is_byte}
 use Rattle.rl_report.specs.Lines.{first_line, after_line, lines_of, onto_first, whole_lines, onto_whole}
 use Rattle.rl_report.specs.Reading.{Reading, input_of, HandsLine}
-use Rattle.rl_report.proofs.RangeLemmas.{grown_behind}
+use Rattle.rl_report.proofs.RangeLemmas.{grown_behind, length_part}
 
 -- where the first line isn't all, a 10 ends it
 ends_by : (b : ℕ) (bs : List ℕ) (t : Bool) → eqb b 10 ≡ t → (length (first_line bs) < length bs → bs ≡ first_line bs ++ 10 ∷ after_line bs)
@@ -207,3 +207,17 @@ last_by false p a f r k left size at_end size_is all some short = absurd (true�
 pub hands_last : (old : Reading) (left : Option (List ℕ)) (size : ℕ) → old.ended ≡ true → size ≡ length (first_line old.pending) → length old.pending ≤ size → 0 < length old.pending → size ≤ 4096
     → IfSome (input_of old left) (λ bytes. HandsLine bytes (record old { pending = drop size old.pending; line = strip_last 13 (take size old.pending) }) left)
 hands_last old left size at_end size_is all some short = last_by old.ended old.pending old.asked old.found old.refused old.closed left size at_end size_is all some short
+
+-- ---- the size that a reader keeps
+
+-- it is that of the first line of what is held
+pub record SizesHeld (start end size : ℕ) (pending : List ℕ) : Type 0 where
+  pub line : size ≡ length (first_line pending)
+  pub all : length pending ≡ end - start
+
+pub sizes_held : (bytes : List ℕ) (start end size : ℕ) (pending : List ℕ) → slice_range bytes start end ≡ pending
+    → size ≡ length (first_line (slice_range bytes start end)) → start ≤ end → end ≤ length bytes → SizesHeld start end size pending
+sizes_held bytes start end size pending held line ordered within = record {
+  line = line ∙ ap (λ l. length (first_line l)) held;
+  all = sym (ap length held) ∙ length_part bytes start end within ordered;
+}

@@ -39,34 +39,31 @@ moved count (suc j) (suc t) n e =
     ∙ ap (λ m. take count (last_digits 16 t m)) (one_less n j)
     ∙ moved count j t n (omega arith)
 
-places : (width bits count : ℕ) → bits ≡ 4 * width → count ≤ width → 2 ^ (bits - 4 * count) ≡ 16 ^ (width - count)
-places width bits count is few = let e : bits - 4 * count ≡ 4 * (width - count) = omega arith in ap (λ k. 2 ^ k) e ∙ hex_pow (width - count)
-
 -- the digits of a number in front of others
-front_digits : (width bits count n : ℕ) → bits ≡ 4 * width → count ≤ width → take count (padded width (n * 2 ^ (bits - 4 * count))) ≡ padded count n
+front_digits : (width count n : ℕ) → count ≤ width → take count (padded width (n * 2 ^ (4 * (width - count)))) ≡ padded count n
 unfolding padded
-front_digits width bits count n is few =
-    ap (λ p. take count (last_digits 16 width (n * p))) (places width bits count is few) ∙ moved count (width - count) width n (omega arith)
+front_digits width count n few = ap (λ p. take count (last_digits 16 width (n * p))) (hex_pow (width - count)) ∙ moved count (width - count) width n (omega arith)
 
--- it loses no digit
-pub moved_fits : (width bits count n : ℕ) → bits ≡ 4 * width → count ≤ width → n < 16 ^ count → n * 2 ^ (bits - 4 * count) < 16 ^ width
-moved_fits width bits count n is few fits =
+-- it loses no digit, in 64 bits
+pub moved_fits : (width count n : ℕ) → width ≤ 16 → count ≤ width → n < 16 ^ count → n * 2 ^ (4 * (width - count)) < 2 ^ 64
+moved_fits width count n wide few fits =
     let sum : count + (width - count) ≡ width = omega arith in
     let all : 16 ^ count * 16 ^ (width - count) ≡ 16 ^ width = sym (pow-add 16 count (width - count)) ∙ ap (λ k. 16 ^ k) sum in
     let some = pow_some (width - count) in
     let less : n * 16 ^ (width - count) < 16 ^ count * 16 ^ (width - count) = omega (arith, mul-lt-mul_of_pos_right {k = 16 ^ (width - count)} fits some) in
-    subst (λ p. n * p < 16 ^ width) (sym (places width bits count is few)) (subst (λ p. n * 16 ^ (width - count) < p) all less)
+    let most : 16 ^ width ≤ 16 ^ 16 = pow-le-pow_right {n = 16} (lit< tt) {i = width} {j = 16} wide in
+    subst (λ p. n * p < 2 ^ 64) (sym (hex_pow (width - count))) (omega (arith, less, all, most))
 
 -- a text behind which digits were written, and of which so many count
-pub digits_pushed : (old new : List ℕ) (end width bits count n : ℕ) → bits ≡ 4 * width → count ≤ width → take end new ≡ take end old
-    → slice_range new end (end + width) ≡ padded width (n * 2 ^ (bits - 4 * count))
+pub digits_pushed : (old new : List ℕ) (end width count n : ℕ) → count ≤ width → take end new ≡ take end old
+    → slice_range new end (end + width) ≡ padded width (n * 2 ^ (4 * (width - count)))
     → take (end + count) new ≡ take end old ++ padded count n
-digits_pushed old new end width bits count n is few front digits =
+digits_pushed old new end width count n few front digits =
     let size : end + width - end ≡ width = omega arith in
-    let all : take width (drop end new) ≡ padded width (n * 2 ^ (bits - 4 * count)) = ap (λ k. take k (drop end new)) (sym size) ∙ digits in
+    let all : take width (drop end new) ≡ padded width (n * 2 ^ (4 * (width - count))) = ap (λ k. take k (drop end new)) (sym size) ∙ digits in
     take-add end count new
     ∙ ap (λ l. l ++ take count (drop end new)) front
-    ∙ ap (λ l. take end old ++ l) (sym (take-take count width (drop end new) few) ∙ ap (take count) all ∙ front_digits width bits count n is few)
+    ∙ ap (λ l. take end old ++ l) (sym (take-take count width (drop end new) few) ∙ ap (take count) all ∙ front_digits width count n few)
 
 -- ---- how many digits
 

@@ -148,8 +148,3 @@ is_on_location (op.MemCheck mem map index value) = true
 is_on_location (op.MemPeek mem index) = true
 is_on_location (op.MemPoke mem index value) = true
 is_on_location _ = false
-
-abbrev pub is_burst : Op → Bool
-is_burst (op.BurstWrite mem map first count) = true
-is_burst (op.BurstRead mem map first count) = true
-is_burst _ = false

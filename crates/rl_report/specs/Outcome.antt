@@ -2,6 +2,8 @@
 use Rattle.std.specs.Prelude.{ℕ, ◌*◌, ◌==◌, List, [], ◌∷◌, codes, decimal, flat_map, Bool, true, false, not, ◌&&◌, if◌then◌else◌, Option, Some, None}
 use Rattle.std.specs.List.{range_with_len}
 use Rattle.rl_policy.specs.Bits.{bit}
+use Rattle.rl_model.specs.declared.rows.Item.{Item}
+use Rattle.rl_model.specs.declared.rows.Item.TheVariants.{Reg, Mem}
 use Rattle.rl_model.specs.Rows.{ChipData}
 use Rattle.rl_model.specs.Fields.{fields_of, field_in, count_of, size_of}
 use Rattle.rl_access.specs.declared.event.Event.{Event}
@@ -11,7 +13,7 @@ use Rattle.rl_access.specs.declared.event.Op.{Op}
 use Rattle.rl_access.specs.declared.event.Op.TheVariants as op
 use Rattle.rl_access.specs.declared.event.Refused.{Refused}
 use Rattle.rl_access.specs.declared.event.Refused.TheVariants.{NotPlaced, NotObserved, NoRight, NoBackdoor, NotVolatile, NotWritable, OutOfRange, TooWide}
-use Rattle.rl_access.specs.Operation.{register_of, digits_of}
+use Rattle.rl_access.specs.Operation.{register_of, digits_of, location_size}
 use Rattle.rl_report.specs.Numbers.{padded}
 use Rattle.rl_report.specs.Pieces.{joined}
 
@@ -24,6 +26,11 @@ why_text NotVolatile = codes "not volatile"
 why_text NotWritable = codes "not writable"
 why_text OutOfRange = codes "out of range"
 why_text TooWide = codes "too wide"
+
+-- how many bytes the value of a register or of a location has
+abbrev pub item_size : ChipData → Item → ℕ
+item_size c (Reg reg) = size_of c reg
+item_size c (Mem mem) = location_size c mem
 
 -- how it ended: a value or a word has so many digits, and the failed item is counted from 0
 abbrev pub end_text : ℕ → End → List ℕ

@@ -1,10 +1,9 @@
 // The line of a bus item.
 ghost use Rattle.std.specs.Prelude.{◌≡◌, ◌+◌, ◌*◌, ◌≤◌, [], ◌∷◌, ◌++◌, length, flat_map};
-ghost use Rattle.rl_bus.specs.Causes.{HasCause};
 ghost use Rattle.rl_map.specs.Layout.{port_at};
 ghost use Rattle.rl_access.specs.Event.{EventFits, ItemFits};
 ghost use Rattle.rl_report.specs.Item.{way_text, answer_text, word_of, transfer_text, item_line};
-ghost use Rattle.rl_report.specs.Pieces.{Puts, GathersTo, SinkStays, joined};
+ghost use Rattle.rl_report.specs.Pieces.{GathersTo, PutsText, SinkStays, joined};
 
 use crate::pieces::gather;
 use crate::text::Text;
@@ -96,10 +95,7 @@ fn put_item<K: Sink>(
 /// The word of a read is that of the answer.
 pub fn write_item<K: Sink>(sink: &mut K, model: &Model, item: &TraceItem) -> Result<(), Failed>
     requires { ItemFits model.now.layout item.now }
-    ensures bytes { Puts (K.written sink.old) (K.written sink.new) (item_line model.now.layout item.now) result }
-    ensures cause { HasCause (K.faults sink.old) (K.faults sink.new) result }
-    ensures ends_kept { K.ends sink.new ≡ K.ends sink.old }
-    ensures same_target { K.target sink.new ≡ K.target sink.old }
+    ensures { PutsText K.Sink sink.old sink.new (item_line model.now.layout item.now) result }
 {
     let mut text = Text::new();
     put_item(sink, &mut text, model, item)?;

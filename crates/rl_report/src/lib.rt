@@ -26,3 +26,4 @@ pub use rl_bus::Failed;
 pub use sink::Sink;
 pub use source::Source;
 pub use standard::{StdSink, StdSource};
+pub use text::Text;

@@ -4,7 +4,7 @@ ghost use Rattle.rl_model.specs.Chip.{HasItem, path_of_item, field_path};
 ghost use Rattle.rl_model.specs.Fields.{field_of};
 ghost use Rattle.rl_access.specs.Operation.{HasNumbers, IsMapIn, reg_of};
 ghost use Rattle.rl_report.specs.declared.operation.Subject.TheVariants.{Reg, Field, Mem};
-ghost use Rattle.rl_report.specs.Operation.{spoken, spoken_of, subject_of, is_on_field, is_on_location, is_burst};
+ghost use Rattle.rl_report.specs.Operation.{spoken, spoken_of, subject_of, is_on_field, is_on_location};
 ghost use Rattle.rl_report.specs.Operation.{subject_path, kind_text, number_text, numbers_text, map_text, spoken_text};
 ghost use Rattle.rl_report.specs.Operation.{reset_text, counted_text, op_text, IsSubjectIn, IsSpokenIn};
 ghost use Rattle.rl_report.specs.Pieces.{GathersTo, SinkStays};
@@ -357,10 +357,10 @@ fn put_reset<K: Sink>(sink: &mut K, text: &mut Text, model: &Model, kind: u32) -
     gather(sink, text, kind_name(model, kind))
 }
 
-// Gathers a refused burst.
-fn put_burst_op<K: Sink>(sink: &mut K, text: &mut Text, model: &Model, op: Op) -> Result<(), Failed>
+// Gathers a burst or a reset.
+fn put_other<K: Sink>(sink: &mut K, text: &mut Text, model: &Model, op: Op) -> Result<(), Failed>
     requires numbers { HasNumbers model.now.chip (length model.now.layout.maps) op }
-    requires burst { is_burst op ≡ true }
+    requires other { spoken_of op ≡ None }
     ensures bytes { GathersTo K.Sink sink.old sink.new text.old text.new (op_text model.now op) result }
     ensures stays { SinkStays K.Sink sink.old sink.new result }
 {
@@ -383,19 +383,6 @@ fn put_burst_op<K: Sink>(sink: &mut K, text: &mut Text, model: &Model, op: Op) -
             let name = Verb::BurstRead.name();
             put_burst(sink, text, model, name, mem, first, count, map)
         }
-        _ => unreachable!(),
-    }
-}
-
-// Gathers a burst or a reset.
-fn put_other<K: Sink>(sink: &mut K, text: &mut Text, model: &Model, op: Op) -> Result<(), Failed>
-    requires numbers { HasNumbers model.now.chip (length model.now.layout.maps) op }
-    requires other { spoken_of op ≡ None }
-    ensures bytes { GathersTo K.Sink sink.old sink.new text.old text.new (op_text model.now op) result }
-    ensures stays { SinkStays K.Sink sink.old sink.new result }
-{
-    match op {
-        Op::BurstWrite { .. } | Op::BurstRead { .. } => put_burst_op(sink, text, model, op),
         Op::Reset { kind } => put_reset(sink, text, model, kind),
         _ => unreachable!(),
     }

@@ -1,10 +1,10 @@
 // The text of what came of an operation.
 ghost use Rattle.std.specs.Prelude.{◌≡◌, ◌+◌, ◌*◌, ◌^◌, ◌<◌, ◌≤◌, [], ◌∷◌, ◌++◌, false, length, ◌&&◌, IfSome};
 ghost use Rattle.rl_policy.specs.Bits.{bit};
-ghost use Rattle.rl_model.specs.Chip.{IsSound};
+ghost use Rattle.rl_model.specs.Chip.{HasItem, IsSound};
 ghost use Rattle.rl_model.specs.Fields.{field_of, first_of, count_of, size_of};
 ghost use Rattle.rl_access.specs.Event.{EventFits};
-ghost use Rattle.rl_access.specs.Operation.{HasNumbers, register_of, location_size, field_digits, digits_of};
+ghost use Rattle.rl_access.specs.Operation.{HasNumbers, register_of, field_digits, digits_of};
 ghost use Rattle.rl_report.specs.Outcome as spec;
 ghost use Rattle.rl_report.specs.Numbers.{padded};
 ghost use Rattle.rl_report.specs.Pieces.{GathersTo, SinkStays, joined};
@@ -47,24 +47,14 @@ fn register_of(model: &Model, op: Op) -> Option<u32>
     }
 }
 
-// The digits of a register's value.
-fn register_digits(model: &Model, reg: u32) -> u32
-    requires { reg < length model.now.chip.regs }
-    ensures value { result ≡ 2 * size_of model.now.chip reg }
+// The digits of the value of a register or a location.
+fn item_digits(model: &Model, item: Item) -> u32
+    requires { HasItem model.now.chip item }
+    ensures value { result ≡ 2 * spec.item_size model.now.chip item }
     ensures some { 1 ≤ result }
     ensures few { result ≤ 16 }
 {
-    2 * model.chip().bytes(Item::Reg(reg))
-}
-
-// The digits of a location's value.
-fn location_digits(model: &Model, mem: u32) -> u32
-    requires { mem < length model.now.chip.mems }
-    ensures value { result ≡ 2 * location_size model.now.chip mem }
-    ensures some { 1 ≤ result }
-    ensures few { result ≤ 16 }
-{
-    2 * model.chip().bytes(Item::Mem(mem))
+    2 * model.chip().bytes(item)
 }
 
 // The digits of a field's value.
@@ -90,9 +80,9 @@ fn digits_of(model: &Model, op: Op) -> u32
         return field_digits(model, field);
     }
     match subject_of(model, op) {
-        Some(Subject::Reg(reg)) => register_digits(model, reg),
-        Some(Subject::Field(field)) => register_digits(model, register_with(model, field)),
-        Some(Subject::Mem(mem)) => location_digits(model, mem),
+        Some(Subject::Reg(reg)) => item_digits(model, Item::Reg(reg)),
+        Some(Subject::Field(field)) => item_digits(model, Item::Reg(register_with(model, field))),
+        Some(Subject::Mem(mem)) => item_digits(model, Item::Mem(mem)),
         None => unreachable!(),
     }
 }
@@ -257,7 +247,7 @@ fn push_desired(text: &mut Text, model: &Model, event: &Event, reg: u32)
     if !shows_desired(event.op, event.end) {
         return;
     }
-    let digits = register_digits(model, reg);
+    let digits = item_digits(model, Item::Reg(reg));
     push_value(text, b" desired 0x", event.desired, digits);
 }
 
@@ -277,7 +267,7 @@ fn put_register<K: Sink>(
         (spec.after_text model.now.chip event.now (Some reg)) result }
     ensures stays { SinkStays K.Sink sink.old sink.new result }
 {
-    let digits = register_digits(model, reg);
+    let digits = item_digits(model, Item::Reg(reg));
     push_desired(text, model, event, reg);
     push_value(text, b" mirror 0x", event.mirrored, digits);
     put_differ(sink, text, model, event, reg)

@@ -1,7 +1,6 @@
 // Pieces of text into a sink.
 ghost use Rattle.std.specs.Prelude.{◌≡◌, ◌≤◌, [], length, map, OnOk};
-ghost use Rattle.rl_bus.specs.Causes.{HasCause};
-ghost use Rattle.rl_report.specs.Pieces.{Puts, GathersTo, SinkStays, joined};
+ghost use Rattle.rl_report.specs.Pieces.{GathersTo, PutsText, SinkStays, joined};
 
 use crate::text::Text;
 use crate::{Failed, Sink};
@@ -11,10 +10,7 @@ const FULL: usize = 384;
 
 /// Writes the whole piece. After a fault a front of it was written. An empty piece makes no call.
 pub fn put_all<K: Sink>(sink: &mut K, piece: &[u8]) -> Result<(), Failed>
-    ensures bytes { Puts (K.written sink.old) (K.written sink.new) piece.now result }
-    ensures cause { HasCause (K.faults sink.old) (K.faults sink.new) result }
-    ensures ends_kept { K.ends sink.new ≡ K.ends sink.old }
-    ensures same_target { K.target sink.new ≡ K.target sink.old }
+    ensures { PutsText K.Sink sink.old sink.new piece.now result }
 {
     let mut rest = piece;
     while !rest.is_empty() {
@@ -26,11 +22,7 @@ pub fn put_all<K: Sink>(sink: &mut K, piece: &[u8]) -> Result<(), Failed>
 
 /// Writes these pieces, one after another. After a fault a front of them was written.
 pub fn put_pieces<K: Sink>(sink: &mut K, pieces: &[&[u8]]) -> Result<(), Failed>
-    ensures bytes { Puts (K.written sink.old) (K.written sink.new)
-        (joined (map (λ piece. piece.now) pieces.now)) result }
-    ensures cause { HasCause (K.faults sink.old) (K.faults sink.new) result }
-    ensures ends_kept { K.ends sink.new ≡ K.ends sink.old }
-    ensures same_target { K.target sink.new ≡ K.target sink.old }
+    ensures { PutsText K.Sink sink.old sink.new (joined (map (λ piece. piece.now) pieces.now)) result }
 {
     let mut text = Text::new();
     gather_pieces(sink, &mut text, pieces)?;

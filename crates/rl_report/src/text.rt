@@ -9,8 +9,9 @@ use std::simd::Simd;
 
 const ROOM: usize = 512;
 
+/// A text of no more than 512 bytes. It is seen as these bytes.
 #[derive(Drop)]
-pub(crate) struct Text {
+pub struct Text {
     bytes: [u8; ROOM],
     len: usize,
 }
@@ -109,8 +110,9 @@ fn digits_behind(bytes: &mut [u8], end: usize, count: usize, n: u64)
 }
 
 impl Text {
+    /// With no bytes.
     #[inline]
-    pub(crate) fn new() -> Text
+    pub fn new() -> Text
         ensures { result ≡ [] }
     {
         Text {
@@ -119,23 +121,26 @@ impl Text {
         }
     }
 
+    /// How many bytes it has.
     #[inline]
-    pub(crate) fn len(&self) -> usize
+    pub fn len(&self) -> usize
         ensures value { result ≡ length self.now }
         ensures within { result ≤ 512 }
     {
         self.len
     }
 
+    /// Takes all bytes off.
     #[inline]
-    pub(crate) fn clear(&mut self)
+    pub fn clear(&mut self)
         ensures { self.new ≡ [] }
     {
         self.len = 0;
     }
 
+    /// Appends a piece that there is room for.
     #[inline(always)]
-    pub(crate) fn push(&mut self, piece: &[u8])
+    pub fn push(&mut self, piece: &[u8])
         requires room { length self.old + length piece.now ≤ 512 }
         ensures text { self.new ≡ self.old ++ piece.now }
         ensures len { length self.new ≡ length self.old + length piece.now }
@@ -143,31 +148,19 @@ impl Text {
         self.len = copy_behind(&mut self.bytes, self.len, piece);
     }
 
-    // Up to eight hexadecimal digits of a number that has no more.
+    // So many hexadecimal digits of a number that has no more: N are written, and the first of them kept.
     #[inline]
-    fn push_few(&mut self, n: u64, count: u32)
+    fn push_digits<const N: usize>(&mut self, n: u64, count: u32)
+        requires even { N % 2 ≡ 0 }
+        requires wide { N ≤ 16 }
         requires some { 1 ≤ count }
-        requires few { count ≤ 8 }
+        requires few { count ≤ N }
         requires fits { n < 16 ^ count }
         requires room { length self.old + 16 ≤ 512 }
         ensures text { self.new ≡ self.old ++ padded count n }
         ensures len { length self.new ≡ length self.old + count }
     {
-        digits_behind(&mut self.bytes, self.len, 8, n << (32 - 4 * count));
-        self.len += count as usize;
-    }
-
-    // Up to sixteen hexadecimal digits of a number that has no more.
-    #[inline]
-    fn push_many(&mut self, n: u64, count: u32)
-        requires some { 1 ≤ count }
-        requires few { count ≤ 16 }
-        requires fits { n < 16 ^ count }
-        requires room { length self.old + 16 ≤ 512 }
-        ensures text { self.new ≡ self.old ++ padded count n }
-        ensures len { length self.new ≡ length self.old + count }
-    {
-        digits_behind(&mut self.bytes, self.len, 16, n << (64 - 4 * count));
+        digits_behind(&mut self.bytes, self.len, N, n << (4 * (N as u32 - count)));
         self.len += count as usize;
     }
 
@@ -182,9 +175,9 @@ impl Text {
         ensures len { length self.new ≡ length self.old + count }
     {
         if count <= 8 {
-            self.push_few(n, count);
+            self.push_digits::<8>(n, count);
         } else {
-            self.push_many(n, count);
+            self.push_digits::<16>(n, count);
         }
     }
 
@@ -221,7 +214,8 @@ impl Text {
         self.len -= count;
     }
 
-    pub(crate) fn as_bytes(&self) -> &[u8]
+    /// The bytes.
+    pub fn as_bytes(&self) -> &[u8]
         ensures { result.now ≡ self.now }
     {
         &self.bytes[..self.len]

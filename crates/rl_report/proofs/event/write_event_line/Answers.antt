@@ -1,8 +1,8 @@
-use Rattle.rl_report.proofs.GatherLemmas.{all_written, stopped_before}
+use Rattle.rl_report.proofs.GatherLemmas.{text_cut, text_written}
 use Rattle.rl_report.proofs.event.write_event_line.Goals as goal
 
-pub returns-in_err-put_line-clause-bytes : goal.returns-in_err-put_line-clause-bytes
-returns-in_err-put_line-clause-bytes g c = stopped_before _ _ _ _ _ c.new-text.ensures c.from_residual.ensures.0 c.in_err-put_line.ensures.bytes.part
+pub returns-in_err-put_line : goal.returns-in_err-put_line
+returns-in_err-put_line g c = let e = c.in_err-put_line.ensures in text_cut _ _ _ _ _ _ _ c.new-text.ensures c.from_residual.ensures.0 e.bytes.part e.stays
 
-pub returns-clause-bytes : goal.returns-clause-bytes
-returns-clause-bytes g c = all_written _ _ _ _ _ _ _ c.new-text.ensures c.in_ok-put_line.ensures.bytes.whole (rw (c.as_bytes.ensures) at c.put_all.ensures.bytes)
+pub returns : goal.returns
+returns g c = let e = c.in_ok-put_line.ensures in text_written _ _ _ _ _ _ _ _ _ c.new-text.ensures e.bytes.whole e.stays (rw (c.as_bytes.ensures) at c.put_all.ensures)

@@ -1,6 +1,7 @@
-use Rattle.std.proofs.Common.{arith, ◌∙◌}
+use Rattle.std.proofs.Common.{arith}
 use Rattle.rl_report.specs.Item.{item_line}
 use Rattle.rl_report.proofs.ListingLemmas.{next_item, no_item}
+use Rattle.rl_report.proofs.PieceLemmas.{keeps_more}
 use Rattle.rl_report.proofs.GatherLemmas.{less_over, over_stopped, none_over}
 use Rattle.rl_report.proofs.item.put_items.Goals as goal
 
@@ -10,9 +11,7 @@ loop-k-preserved g c =
     let e = c.in_ok-put_item.ensures in
     record {
       put = less_over _ _ _ _ _ _ _ _ _ _ i.put (next_item (item_line c.args.model.now.layout) c.args.event.now.trace c.loop-k.k _ c.item.ensures) e.bytes.whole;
-      later = omega (arith, e.stays.cause.later);
-      ends_kept = e.stays.ends ∙ i.ends_kept;
-      same_target = e.stays.target ∙ i.same_target;
+      kept = keeps_more _ _ _ _ _ i.kept e.stays;
     }
 
 pub returns-in_err-put_item-clause-bytes : goal.returns-in_err-put_item-clause-bytes

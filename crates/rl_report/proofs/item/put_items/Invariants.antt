@@ -1,8 +1,9 @@
 -- The items from the next one on are left.
-use Rattle.std.proofs.Common.{◌≡◌, ◌≤◌, drop}
+use Rattle.std.proofs.Common.{drop}
 use Rattle.std.specs.List.{flat_map}
 use Rattle.rl_report.specs.Item.{item_line}
 use Rattle.rl_report.proofs.GatherLemmas.{IsLeftOver}
+use Rattle.rl_report.proofs.PieceLemmas.{SinkKeeps}
 use Rattle.rl_report.proofs.item.put_items.Given as goal
 
 abbrev pub invariant-loop-k : goal.invariant-loop-k
@@ -11,7 +12,5 @@ invariant-loop-k g l =
     record {
       put : IsLeftOver (written l.initial.sink) (written l.sink) l.initial.text l.text (flat_map (item_line l.model.layout) l.event.trace)
           (flat_map (item_line l.model.layout) (drop l.k l.event.trace));
-      later : g.K.Sink.faults l.initial.sink ≤ g.K.Sink.faults l.sink;
-      ends_kept : g.K.Sink.ends l.sink ≡ g.K.Sink.ends l.initial.sink;
-      same_target : g.K.Sink.target l.sink ≡ g.K.Sink.target l.initial.sink;
+      kept : SinkKeeps g.K.Sink l.initial.sink l.sink;
     }

@@ -4,4 +4,4 @@ use Rattle.rl_report.proofs.outcome.push_desired.Goals as goal
 pub returns-clause-text : goal.returns-clause-text
 returns-clause-text c =
     let shown = sym c.shows_desired.ensures ∙ c.if-not-shows_desired.false in
-    rw shown (rw (c.register_digits-digits.ensures.value) at c.push_value.ensures.text)
+    rw shown (rw (c.item_digits-digits.ensures.value) at c.push_value.ensures.text)

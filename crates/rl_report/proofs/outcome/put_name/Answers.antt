@@ -1,8 +1,9 @@
 use Rattle.std.proofs.Common.{◌≡◌, ◌+◌, ◌<◌, length, arith, ap, sym, ◌∙◌}
+use Rattle.rl_policy.specs.Bits.{bit}
 use Rattle.rl_model.specs.Rows.{FieldSeen}
 use Rattle.rl_model.specs.Fields.{field_of, field_in, fields_of, first_of}
 use Rattle.rl_mirror.proofs.FieldLemmas.{length-fields_of, field_in-fields_of}
-use Rattle.rl_report.proofs.GatherLemmas.{gathers_more, gathers_last, gathers_failed}
+use Rattle.rl_report.proofs.GatherLemmas.{gathers_if, gathers_more, gathers_last, gathers_failed}
 use Rattle.rl_report.proofs.outcome.put_name.Goals as goal
 
 pub overflow_add-first : goal.overflow_add-first
@@ -10,8 +11,7 @@ overflow_add-first g c = omega (arith, c.fields_with-first.ensures.count, c.fiel
 
 pub returns-in_err-gather-clause-bytes : goal.returns-in_err-gather-clause-bytes
 returns-in_err-gather-clause-bytes g c =
-    let marked = sym c.has_mark.ensures ∙ c.if-not-has_mark.false in
-    rw marked (gathers_failed _ _ _ _ _ _ _ c.from_residual.ensures.0 c.in_err-gather.ensures.bytes.part)
+    gathers_if (bit c.args.differ c.args.place) (sym c.has_mark.ensures ∙ c.if-not-has_mark.false) (gathers_failed _ _ _ _ _ _ _ c.from_residual.ensures.0 c.in_err-gather.ensures.bytes.part)
 
 pub returns-clause-bytes : goal.returns-clause-bytes
 returns-clause-bytes g c =
@@ -21,5 +21,5 @@ returns-clause-bytes g c =
     let within : c.args.place < length (fields_of chip reg) = rw (length-fields_of chip reg e.sound c.requires.reg) c.requires.place in
     let is : field_of chip (first_of chip reg + c.args.place) ≡ field_in (fields_of chip reg) c.args.place = sym (field_in-fields_of chip reg c.args.place e.sound c.requires.reg within) in
     let name = c.name_of.ensures ∙ ap (λ n. (field_of chip (n + c.args.place)).name) e.first ∙ ap (λ (f : FieldSeen). f.name) is in
-    let marked = sym c.has_mark.ensures ∙ c.if-not-has_mark.false in
-    rw marked (gathers_more _ _ _ _ _ _ _ _ _ c.in_ok-gather.ensures.bytes.whole (gathers_last _ _ _ _ _ _ (rw name at c.gather-2.ensures.bytes)))
+    gathers_if (bit c.args.differ c.args.place) (sym c.has_mark.ensures ∙ c.if-not-has_mark.false)
+    (gathers_more _ _ _ _ _ _ _ _ _ c.in_ok-gather.ensures.bytes.whole (gathers_last _ _ _ _ _ _ (rw name at c.gather-2.ensures.bytes)))

@@ -1,7 +1,8 @@
-use Rattle.std.proofs.Common.{arith, ◌∙◌}
+use Rattle.std.proofs.Common.{arith}
 use Rattle.rl_model.specs.Fields.{count_of}
 use Rattle.rl_report.specs.Outcome.{name_text}
 use Rattle.rl_report.proofs.ListingLemmas.{next_number, no_number}
+use Rattle.rl_report.proofs.PieceLemmas.{keeps_more}
 use Rattle.rl_report.proofs.GatherLemmas.{less_over, over_stopped, none_over}
 use Rattle.rl_report.proofs.outcome.put_names.Goals as goal
 
@@ -12,9 +13,7 @@ loop-place-preserved g c =
     let e = c.in_ok-put_name.ensures in
     record {
       put = less_over _ _ _ _ _ _ _ _ _ _ i.put (next_number (name_text chip c.args.reg c.args.differ) c.loop-place.place (count_of chip c.args.reg) (omega arith)) e.bytes.whole;
-      later = omega (arith, e.stays.cause.later);
-      ends_kept = e.stays.ends ∙ i.ends_kept;
-      same_target = e.stays.target ∙ i.same_target;
+      kept = keeps_more _ _ _ _ _ i.kept e.stays;
     }
 
 pub returns-in_err-put_name-clause-bytes : goal.returns-in_err-put_name-clause-bytes

@@ -1,9 +1,10 @@
 -- The names from the next place on are left.
-use Rattle.std.proofs.Common.{◌≡◌, ◌-◌, ◌≤◌}
+use Rattle.std.proofs.Common.{◌-◌}
 use Rattle.std.specs.List.{flat_map, range_with_len}
 use Rattle.rl_model.specs.Fields.{count_of}
 use Rattle.rl_report.specs.Outcome.{name_text, names_text}
 use Rattle.rl_report.proofs.GatherLemmas.{IsLeftOver}
+use Rattle.rl_report.proofs.PieceLemmas.{SinkKeeps}
 use Rattle.rl_report.proofs.outcome.put_names.Given as goal
 
 abbrev pub invariant-loop-place : goal.invariant-loop-place
@@ -12,7 +13,5 @@ invariant-loop-place g l =
     record {
       put : IsLeftOver (written l.initial.sink) (written l.sink) l.initial.text l.text (names_text l.model.chip l.reg l.differ)
           (flat_map (name_text l.model.chip l.reg l.differ) (range_with_len l.place (count_of l.model.chip l.reg - l.place)));
-      later : g.K.Sink.faults l.initial.sink ≤ g.K.Sink.faults l.sink;
-      ends_kept : g.K.Sink.ends l.sink ≡ g.K.Sink.ends l.initial.sink;
-      same_target : g.K.Sink.target l.sink ≡ g.K.Sink.target l.initial.sink;
+      kept : SinkKeeps g.K.Sink l.initial.sink l.sink;
     }

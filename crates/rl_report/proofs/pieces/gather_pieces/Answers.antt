@@ -1,5 +1,5 @@
-use Rattle.std.proofs.Common.{arith, ◌∙◌}
-use Rattle.rl_report.proofs.PieceLemmas.{next_piece, no_piece}
+use Rattle.std.proofs.Common.{arith}
+use Rattle.rl_report.proofs.PieceLemmas.{keeps_more, next_piece, no_piece}
 use Rattle.rl_report.proofs.GatherLemmas.{less_over, over_stopped, none_over}
 use Rattle.rl_report.proofs.pieces.gather_pieces.Goals as goal
 
@@ -9,9 +9,7 @@ loop-piece-preserved g c =
     let e = c.in_ok-gather.ensures in
     record {
       put = less_over _ _ _ _ _ _ _ _ _ _ i.put (next_piece (λ piece. piece.now) c.args.pieces.now c.loop-piece.piece-index _ c.loop-piece-test.true) e.bytes.whole;
-      later = omega (arith, e.stays.cause.later);
-      ends_kept = e.stays.ends ∙ i.ends_kept;
-      same_target = e.stays.target ∙ i.same_target;
+      kept = keeps_more _ _ _ _ _ i.kept e.stays;
     }
 
 pub returns-in_err-gather-clause-bytes : goal.returns-in_err-gather-clause-bytes

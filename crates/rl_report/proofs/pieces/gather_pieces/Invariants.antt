@@ -1,7 +1,8 @@
 -- The pieces that are left complete the text.
-use Rattle.std.proofs.Common.{◌≡◌, ◌≤◌, drop, map}
+use Rattle.std.proofs.Common.{drop, map}
 use Rattle.rl_report.specs.Pieces.{joined}
 use Rattle.rl_report.proofs.GatherLemmas.{IsLeftOver}
+use Rattle.rl_report.proofs.PieceLemmas.{SinkKeeps}
 use Rattle.rl_report.proofs.pieces.gather_pieces.Given as goal
 
 abbrev pub invariant-loop-piece : goal.invariant-loop-piece
@@ -10,7 +11,5 @@ invariant-loop-piece g l =
     record {
       put : IsLeftOver (written l.initial.sink) (written l.sink) l.initial.text l.text (joined (map (λ piece. piece.now) l.pieces))
           (joined (map (λ piece. piece.now) (drop l.piece-index l.pieces)));
-      later : g.K.Sink.faults l.initial.sink ≤ g.K.Sink.faults l.sink;
-      ends_kept : g.K.Sink.ends l.sink ≡ g.K.Sink.ends l.initial.sink;
-      same_target : g.K.Sink.target l.sink ≡ g.K.Sink.target l.initial.sink;
+      kept : SinkKeeps g.K.Sink l.initial.sink l.sink;
     }

@@ -14,9 +14,8 @@ loop-rest-preserved g c =
     let e = c.in_ok-count.ensures in
     let rest = c.loop-rest.rest.now in
     let n = c.in_ok-count.count in
+    let kept = c.loop-rest.invariant.kept in
     record {
       put = (done ++ take n rest, moves _ done rest n split, Appends-trans _ _ _ _ _ appended e.bytes);
-      later = omega (arith, e.cause.later);
-      ends_kept = e.ends_kept ∙ c.loop-rest.invariant.ends_kept;
-      same_target = e.same_target ∙ c.loop-rest.invariant.same_target;
+      kept = record { later = omega (arith, kept.later, e.cause.later); ends = e.ends_kept ∙ kept.ends; target = e.same_target ∙ kept.target };
     }

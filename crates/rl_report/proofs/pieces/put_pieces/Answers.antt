@@ -1,8 +1,8 @@
-use Rattle.rl_report.proofs.GatherLemmas.{all_written, stopped_before}
+use Rattle.rl_report.proofs.GatherLemmas.{text_cut, text_written}
 use Rattle.rl_report.proofs.pieces.put_pieces.Goals as goal
 
-pub returns-in_err-gather_pieces-clause-bytes : goal.returns-in_err-gather_pieces-clause-bytes
-returns-in_err-gather_pieces-clause-bytes g c = stopped_before _ _ _ _ _ c.new-text.ensures c.from_residual.ensures.0 c.in_err-gather_pieces.ensures.bytes.part
+pub returns-in_err-gather_pieces : goal.returns-in_err-gather_pieces
+returns-in_err-gather_pieces g c = let e = c.in_err-gather_pieces.ensures in text_cut _ _ _ _ _ _ _ c.new-text.ensures c.from_residual.ensures.0 e.bytes.part e.stays
 
-pub returns-clause-bytes : goal.returns-clause-bytes
-returns-clause-bytes g c = all_written _ _ _ _ _ _ _ c.new-text.ensures c.in_ok-gather_pieces.ensures.bytes.whole (rw (c.as_bytes.ensures) at c.put_all.ensures.bytes)
+pub returns : goal.returns
+returns g c = let e = c.in_ok-gather_pieces.ensures in text_written _ _ _ _ _ _ _ _ _ c.new-text.ensures e.bytes.whole e.stays (rw (c.as_bytes.ensures) at c.put_all.ensures)
