@@ -47,7 +47,7 @@ use Rattle.rl_access.specs.Rules.{Grant, grant, named, Outcome, quiet, event_at}
 use Rattle.rl_access.specs.Runs.{write_grant, writes_of, reads_of}
 use Rattle.rl_access.specs.Tally.{is_bus_error}
 use Rattle.rl_access.specs.World.{World, Step, step_by, step_of, unchanged, done_at, items_at, scene_at}
-use Rattle.rl_access.proofs.Beliefs.{error_keeps, check_names, location_marks, nothing_differs}
+use Rattle.rl_access.proofs.Beliefs.{event_tells, error_keeps, check_names, location_marks, nothing_differs}
 use Rattle.rl_access.proofs.Worlds.{step_is_call}
 use Rattle.rl_seq.specs.Plan.{Plan, stop, step, look}
 use Rattle.rl_script.specs.declared.line.Line.{Line}
@@ -66,14 +66,6 @@ use Rattle.rl_log.specs.Recording.{with_event, with_events}
 op_told : (r : Option ℕ) (o : Op) (items : List TraceItem) (out : Outcome) → (event_at r o items out).op ≡ o
 op_told None o items out = refl
 op_told (Some reg) o items out = refl
-
-end_told : (r : Option ℕ) (o : Op) (items : List TraceItem) (out : Outcome) → (event_at r o items out).end ≡ out.end
-end_told None o items out = refl
-end_told (Some reg) o items out = refl
-
-differ_told : (r : Option ℕ) (o : Op) (items : List TraceItem) (out : Outcome) → (event_at r o items out).differ ≡ out.differ
-differ_told None o items out = refl
-differ_told (Some reg) o items out = refl
 
 -- an event names its operation, with the map that was used
 names_by : (w : World) (o : Op) (g : Grant) → (step_by w o g).event.op ≡ named w.model o
@@ -129,12 +121,12 @@ done_lawful w o =
 refused_lawful : (w : World) (o : Op) (why : Refused) → IsLawful (by_step w (unchanged w o why))
 refused_lawful w o why =
     let r = register_of w.model.chip (named w.model o) in
-    let ended = end_told r (named w.model o) [] (quiet (end.Refused why) w.model) in
+    let tells = event_tells r (named w.model o) [] (quiet (end.Refused why) w.model) in
     record {
-      error = λ word is. let no = sym ended ∙ is in absurd (cc);
-      check = λ reg read k c is. let no = sym ended ∙ is in absurd (cc);
-      memory_check = λ mem index value read map asked is. let no = sym ended ∙ is in absurd (cc);
-      nothing_else = λ h. differ_told r (named w.model o) [] (quiet (end.Refused why) w.model);
+      error = λ word is. let no = sym tells.end_is ∙ is in absurd (cc);
+      check = λ reg read k c is. let no = sym tells.end_is ∙ is in absurd (cc);
+      memory_check = λ mem index value read map asked is. let no = sym tells.end_is ∙ is in absurd (cc);
+      nothing_else = λ h. tells.differ_is;
     }
 
 -- ---- one after another

@@ -1,5 +1,6 @@
 pub mod Causes
 pub mod Course
+pub mod Earlier
 pub mod Endings
 pub mod Entry
 pub mod Events

@@ -17,7 +17,4 @@ abbrev pub is_complete : Status → Bool
 is_complete Passed = true
 is_complete Found = true
 is_complete Refused = true
-is_complete SourceFault = false
-is_complete SinkFault = false
-is_complete Memory = false
-is_complete Words = false
+is_complete _ = false

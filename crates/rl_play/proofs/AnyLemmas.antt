@@ -26,10 +26,12 @@ use Rattle.rl_log.specs.Texts.{end_text}
 use Rattle.rl_play.specs.AnyDevice.{Point, RanWhole, StopsAt, ClosesAt, Close, at_end, refused, broken, unwritten, cut, HasStatus}
 use Rattle.rl_play.specs.AnyDevice.{Happens, told_by, text_by, DoneLine, Plays, PlaysInput, PlaysAll, PlaysOnAnyDevice, counting}
 use Rattle.rl_play.specs.Work.{asked, text_of}
-use Rattle.rl_play.specs.Earlier.{KeepsEarlier}
+use Rattle.rl_log.specs.Earlier.{KeepsEarlier}
 use Rattle.rl_play.specs.Heard.{heard}
-use Rattle.rl_play.proofs.BufferLemmas.{keeps_then_appends}
-use Rattle.rl_play.proofs.EndingLemmas.{appends_keeps, front_later, front_none, front_written, incomplete, keeps_nothing, not_sink_fault}
+use Rattle.std.proofs.KnownBytes.{Appends-kept}
+use Rattle.rl_log.proofs.KnownLemmas.{front_later, front_none, front_written, keeps_nothing, keeps_then_appends}
+use Rattle.rl_log.proofs.TellingLemmas.{not_sink_fault}
+use Rattle.rl_play.proofs.EndingLemmas.{incomplete}
 use Rattle.rl_play.proofs.FaultLemmas.{same_status}
 use Rattle.rl_play.proofs.PlayLemmas.{heard_said, hands_some, lines_more}
 
@@ -178,8 +180,8 @@ written_on number before lines told new kept status result same keeps held whole
       counted = p.counted;
       status_is = status_on told.counts p.close status result same p.status_is;
       whole = λ c. let is : result ≡ status = same (not_sink_fault result c) in
-          appends_keeps before.text told.text new text (p.whole (sym (ap is_complete is) ∙ c)) (whole c);
-      at_fault = λ f. appends_keeps before.text told.text new text (p.at_fault (same_status status result same f)) (fault f);
+          Appends-kept before.text told.text new text (p.whole (sym (ap is_complete is) ∙ c)) (whole c);
+      at_fault = λ f. Appends-kept before.text told.text new text (p.at_fault (same_status status result same f)) (fault f);
       part = front_written before.text told.text new kept text keeps held p.part;
     }
 

@@ -6,8 +6,7 @@ use Rattle.rl_report.specs.Lines.{first_line, after_line, whole_lines}
 use Rattle.rl_report.specs.Reading.{Reading, input_of}
 use Rattle.rl_report.proofs.LineLemmas.{whole_none}
 use Rattle.rl_play.specs.Played.{LinesBreak}
-use Rattle.rl_play.proofs.BufferLemmas.{keeps_then_appends}
-use Rattle.rl_play.proofs.EndingLemmas.{keeps_nothing}
+use Rattle.rl_log.proofs.KnownLemmas.{keeps_nothing, keeps_then_appends}
 
 cut_pending : (log : List (List ℕ) → List ℕ) (bytes pending : List ℕ) (left old new : Option (List ℕ)) → log [] ≡ []
     → Keeps (Some bytes) (prepend_known pending left) → first_line pending ≡ pending → Keeps old new

@@ -23,9 +23,9 @@ use Rattle.rl_log.specs.Log.{comes_of, lines_text, said, text_on}
 use Rattle.rl_log.specs.Causes.{IsCaused}
 use Rattle.rl_play.specs.Played.{BreaksAfter, Breaks, IsTurn, RanOn}
 use Rattle.rl_access.specs.World.{World, world, IsAt}
-use Rattle.rl_play.proofs.BufferLemmas.{keeps_refl}
+use Rattle.std.proofs.KnownBytes.{Appends-kept, Keeps-refl}
+use Rattle.rl_play.proofs.EndingLemmas.{incomplete, keeps_when_empty, none_kept}
 use Rattle.rl_play.proofs.CutLemmas.{cut_behind, cut_here}
-use Rattle.rl_play.proofs.EndingLemmas.{appends_keeps, incomplete, keeps_when_empty, none_kept}
 use Rattle.rl_play.proofs.PlayLemmas.{heard_said}
 
 pub still_going : (old new : Bool) → (old ≡ true → new ≡ true) → new ≡ false → old ≡ false
@@ -121,7 +121,7 @@ breaks_written number m a (Some d) (Some bytes) left old told new h same =
       others = h.others;
       split = h.split;
       is_left = h.is_left;
-      text = appends_keeps old told new
+      text = Appends-kept old told new
           (lines_text number (world m a d) (whole_lines h.taken)) h.text same;
     }
 
@@ -132,7 +132,7 @@ same_status status result kept is = sym (kept (λ e. let f : SourceFault ≡ Sin
 pub written_out : (a b : Option (List ℕ)) (bytes : List ℕ) (start end : ℕ) → start ≤ end → Keeps a
     (append_known b (slice_range bytes start end)) → end ≡ 0 → Keeps a b
 written_out a b bytes start end ordered h none =
-    keeps_when_empty a b b (slice_range bytes start end) h (none_kept bytes start end ordered none) (keeps_refl b)
+    keeps_when_empty a b b (slice_range bytes start end) h (none_kept bytes start end ordered none) (Keeps-refl b)
 
 -- a source that didn't fail is no cause
 pub no_source : (status : Status) (sink now : ℕ) → IsCaused status 0 0 sink now → status ≢ SourceFault

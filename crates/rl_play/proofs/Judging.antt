@@ -148,19 +148,20 @@ refused_front s new w o why told h r =
       leads = λ v. course.world;
     }
 
+course_by : (work : Work) (told : List Told) (s new : Scene) (w : World) → IsWorld s w
+    → (Does work s told new → IsCourse told new (course_of w work)) × (BreaksOff work s told new → IsFrontOf told new (course_of w work))
+course_by (planned p) told s new w h = (runs_along p told s new w h, breaks_along p told s new w h)
+course_by (sequence which over p) told s new w h = (runs_along p told s new w h, breaks_along p told s new w h)
+course_by (burst (Ok place) o ops) told s new w h = (runs_through ops told s new w h, runs_into ops told s new w h)
+course_by (burst (Err why) o ops) told s new w h = (refused_told s new w o why told h, refused_front s new w o why told h)
+
 pub does_course : (work : Work) (told : List Told) (s new : Scene) (w : World) → IsWorld s w → Does work s told new
     → IsCourse told new (course_of w work)
-does_course (planned p) told s new w h d = runs_along p told s new w h d
-does_course (sequence which over p) told s new w h d = runs_along p told s new w h d
-does_course (burst (Ok place) o ops) told s new w h d = runs_through ops told s new w h d
-does_course (burst (Err why) o ops) told s new w h d = refused_told s new w o why told h d
+does_course work told s new w h = (course_by work told s new w h).0
 
 pub breaks_course : (work : Work) (told : List Told) (s new : Scene) (w : World) → IsWorld s w → BreaksOff work s told new
     → IsFrontOf told new (course_of w work)
-breaks_course (planned p) told s new w h d = breaks_along p told s new w h d
-breaks_course (sequence which over p) told s new w h d = breaks_along p told s new w h d
-breaks_course (burst (Ok place) o ops) told s new w h d = runs_into ops told s new w h d
-breaks_course (burst (Err why) o ops) told s new w h d = refused_front s new w o why told h d
+breaks_course work told s new w h = (course_by work told s new w h).1
 
 trace_course : (work : Work) (w : World) → IsTrace w (course_of w work)
 trace_course (planned p) w = trace_along p w

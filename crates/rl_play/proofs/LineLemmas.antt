@@ -32,8 +32,8 @@ use Rattle.rl_log.specs.Texts.{refused_text}
 use Rattle.rl_play.specs.AnyDevice.{Point, Logs, LogsTallied, RanWhole, StopsAt, RunsOn, Turns, refused, broken, unwritten, cut}
 use Rattle.rl_play.specs.Work.{Work, planned, sequence, single, asked, text_of, begun_text}
 use Rattle.rl_play.specs.declared.playing.Turn.{Turn}
-use Rattle.rl_play.proofs.BufferLemmas.{keeps_refl}
-use Rattle.rl_play.proofs.EndingLemmas.{front_none}
+use Rattle.std.proofs.KnownBytes.{Keeps-refl}
+use Rattle.rl_log.proofs.KnownLemmas.{front_none}
 
 -- ---- a line whose call failed
 
@@ -207,6 +207,10 @@ pub turns_as : (number : ℕ) (given other : Result Work LineRefusal) (before af
     → given ≡ other → Turns number given before after turn → Turns number other before after turn
 turns_as number given other before after turn same h = subst (λ given. Turns number given before after turn) same h
 
+pub turns_at : (number : ℕ) (given : Result Work LineRefusal) (before after : Point) (turn last : Turn) → turn ≡ last
+    → Turns number given before after turn → Turns number given before after last
+turns_at number given before after turn last is h = subst (Turns number given before after) is h
+
 -- ---- a line that is refused, or on which nothing was done
 
 pub stops_refused : (number : ℕ) (given : Result Work LineRefusal) (why : LineRefusal) (status : Status) (before mid : Point)
@@ -244,7 +248,7 @@ stops_early number given status p early = record {
   counted = refl;
   status_is = early;
   whole = λ c. absurd (true≢false (sym c ∙ early));
-  part = front_none p.text p.text [] (keeps_refl p.text);
+  part = front_none p.text p.text [] (Keeps-refl p.text);
 }
 
 pub ran_blank : (m : ModelData) (says : Result Line LineRefusal) (p : Point) → says ≡ Ok say.Blank → RanWhole (asked m says) p p

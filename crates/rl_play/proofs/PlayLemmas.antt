@@ -40,8 +40,7 @@ use Rattle.rl_log.specs.Recording.{with_events}
 use Rattle.rl_play.specs.Heard.{heard, handed}
 use Rattle.rl_log.specs.Texts.{end_text, refused_text}
 use Rattle.rl_access.specs.World.{World, world, IsAt}
-use Rattle.rl_play.proofs.BufferLemmas.{keeps_then_appends}
-use Rattle.rl_play.proofs.EndingLemmas.{front_none, front_later}
+use Rattle.rl_log.proofs.KnownLemmas.{front_later, front_none, keeps_then_appends}
 use Rattle.rl_play.proofs.Traces.{done_none}
 
 -- ---- the lines of an input

@@ -9,7 +9,7 @@ use Rattle.rl_access.specs.Call.{Scene, Performs}
 use Rattle.rl_access.specs.HandsOver.{Told, TakesAll, BreaksAtLast}
 use Rattle.rl_access.specs.Model.{ModelData}
 use Rattle.rl_access.specs.Rules.{Grant}
-use Rattle.rl_access.specs.Runs.{IsBurst}
+use Rattle.rl_access.specs.Runs.{IsBurst, no_tally, counted_all}
 use Rattle.rl_seq.specs.Plan.{Plan, IsSequence}
 use Rattle.rl_report.specs.Event.{event_text}
 use Rattle.rl_report.specs.Pieces.{AppendsFront}
@@ -17,7 +17,7 @@ use Rattle.rl_report.proofs.PieceLemmas.{front_after, front_before}
 use Rattle.rl_log.specs.declared.counts.Counts.{Counts}
 use Rattle.rl_log.specs.Recording.{with_events, told_text, events_text}
 use Rattle.rl_play.specs.AnyDevice.{Logs, LogsTallied, Point}
-use Rattle.rl_play.specs.Work.{planned, burst, single}
+use Rattle.rl_play.specs.Work.{Work, Does, BreaksOff, planned, burst, single}
 use Rattle.rl_play.specs.Recording.{IsWritten, IsBegun}
 
 pub events_append : (told more : List Told) → events_text (told ++ more) ≡ events_text told ++ events_text more
@@ -91,77 +91,59 @@ module _ {R : Type 0} (written : R → Option (List ℕ)) (counts : R → Counts
   abbrev at : Scene → R → Point
   at s r = point s (written r) (counts r)
 
+  -- ---- all of its events were recorded, or it broke off at the last of them
+
+  all_logged : {E : Type 0} (work : Work) (s new : Scene) (old rec : R) (told : List Told) (tally : Tally) → Does work s told new
+      → TakesAll Takes old told rec → tally ≡ counted_all no_tally told
+      → LogsTallied {E = E} work (at s old) (at new rec) (Ok tally)
+  all_logged work s new old rec told tally run taken counted = record {
+    logs = record {
+      told = told;
+      run = run;
+      whole = all_written told old rec taken;
+      part = tt;
+      counted = all_counted told old rec taken;
+    };
+    tally = counted;
+  }
+
+  cut_logged : {E : Type 0} (work : Work) (s new : Scene) (old rec : R) (told : List Told) (e : E) → BreaksOff work s told new
+      → BreaksAtLast Takes Breaks old told rec → LogsTallied work (at s old) (at new rec) (Err e)
+  cut_logged work s new old rec told e run taken = record {
+    logs = record {
+      told = told;
+      run = run;
+      whole = tt;
+      part = last_begun told old rec taken;
+      counted = last_counted told old rec taken;
+    };
+    tally = tt;
+  }
+
   -- ---- a sequence
 
   pub sequence_logged : {E : Type 0} (p : Plan) (s new : Scene) (old rec : R) (r : Result Tally E)
       → IsSequence Takes Breaks old rec s new p r → LogsTallied (planned p) (at s old) (at new rec) r
-  sequence_logged p s new old rec (Ok tally) q = record {
-    logs = record {
-      told = q.told;
-      run = q.run;
-      whole = all_written q.told old rec q.handed.all;
-      part = tt;
-      counted = all_counted q.told old rec q.handed.all;
-    };
-    tally = q.counts;
-  }
-  sequence_logged p s new old rec (Err e) q = record {
-    logs = record {
-      told = q.told;
-      run = q.run;
-      whole = tt;
-      part = last_begun q.told old rec q.handed.part;
-      counted = last_counted q.told old rec q.handed.part;
-    };
-    tally = tt;
-  }
+  sequence_logged p s new old rec (Ok tally) q =
+      all_logged (planned p) s new old rec q.told tally q.run q.handed.all q.counts
+  sequence_logged p s new old rec (Err e) q = cut_logged (planned p) s new old rec q.told e q.run q.handed.part
 
   -- ---- a burst
+
+  -- the one event of a burst that is refused as a whole
+  abbrev alone : Scene → Event → List Told
+  alone s event = record { model = s.model; event = event } ∷ []
 
   pub burst_logged : {E : Type 0} (granted : Grant) (op : Op) (ops : List Op) (s new : Scene) (old rec : R)
       (r : Result Tally E) → IsBurst Takes Breaks old rec s new granted op ops r
       → LogsTallied (burst granted op ops) (at s old) (at new rec) r
-  burst_logged (Ok place) op ops s new old rec (Ok tally) q = record {
-    logs = record {
-      told = q.told;
-      run = q.run.0;
-      whole = all_written q.told old rec q.handed.all;
-      part = tt;
-      counted = all_counted q.told old rec q.handed.all;
-    };
-    tally = q.run.1;
-  }
-  burst_logged (Ok place) op ops s new old rec (Err e) q = record {
-    logs = record {
-      told = q.told;
-      run = q.run;
-      whole = tt;
-      part = last_begun q.told old rec q.handed.part;
-      counted = last_counted q.told old rec q.handed.part;
-    };
-    tally = tt;
-  }
+  burst_logged (Ok place) op ops s new old rec (Ok tally) q =
+      all_logged (burst (Ok place) op ops) s new old rec q.told tally q.run.0 q.handed.all q.run.1
+  burst_logged (Ok place) op ops s new old rec (Err e) q =
+      cut_logged (burst (Ok place) op ops) s new old rec q.told e q.run q.handed.part
   burst_logged (Err why) op ops s new old rec (Ok tally) q =
-      let told = record { model = s.model; event = q.event } ∷ [] in
-      record {
-        logs = record {
-          told = told;
-          run = record { event = q.event; refused = q.refused; told_is = refl };
-          whole = all_written told old rec q.handed.all;
-          part = tt;
-          counted = all_counted told old rec q.handed.all;
-        };
-        tally = q.tally;
-      }
+      all_logged (burst (Err why) op ops) s new old rec (alone s q.event) tally
+      (record { event = q.event; refused = q.refused; told_is = refl }) q.handed.all q.tally
   burst_logged (Err why) op ops s new old rec (Err e) q =
-      let told = record { model = s.model; event = q.event } ∷ [] in
-      record {
-        logs = record {
-          told = told;
-          run = record { event = q.event; refused = q.refused; told_is = refl };
-          whole = tt;
-          part = last_begun told old rec q.handed.part;
-          counted = last_counted told old rec q.handed.part;
-        };
-        tally = tt;
-      }
+      cut_logged (burst (Err why) op ops) s new old rec (alone s q.event) e
+      (record { event = q.event; refused = q.refused; told_is = refl }) q.handed.part

@@ -7,12 +7,14 @@ use Rattle.rl_access.specs.Model.{ModelData}
 use Rattle.rl_log.specs.declared.counts.Counts.{Counts}
 use Rattle.rl_log.specs.declared.status.Status.{Status}
 use Rattle.rl_log.specs.declared.status.Status.TheVariants.{SinkFault}
-use Rattle.rl_play.specs.Earlier.{KeepsEarlier}
+use Rattle.rl_log.specs.Earlier.{KeepsEarlier}
 use Rattle.rl_log.specs.Endings.{added}
 use Rattle.rl_log.specs.Log.{Ending}
 use Rattle.rl_play.specs.Played.{EndsAs, IsWrittenOut}
 use Rattle.rl_log.specs.Statuses.{is_complete}
-use Rattle.rl_play.proofs.EndingLemmas.{not_sink_fault, appends_keeps, front_written}
+use Rattle.std.proofs.KnownBytes.{Appends-kept}
+use Rattle.rl_log.proofs.KnownLemmas.{front_written}
+use Rattle.rl_log.proofs.TellingLemmas.{not_sink_fault}
 
 -- ---- what is written in the end
 
@@ -27,7 +29,7 @@ ends_written (Some e) status result old told new kept counts m a st same keeps h
       let over = h.whole (subst (λ s. is_complete s ≡ true) is c) in
       record {
         status_is = is ∙ over.status_is;
-        text = appends_keeps old told new e.text over.text
+        text = Appends-kept old told new e.text over.text
             (whole c);
         counts_are = over.counts_are;
         after = over.after;

@@ -5,7 +5,7 @@ use Rattle.rl_access.specs.Model.{ModelData, IsReady, IsSameChip}
 use Rattle.rl_bus.specs.Standing.{Standing}
 use Rattle.rl_bus.specs.State.{State}
 use Rattle.rl_log.specs.declared.status.Status.{Status}
-use Rattle.rl_log.specs.declared.status.Status.TheVariants.{Passed, Found}
+use Rattle.rl_log.specs.declared.status.Status.TheVariants.{Passed, Found, SourceFault}
 use Rattle.rl_log.specs.Causes.{IsCaused}
 use Rattle.rl_play.specs.declared.playing.Turn.{Turn}
 use Rattle.rl_play.specs.declared.playing.Turn.TheVariants.{Next, Stop}
@@ -66,3 +66,10 @@ pub record CutsLine (old : Reading) (left : Option (List ℕ)) (new : Reading) (
   pub none_whole : first_line new.pending ≡ new.pending
   pub still : new.ended ≡ false
   pub goes_on : CanGoOn old new is_out
+
+-- ---- the reader, the source and the sink, behind a line or a script
+
+pub record LeavesLines {K : Type 0} (sink : Sink K) (is_out : Type 0) (old new : Reading) (source source_now : ℕ) (out now : K) (turn : Turn) : Type 0 where
+  pub reads : ReadsOn old new turn
+  pub goes_on : turn ≡ Stop SourceFault → CanGoOn old new is_out
+  pub leaves : Leaves sink source source_now out now (stop_of turn)

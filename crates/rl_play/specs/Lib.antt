@@ -1,6 +1,5 @@
 pub mod AnyDevice
 pub mod Done
-pub mod Earlier
 pub mod Heard
 pub mod Job
 pub mod Leaves

@@ -11,10 +11,10 @@ pub use Rattle.rl_log.specs.Texts.{refused_text, end_text}
 pub use Rattle.rl_play.specs.AnyDevice.{spot, LogsTallied, RunsOn, Turns, PlaysOnAnyDevice}
 pub use Rattle.rl_play.specs.Work.{asked, one_op, planned}
 pub use Rattle.rl_play.specs.Done.{DoesFirstEvents}
-pub use Rattle.rl_play.specs.Earlier.{KeepsEarlier}
+pub use Rattle.rl_log.specs.Earlier.{KeepsEarlier}
 pub use Rattle.rl_play.specs.Heard.{heard}
 pub use Rattle.rl_play.specs.Job.{job_work, JobHasNumbers}
-pub use Rattle.rl_play.specs.Leaves.{stop_of, fault_of, NotByCounts, StaysReady, Leaves, ReadsOn, CanGoOn, CutsLine}
+pub use Rattle.rl_play.specs.Leaves.{stop_of, fault_of, NotByCounts, StaysReady, Leaves, LeavesLines, CutsLine}
 pub use Rattle.rl_play.specs.Moment.{moment_of}
 pub use Rattle.rl_play.specs.Played.{BreaksFrom, PlaysLine, PlaysScript, PlaysThrough}
 pub use Rattle.rl_play.specs.Told.{told}

@@ -4,7 +4,7 @@ ghost use Rattle.std.specs.Prelude.{drop, min};
 ghost use Rattle.std.specs.Io.KnownBytes.{WriteAppends, Keeps, append_known};
 ghost use Rattle.std.proofs.Props.{props};
 ghost use Rattle.rl_bus.specs.Causes.{HasCause, Rose};
-ghost use Rattle.rl_play.specs.Earlier.{KeepsEarlier};
+ghost use Rattle.rl_log.specs.Earlier.{KeepsEarlier};
 
 use crate::log::Log;
 use rl_access::{Event, Model};

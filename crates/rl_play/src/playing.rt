@@ -7,7 +7,7 @@ ghost use Rattle.rl_play.specs.Prelude.{KeepsEarlier, end_status, IsCounted, Pla
 ghost use Rattle.rl_play.specs.Prelude.{BreaksFrom, PlaysLine, PlaysScript, PlaysThrough, asked, spot, Turns};
 ghost use Rattle.rl_play.specs.Prelude.{PlaysOnAnyDevice, heard, is_complete, Tells, refused_text};
 ghost use Rattle.rl_play.specs.Prelude.{end_text, told, Hands, read_of, line_said, input_of, HoldsLine};
-ghost use Rattle.rl_play.specs.Prelude.{stop_of, fault_of, NotByCounts, StaysReady, Leaves, ReadsOn, CanGoOn, CutsLine};
+ghost use Rattle.rl_play.specs.Prelude.{stop_of, fault_of, NotByCounts, StaysReady, Leaves, LeavesLines, CutsLine};
 
 use crate::buffered::{Buffered, Earlier};
 use crate::line::run_line;
@@ -209,9 +209,8 @@ fn play_line<S: Source, D: Device, L: Log>(
         (input_of lines.old (S.left source.old))
         (spot standing D.errors D.state L.written model.new adapters.new.items device.new out.new counts.new)
         (input_of lines.new (S.left source.new)) (S.left source.new) lines.new.ended result }
-    ensures reads { ReadsOn lines.old lines.new result }
-    ensures goes_on { result ≡ Turn.Stop Status.SourceFault → CanGoOn lines.old lines.new (L.is_out out.new) }
-    ensures leaves { Leaves L.Sink (S.faults source.old) (S.faults source.new) out.old out.new (stop_of result) }
+    ensures leaves { LeavesLines L.Sink (L.is_out out.new)
+        lines.old lines.new (S.faults source.old) (S.faults source.new) out.old out.new result }
 {
     let got = match take_line(lines, source, out) {
         Ok(got) => got,
@@ -246,9 +245,8 @@ pub fn play_lines<S: Source, D: Device, L: Log>(
         (spot standing D.errors D.state L.written model.old adapters.old.items device.old out.old counts.old)
         (input_of lines.old (S.left source.old)) (S.left source.new)
         (spot standing D.errors D.state L.written model.new adapters.new.items device.new out.new counts.new) result }
-    ensures reads { ReadsOn lines.old lines.new (Turn.Stop result) }
-    ensures goes_on { result ≡ Status.SourceFault → CanGoOn lines.old lines.new (L.is_out out.new) }
-    ensures leaves { Leaves L.Sink (S.faults source.old) (S.faults source.new) out.old out.new (Some result) }
+    ensures leaves { LeavesLines L.Sink (L.is_out out.new)
+        lines.old lines.new (S.faults source.old) (S.faults source.new) out.old out.new (Turn.Stop result) }
 {
     let mut number = 1u64;
     loop {

@@ -1,11 +1,10 @@
 // The last lines of a log.
 ghost use Rattle.std.specs.Prelude.{◌≡◌, ◌≢◌, Some, None};
-ghost use Rattle.rl_report.specs.Pieces.{Puts, SinkStays};
+ghost use Rattle.rl_report.specs.Pieces.{PutsText};
 ghost use Rattle.rl_log.specs.Entry.{over_text, sequence_text, begin_text, closing_text};
 ghost use Rattle.rl_log.specs.Log.{refused_by};
 ghost use Rattle.rl_log.specs.Texts.{reason_text, refused_text, end_text};
 ghost use Rattle.rl_play.specs.Texts.{counts_text, refused_so_text};
-ghost use Rattle.rl_script.specs.Commands.{sequence_name};
 
 use itoa::Buffer;
 use rl_log::{Counts, LineRefusal};
@@ -49,8 +48,7 @@ pub fn refusal_of(fault: LineFault) -> Option<LineRefusal>
 
 /// Writes that a line was refused, for a reason that is given as text.
 pub fn put_refused_so<K: Sink>(sink: &mut K, number: u64, reason: &[u8]) -> Result<(), Failed>
-    ensures bytes { Puts (K.written sink.old) (K.written sink.new) (refused_so_text number reason.now) result }
-    ensures stays { SinkStays K.Sink sink.old sink.new result }
+    ensures { PutsText K.Sink sink.old sink.new (refused_so_text number reason.now) result }
 {
     let mut buffer = Buffer::new();
     let pieces: [&[u8]; 5] = [
@@ -69,8 +67,7 @@ pub fn put_line_refused<K: Sink>(
     number: u64,
     refusal: LineRefusal,
 ) -> Result<(), Failed>
-    ensures bytes { Puts (K.written sink.old) (K.written sink.new) (refused_text number refusal) result }
-    ensures stays { SinkStays K.Sink sink.old sink.new result }
+    ensures { PutsText K.Sink sink.old sink.new (refused_text number refusal) result }
 {
     put_refused_so(sink, number, reason(refusal))
 }
@@ -82,9 +79,7 @@ fn put_counts<K: Sink>(
     events: &[u8],
     counts: &Counts,
 ) -> Result<(), Failed>
-    ensures bytes { Puts (K.written sink.old) (K.written sink.new)
-        (counts_text begin.now events.now counts.now) result }
-    ensures stays { SinkStays K.Sink sink.old sink.new result }
+    ensures { PutsText K.Sink sink.old sink.new (counts_text begin.now events.now counts.now) result }
 {
     let mut count = Buffer::new();
     let mut differences = Buffer::new();
@@ -103,22 +98,9 @@ fn put_counts<K: Sink>(
 
 // Writes the last line of a whole log.
 pub(crate) fn put_end<K: Sink>(sink: &mut K, counts: &Counts) -> Result<(), Failed>
-    ensures bytes { Puts (K.written sink.old) (K.written sink.new) (end_text counts.now) result }
-    ensures stays { SinkStays K.Sink sink.old sink.new result }
+    ensures { PutsText K.Sink sink.old sink.new (end_text counts.now) result }
 {
     put_counts(sink, b"end: ", b" events, ", counts)
-}
-
-fn sequence_name(which: Sequence) -> &'static [u8]
-    ensures { result.now ≡ sequence_name which }
-{
-    match which {
-        Sequence::HwReset => b"hw-reset",
-        Sequence::BitBash => b"bit-bash",
-        Sequence::Access => b"access",
-        Sequence::Shared => b"shared",
-        Sequence::MemWalk => b"mem-walk",
-    }
 }
 
 // The block that a sequence goes over, or `*` for the whole chip.
@@ -137,12 +119,10 @@ fn put_sequence<K: Sink>(
     which: Sequence,
     block: &Option<PathRef<'_>>,
 ) -> Result<(), Failed>
-    ensures bytes { Puts (K.written sink.old) (K.written sink.new) (sequence_text which block.now) result }
-    ensures stays { SinkStays K.Sink sink.old sink.new result }
+    ensures { PutsText K.Sink sink.old sink.new (sequence_text which block.now) result }
 {
-    put_all(sink, b"seq ")?;
-    put_all(sink, sequence_name(which))?;
-    put_all(sink, b" ")?;
+    let pieces: [&[u8]; 3] = [b"seq ", which.name(), b" "];
+    put_pieces(sink, &pieces)?;
     put_all(sink, over(block))
 }
 
@@ -152,8 +132,7 @@ pub(crate) fn put_sequence_begin<K: Sink>(
     which: Sequence,
     block: &Option<PathRef<'_>>,
 ) -> Result<(), Failed>
-    ensures bytes { Puts (K.written sink.old) (K.written sink.new) (begin_text which block.now) result }
-    ensures stays { SinkStays K.Sink sink.old sink.new result }
+    ensures { PutsText K.Sink sink.old sink.new (begin_text which block.now) result }
 {
     put_sequence(sink, which, block)?;
     put_all(sink, b": begin\n")
@@ -166,9 +145,8 @@ pub(crate) fn put_sequence_end<K: Sink>(
     block: &Option<PathRef<'_>>,
     counts: &Counts,
 ) -> Result<(), Failed>
-    ensures bytes { Puts (K.written sink.old) (K.written sink.new)
+    ensures { PutsText K.Sink sink.old sink.new
         (closing_text which block.now counts.now.events counts.now.differences counts.now.errors) result }
-    ensures stays { SinkStays K.Sink sink.old sink.new result }
 {
     put_sequence(sink, which, block)?;
     put_counts(sink, b": ", b" steps, ", counts)

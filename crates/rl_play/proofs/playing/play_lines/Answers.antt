@@ -2,7 +2,7 @@ use Rattle.std.proofs.Common.{arith, refl, ap, ◌∙◌}
 use Rattle.std.proofs.KnownBytes.{Appends-nil}
 use Rattle.rl_play.specs.declared.playing.Turn.TheVariants.{Stop}
 use Rattle.rl_play.proofs.FaultLemmas.{still_going}
-use Rattle.rl_play.proofs.LeavesLemmas.{goes_on_behind, leaves_going, leaves_none, leaves_on, reads_behind}
+use Rattle.rl_play.proofs.LeavesLemmas.{leaves_behind, leaves_going, leaves_none, leaves_on}
 use Rattle.rl_play.proofs.PlayLemmas.{passes_first, passes_both, ends_both}
 use Rattle.rl_play.proofs.playing.play_lines.Goals as goal
 
@@ -29,13 +29,13 @@ loop-number-preserved g c =
     record {
       ready = e.ready.ready;
       parts = record { chip = e.ready.parts.chip ∙ i.parts.chip; layout = e.ready.parts.layout ∙ i.parts.layout };
-      found = e.reads.found;
-      going = e.reads.going c.in-Next.is;
-      ended = λ ended. e.reads.ended (i.ended ended);
+      found = e.leaves.reads.found;
+      going = e.leaves.reads.going c.in-Next.is;
+      ended = λ ended. e.leaves.reads.ended (i.ended ended);
       in_range = omega (arith, last);
-      leaves = leaves_on g.L.Sink _ _ _ _ _ _ _ _ i.leaves (leaves_going g.L.Sink _ _ _ _ _ e.leaves);
+      leaves = leaves_on g.L.Sink _ _ _ _ _ _ _ _ i.leaves (leaves_going g.L.Sink _ _ _ _ _ e.leaves.leaves);
       going_on = passes_both _ _ _ _ _ _ i.going_on (e.plays.next c.in-Next.is);
-      breaking = λ ended left last h. i.breaking (still_going _ _ e.reads.ended ended) left last
+      breaking = λ ended left last h. i.breaking (still_going _ _ e.leaves.reads.ended ended) left last
           (e.plays.later_fault c.in-Next.is ended left last h);
       doing = λ total last standings state h. i.doing total last standings state
           (e.plays.done_next c.in-Next.is total last standings state h);
@@ -46,24 +46,16 @@ pub returns-in-Stop-clause-plays : goal.returns-in-Stop-clause-plays
 returns-in-Stop-clause-plays g c =
     let i = c.loop-number.invariant in
     let e = c.play_line.ensures in
-    let counted = rw c.in-Stop.is at e.plays.counted in
     record {
       on_any_device = i.playing _ _ (e.plays.plays_stop _ c.in-Stop.is);
       log = ends_both _ _ _ _ _ _ _ _ _ _ i.going_on (e.plays.stop _ c.in-Stop.is);
       at_fault = λ is. let stop = c.in-Stop.is ∙ ap Stop is in
-          i.breaking (e.goes_on stop).unended _ _ (e.plays.at_fault stop);
+          i.breaking (e.leaves.goes_on stop).unended _ _ (e.plays.at_fault stop);
       done = i.doing _ _ _ _ (e.plays.done_stop _ c.in-Stop.is);
-      counted = counted;
+      counted = rw c.in-Stop.is at e.plays.counted;
     }
-
-pub returns-in-Stop-clause-reads : goal.returns-in-Stop-clause-reads
-returns-in-Stop-clause-reads g c =
-    reads_behind _ _ _ _ c.loop-number.invariant.ended (rw c.in-Stop.is at c.play_line.ensures.reads)
-
-pub returns-in-Stop-clause-goes_on : goal.returns-in-Stop-clause-goes_on
-returns-in-Stop-clause-goes_on g c = λ is.
-    goes_on_behind _ _ _ _ c.loop-number.invariant.ended (c.play_line.ensures.goes_on (c.in-Stop.is ∙ ap Stop is))
 
 pub returns-in-Stop-clause-leaves : goal.returns-in-Stop-clause-leaves
 returns-in-Stop-clause-leaves g c =
-    leaves_on g.L.Sink _ _ _ _ _ _ _ _ c.loop-number.invariant.leaves (rw c.in-Stop.is at c.play_line.ensures.leaves)
+    let i = c.loop-number.invariant in
+    leaves_behind g.L.Sink _ _ _ _ _ _ _ _ _ _ _ _ _ i.ended i.leaves c.in-Stop.is c.play_line.ensures.leaves

@@ -1,9 +1,9 @@
-use Rattle.rl_play.proofs.BufferLemmas.{keeps_trans, told_same}
+use Rattle.std.proofs.KnownBytes.{Keeps-trans, append_known-kept}
 use Rattle.rl_play.proofs.EndingLemmas.{keeps_when_empty, none_kept, on_ok}
 use Rattle.rl_play.proofs.buffered.Buffered.close.Goals as goal
 
 pub returns-clause-told : goal.returns-clause-told
-returns-clause-told g c = keeps_trans _ _ _ c.in_ok-flush.ensures.told (told_same _ _ _ c.finish.ensures.kept)
+returns-clause-told g c = Keeps-trans _ _ _ c.in_ok-flush.ensures.told (append_known-kept _ _ _ c.finish.ensures.kept)
 
 pub returns-clause-whole : goal.returns-clause-whole
 returns-clause-whole g c =

@@ -1,7 +1,8 @@
 use Rattle.std.proofs.Common.{sym, subst, slice_range, arith}
 use Rattle.std.specs.Io.KnownBytes.{Keeps, append_known}
 use Rattle.rl_report.proofs.RangeLemmas.{range_less}
-use Rattle.rl_play.proofs.BufferLemmas.{told_after, earlier_grown}
+use Rattle.rl_log.proofs.KnownLemmas.{earlier_grown}
+use Rattle.rl_play.proofs.BufferLemmas.{told_after}
 use Rattle.rl_play.proofs.buffered.Buffered.write_some.Goals as goal
 
 pub returns-clause-told : goal.returns-clause-told
