@@ -9,8 +9,9 @@ use Rattle.std.proofs.lemmas.List.{drop_more, drop_all, map-id, reverse-append}
 use Rattle.std.proofs.lemmas.List.FromFn.{map-range_with_len_more}
 use Rattle.std.proofs.Math.Nat.{mod-add-mod}
 use Rattle.std.proofs.lemmas.Option.{get_or_from_slice_get, slice_get_within}
-use Rattle.rl_report.specs.Pieces.{AppendsFront, Puts, joined}
-use Rattle.rl_report.proofs.PieceLemmas.{front_after, front_before, puts_stopped}
+use Rattle.rl_report.specs.declared.sink.Sink.{Ghosts as Sink}
+use Rattle.rl_report.specs.Pieces.{AppendsFront, Puts, PutsText, joined}
+use Rattle.rl_report.proofs.PieceLemmas.{SinkKeeps, front_after, front_before, keeps_all, keeps_more, keeps_stopped, puts_stopped}
 use Rattle.rl_session.specs.Soak.{rows_text, script_text, line_after, line_text, step_of, drawn, next_state, mirror_sum}
 
 -- ---- into a sink
@@ -23,22 +24,46 @@ pub record IsLeft (first now : Option (List ℕ)) (all rest : List ℕ) : Type 0
 pub all_left : (now : Option (List ℕ)) (all : List ℕ) → IsLeft now now all all
 all_left now all = record { whole = λ new h. h; part = λ new h. h }
 
-pub less_left : (first now next : Option (List ℕ)) (all rest x others : List ℕ) → IsLeft first now all rest → rest ≡ x
+less_left : (first now next : Option (List ℕ)) (all rest x others : List ℕ) → IsLeft first now all rest → rest ≡ x
     ++ others → Appends now next x → IsLeft first next all others
 less_left first now next all rest x others left split put = record {
   whole = λ new h. left.whole new (subst (Appends now new) (sym split) (Appends-trans now next new x others put h));
   part = λ new h. left.part new (subst (AppendsFront now new) (sym split) (front_after now next new x others put h));
 }
 
-pub left_stopped : {T E : Type 0} (first now next : Option (List ℕ)) (all rest x others : List ℕ) (r : Result T E)
+left_stopped : {T E : Type 0} (first now next : Option (List ℕ)) (all rest x others : List ℕ) (r : Result T E)
     → IsLeft first now all rest → rest ≡ x ++ others → IsErr r → AppendsFront now next x → Puts first next all r
 left_stopped first now next all rest x others r left split e put =
     puts_stopped first next all r e
     (left.part next (subst (AppendsFront now next) (sym split) (front_before now next x others put)))
 
-pub none_left : (first now : Option (List ℕ)) (all rest : List ℕ) → IsLeft first now all rest → rest ≡ []
+none_left : (first now : Option (List ℕ)) (all rest : List ℕ) → IsLeft first now all rest → rest ≡ []
     → Appends first now all
 none_left first now all rest left none = left.whole now (subst (Appends now now) (sym none) (Appends-nil now))
+
+-- What was put of a text, and what is left of it. No call has failed.
+pub record IsPutUpTo {K : Type 0} (sink : Sink K) (first now : K) (all rest : List ℕ) : Type 0 where
+  pub left : IsLeft (sink.written first) (sink.written now) all rest
+  pub kept : SinkKeeps sink first now
+
+pub put_more : {K U F : Type 0} (sink : Sink K) (first now next : K) (all rest x others : List ℕ) (v : U) → IsPutUpTo sink first now all rest
+    → rest ≡ x ++ others → PutsText {T = U} {E = F} sink now next x (Ok v) → IsPutUpTo sink first next all others
+put_more sink first now next all rest x others v so split put = record {
+  left = less_left _ _ _ all rest x others so.left split put.bytes.whole;
+  kept = keeps_more sink first now next v so.kept put.stays;
+}
+
+pub put_stopped : {K U F T E : Type 0} (sink : Sink K) (first now next : K) (all rest x others : List ℕ) (e : F) (r : Result T E) → IsErr r
+    → IsPutUpTo sink first now all rest → rest ≡ x ++ others → PutsText {T = U} {E = F} sink now next x (Err e) → PutsText sink first next all r
+put_stopped sink first now next all rest x others e r is so split put = record {
+  bytes = left_stopped _ _ _ all rest x others r so.left split is put.bytes.part;
+  stays = keeps_stopped sink first now next e r is so.kept put.stays;
+}
+
+pub put_done : {K T E : Type 0} (sink : Sink K) (first now : K) (all rest : List ℕ) (v : T) → IsPutUpTo sink first now all rest → rest ≡ []
+    → PutsText {T = T} {E = E} sink first now all (Ok v)
+put_done sink first now all rest v so none =
+    record { bytes = record { whole = none_left _ _ all rest so.left none; part = tt }; stays = keeps_all sink first now v so.kept }
 
 -- ---- into a vector
 

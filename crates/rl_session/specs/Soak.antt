@@ -7,6 +7,8 @@ use Rattle.rl_policy.specs.declared.policy.Policy.{Policy}
 use Rattle.rl_policy.specs.declared.policy.Policy.TheVariants.{Ro, Rw, Rc, Rs, Wrc, Wrs, Wc, Ws, Wsrc, Wcrs, W1c, W1s, W1t, W0c, W0s, W0t, W1src, W1crs, W0src, W0crs, Wo, Woc, Wos, W1, Wo1}
 use Rattle.rl_report.specs.Pieces.{joined}
 use Rattle.rl_log.specs.declared.counts.Counts.{Counts}
+use Rattle.rl_session.specs.declared.soak.Rows.{Rows}
+use Rattle.rl_session.specs.declared.soak.Rows.TheVariants as rows
 use Rattle.rl_session.specs.declared.soak.Step.{Step}
 use Rattle.rl_session.specs.declared.soak.Step.TheVariants.{Write, Read, Check, Set, Update, Peek, FieldWrite}
 
@@ -52,6 +54,11 @@ abbrev pub place_text : ℕ → List ℕ
 place_text k =
     joined (codes "[[place]]\nmap = '" ∷ map_of k ∷ codes "'\nitem = 'r" ∷ decimal k
     ∷ codes "'\noffset = " ∷ decimal (4 * k) ∷ codes "\n" ∷ [])
+
+-- the row of a register, or of its place
+abbrev pub row_text : Rows → ℕ → List ℕ
+row_text rows.Regs k = reg_text k
+row_text rows.Places k = place_text k
 
 -- ---- the script
 

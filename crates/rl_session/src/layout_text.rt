@@ -1,11 +1,10 @@
 // The text of a layout.
 ghost use Rattle.std.specs.Prelude.{◌≡◌, ◌+◌, ◌<◌, ◌≤◌, ◌++◌, drop, length};
-ghost use Rattle.rl_bus.specs.Causes.{HasCause};
 ghost use Rattle.rl_policy.specs.Bits.{bit};
 ghost use Rattle.rl_map.specs.Layout.{IsSound};
 ghost use Rattle.rl_map.specs.LayoutText.{rights_text, lane_text, lanes_text, layout_text};
 ghost use Rattle.rl_map.specs.Maps.{IsBuiltWith};
-ghost use Rattle.rl_report.specs.Pieces.{Puts};
+ghost use Rattle.rl_report.specs.Pieces.{PutsText};
 ghost use Rattle.rl_session.specs.LayoutPieces.{heading_text, word_line, words_text, places_text};
 
 use crate::digits::front;
@@ -57,10 +56,7 @@ fn spell_lanes(text: &mut [u8; 32], word: &Word, bytes: u32) -> usize
 // Writes a word of a port whose root map has this name.
 fn put_word<K: Sink>(sink: &mut K, root: &[u8], bytes: u32, word: &Word) -> Result<(), Failed>
     requires { bytes ≤ 8 }
-    ensures bytes { Puts (K.written sink.old) (K.written sink.new) (word_line root.now bytes word.now) result }
-    ensures cause { HasCause (K.faults sink.old) (K.faults sink.new) result }
-    ensures ends_kept { K.ends sink.new ≡ K.ends sink.old }
-    ensures same_target { K.target sink.new ≡ K.target sink.old }
+    ensures { PutsText K.Sink sink.old sink.new (word_line root.now bytes word.now) result }
 {
     let mut digits = [0u8; 16];
     let len = spell(&mut digits, word.address);
@@ -76,10 +72,7 @@ fn put_word<K: Sink>(sink: &mut K, root: &[u8], bytes: u32, word: &Word) -> Resu
 fn put_words<K: Sink>(sink: &mut K, layout: &Layout, place: u32) -> Result<(), Failed>
     requires place { place < length layout.now.places }
     requires sound { IsSound layout.now }
-    ensures bytes { Puts (K.written sink.old) (K.written sink.new) (words_text layout.now place) result }
-    ensures cause { HasCause (K.faults sink.old) (K.faults sink.new) result }
-    ensures ends_kept { K.ends sink.new ≡ K.ends sink.old }
-    ensures same_target { K.target sink.new ≡ K.target sink.old }
+    ensures { PutsText K.Sink sink.old sink.new (words_text layout.now place) result }
 {
     let port = layout.port_of(place);
     let root = layout.map_name(layout.port_map(port));
@@ -113,10 +106,7 @@ fn put_heading<K: Sink>(
 ) -> Result<(), Failed>
     requires place { place < length layout.now.places }
     requires built_with { IsBuiltWith layout.now chip.now }
-    ensures bytes { Puts (K.written sink.old) (K.written sink.new) (heading_text chip.now layout.now place) result }
-    ensures cause { HasCause (K.faults sink.old) (K.faults sink.new) result }
-    ensures ends_kept { K.ends sink.new ≡ K.ends sink.old }
-    ensures same_target { K.target sink.new ≡ K.target sink.old }
+    ensures { PutsText K.Sink sink.old sink.new (heading_text chip.now layout.now place) result }
 {
     put_all(sink, b"place ")?;
     put_all(sink, chip.path(layout.item(place)))?;
@@ -131,31 +121,19 @@ fn put_place<K: Sink>(sink: &mut K, chip: &Chip, layout: &Layout, place: u32) ->
     requires place { place < length layout.now.places }
     requires sound { IsSound layout.now }
     requires built_with { IsBuiltWith layout.now chip.now }
-    ensures bytes { Puts (K.written sink.old) (K.written sink.new)
+    ensures { PutsText K.Sink sink.old sink.new
         (heading_text chip.now layout.now place ++ words_text layout.now place) result }
-    ensures cause { HasCause (K.faults sink.old) (K.faults sink.new) result }
-    ensures ends_kept { K.ends sink.new ≡ K.ends sink.old }
-    ensures same_target { K.target sink.new ≡ K.target sink.old }
 {
     put_heading(sink, chip, layout, place)?;
     put_words(sink, layout, place)
 }
 
-fn put_places<K: Sink>(
-    sink: &mut K,
-    chip: &Chip,
-    layout: &Layout,
-    places: u32,
-) -> Result<(), Failed>
-    requires count { places ≡ length layout.now.places }
+fn put_places<K: Sink>(sink: &mut K, chip: &Chip, layout: &Layout) -> Result<(), Failed>
     requires sound { IsSound layout.now }
     requires built_with { IsBuiltWith layout.now chip.now }
-    ensures bytes { Puts (K.written sink.old) (K.written sink.new) (places_text chip.now layout.now) result }
-    ensures cause { HasCause (K.faults sink.old) (K.faults sink.new) result }
-    ensures ends_kept { K.ends sink.new ≡ K.ends sink.old }
-    ensures same_target { K.target sink.new ≡ K.target sink.old }
+    ensures { PutsText K.Sink sink.old sink.new (places_text chip.now layout.now) result }
 {
-    for place in 0..places {
+    for place in 0..layout.places() {
         put_place(sink, chip, layout, place)?;
     }
     Ok(())
@@ -164,13 +142,10 @@ fn put_places<K: Sink>(
 /// Writes where the items of a layout stand: the places in order, each with the words of its first location.
 pub fn put_layout<K: Sink>(sink: &mut K, chip: &Chip, layout: &Layout) -> Result<(), Failed>
     requires { IsBuiltWith layout.now chip.now }
-    ensures bytes { Puts (K.written sink.old) (K.written sink.new) (layout_text chip.now layout.now) result }
-    ensures cause { HasCause (K.faults sink.old) (K.faults sink.new) result }
-    ensures ends_kept { K.ends sink.new ≡ K.ends sink.old }
-    ensures same_target { K.target sink.new ≡ K.target sink.old }
+    ensures { PutsText K.Sink sink.old sink.new (layout_text chip.now layout.now) result }
 {
     let places = layout.places();
-    put_places(sink, chip, layout, places)?;
+    put_places(sink, chip, layout)?;
     let mut count = Buffer::new();
     let pieces: [&[u8]; 3] = [b"end: ", count.format(places).as_bytes(), b" places\n"];
     put_pieces(sink, &pieces)

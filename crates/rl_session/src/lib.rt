@@ -4,10 +4,13 @@
 mod digits;
 mod layout_text;
 mod opening;
+mod pieces;
 mod refusals;
 mod soak;
 
+pub use digits::front;
 pub use layout_text::put_layout;
 pub use opening::{described, open};
+pub use pieces::push_pieces;
 pub use refusals::put_description_refused;
 pub use soak::{mirror_sum, put_soak_line, soak_session};

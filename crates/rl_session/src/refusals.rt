@@ -1,7 +1,6 @@
 // The last line of a session whose description is refused.
 ghost use Rattle.std.specs.Prelude.{◌≡◌, ◌≢◌, [], ◌∷◌, map, Some};
-ghost use Rattle.rl_bus.specs.Causes.{HasCause};
-ghost use Rattle.rl_report.specs.Pieces.{Puts};
+ghost use Rattle.rl_report.specs.Pieces.{PutsText};
 ghost use Rattle.rl_session.specs.Refusals.{array_name, field_text, where_text, bad_reason, model_reason, map_reason};
 ghost use Rattle.rl_session.specs.Refusals.{refusal_text, flaw_at, description_refused_text};
 
@@ -28,10 +27,7 @@ fn array_name(array: Array) -> &'static [u8]
 }
 
 fn put_field<K: Sink>(sink: &mut K, field: Option<u32>) -> Result<(), Failed>
-    ensures bytes { Puts (K.written sink.old) (K.written sink.new) (field_text field) result }
-    ensures cause { HasCause (K.faults sink.old) (K.faults sink.new) result }
-    ensures ends_kept { K.ends sink.new ≡ K.ends sink.old }
-    ensures same_target { K.target sink.new ≡ K.target sink.old }
+    ensures { PutsText K.Sink sink.old sink.new (field_text field) result }
 {
     let Some(field) = field else {
         return put_all(sink, b"");
@@ -42,24 +38,21 @@ fn put_field<K: Sink>(sink: &mut K, field: Option<u32>) -> Result<(), Failed>
 }
 
 fn put_spot<K: Sink>(sink: &mut K, spot: Spot) -> Result<(), Failed>
-    ensures bytes { Puts (K.written sink.old) (K.written sink.new) (where_text (Some spot)) result }
-    ensures cause { HasCause (K.faults sink.old) (K.faults sink.new) result }
-    ensures ends_kept { K.ends sink.new ≡ K.ends sink.old }
-    ensures same_target { K.target sink.new ≡ K.target sink.old }
+    ensures { PutsText K.Sink sink.old sink.new (where_text (Some spot)) result }
 {
     let mut row = Buffer::new();
-    put_all(sink, b" ")?;
-    put_all(sink, array_name(spot.array))?;
-    put_all(sink, b" ")?;
-    put_all(sink, row.format(u64::from(spot.row) + 1).as_bytes())?;
+    let pieces: [&[u8]; 4] = [
+        b" ",
+        array_name(spot.array),
+        b" ",
+        row.format(u64::from(spot.row) + 1).as_bytes(),
+    ];
+    put_pieces(sink, &pieces)?;
     put_field(sink, spot.field)
 }
 
 fn put_where<K: Sink>(sink: &mut K, spot: Option<Spot>) -> Result<(), Failed>
-    ensures bytes { Puts (K.written sink.old) (K.written sink.new) (where_text spot) result }
-    ensures cause { HasCause (K.faults sink.old) (K.faults sink.new) result }
-    ensures ends_kept { K.ends sink.new ≡ K.ends sink.old }
-    ensures same_target { K.target sink.new ≡ K.target sink.old }
+    ensures { PutsText K.Sink sink.old sink.new (where_text spot) result }
 {
     match spot {
         Some(spot) => put_spot(sink, spot),
@@ -68,11 +61,7 @@ fn put_where<K: Sink>(sink: &mut K, spot: Option<Spot>) -> Result<(), Failed>
 }
 
 fn put_refusal<K: Sink>(sink: &mut K, spot: Option<Spot>, reason: &[&[u8]]) -> Result<(), Failed>
-    ensures bytes { Puts (K.written sink.old) (K.written sink.new)
-        (refusal_text spot (map (λ piece. piece.now) reason.now)) result }
-    ensures cause { HasCause (K.faults sink.old) (K.faults sink.new) result }
-    ensures ends_kept { K.ends sink.new ≡ K.ends sink.old }
-    ensures same_target { K.target sink.new ≡ K.target sink.old }
+    ensures { PutsText K.Sink sink.old sink.new (refusal_text spot (map (λ piece. piece.now) reason.now)) result }
 {
     put_all(sink, b"refused description")?;
     put_where(sink, spot)?;
@@ -82,20 +71,14 @@ fn put_refusal<K: Sink>(sink: &mut K, spot: Option<Spot>, reason: &[&[u8]]) -> R
 }
 
 fn put_plain<K: Sink>(sink: &mut K, spot: Option<Spot>, reason: &[u8]) -> Result<(), Failed>
-    ensures bytes { Puts (K.written sink.old) (K.written sink.new) (refusal_text spot (reason.now ∷ [])) result }
-    ensures cause { HasCause (K.faults sink.old) (K.faults sink.new) result }
-    ensures ends_kept { K.ends sink.new ≡ K.ends sink.old }
-    ensures same_target { K.target sink.new ≡ K.target sink.old }
+    ensures { PutsText K.Sink sink.old sink.new (refusal_text spot (reason.now ∷ [])) result }
 {
     let pieces: [&[u8]; 1] = [reason];
     put_refusal(sink, spot, &pieces)
 }
 
 fn put_bad<K: Sink>(sink: &mut K, cause: DescCause, spot: Option<Spot>) -> Result<(), Failed>
-    ensures bytes { Puts (K.written sink.old) (K.written sink.new) (refusal_text spot (bad_reason cause)) result }
-    ensures cause { HasCause (K.faults sink.old) (K.faults sink.new) result }
-    ensures ends_kept { K.ends sink.new ≡ K.ends sink.old }
-    ensures same_target { K.target sink.new ≡ K.target sink.old }
+    ensures { PutsText K.Sink sink.old sink.new (refusal_text spot (bad_reason cause)) result }
 {
     match cause {
         DescCause::Text => put_plain(sink, spot, b"not toml"),
@@ -133,11 +116,8 @@ fn model_reason(cause: ModelCause) -> &'static [u8]
 }
 
 fn put_shared<K: Sink>(sink: &mut K, spot: Spot, address: u64, other: u32) -> Result<(), Failed>
-    ensures bytes { Puts (K.written sink.old) (K.written sink.new)
+    ensures { PutsText K.Sink sink.old sink.new
         (refusal_text (Some spot) (map_reason (MapCause.SharedAddress address other))) result }
-    ensures cause { HasCause (K.faults sink.old) (K.faults sink.new) result }
-    ensures ends_kept { K.ends sink.new ≡ K.ends sink.old }
-    ensures same_target { K.target sink.new ≡ K.target sink.old }
 {
     let mut digits = [0u8; 16];
     let len = spell(&mut digits, address);
@@ -152,11 +132,7 @@ fn put_shared<K: Sink>(sink: &mut K, spot: Spot, address: u64, other: u32) -> Re
 }
 
 fn put_map_refused<K: Sink>(sink: &mut K, cause: MapCause, spot: Spot) -> Result<(), Failed>
-    ensures bytes { Puts (K.written sink.old) (K.written sink.new)
-        (refusal_text (Some spot) (map_reason cause)) result }
-    ensures cause { HasCause (K.faults sink.old) (K.faults sink.new) result }
-    ensures ends_kept { K.ends sink.new ≡ K.ends sink.old }
-    ensures same_target { K.target sink.new ≡ K.target sink.old }
+    ensures { PutsText K.Sink sink.old sink.new (refusal_text (Some spot) (map_reason cause)) result }
 {
     match cause {
         MapCause::TooMany => put_plain(sink, Some(spot), b"too many"),
@@ -188,10 +164,7 @@ fn flaw_at(row: u32) -> Option<Spot>
 /// Writes that the description is refused. Want of memory has no line.
 pub fn put_description_refused<K: Sink>(sink: &mut K, fault: &DescFault) -> Result<(), Failed>
     requires { fault.now ≢ DescFault.Memory }
-    ensures bytes { Puts (K.written sink.old) (K.written sink.new) (description_refused_text fault.now) result }
-    ensures cause { HasCause (K.faults sink.old) (K.faults sink.new) result }
-    ensures ends_kept { K.ends sink.new ≡ K.ends sink.old }
-    ensures same_target { K.target sink.new ≡ K.target sink.old }
+    ensures { PutsText K.Sink sink.old sink.new (description_refused_text fault.now) result }
 {
     match *fault {
         DescFault::Bad { cause, spot } => put_bad(sink, cause, spot),

@@ -1,13 +1,13 @@
 // A session that is made from a number, and the line that is written of it.
 ghost use Rattle.std.specs.Prelude.{◌≡◌, ◌<◌, ◌≤◌, ◌++◌, [], ◌∷◌, map, length, OnOk, IfOk};
-ghost use Rattle.rl_bus.specs.Causes.{HasCause};
 ghost use Rattle.rl_policy.specs.Numbers.{hex_digits};
-ghost use Rattle.rl_report.specs.Pieces.{Puts, joined};
-ghost use Rattle.rl_session.specs.Soak.{next_state, drawn, policy_of, map_of, reg_text, maps_text, place_text};
-ghost use Rattle.rl_session.specs.Soak.{rows_text, step_of, verb_text, value_pieces, line_text, script_text};
+ghost use Rattle.rl_report.specs.Pieces.{PutsText, joined};
+ghost use Rattle.rl_session.specs.Soak.{next_state, drawn, policy_of, map_of, reg_text, place_text};
+ghost use Rattle.rl_session.specs.Soak.{row_text, rows_text, step_of, verb_text, value_pieces, line_text, script_text};
 ghost use Rattle.rl_session.specs.Soak.{description_text, soak_text, mirror_sum, soak_line_text};
 
 use crate::digits::front;
+use crate::pieces::push_pieces;
 use itoa::Buffer;
 use rl_log::Counts;
 use rl_mirror::Mirror;
@@ -18,6 +18,13 @@ use std::alloc::{AllocError, Global};
 const REGISTERS: u32 = 64;
 
 const LINES: u32 = 20_000;
+
+// An array of the description with a row for each register.
+#[derive(Clone, Copy)]
+enum Rows {
+    Regs,
+    Places,
+}
 
 // What a line of the script does.
 #[derive(Clone, Copy, Debug, PartialEq, Eq)]
@@ -83,15 +90,6 @@ fn verb(step: Step) -> &'static [u8]
     }
 }
 
-fn push_pieces(text: &mut Vec<u8>, pieces: &[&[u8]]) -> Result<(), AllocError>
-    ensures { OnOk result (text.new.items ≡ text.old.items ++ joined (map (λ piece. piece.now) pieces.now)) }
-{
-    for piece in pieces {
-        text.extend_from_slice(piece)?;
-    }
-    Ok(())
-}
-
 fn push_reg(text: &mut Vec<u8>, k: u32) -> Result<(), AllocError>
     ensures { OnOk result (text.new.items ≡ text.old.items ++ reg_text k) }
 {
@@ -104,15 +102,6 @@ fn push_reg(text: &mut Vec<u8>, k: u32) -> Result<(), AllocError>
         b"', reset = 0}]\n",
     ];
     push_pieces(text, &pieces)
-}
-
-fn push_regs(text: &mut Vec<u8>) -> Result<(), AllocError>
-    ensures { OnOk result (text.new.items ≡ text.old.items ++ rows_text reg_text 0 64) }
-{
-    for k in 0..REGISTERS {
-        push_reg(text, k)?;
-    }
-    Ok(())
 }
 
 fn map_of(k: u32) -> &'static [u8]
@@ -139,11 +128,21 @@ fn push_place(text: &mut Vec<u8>, k: u32) -> Result<(), AllocError>
     push_pieces(text, &pieces)
 }
 
-fn push_places(text: &mut Vec<u8>) -> Result<(), AllocError>
-    ensures { OnOk result (text.new.items ≡ text.old.items ++ rows_text place_text 0 64) }
+fn push_row(text: &mut Vec<u8>, array: Rows, k: u32) -> Result<(), AllocError>
+    requires { k < 64 }
+    ensures { OnOk result (text.new.items ≡ text.old.items ++ row_text array k) }
+{
+    match array {
+        Rows::Regs => push_reg(text, k),
+        Rows::Places => push_place(text, k),
+    }
+}
+
+fn push_rows(text: &mut Vec<u8>, array: Rows) -> Result<(), AllocError>
+    ensures { OnOk result (text.new.items ≡ text.old.items ++ rows_text (row_text array) 0 64) }
 {
     for k in 0..REGISTERS {
-        push_place(text, k)?;
+        push_row(text, array, k)?;
     }
     Ok(())
 }
@@ -151,12 +150,12 @@ fn push_places(text: &mut Vec<u8>) -> Result<(), AllocError>
 fn push_description(text: &mut Vec<u8>) -> Result<(), AllocError>
     ensures { OnOk result (text.new.items ≡ text.old.items ++ description_text) }
 {
-    push_regs(text)?;
+    push_rows(text, Rows::Regs)?;
     text.extend_from_slice(
         b"[[map]]\nname = 'bus'\nbytes = 2\nendian = 'big'\nadapter = 'plain'\n\
         [[map]]\nname = 'per'\nbytes = 4\nendian = 'little'\nadapter = 'apb'\n",
     )?;
-    push_places(text)
+    push_rows(text, Rows::Places)
 }
 
 // Hexadecimal digits behind a text.
@@ -233,10 +232,7 @@ pub fn mirror_sum(mirror: &Mirror, registers: u32) -> u64
 
 /// Writes the one line of a soak run.
 pub fn put_soak_line<K: Sink>(sink: &mut K, n: u64, counts: &Counts, sum: u64) -> Result<(), Failed>
-    ensures bytes { Puts (K.written sink.old) (K.written sink.new) (soak_line_text n counts.now sum) result }
-    ensures cause { HasCause (K.faults sink.old) (K.faults sink.new) result }
-    ensures ends_kept { K.ends sink.new ≡ K.ends sink.old }
-    ensures same_target { K.target sink.new ≡ K.target sink.old }
+    ensures { PutsText K.Sink sink.old sink.new (soak_line_text n counts.now sum) result }
 {
     let mut number = Buffer::new();
     let mut events = Buffer::new();

@@ -2,16 +2,15 @@
 use Rattle.std.proofs.Common.{◌≡◌, ℕ, zero, suc, ◌+◌, ◌<◌, ◌≤◌, Bool, true, false, not, ◌==◌, ◌&&◌, ◌||◌, inl, inr, nat_lt, nat_le, List, [], ◌∷◌, length, get_or, slice_get, Option, Some}
 use Rattle.std.proofs.Common.{None, is_some, is_none, unwrap_or, refl, sym, ap, ◌∙◌, subst, arith, eqb-true}
 use Rattle.std.specs.Prelude.{fold, bytes_eq}
-use Rattle.std.proofs.lemmas.Bool.{cases_Bool}
 use Rattle.std.proofs.lemmas.Bool.Decides.{nat_tests}
 use Rattle.std.proofs.lemmas.List.Elements.{All-nil}
 use Rattle.std.proofs.lemmas.List.Quantifiers.{position-Some}
-use Rattle.std.proofs.lemmas.Option.{none-some, same_Some}
 use Rattle.rl_bus.specs.Lanes.{IsWidth}
 use Rattle.rl_bus.specs.declared.op.AdapterKind.{AdapterKind}
 use Rattle.rl_model.specs.declared.fault.Array.TheVariants as array
 use Rattle.rl_model.specs.declared.fault.Spot.{Spot}
-use Rattle.rl_model.proofs.SoundLemmas.{both_None}
+use Rattle.rl_model.proofs.SoundLemmas.{both_None, none_fails}
+use Rattle.rl_map.specs.declared.fault.MapFault.TheVariants.{Bad}
 use Rattle.rl_map.specs.declared.parts.MapNode.{MapNode}
 use Rattle.rl_map.specs.declared.rows.MapRow.{MapRow}
 use Rattle.rl_map.specs.declared.rows.PortRow.{PortRow}
@@ -28,17 +27,7 @@ use Rattle.rl_sound.specs.Sound.{AreKinds}
 -- ---- conditions that did not fail
 
 pub passed : (spot : Spot) (cs : List Check) → first_of spot cs ≡ None → (k : ℕ) (c : Check) → slice_get cs k ≡ Some c → c.0 ≡ false
-passed spot [] h k c at = absurd (none-some c at)
-passed spot (d ∷ ds) h zero c at =
-    elim (cases_Bool d.0) [
-      | inl fails ↦ let bad = rw fails at h in absurd (let no : ⊥ = cc in no)
-      | inr holds ↦ rw (← same_Some _ _ at) holds
-    ]
-passed spot (d ∷ ds) h (suc k) c at =
-    elim (cases_Bool d.0) [
-      | inl fails ↦ let bad = rw fails at h in absurd (let no : ⊥ = cc in no)
-      | inr holds ↦ passed spot ds (rw holds at h) k c at
-    ]
+passed spot = none_fails (λ cause. Bad cause spot)
 
 pub not_false : (b : Bool) → not b ≡ false → b ≡ true
 not_false true h = refl

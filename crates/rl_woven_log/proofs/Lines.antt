@@ -21,8 +21,7 @@ use Rattle.rl_log.specs.Texts.{end_text}
 use Rattle.rl_play.specs.declared.playing.Turn.TheVariants.{Next, Stop}
 use Rattle.rl_play.specs.Heard.{heard}
 use Rattle.rl_play.specs.Played.{EndsAs, PassesTo}
-use Rattle.rl_play.proofs.BufferLemmas.{keeps_then_appends}
-use Rattle.rl_play.proofs.EndingLemmas.{front_none, front_later}
+use Rattle.rl_log.proofs.KnownLemmas.{front_later, front_none, keeps_then_appends}
 use Rattle.rl_play.proofs.PlayLemmas.{heard_said, hands_some, lines_more}
 use Rattle.rl_report.specs.declared.lines.Got.{Got}
 use Rattle.rl_report.specs.declared.lines.Got.TheVariants as got

@@ -13,8 +13,6 @@ use Rattle.rl_bus.specs.declared.op.Answer.{Answer}
 use Rattle.rl_bus.specs.declared.op.BusOp.{BusOp}
 use Rattle.rl_bus.specs.Standing.{Standing, standing_at}
 use Rattle.rl_bus.specs.State.{State, answer_of}
-use Rattle.rl_access.specs.declared.event.Event.{Event}
-use Rattle.rl_access.specs.declared.trace.TraceItem.{TraceItem}
 use Rattle.rl_access.specs.Call.{scene}
 use Rattle.rl_access.specs.Items.{item_of, port_for, adapter_for}
 use Rattle.rl_access.specs.Model.{ModelData}
@@ -23,9 +21,7 @@ use Rattle.rl_access.specs.World.{World, world}
 use Rattle.rl_log.specs.declared.counts.Counts.{Counts}
 use Rattle.rl_play.proofs.EndingLemmas.{on_ok}
 use Rattle.rl_report.specs.Pieces.{Puts, AppendsFront}
-use Rattle.rl_report.specs.Event.{event_line}
-use Rattle.rl_report.specs.Item.{item_line}
-use Rattle.rl_report.proofs.PieceLemmas.{front_after, front_before, puts_after}
+use Rattle.rl_report.proofs.PieceLemmas.{front_after, front_before}
 use Rattle.rl_session.specs.Soak.{next_state, drawn}
 use Rattle.rl_weave.specs.declared.weave.Step.{Step}
 use Rattle.rl_weave.specs.declared.woven.Woven.{Woven}
@@ -322,15 +318,6 @@ words_most T E None w m a x counts most left old s u is h = tt
 words_most T E (Some d) w m a x counts most left old s u is h =
     let g = weaving w (world m a d) x counts in
     sent_most T E most g old s u (subst (λ k. Sent most g k old s) is h)
-
--- ---- the text of a step
-
-pub ended_text : {T E : Type 0} (a b c : Option (List ℕ)) (m : ModelData) (item : TraceItem) (end : Option Event) (e : Event)
-    (r : Result T E) → end ≡ Some e → Appends a b (item_line m.layout item) → Puts b c (event_line m e) r
-    → Puts a c (step_text m item end) r
-ended_text a b c m item end e r is p q =
-    subst (λ end. Puts a c (step_text m item end) r) (sym is)
-    (puts_after a b c (item_line m.layout item) (event_line m e) r p q)
 
 pub joined_on : (m : ModelData) (w v : WeaveData) (a : Access) → v ≡ adding w m a → IsWeaveOn m w → IsWovenOn m (woven_of m a)
     → IsWeaveOn m v

@@ -1,9 +1,9 @@
 -- The words that the contracts of this crate use, passed on from one place. Declares nothing.
 pub use Rattle.rl_access.specs.Event.{EventFits, ItemFits}
-pub use Rattle.rl_play.specs.Prelude.{IsReady, IsSameChip, IsCounted, Tells, said_by, heard, stop_of, NotByCounts, StaysReady, Leaves, ReadsOn, CanGoOn, moment_of}
+pub use Rattle.rl_play.specs.Prelude.{IsReady, IsSameChip, IsCounted, Tells, said_by, heard, stop_of, NotByCounts, StaysReady, Leaves, LeavesLines, moment_of}
 pub use Rattle.rl_play.specs.Prelude.{SinkStays, input_of, read_of, line_said}
 pub use Rattle.rl_report.specs.Item.{item_line}
-pub use Rattle.rl_report.specs.Pieces.{Puts}
+pub use Rattle.rl_report.specs.Pieces.{PutsText}
 pub use Rattle.rl_weave.specs.Weave.{IsWeave, IsWeaveOn, words_left}
 pub use Rattle.rl_woven_log.specs.Adding.{access_in, access_said, adding_line, is_named}
 pub use Rattle.rl_woven_log.specs.Refusals.{further_reason, refused_woven_text}

@@ -1,7 +1,7 @@
 //! The words of a group.
 ghost use Rattle.std.specs.Prelude.{◌≡◌, ◌<◌, true, map as each, length, IfSome, OnOk};
 ghost use Rattle.rl_woven_log.specs.Prelude.{EventFits, IsGathering, IsReady, IsWeave, IsWeaveOn, StaysReady};
-ghost use Rattle.rl_woven_log.specs.Prelude.{ItemFits, Puts, SinkStays, Writes, counted_at_end, group, setting_of};
+ghost use Rattle.rl_woven_log.specs.Prelude.{ItemFits, PutsText, SinkStays, Writes, counted_at_end, group, setting_of};
 ghost use Rattle.rl_woven_log.specs.Prelude.{step_text, word_drawn, words, words_left};
 
 use crate::script::WovenScript;
@@ -19,9 +19,7 @@ const MOST_WORDS: u32 = 512;
 fn put_step<L: Log>(model: &Model, step: &Step, out: &mut L) -> Result<(), Failed>
     requires item { ItemFits model.now.layout step.now.item }
     requires event { IfSome step.now.end (EventFits model.now) }
-    ensures bytes { Puts (L.written out.old) (L.written out.new)
-        (step_text model.now step.now.item step.now.end) result }
-    ensures stays { SinkStays L.Sink out.old out.new result }
+    ensures { PutsText L.Sink out.old out.new (step_text model.now step.now.item step.now.end) result }
 {
     write_item(out, model, &step.item)?;
     match &step.end {

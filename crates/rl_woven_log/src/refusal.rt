@@ -1,6 +1,6 @@
 //! Why a line of a woven script is refused.
 ghost use Rattle.std.specs.Prelude.{◌≡◌};
-ghost use Rattle.rl_report.specs.Pieces.{Puts, SinkStays};
+ghost use Rattle.rl_report.specs.Pieces.{PutsText};
 ghost use Rattle.rl_woven_log.specs.Refusals.{further_reason, refused_woven_text};
 
 use rl_log::LineRefusal;
@@ -38,8 +38,7 @@ pub(crate) fn put_woven_refused<K: Sink>(
     number: u64,
     refusal: WovenRefusal,
 ) -> Result<(), Failed>
-    ensures bytes { Puts (K.written sink.old) (K.written sink.new) (refused_woven_text number refusal) result }
-    ensures stays { SinkStays K.Sink sink.old sink.new result }
+    ensures { PutsText K.Sink sink.old sink.new (refused_woven_text number refusal) result }
 {
     match refusal {
         WovenRefusal::Line(refusal) => put_line_refused(sink, number, refusal),

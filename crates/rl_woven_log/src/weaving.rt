@@ -1,6 +1,6 @@
 //! The lines of a woven script, one after another.
 ghost use Rattle.std.specs.Prelude.{◌≡◌, map as each, true, false, Some};
-ghost use Rattle.rl_woven_log.specs.Prelude.{CanGoOn, IsGathering, IsReady, IsSameChip, Leaves, ReadsOn, StaysReady};
+ghost use Rattle.rl_woven_log.specs.Prelude.{IsGathering, IsReady, IsSameChip, LeavesLines, StaysReady};
 ghost use Rattle.rl_woven_log.specs.Prelude.{WeavesLine, WeavesThrough, input_of, moment_of, setting_of, stop_of};
 
 use crate::script::WovenScript;
@@ -36,9 +36,8 @@ fn weave_line<S: Source, D: Device, L: Log>(
         (input_of lines.old (S.left source.old))
         (setting_of standing D.state L.written script.new model.new adapters.new.items device.new out.new counts.new)
         (input_of lines.new (S.left source.new)) (S.left source.new) lines.new.ended result }
-    ensures reads { ReadsOn lines.old lines.new result }
-    ensures goes_on { result ≡ Turn.Stop Status.SourceFault → CanGoOn lines.old lines.new (L.is_out out.new) }
-    ensures leaves { Leaves L.Sink (S.faults source.old) (S.faults source.new) out.old out.new (stop_of result) }
+    ensures leaves { LeavesLines L.Sink (L.is_out out.new)
+        lines.old lines.new (S.faults source.old) (S.faults source.new) out.old out.new result }
 {
     let got = match take_line(lines, source, out) {
         Ok(got) => got,
@@ -76,9 +75,8 @@ pub fn weave_lines<S: Source, D: Device, L: Log>(
         (moment_of standing D.state L.written model.old adapters.old.items device.old out.old counts.old)
         (input_of lines.old (S.left source.old)) (S.left source.new)
         (moment_of standing D.state L.written model.new adapters.new.items device.new out.new counts.new) result }
-    ensures reads { ReadsOn lines.old lines.new (Turn.Stop result) }
-    ensures goes_on { result ≡ Status.SourceFault → CanGoOn lines.old lines.new (L.is_out out.new) }
-    ensures leaves { Leaves L.Sink (S.faults source.old) (S.faults source.new) out.old out.new (Some result) }
+    ensures leaves { LeavesLines L.Sink (L.is_out out.new)
+        lines.old lines.new (S.faults source.old) (S.faults source.new) out.old out.new (Turn.Stop result) }
 {
     let Ok(mut built) = WovenScript::build(alloc, n) else {
         return Status::Memory;

@@ -1,31 +1,27 @@
-use Rattle.rl_report.proofs.PieceLemmas.{puts_more, puts_last, puts_failed}
+use Rattle.rl_report.proofs.PieceLemmas.{text_more, text_last, text_failed}
 use Rattle.rl_session.proofs.refusals.put_refusal.Goals as goal
 
-pub returns-in_err-put_all-clause-bytes : goal.returns-in_err-put_all-clause-bytes
-returns-in_err-put_all-clause-bytes g c =
-    puts_failed _ _ _ _ _ c.from_residual.ensures.0 c.in_err-put_all.ensures.bytes.part
+pub returns-in_err-put_all : goal.returns-in_err-put_all
+returns-in_err-put_all g c = text_failed _ _ _ _ _ _ _ c.from_residual.ensures.0 c.in_err-put_all.ensures
 
-pub returns-in_err-put_where-clause-bytes : goal.returns-in_err-put_where-clause-bytes
-returns-in_err-put_where-clause-bytes g c =
-    puts_more _ _ _ _ _ _ c.in_ok-put_all.ensures.bytes.whole
-    (puts_failed _ _ _ _ _ c.from_residual-in_err-put_where.ensures.0 c.in_err-put_where.ensures.bytes.part)
+pub returns-in_err-put_where : goal.returns-in_err-put_where
+returns-in_err-put_where g c =
+    text_more _ _ _ _ _ _ _ _ c.in_ok-put_all.ensures
+    (text_failed _ _ _ _ _ _ _ c.from_residual-in_err-put_where.ensures.0 c.in_err-put_where.ensures)
 
-pub returns-in_err-put_all-2-clause-bytes : goal.returns-in_err-put_all-2-clause-bytes
-returns-in_err-put_all-2-clause-bytes g c =
-    puts_more _ _ _ _ _ _ c.in_ok-put_all.ensures.bytes.whole
-    (puts_more _ _ _ _ _ _ c.in_ok-put_where.ensures.bytes.whole
-    (puts_failed _ _ _ _ _ c.from_residual-in_err-put_all-2.ensures.0 c.in_err-put_all-2.ensures.bytes.part))
+pub returns-in_err-put_all-2 : goal.returns-in_err-put_all-2
+returns-in_err-put_all-2 g c =
+    text_more _ _ _ _ _ _ _ _ c.in_ok-put_all.ensures (text_more _ _ _ _ _ _ _ _ c.in_ok-put_where.ensures
+    (text_failed _ _ _ _ _ _ _ c.from_residual-in_err-put_all-2.ensures.0 c.in_err-put_all-2.ensures))
 
-pub returns-in_err-put_pieces-clause-bytes : goal.returns-in_err-put_pieces-clause-bytes
-returns-in_err-put_pieces-clause-bytes g c =
-    puts_more _ _ _ _ _ _ c.in_ok-put_all.ensures.bytes.whole
-    (puts_more _ _ _ _ _ _ c.in_ok-put_where.ensures.bytes.whole
-    (puts_more _ _ _ _ _ _ c.in_ok-put_all-2.ensures.bytes.whole
-    (puts_failed _ _ _ _ _ c.from_residual-in_err-put_pieces.ensures.0 c.in_err-put_pieces.ensures.bytes.part)))
+pub returns-in_err-put_pieces : goal.returns-in_err-put_pieces
+returns-in_err-put_pieces g c =
+    text_more _ _ _ _ _ _ _ _ c.in_ok-put_all.ensures (text_more _ _ _ _ _ _ _ _ c.in_ok-put_where.ensures
+    (text_more _ _ _ _ _ _ _ _ c.in_ok-put_all-2.ensures
+    (text_failed _ _ _ _ _ _ _ c.from_residual-in_err-put_pieces.ensures.0 c.in_err-put_pieces.ensures)))
 
-pub returns-clause-bytes : goal.returns-clause-bytes
-returns-clause-bytes g c =
-    puts_more _ _ _ _ _ _ c.in_ok-put_all.ensures.bytes.whole
-    (puts_more _ _ _ _ _ _ c.in_ok-put_where.ensures.bytes.whole
-    (puts_more _ _ _ _ _ _ c.in_ok-put_all-2.ensures.bytes.whole
-    (puts_more _ _ _ _ _ _ c.in_ok-put_pieces.ensures.bytes.whole (puts_last _ _ _ _ c.put_all-3.ensures.bytes))))
+pub returns : goal.returns
+returns g c =
+    text_more _ _ _ _ _ _ _ _ c.in_ok-put_all.ensures (text_more _ _ _ _ _ _ _ _ c.in_ok-put_where.ensures
+    (text_more _ _ _ _ _ _ _ _ c.in_ok-put_all-2.ensures
+    (text_more _ _ _ _ _ _ _ _ c.in_ok-put_pieces.ensures (text_last _ _ _ _ _ c.put_all-3.ensures))))

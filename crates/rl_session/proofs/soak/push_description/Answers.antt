@@ -9,5 +9,5 @@ returns c =
     let first = c.args.text.now.items in
     then_pushed _ first _ _ (rows_text place_text 0 64) (rows_text reg_text 0 64 ++ maps_text) description_text
     (pushed_twice first _ _
-    (rows_text reg_text 0 64) maps_text c.in_ok-push_regs.ensures c.in_ok-extend_from_slice.ensures.items)
-    (joined_three (rows_text reg_text 0 64) maps_text (rows_text place_text 0 64)) c.push_places.ensures
+    (rows_text reg_text 0 64) maps_text c.in_ok-push_rows.ensures c.in_ok-extend_from_slice.ensures.items)
+    (joined_three (rows_text reg_text 0 64) maps_text (rows_text place_text 0 64)) c.push_rows-2.ensures

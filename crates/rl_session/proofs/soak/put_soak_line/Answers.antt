@@ -1,8 +1,8 @@
 use Rattle.rl_session.proofs.HexLemmas.{sixteen}
 use Rattle.rl_session.proofs.soak.put_soak_line.Goals as goal
 
-pub returns-clause-bytes : goal.returns-clause-bytes
-returns-clause-bytes g c =
+pub returns : goal.returns
+returns g c =
     let digits = sixteen c.args.sum c.hex-len.result c.hex-len.new.out c.ranges.sum.fits c.hex-len.ensures.len
     c.hex-len.ensures.digits in
     rw (
@@ -16,4 +16,4 @@ returns-clause-bytes g c =
       c.format-4.ensures.text,
       c.front.ensures,
       digits,
-    ) at c.put_pieces.ensures.bytes
+    ) at c.put_pieces.ensures

@@ -2,7 +2,7 @@ use Rattle.std.proofs.Common.{arith, map}
 use Rattle.rl_report.specs.Pieces.{joined}
 use Rattle.rl_report.proofs.PieceLemmas.{next_piece, no_piece}
 use Rattle.rl_session.proofs.ListingLemmas.{more_pushed, all_pushed}
-use Rattle.rl_session.proofs.soak.push_pieces.Goals as goal
+use Rattle.rl_session.proofs.pieces.push_pieces.Goals as goal
 
 pub loop-piece-preserved : goal.loop-piece-preserved
 loop-piece-preserved c =

@@ -1,7 +1,7 @@
 -- The pieces from the next one on are left.
 use Rattle.std.proofs.Common.{◌≡◌, ◌++◌, drop, map}
 use Rattle.rl_report.specs.Pieces.{joined}
-use Rattle.rl_session.proofs.soak.push_pieces.Given as goal
+use Rattle.rl_session.proofs.pieces.push_pieces.Given as goal
 
 abbrev pub invariant-loop-piece : goal.invariant-loop-piece
 invariant-loop-piece l =

@@ -1,7 +1,0 @@
--- The rows from the next one on are left.
-use Rattle.std.proofs.Common.{◌≡◌, ◌++◌, ◌-◌}
-use Rattle.rl_session.specs.Soak.{rows_text, reg_text}
-use Rattle.rl_session.proofs.soak.push_regs.Given as goal
-
-abbrev pub invariant-loop-k : goal.invariant-loop-k
-invariant-loop-k l = l.text.items ++ rows_text reg_text l.k (64 - l.k) ≡ l.initial.text.items ++ rows_text reg_text 0 64
