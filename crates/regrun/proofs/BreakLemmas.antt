@@ -1,40 +1,9 @@
 -- What was told when a source failed.
-use Rattle.std.proofs.Common.{
-  ◌≡◌,
-  ◌≢◌,
-  ℕ,
-  ◌+◌,
-  ◌≤◌,
-  Bool,
-  true,
-  false,
-  ◌&&◌,
-  cond,
-  eqb,
-  List,
-  [],
-  ◌∷◌,
-  ◌++◌,
-  length,
-  drop,
-  Option,
-  Some,
-  None,
-  IfSome,
-  Result,
-  Ok,
-  Err,
-  refl,
-  sym,
-  ap,
-  subst,
-  ◌∙◌,
-  append_assoc,
-  length-append,
-  arith,
-}
+use Rattle.std.proofs.Common.{◌≡◌, ◌≢◌, ℕ, ◌+◌, ◌≤◌, Bool, true, false, ◌&&◌, cond, eqb, List, [], ◌∷◌, ◌++◌, length, drop, Option, Some, None, IfSome, Result, Ok, Err}
+use Rattle.std.proofs.Common.{refl, sym, ap, subst, ◌∙◌, append_assoc, length-append, arith}
 use Rattle.std.specs.Io.KnownBytes.{Appends, Keeps}
 use Rattle.std.proofs.lemmas.Bool.{true≢false}
+use Rattle.std.proofs.KnownBytes.{Appends-kept}
 use Rattle.std.proofs.Math.Seq.{drop-append_seam}
 use Rattle.rl_bus.specs.declared.op.AdapterKind.{AdapterKind}
 use Rattle.rl_bus.specs.Standing.{Standing, kinds_of}
@@ -48,6 +17,7 @@ use Rattle.rl_report.proofs.OpeningLemmas.{no_ten}
 use Rattle.rl_report.proofs.TakenLemmas.{begins_later}
 use Rattle.rl_play.specs.Played.{LinesBreak}
 use Rattle.rl_opening.specs.Output.{run_lines}
+use Rattle.rl_opening.proofs.JudgedLemmas.{from_first}
 use Rattle.regrun.specs.Output.{woven_lines, BreaksOff}
 use Rattle.rl_session.specs.Judged.{taken_by, taken_text, first_world}
 use Rattle.rl_session.specs.Session.{behind, opening_of}
@@ -57,9 +27,8 @@ use Rattle.rl_play.specs.Moment.{moment}
 use Rattle.rl_woven_log.specs.Judged.{woven_taken_by, woven_taken_text}
 use Rattle.rl_woven_log.specs.Turns.{BreaksWeave}
 use Rattle.rl_woven_log.specs.WeaveLog.{closed_text, counting}
-use Rattle.rl_access.specs.World.{IsAt, world}
-use Rattle.rl_play.proofs.BufferLemmas.{keeps_then_appends}
-use Rattle.rl_play.proofs.EndingLemmas.{appends_keeps, keeps_nothing}
+use Rattle.rl_access.specs.World.{IsAt}
+use Rattle.rl_log.proofs.KnownLemmas.{keeps_nothing, keeps_then_appends}
 use Rattle.rl_session.proofs.SessionLemmas.{found_head, opening_found}
 use Rattle.rl_play.proofs.FaultLemmas.{nothing_from}
 
@@ -237,17 +206,6 @@ module _ (log : List ℕ → List Standing → List ℕ) (lines : DescData → L
 
 -- ---- from the first state
 
-some_is : {x y : State} → Some x ≡ Some y → x ≡ y
-some_is e = cc
-
-woven_first : (n : ℕ) (desc : DescData) (adapters : List Standing) (m : ModelData) (st : State) (counts : Counts)
-    → counts ≡ no_counts → IsAt m adapters (Some st) (first_world desc adapters)
-    → counting n counts (world m adapters st) ≡ counting n no_counts (first_world desc adapters)
-woven_first n desc adapters m st counts none here =
-    ap (λ c. counting n c (world m adapters st)) none
-    ∙ ap (λ m. counting n no_counts (world m adapters st)) here.model_is
-    ∙ ap (λ st. counting n no_counts (world (first_world desc adapters).model adapters st)) (some_is here.device_is)
-
 pub weave_breaks : (n : ℕ) (input : Option (List ℕ)) (desc : DescData) (adapters : List Standing) (m : ModelData) (st : State)
     (counts : Counts) (left old new : Option (List ℕ)) → counts ≡ no_counts → IsAt m adapters (Some st) (first_world desc adapters)
     → BreaksWeave n (moment m adapters (Some st) old counts) input left new
@@ -258,7 +216,7 @@ weave_breaks n (Some bytes) desc adapters m st counts left old new none here h =
   others = h.others;
   split = h.split;
   is_left = h.is_left;
-  text = subst (λ g. Appends old new (closed_text 1 g (whole_lines h.taken))) (woven_first n desc adapters m st counts none here) h.text;
+  text = subst (λ g. Appends old new (closed_text 1 g (whole_lines h.taken))) (from_first (counting n) desc adapters m st counts none here) h.text;
 }
 
 -- ---- what was written in the end
@@ -273,5 +231,5 @@ off_written log (Some bytes) adapters left old told new h same =
       others = h.others;
       split = h.split;
       is_left = h.is_left;
-      text = appends_keeps old told new (log h.taken adapters) h.text same;
+      text = Appends-kept old told new (log h.taken adapters) h.text same;
     }

@@ -3,5 +3,4 @@ pub mod JudgedLemmas
 pub mod LawLemmas
 pub mod PlainLemmas
 pub mod TaskLemmas
-pub mod TextLemmas
 pub mod WordLemmas

@@ -11,7 +11,8 @@ use Rattle.rl_opening.proofs.StopLemmas.{stops_refused}
 use Rattle.rl_session.specs.Session.{opening_of, refusal_of}
 use Rattle.rl_plain_log.specs.PlainLog.{IsSteadyOpening, IsPlainLog, WritesPlainLog}
 use Rattle.rl_log.specs.Statuses.{is_complete}
-use Rattle.rl_play.proofs.EndingLemmas.{appends_keeps, not_sink_fault}
+use Rattle.std.proofs.KnownBytes.{Appends-kept}
+use Rattle.rl_log.proofs.TellingLemmas.{not_sink_fault}
 use Rattle.rl_plain_log.proofs.PlainSession.{log_of_refused}
 
 -- ---- of what was read
@@ -44,4 +45,4 @@ pub plain_later : (left : Option (List ℕ)) (adapters : List Standing) (old tol
 plain_later None adapters old told new keeps h = tt
 plain_later (Some bytes) adapters old told new keeps h = λ steady.
     let w = h steady in
-    record { text = w.text; written = appends_keeps old told new w.text w.written keeps; same = w.same }
+    record { text = w.text; written = Appends-kept old told new w.text w.written keeps; same = w.same }

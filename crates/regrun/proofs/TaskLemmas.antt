@@ -5,138 +5,92 @@ use Rattle.rl_bus.specs.Standing.{Standing, kinds_of}
 use Rattle.rl_log.specs.declared.status.Status.{Status}
 use Rattle.rl_log.specs.declared.status.Status.TheVariants.{Found, Memory, SourceFault, SinkFault}
 use Rattle.rl_log.specs.Statuses.{is_complete}
-use Rattle.rl_play.specs.Earlier.{KeepsEarlier}
+use Rattle.rl_log.specs.Earlier.{KeepsEarlier}
 use Rattle.rl_play.proofs.FaultLemmas.{same_status}
 use Rattle.rl_plain_log.specs.PlainLog.{IsPlainLog}
 use Rattle.rl_opening.specs.Opening.{LeavesScript}
 use Rattle.rl_report.specs.Opening.{TakesNoHead}
-use Rattle.rl_session.specs.Judged.{judged, map_judged, soak_judged, taken_text}
+use Rattle.rl_session.specs.Judged.{Judged, judged, map_judged, soak_judged, taken_text}
 use Rattle.regrun.specs.declared.words.Task.{Task}
 use Rattle.regrun.specs.declared.words.Task.TheVariants.{Run, Map, Soak, Weave}
 use Rattle.rl_woven_log.specs.Judged.{woven_judged, woven_taken_text}
-use Rattle.rl_opening.specs.Output.{Output, WritesJudged}
+use Rattle.rl_opening.specs.Output.{IsJudged, Output, WritesJudged}
 use Rattle.rl_opening.proofs.JudgedLemmas.{judged_written, all_written}
 use Rattle.regrun.specs.Output.{BreaksOff}
-use Rattle.regrun.specs.Task.{Does}
+use Rattle.regrun.specs.Task.{Does, DoesTask, Runs}
 use Rattle.regrun.proofs.BreakLemmas.{off_written}
 use Rattle.regrun.proofs.LawLemmas.{errors_keep, checks_name}
 use Rattle.regrun.proofs.PlainLemmas.{same_complete, plain_written, plain_later}
 
-pub run_does : (task : Task) (status : Status) (input left : Option (List ℕ)) (before after : Output) → task ≡ Run
+-- the task that was asked for
+pub task_does : (asked task : Task) (status : Status) (input left : Option (List ℕ)) (before after : Output) → asked ≡ task
+    → DoesTask task status input left before after → kinds_of after.adapters ≡ kinds_of before.adapters
+    → Does asked status input left before after
+task_does asked task status input left before after is does kinds =
+    record { does = subst (λ t. DoesTask t status input left before after) (sym is) does; kinds = kinds }
+
+pub run_does : (status : Status) (input left : Option (List ℕ)) (before after : Output)
     → IfSome input (λ bytes. WritesJudged (judged bytes) status before after)
     → (is_complete status ≡ true → IfSome input (λ bytes. IsPlainLog bytes before.adapters))
     → (status ≡ SourceFault → IfSome input (λ bytes. BreaksOff taken_text bytes before.adapters left before.text after.text))
-    → kinds_of after.adapters ≡ kinds_of before.adapters → Does task status input left before after
-run_does task status input left before after is run plain fault kinds = record {
-  run = λ t. run;
-  bus_errors = λ t. errors_keep input before.adapters;
-  checks = λ t. checks_name input before.adapters;
-  plain = λ t c. plain_written input before.adapters after.adapters status before.text after.text c run (plain c);
-  at_fault = λ t. fault;
-  map = λ t. absurd (cc);
-  map_status = λ t. absurd (cc);
-  map_at_fault = λ t. absurd (cc);
-  map_unread = λ t. absurd (cc);
-  soak = λ n t. absurd (cc);
-  soak_status = λ n t. absurd (cc);
-  weave = λ n t. absurd (cc);
-  weave_at_fault = λ n t. absurd (cc);
-  kinds = kinds;
+    → Runs status input left before after
+run_does status input left before after run plain fault = record {
+  run = run;
+  bus_errors = errors_keep input before.adapters;
+  checks = checks_name input before.adapters;
+  plain = λ c. plain_written input before.adapters after.adapters status before.text after.text c run (plain c);
+  at_fault = fault;
 }
 
-pub map_does : (task : Task) (status : Status) (input left : Option (List ℕ)) (before after : Output) → task ≡ Map
-    → IfSome input (λ bytes. WritesJudged (map_judged bytes) status before after) → status ≢ Found
-    → (status ≡ SourceFault → IfSome input (λ bytes. TakesNoHead bytes left))
-    → (status ≢ SourceFault → status ≢ Memory → IfSome input (λ bytes. LeavesScript bytes left))
-    → kinds_of after.adapters ≡ kinds_of before.adapters → Does task status input left before after
-map_does task status input left before after is map none_found fault unread kinds = record {
-  run = λ t. absurd (cc);
-  bus_errors = λ t. absurd (cc);
-  checks = λ t. absurd (cc);
-  plain = λ t. absurd (cc);
-  at_fault = λ t. absurd (cc);
-  map = λ t. map;
-  map_status = λ t. none_found;
-  map_at_fault = λ t. fault;
-  map_unread = λ t. unread;
-  soak = λ n t. absurd (cc);
-  soak_status = λ n t. absurd (cc);
-  weave = λ n t. absurd (cc);
-  weave_at_fault = λ n t. absurd (cc);
-  kinds = kinds;
-}
+-- ---- what was told is written out
 
-pub soak_does : (task : Task) (n : ℕ) (status : Status) (input left : Option (List ℕ)) (before after : Output)
-    → task ≡ Soak n → WritesJudged (soak_judged n) status before after → status ≢ SourceFault
-    → kinds_of after.adapters ≡ kinds_of before.adapters → Does task status input left before after
-soak_does task n status input left before after is soak unread kinds = record {
-  run = λ t. absurd (cc);
-  bus_errors = λ t. absurd (cc);
-  checks = λ t. absurd (cc);
-  plain = λ t. absurd (cc);
-  at_fault = λ t. absurd (cc);
-  map = λ t. absurd (cc);
-  map_status = λ t. absurd (cc);
-  map_at_fault = λ t. absurd (cc);
-  map_unread = λ t. absurd (cc);
-  soak = λ k t. let same : n ≡ k = cc in rw (← same) soak;
-  soak_status = λ k t. unread;
-  weave = λ k t. absurd (cc);
-  weave_at_fault = λ k t. absurd (cc);
-  kinds = kinds;
-}
+module _ (status result : Status) (input left old told new : Option (List ℕ)) (kept : List ℕ) (before after : List Standing)
+    (same : result ≢ SinkFault → result ≡ status) (given_up : is_complete status ≡ false → result ≡ status) (keeps : KeepsEarlier old new)
+    (held : Keeps told (append_known new kept)) (whole : is_complete result ≡ true → Keeps told new)
+    (fault : status ≡ SourceFault → Keeps told new) where
+  abbrev at_first : Output
+  at_first = record { text = old; adapters = before }
 
-pub weave_does : (task : Task) (n : ℕ) (status : Status) (input left : Option (List ℕ)) (before after : Output)
-    → task ≡ Weave n → IfSome input (λ bytes. WritesJudged (woven_judged n bytes) status before after)
-    → (status ≡ SourceFault → IfSome input (λ bytes. BreaksOff (woven_taken_text n) bytes before.adapters left before.text after.text))
-    → kinds_of after.adapters ≡ kinds_of before.adapters → Does task status input left before after
-weave_does task n status input left before after is weave fault kinds = record {
-  run = λ t. absurd (cc);
-  bus_errors = λ t. absurd (cc);
-  checks = λ t. absurd (cc);
-  plain = λ t. absurd (cc);
-  at_fault = λ t. absurd (cc);
-  map = λ t. absurd (cc);
-  map_status = λ t. absurd (cc);
-  map_at_fault = λ t. absurd (cc);
-  map_unread = λ t. absurd (cc);
-  soak = λ k t. absurd (cc);
-  soak_status = λ k t. absurd (cc);
-  weave = λ k t. let same : n ≡ k = cc in rw (← same) weave;
-  weave_at_fault = λ k t. let same : n ≡ k = cc in rw (← same) fault;
-  kinds = kinds;
-}
+  abbrev told_then : Output
+  told_then = record { text = told; adapters = after }
 
-abbrev told_to : Option (List ℕ) → List Standing → Output
-told_to text adapters = record { text = text; adapters = adapters }
+  abbrev written_then : Output
+  written_then = record { text = new; adapters = after }
 
--- what was told is written out
-pub does_written : (task : Task) (status result : Status) (input left old told new : Option (List ℕ)) (kept : List ℕ)
-    (before after : List Standing) → (result ≢ SinkFault → result ≡ status) → (is_complete status ≡ false → result ≡ status)
-    → KeepsEarlier old new
-    → Keeps told (append_known new kept) → (is_complete result ≡ true → Keeps told new)
-    → (status ≡ SourceFault → Keeps told new)
-    → Does task status input left (told_to old before) (told_to told after)
-    → Does task result input left (told_to old before) (told_to new after)
-does_written task status result input left old told new kept before after same given_up keeps held whole fault d = record {
-  run = λ t. all_written input (λ bytes. judged bytes before) status result old told new kept after same keeps held whole (d.run t);
-  bus_errors = d.bus_errors;
-  checks = d.checks;
-  plain = λ t c. plain_later input before old told new (whole c) (d.plain t (same_complete status result same c));
-  at_fault = λ t is. let was = same_status status result same is in
-      off_written taken_text input before left old told new (d.at_fault t was) (fault was);
-  map = λ t. all_written input (λ bytes. map_judged bytes before) status result old told new kept after same keeps held whole (d.map t);
-  map_status = λ t is. d.map_status t (sym (same (λ e. let f : Found ≡ SinkFault = sym is ∙ e in absurd (cc))) ∙ is);
-  map_at_fault = λ t is. d.map_at_fault t (same_status status result same is);
-  map_unread = λ t fault memory.
-      d.map_unread t (λ is. fault (given_up (ap is_complete is) ∙ is)) (λ is. memory (given_up (ap is_complete is) ∙ is));
-  soak = λ n t. judged_written (soak_judged n before) status result old told new kept after same keeps held whole (d.soak n t);
-  soak_status = λ n t is. d.soak_status n t (same_status status result same is);
-  weave = λ n t. all_written input (λ bytes. woven_judged n bytes before) status result old told new kept after same keeps held whole (d.weave n t);
-  weave_at_fault = λ n t is. let was = same_status status result same is in
-      off_written (woven_taken_text n) input before left old told new (d.weave_at_fault n t was) (fault was);
-  kinds = d.kinds;
-}
+  all_out : (J : List ℕ → Judged) → IfSome input (λ bytes. IsJudged (J bytes) status old told after)
+      → IfSome input (λ bytes. IsJudged (J bytes) result old new after)
+  all_out J h = all_written input J status result old told new kept after same keeps held whole h
+
+  break_out : (log : List ℕ → List Standing → List ℕ) → (status ≡ SourceFault → IfSome input (λ bytes. BreaksOff log bytes before left old told))
+      → result ≡ SourceFault → IfSome input (λ bytes. BreaksOff log bytes before left old new)
+  break_out log h is = let was = same_status status result same is in off_written log input before left old told new (h was) (fault was)
+
+  task_written : (task : Task) → DoesTask task status input left at_first told_then → DoesTask task result input left at_first written_then
+  task_written Run d = record {
+    run = all_out (λ bytes. judged bytes before) d.run;
+    bus_errors = d.bus_errors;
+    checks = d.checks;
+    plain = λ c. plain_later input before old told new (whole c) (d.plain (same_complete status result same c));
+    at_fault = break_out taken_text d.at_fault;
+  }
+  task_written Map d = record {
+    map = all_out (λ bytes. map_judged bytes before) d.map;
+    map_status = λ is. d.map_status (sym (same (λ e. let f : Found ≡ SinkFault = sym is ∙ e in absurd (cc))) ∙ is);
+    map_at_fault = λ is. d.map_at_fault (same_status status result same is);
+    map_unread = λ fault memory.
+        d.map_unread (λ is. fault (given_up (ap is_complete is) ∙ is)) (λ is. memory (given_up (ap is_complete is) ∙ is));
+  }
+  task_written (Soak n) d = record {
+    soak = judged_written (soak_judged n before) status result old told new kept after same keeps held whole d.soak;
+    soak_status = λ is. d.soak_status (same_status status result same is);
+  }
+  task_written (Weave n) d = record {
+    weave = all_out (λ bytes. woven_judged n bytes before) d.weave;
+    weave_at_fault = break_out (woven_taken_text n) d.weave_at_fault;
+  }
+
+  pub does_written : (task : Task) → Does task status input left at_first told_then → Does task result input left at_first written_then
+  does_written task d = record { does = task_written task d.does; kinds = d.kinds }
 
 -- ---- by what is asked
 

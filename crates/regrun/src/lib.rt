@@ -3,7 +3,6 @@
 
 mod running;
 mod showing;
-mod soaking;
 mod tasks;
 mod top;
 mod weaving;

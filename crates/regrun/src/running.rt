@@ -1,13 +1,14 @@
 // A session that is run.
-ghost use Rattle.std.specs.Prelude.{◌≡◌, ◌≤◌, ◌<◌, ◌^◌, map, length, true, IfSome};
-ghost use Rattle.regrun.specs.Prelude.{BreaksOff, IsCaused, IsPlainLog, Stays, WritesJudged, is_complete, judged};
+ghost use Rattle.std.specs.Prelude.{◌≡◌, ◌<◌, ◌^◌, map, length, true, Some, IfSome};
+ghost use Rattle.regrun.specs.Prelude.{BreaksOff, IsPlainLog, Leaves, WritesJudged, is_complete, judged};
 ghost use Rattle.regrun.specs.Prelude.{kinds_of, output_of, taken_text};
 
 use rl_bus::{Adapter, Adapters};
 use rl_log::Status;
-use rl_opening::{open_session, run_session};
+use rl_opening::open_session;
 use rl_play::Log;
 use rl_report::Source;
+use rl_running::run_session;
 use std::alloc::Global;
 
 // Reads a session, runs it and writes its log.
@@ -28,9 +29,7 @@ pub(crate) fn run<S: Source, L: Log>(
         BreaksOff taken_text bytes (map standing adapters.old.items)
         (S.left source.new) (L.written out.old) (L.written out.new)) }
     ensures flushed { result ≡ Status.SourceFault → L.is_out out.old → L.is_out out.new }
-    ensures source_later { S.faults source.old ≤ S.faults source.new }
-    ensures cause { IsCaused result (S.faults source.old) (S.faults source.new) (L.faults out.old) (L.faults out.new) }
-    ensures stays { Stays L.faults L.ends L.target out.old out.new }
+    ensures leaves { Leaves L.Sink (S.faults source.old) (S.faults source.new) out.old out.new (Some result) }
 {
     match open_session(alloc, source, out, adapters) {
         Ok((desc, mut lines)) => run_session(alloc, desc, &mut lines, source, out, adapters),

@@ -1,6 +1,6 @@
 // Where the items of a description stand, written.
-ghost use Rattle.std.specs.Prelude.{◌≡◌, ◌≢◌, ◌≤◌, ◌<◌, ◌^◌, map, length, IfSome};
-ghost use Rattle.regrun.specs.Prelude.{IsBuiltWith, IsCaused, LeavesScript, Stays, TakesNoHead, Tells, WritesJudged};
+ghost use Rattle.std.specs.Prelude.{◌≡◌, ◌≢◌, ◌<◌, ◌^◌, map, length, Some, IfSome};
+ghost use Rattle.regrun.specs.Prelude.{IsBuiltWith, Leaves, LeavesScript, TakesNoHead, Tells, WritesJudged};
 ghost use Rattle.regrun.specs.Prelude.{layout_text, map_judged, output_of};
 
 use rl_bus::{Adapter, Adapters};
@@ -18,8 +18,7 @@ fn put_description<L: Log>(desc: &Desc, out: &mut L) -> Status
     ensures tells { Tells result Status.Passed
         (L.written out.old) (L.written out.new) (layout_text desc.now.chip desc.now.layout) }
     ensures none_found { result ≢ Status.Found }
-    ensures cause { IsCaused result 0 0 (L.faults out.old) (L.faults out.new) }
-    ensures stays { Stays L.faults L.ends L.target out.old out.new }
+    ensures leaves { Leaves L.Sink 0 0 out.old out.new (Some result) }
 {
     match put_layout(out, &desc.chip, &desc.layout) {
         Ok(()) => Status::Passed,
@@ -44,9 +43,7 @@ pub(crate) fn show_layout<S: Source, L: Log>(
         → IfSome (S.left source.old) (λ bytes. LeavesScript bytes (S.left source.new)) }
     ensures unwritten { result ≡ Status.SourceFault → out.new ≡ out.old }
     ensures none_found { result ≢ Status.Found }
-    ensures source_later { S.faults source.old ≤ S.faults source.new }
-    ensures cause { IsCaused result (S.faults source.old) (S.faults source.new) (L.faults out.old) (L.faults out.new) }
-    ensures stays { Stays L.faults L.ends L.target out.old out.new }
+    ensures leaves { Leaves L.Sink (S.faults source.old) (S.faults source.new) out.old out.new (Some result) }
 {
     let desc = match open_session(alloc, source, out, adapters) {
         Ok((desc, _)) => desc,

@@ -1,17 +1,17 @@
 // What each task does, written out.
-ghost use Rattle.std.specs.Prelude.{◌≡◌, ℕ, ◌≤◌, ◌<◌, ◌^◌, map, length, true, false};
-ghost use Rattle.regrun.specs.Prelude.{Does, IsCaused, KeepsEarlier, Rose, Stays, is_complete, output_of};
+ghost use Rattle.std.specs.Prelude.{◌≡◌, ℕ, ◌≤◌, ◌<◌, ◌^◌, Some, map, length, true, false};
+ghost use Rattle.regrun.specs.Prelude.{Does, IsCaused, KeepsEarlier, Leaves, Rose, is_complete, output_of};
 
 use crate::running::run;
 use crate::showing::show_layout;
-use crate::soaking::put_soak;
 use crate::weaving::weave;
 use crate::words::Task;
 use rl_bus::{Adapter, Adapters};
 use rl_log::Status;
-use rl_opening::end_buffered;
 use rl_play::{Buffered, Earlier, Log};
 use rl_report::{Sink, Source};
+use rl_running::end_buffered;
+use rl_soaking::put_soak;
 use std::alloc::Global;
 
 // Does what the words ask for. What is kept back isn't written yet.
@@ -30,9 +30,7 @@ fn perform_task<S: Source, L: Log>(
     ensures unwritten { task ≡ Task.Map → result ≡ Status.SourceFault → out.new ≡ out.old }
     ensures map_adapters { task ≡ Task.Map → adapters.new ≡ adapters.old }
     ensures soak_unread { (n : ℕ) → task ≡ Task.Soak n → source.new ≡ source.old }
-    ensures source_later { S.faults source.old ≤ S.faults source.new }
-    ensures cause { IsCaused result (S.faults source.old) (S.faults source.new) (L.faults out.old) (L.faults out.new) }
-    ensures stays { Stays L.faults L.ends L.target out.old out.new }
+    ensures leaves { Leaves L.Sink (S.faults source.old) (S.faults source.new) out.old out.new (Some result) }
 {
     match task {
         Task::Run => run(alloc, source, out, adapters),

@@ -1,8 +1,7 @@
 // A session whose accesses are woven.
-ghost use Rattle.std.specs.Prelude.{◌≡◌, ◌≤◌, ◌<◌, ◌^◌, length, map, false, IfSome};
-ghost use Rattle.regrun.specs.Prelude.{BreaksOff, IsCaused, LinesBreak, Stays, WritesJudged, input_of, kinds_of};
+ghost use Rattle.std.specs.Prelude.{◌≡◌, ◌<◌, ◌^◌, length, map, false, Some, IfSome};
+ghost use Rattle.regrun.specs.Prelude.{AwaitsScript, BreaksOff, Leaves, LinesBreak, WritesJudged, input_of, kinds_of};
 ghost use Rattle.regrun.specs.Prelude.{output_of, woven_judged, woven_lines, woven_script_judged, woven_taken_text};
-ghost use Rattle.rl_opening.specs.Opening.{IsBehindHead, IsRunnable};
 
 use rl_bus::{Adapter, Adapters};
 use rl_desc::Desc;
@@ -24,8 +23,7 @@ fn weave_session<S: Source, L: Log>(
     out: &mut L,
     adapters: &mut Adapters,
 ) -> Status
-    requires runnable { IsRunnable desc (kinds_of (map standing adapters.old.items)) }
-    requires behind { IsBehindHead lines.old }
+    requires awaits { AwaitsScript desc lines.old (kinds_of (map standing adapters.old.items)) }
     ensures kinds { kinds_of (map standing adapters.new.items) ≡ kinds_of (map standing adapters.old.items) }
     ensures tells { IfSome (input_of lines.old (S.left source.old)) (λ bytes.
         WritesJudged (woven_script_judged n desc bytes) result
@@ -35,9 +33,7 @@ fn weave_session<S: Source, L: Log>(
         LinesBreak (woven_lines n desc (map standing adapters.old.items)) bytes
         (S.left source.new) (L.written out.old) (L.written out.new)) }
     ensures unended { result ≡ Status.SourceFault → (lines.old.ended ≡ false) × L.is_out out.new }
-    ensures source_later { S.faults source.old ≤ S.faults source.new }
-    ensures cause { IsCaused result (S.faults source.old) (S.faults source.new) (L.faults out.old) (L.faults out.new) }
-    ensures stays { Stays L.faults L.ends L.target out.old out.new }
+    ensures leaves { Leaves L.Sink (S.faults source.old) (S.faults source.new) out.old out.new (Some result) }
 {
     let Ok((mut model, mut bench)) = open(alloc, desc) else {
         return Status::Memory;
@@ -73,9 +69,7 @@ pub(crate) fn weave<S: Source, L: Log>(
         BreaksOff (woven_taken_text n) bytes (map standing adapters.old.items)
         (S.left source.new) (L.written out.old) (L.written out.new)) }
     ensures flushed { result ≡ Status.SourceFault → L.is_out out.old → L.is_out out.new }
-    ensures source_later { S.faults source.old ≤ S.faults source.new }
-    ensures cause { IsCaused result (S.faults source.old) (S.faults source.new) (L.faults out.old) (L.faults out.new) }
-    ensures stays { Stays L.faults L.ends L.target out.old out.new }
+    ensures leaves { Leaves L.Sink (S.faults source.old) (S.faults source.new) out.old out.new (Some result) }
 {
     match open_session(alloc, source, out, adapters) {
         Ok((desc, mut lines)) => weave_session(alloc, n, desc, &mut lines, source, out, adapters),

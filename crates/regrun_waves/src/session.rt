@@ -1,15 +1,16 @@
 // A session on the device model, whose events are drawn.
 ghost use Rattle.std.specs.Prelude.{◌≡◌, ◌≢◌, ◌<◌, ◌^◌, map, length};
 ghost use Rattle.rl_bus.specs.Standing.{kinds_of};
-ghost use Rattle.rl_opening.specs.Opening.{IsBehindHead, IsRunnable};
+ghost use Rattle.rl_opening.specs.Opening.{AwaitsScript};
 
 use rl_bus::{Adapter, Adapters};
 use rl_desc::Desc;
 use rl_dump::{Dump, Fault, Waves};
 use rl_log::Status;
-use rl_opening::{end_buffered, open_session, run_session};
+use rl_opening::open_session;
 use rl_play::{Buffered, Earlier, Log};
 use rl_report::{LineReader, Sink, Source};
+use rl_running::{end_buffered, run_session};
 use std::alloc::Global;
 use std::marker::Brand;
 
@@ -41,8 +42,7 @@ fn play_waves<P: Source, L: Log, K: Sink + Drop>(
     mut waves: Waves<'_, L, K>,
     adapters: &mut Adapters,
 ) -> Ran
-    requires runnable { IsRunnable desc (kinds_of (map standing adapters.old.items)) }
-    requires behind { IsBehindHead lines.old }
+    requires awaits { AwaitsScript desc lines.old (kinds_of (map standing adapters.old.items)) }
     ensures known { result.status ≢ Status.Words }
 {
     let status = run_session(alloc, desc, lines, session, &mut waves, adapters);
@@ -63,8 +63,7 @@ fn play_drawn<P: Source, L: Log, K: Sink + Drop>(
     vcd: K,
     adapters: &mut Adapters,
 ) -> Ran
-    requires runnable { IsRunnable desc (kinds_of (map standing adapters.old.items)) }
-    requires behind { IsBehindHead lines.old }
+    requires awaits { AwaitsScript desc lines.old (kinds_of (map standing adapters.old.items)) }
     ensures known { result.status ≢ Status.Words }
 {
     let Ok(dump) = Dump::build(alloc, &desc.layout, vcd) else {

@@ -1,5 +1,5 @@
 -- What was told of a session that is graded.
-use Rattle.std.proofs.Common.{◌≡◌, ◌≢◌, ℕ, true, false, List, [], Result, Ok, Err, IfErr, Some, None, IfSome, refl, sym, ap, subst, ◌∙◌, arith}
+use Rattle.std.proofs.Common.{◌≡◌, ◌≢◌, ℕ, ◌≤◌, true, false, List, [], Result, Ok, Err, IfErr, Some, None, IfSome, refl, sym, ap, subst, ◌∙◌, arith}
 use Rattle.std.specs.declared.option.Option.{Option}
 use Rattle.std.specs.Io.KnownBytes.{Keeps}
 use Rattle.rl_access.specs.Model.{ModelData}
@@ -9,6 +9,7 @@ use Rattle.rl_bus.specs.Standing.{Standing, kinds_of}
 use Rattle.rl_bus.specs.State.{State}
 use Rattle.rl_bench.specs.declared.flaw.Flaw.{Flaw}
 use Rattle.rl_desc.specs.Data.{DescData}
+use Rattle.rl_report.specs.declared.sink.Sink.{Ghosts as Sink}
 use Rattle.rl_report.specs.Lines.{lines_of}
 use Rattle.rl_report.specs.Opening.{separator_at}
 use Rattle.rl_report.specs.Pieces.{Puts}
@@ -18,11 +19,13 @@ use Rattle.rl_log.specs.declared.status.Status.TheVariants.{Passed, Refused, Sin
 use Rattle.rl_log.specs.Causes.{IsCaused}
 use Rattle.rl_log.specs.Statuses.{is_complete}
 use Rattle.rl_log.specs.Telling.{Tells}
-use Rattle.rl_play.specs.Earlier.{KeepsEarlier}
-use Rattle.rl_play.proofs.EndingLemmas.{append_none, tells_all, tells_front, tells_none, tells_written}
+use Rattle.rl_log.specs.Earlier.{KeepsEarlier}
+use Rattle.rl_log.proofs.TellingLemmas.{tells_all, tells_front, tells_none, tells_written}
+use Rattle.rl_play.proofs.EndingLemmas.{append_none}
 use Rattle.rl_session.specs.Judged.{first_world}
 use Rattle.rl_session.specs.Session.{behind, opening_of, script_of}
 use Rattle.rl_opening.specs.Opening.{OpensAs}
+use Rattle.rl_opening.specs.Stays.{LeavesOpen, StaysOpen}
 use Rattle.rl_opening.specs.Telling.{Stops}
 use Rattle.rl_grade.specs.declared.job.Task.{Task}
 use Rattle.rl_grade.specs.declared.script.ScriptFault.{ScriptFault}
@@ -44,12 +47,18 @@ pub told_by : {T : Type 0} (r : Result T Status) (old new : Option (List ℕ)) (
 told_by (Ok x) old new text p broken = tells_all Passed old new text p.whole
 told_by (Err s) old new text p broken = tells_front s Passed old new text broken p.part
 
-pub caused_by : {T : Type 0} (r : Result T Status) (source source_now sink sink_now : ℕ)
+caused_by : {T : Type 0} (r : Result T Status) (source source_now sink sink_now : ℕ)
     → IfErr r (λ s. IsCaused s 0 0 sink sink_now) → IsCaused (status_of r) source source_now sink sink_now
 caused_by (Ok x) source source_now sink sink_now h =
     record { source_fault = λ e. absurd (cc); sink_fault = λ e. absurd (cc); known = λ e. cc }
 caused_by (Err s) source source_now sink sink_now h =
     record { source_fault = λ e. absurd (omega (arith, h.source_fault e)); sink_fault = h.sink_fault; known = h.known }
+
+pub leaves_graded : {K T : Type 0} (sink : Sink K) (r : Result T Status) (source source_now : ℕ) (old new : K) → source ≤ source_now
+    → IfErr r (λ s. IsCaused s 0 0 (sink.faults old) (sink.faults new)) → StaysOpen sink.written sink.faults sink.ends old new
+    → LeavesOpen sink (status_of r) source source_now old new
+leaves_graded sink r source source_now old new later cause stays =
+    record { source_later = later; cause = caused_by r source source_now (sink.faults old) (sink.faults new) cause; stays = stays }
 
 -- ---- a script
 

@@ -1,8 +1,7 @@
 // A session that is graded.
-ghost use Rattle.std.specs.Prelude.{◌≡◌, ◌≢◌, ◌≤◌, ◌<◌, ◌^◌, [], Some, true, false, map, length, All};
-ghost use Rattle.std.specs.Prelude.{IfErr, IfOk, IfSome};
-ghost use Rattle.rl_grading.specs.Prelude.{IsBehindHead, IsBuiltWith, IsCaused, IsNext, IsPlaceIn, IsReady, IsRunnable};
-ghost use Rattle.rl_grading.specs.Prelude.{KeepsEarlier, Puts, Rose, Stays, StaysOpen, TasksFit, Tells, TellsGraded};
+ghost use Rattle.std.specs.Prelude.{◌≡◌, ◌≢◌, ◌<◌, ◌^◌, [], Some, false, map, length, All, IfErr, IfOk, IfSome};
+ghost use Rattle.rl_grading.specs.Prelude.{AwaitsScript, IsBuiltWith, IsCaused, IsNext, IsPlaceIn, IsReady};
+ghost use Rattle.rl_grading.specs.Prelude.{LeavesEnded, LeavesOpen, Puts, Stays, TasksFit, Tells, TellsGraded};
 ghost use Rattle.rl_grading.specs.Prelude.{base_shown, bench_state, desc_of, fresh_standings, graded_at, grading_of};
 ghost use Rattle.rl_grading.specs.Prelude.{heard_by, input_of, is_complete, kinds_of, lines_of, no_totals, place_text};
 ghost use Rattle.rl_grading.specs.Prelude.{places_of, places_text, report, script_graded, share_of, status_of, world};
@@ -188,16 +187,13 @@ fn grade_script<S: Source, K: Sink, M: Meter>(
     adapters: &mut Adapters,
     meter: &mut M,
 ) -> Status
-    requires runnable { IsRunnable desc (kinds_of (map standing adapters.old.items)) }
+    requires awaits { AwaitsScript desc lines.old (kinds_of (map standing adapters.old.items)) }
     requires none { desc.flaws ≡ [] }
-    requires behind { IsBehindHead lines.old }
     requires fresh { map standing adapters.old.items ≡ fresh_standings }
     requires every { 0 < (share_of asked).every }
     ensures tells { IfSome (input_of lines.old (S.left source.old)) (λ bytes.
         TellsGraded (script_graded asked desc (lines_of bytes)) result (K.written log.old) (K.written log.new)) }
-    ensures source_later { S.faults source.old ≤ S.faults source.new }
-    ensures cause { IsCaused result (S.faults source.old) (S.faults source.new) (K.faults log.old) (K.faults log.new) }
-    ensures stays { StaysOpen K.written K.faults K.ends log.old log.new }
+    ensures leaves { LeavesOpen K.Sink result (S.faults source.old) (S.faults source.new) log.old log.new }
 {
     let Ok((model, bench)) = open(alloc, desc) else {
         return Status::Memory;
@@ -223,9 +219,7 @@ fn grade_session<S: Source, K: Sink, M: Meter>(
     requires every { 0 < (share_of asked).every }
     ensures tells { IfSome (S.left source.old) (λ bytes.
         TellsGraded (grading_of asked bytes) result (K.written log.old) (K.written log.new)) }
-    ensures source_later { S.faults source.old ≤ S.faults source.new }
-    ensures cause { IsCaused result (S.faults source.old) (S.faults source.new) (K.faults log.old) (K.faults log.new) }
-    ensures stays { StaysOpen K.written K.faults K.ends log.old log.new }
+    ensures leaves { LeavesOpen K.Sink result (S.faults source.old) (S.faults source.new) log.old log.new }
 {
     let (desc, mut lines) = match open_session(alloc, source, log, adapters) {
         Ok(opened) => opened,
@@ -256,17 +250,9 @@ pub fn run_grade<S: Source, K: Sink, M: Meter>(
     ensures tells { IfSome (S.left source.old) (λ bytes.
         TellsGraded (grading_of asked bytes) result (K.written log.old) (K.written log.new)) }
 
-    // However it ends, the log keeps the bytes that it had before.
-    ensures keeps_earlier { KeepsEarlier (K.written log.old) (K.written log.new) }
-
-    // No fault is made up, and the status is never that of other words.
-    ensures source_later { S.faults source.old ≤ S.faults source.new }
-    ensures log_later { K.faults log.old ≤ K.faults log.new }
-    ensures cause { IsCaused result (S.faults source.old) (S.faults source.new) (K.faults log.old) (K.faults log.new) }
-
-    // The log is ended exactly where its last line was written.
-    ensures ended { is_complete result ≡ true → Rose (K.ends log.old) (K.ends log.new) }
-    ensures not_ended { is_complete result ≡ false → K.ends log.new ≡ K.ends log.old }
+    // However it ends, the log keeps the bytes that it had before, and is ended exactly where its last line was
+    // written. No fault is made up, and the status is never that of other words.
+    ensures leaves { LeavesEnded K.Sink result (S.faults source.old) (S.faults source.new) log.old log.new }
 {
     end_log(
         grade_session(alloc, asked, source, log, adapters, meter),

@@ -1,7 +1,7 @@
 // What can't be graded.
-ghost use Rattle.std.specs.Prelude.{◌≡◌, ◌≢◌, [], Ok, Err, OnOk, IfErr, IfSome};
+ghost use Rattle.std.specs.Prelude.{◌≡◌, ◌≢◌, [], Err, OnOk, IfSome};
 ghost use Rattle.std.specs.Io.KnownBytes.{Keeps};
-ghost use Rattle.rl_grading.specs.Prelude.{EndsUnread, IsCaused, Rose, StaysOpen, Stops, Tells, is_complete};
+ghost use Rattle.rl_grading.specs.Prelude.{Checks, EndsUnread, IsCaused, Rose, StaysOpen, Tells, is_complete};
 ghost use Rattle.rl_grading.specs.Prelude.{refused_line, refused_text, unflawed};
 
 use rl_desc::Desc;
@@ -14,12 +14,7 @@ use rl_report::{Sink, put_all};
 // Ends the session where its description has flaws of its own.
 pub(crate) fn check_flaws<K: Sink>(desc: &Desc, log: &mut K) -> Result<(), Status>
     ensures none { OnOk result (desc.now.flaws ≡ []) }
-    ensures allowed { OnOk result (unflawed (Ok desc.now) ≡ Ok desc.now) }
-    ensures unwritten { OnOk result (log.new ≡ log.old) }
-    ensures stops { IfErr result (λ status. Stops (unflawed (Ok desc.now))
-        status (K.written log.old) (K.written log.new)) }
-    ensures cause { IfErr result (λ status. IsCaused status 0 0 (K.faults log.old) (K.faults log.new)) }
-    ensures stays { StaysOpen K.written K.faults K.ends log.old log.new }
+    ensures checks { Checks K.Sink unflawed desc.now result log.old log.new }
 {
     if desc.flaws.is_empty() {
         return Ok(());

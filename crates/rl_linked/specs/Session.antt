@@ -5,7 +5,7 @@ use Rattle.rl_link.specs.declared.link.Break.{Break}
 use Rattle.rl_link.specs.declared.link.Link.{Link}
 use Rattle.rl_log.specs.declared.status.Status.{Status}
 use Rattle.rl_log.specs.Statuses.{code_of}
-use Rattle.rl_opening.specs.Script.{RunsSession}
+use Rattle.rl_running.specs.Script.{RunsSession}
 use Rattle.rl_linked.specs.Opening.{linked_opening}
 
 -- ---- a session

@@ -1,14 +1,14 @@
 // The script of a session over a link.
-ghost use Rattle.std.specs.Prelude.{◌≡◌, ◌≤◌, map, IfOk};
-ghost use Rattle.rl_linked.specs.Prelude.{IsBehindHead, IsCaused, IsRunnable, PlaysRest, StaysOpen, input_of, kinds_of};
+ghost use Rattle.std.specs.Prelude.{◌≡◌, map, IfOk};
+ghost use Rattle.rl_linked.specs.Prelude.{AwaitsScript, LeavesOpen, PlaysRest, input_of, kinds_of};
 
 use crate::ran::Ran;
 use rl_bus::{Adapter, Adapters};
 use rl_desc::Desc;
 use rl_link::{Link, Names};
 use rl_log::Status;
-use rl_opening::play_described;
 use rl_report::{LineReader, Sink, Source};
+use rl_running::play_described;
 use std::alloc::{AllocError, Global};
 
 // The link to a device of the description.
@@ -35,15 +35,11 @@ pub(crate) fn play_over<P: Source, Q: Sink, S: Source + Drop, K: Sink + Drop>(
     sink: K,
     adapters: &mut Adapters,
 ) -> Ran<S, K>
-    requires runnable { IsRunnable desc (kinds_of (map standing adapters.old.items)) }
-    requires behind { IsBehindHead lines.old }
+    requires awaits { AwaitsScript desc lines.old (kinds_of (map standing adapters.old.items)) }
     ensures plays { PlaysRest desc (input_of lines.old (P.left session.old)) result.status
         (Q.written log.old) (Q.written log.new) (map standing adapters.old.items) (map standing adapters.new.items) }
     ensures kinds { kinds_of (map standing adapters.new.items) ≡ kinds_of (map standing adapters.old.items) }
-    ensures source_later { P.faults session.old ≤ P.faults session.new }
-    ensures cause { IsCaused result.status
-        (P.faults session.old) (P.faults session.new) (Q.faults log.old) (Q.faults log.new) }
-    ensures stays { StaysOpen Q.written Q.faults Q.ends log.old log.new }
+    ensures leaves { LeavesOpen Q.Sink result.status (P.faults session.old) (P.faults session.new) log.old log.new }
 {
     let Ok(mut link) = linked(alloc, &desc, source, sink) else {
         return Ran {

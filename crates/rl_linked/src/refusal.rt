@@ -1,8 +1,8 @@
 // What a session over a link can't have.
-ghost use Rattle.std.specs.Prelude.{◌≡◌, Ok, OnOk, IfErr};
+ghost use Rattle.std.specs.Prelude.{◌≡◌};
 ghost use Rattle.rl_bus.specs.Causes.{HasCause};
 ghost use Rattle.rl_report.specs.Pieces.{Puts};
-ghost use Rattle.rl_linked.specs.Prelude.{IsCaused, StaysOpen, Stops};
+ghost use Rattle.rl_linked.specs.Prelude.{Checks};
 ghost use Rattle.rl_linked.specs.Opening.{over_link};
 ghost use Rattle.rl_linked.specs.Refusals.{backdoor_reg, backdoor_mem, backdoor_text, refusal_of, refusal_text};
 
@@ -95,12 +95,7 @@ pub fn put_refusal<Q: Sink>(log: &mut Q, refusal: Refusal) -> Result<(), Failed>
 
 // Ends the session where its description asks of a link what this can't have.
 pub(crate) fn check_link<Q: Sink>(desc: &Desc, log: &mut Q) -> Result<(), Status>
-    ensures allowed { OnOk result (over_link (Ok desc.now) ≡ Ok desc.now) }
-    ensures unwritten { OnOk result (log.new ≡ log.old) }
-    ensures stops { IfErr result (λ status. Stops (over_link (Ok desc.now))
-        status (Q.written log.old) (Q.written log.new)) }
-    ensures cause { IfErr result (λ status. IsCaused status 0 0 (Q.faults log.old) (Q.faults log.new)) }
-    ensures stays { StaysOpen Q.written Q.faults Q.ends log.old log.new }
+    ensures checks { Checks Q.Sink over_link desc.now result log.old log.new }
 {
     match refusal_of(desc) {
         Some(refusal) => Err(refused(put_refusal(log, refusal))),

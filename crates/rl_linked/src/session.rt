@@ -1,6 +1,6 @@
 // A session on a device over a link.
-ghost use Rattle.std.specs.Prelude.{◌≡◌, ◌≤◌, ◌<◌, ◌^◌, List, ℕ, Err, map, length, true, false, IfSome, IsNone};
-ghost use Rattle.rl_linked.specs.Prelude.{IsCaused, KeepsEarlier, Rose, StaysOpen, is_complete, kinds_of};
+ghost use Rattle.std.specs.Prelude.{◌≡◌, ◌<◌, ◌^◌, List, ℕ, Err, map, length, IfSome, IsNone};
+ghost use Rattle.rl_linked.specs.Prelude.{LeavesEnded, LeavesOpen, kinds_of};
 ghost use Rattle.rl_linked.specs.Opening.{linked_opening};
 ghost use Rattle.rl_linked.specs.Session.{RunsLinked};
 
@@ -27,10 +27,7 @@ fn run<P: Source, Q: Sink, S: Source + Drop, K: Sink + Drop>(
     ensures unsent { IfSome (P.left session.old) (λ bytes. (line : List ℕ)
         → linked_opening bytes (kinds_of (map standing adapters.old.items)) ≡ Err line → IsNone result.link) }
     ensures kinds { kinds_of (map standing adapters.new.items) ≡ kinds_of (map standing adapters.old.items) }
-    ensures source_later { P.faults session.old ≤ P.faults session.new }
-    ensures cause { IsCaused result.status
-        (P.faults session.old) (P.faults session.new) (Q.faults log.old) (Q.faults log.new) }
-    ensures stays { StaysOpen Q.written Q.faults Q.ends log.old log.new }
+    ensures leaves { LeavesOpen Q.Sink result.status (P.faults session.old) (P.faults session.new) log.old log.new }
 {
     let (desc, mut lines) = match open_session(alloc, session, log, adapters) {
         Ok(opened) => opened,
@@ -67,19 +64,12 @@ pub fn run_linked<P: Source, Q: Sink, S: Source + Drop, K: Sink + Drop>(
     ensures unsent { IfSome (P.left session.old) (λ bytes. (line : List ℕ)
         → linked_opening bytes (kinds_of (map standing adapters.old.items)) ≡ Err line → IsNone result.link) }
 
-    // However it ends, the log keeps the bytes that it had before, and the adapters their kinds.
-    ensures keeps_earlier { KeepsEarlier (Q.written log.old) (Q.written log.new) }
+    // However it ends, the adapters keep their kinds.
     ensures kinds { kinds_of (map standing adapters.new.items) ≡ kinds_of (map standing adapters.old.items) }
 
-    // No fault is made up, and the status is never that of other words.
-    ensures source_later { P.faults session.old ≤ P.faults session.new }
-    ensures log_later { Q.faults log.old ≤ Q.faults log.new }
-    ensures cause { IsCaused result.status
-        (P.faults session.old) (P.faults session.new) (Q.faults log.old) (Q.faults log.new) }
-
-    // The log is ended exactly where its last line was written.
-    ensures ended { is_complete result.status ≡ true → Rose (Q.ends log.old) (Q.ends log.new) }
-    ensures not_ended { is_complete result.status ≡ false → Q.ends log.new ≡ Q.ends log.old }
+    // The log keeps the bytes that it had before, and is ended exactly where its last line was written. No fault is
+    // made up, and the status is never that of other words.
+    ensures leaves { LeavesEnded Q.Sink result.status (P.faults session.old) (P.faults session.new) log.old log.new }
 {
     let ran = run(alloc, session, log, source, sink, adapters);
     Ran {

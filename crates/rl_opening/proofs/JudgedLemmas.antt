@@ -1,27 +1,23 @@
--- What was told of a session on the device model, against what is judged of it.
+-- What was told of a session, against what is judged of it.
 use Rattle.std.proofs.Common.{◌≡◌, ◌≢◌, ℕ, true, false, List, Option, Some, None, IfSome, Result, Ok, Err, refl, sym, ap, subst, ◌∙◌}
 use Rattle.std.specs.Io.KnownBytes.{Keeps, append_known}
 use Rattle.std.proofs.lemmas.Bool.{true≢false}
 use Rattle.rl_bus.specs.Standing.{Standing, kinds_of}
 use Rattle.rl_bus.specs.State.{State}
 use Rattle.rl_access.specs.Model.{ModelData}
-use Rattle.rl_access.specs.World.{IsAt, world}
+use Rattle.rl_access.specs.World.{IsAt, World, world}
 use Rattle.rl_desc.specs.Data.{DescData}
-use Rattle.rl_report.specs.Lines.{lines_of}
 use Rattle.rl_report.specs.Opening.{separator_at}
 use Rattle.rl_log.specs.declared.counts.Counts.{Counts}
 use Rattle.rl_log.specs.declared.status.Status.{Status}
 use Rattle.rl_log.specs.declared.status.Status.TheVariants.{SinkFault}
-use Rattle.rl_log.specs.Log.{script_from}
+use Rattle.rl_log.specs.Earlier.{KeepsEarlier}
 use Rattle.rl_log.specs.Recording.{no_counts}
 use Rattle.rl_log.specs.Statuses.{is_complete}
-use Rattle.rl_play.specs.Earlier.{KeepsEarlier}
-use Rattle.rl_play.specs.Played.{coming, Breaks, EndsAs, LinesBreak}
-use Rattle.rl_play.proofs.EndingLemmas.{tells_none, tells_later, not_sink_fault, tells_written}
-use Rattle.rl_play.proofs.FaultLemmas.{breaks_at}
-use Rattle.rl_session.specs.Judged.{Judged, refused, ending_judged, judged_by, judged, first_world, script_ending}
+use Rattle.rl_log.proofs.TellingLemmas.{not_sink_fault, tells_later, tells_none, tells_written}
+use Rattle.rl_session.specs.Judged.{Judged, first_world, refused}
 use Rattle.rl_session.specs.Session.{behind, opening_of}
-use Rattle.rl_opening.specs.Output.{IsJudged, run_lines}
+use Rattle.rl_opening.specs.Output.{IsJudged}
 use Rattle.rl_opening.specs.Telling.{Stops}
 
 -- ---- what was told
@@ -34,6 +30,13 @@ told_early j status old new adapters early h =
       adapters_are = λ c. absurd
           (true≢false (sym c ∙ early));
     }
+
+-- the same of what is judged by the bytes of an input
+pub all_early : (input : Option (List ℕ)) (J : List ℕ → Judged) (status : Status) (old new : Option (List ℕ))
+    (adapters : List Standing) → is_complete status ≡ false → Keeps old new
+    → IfSome input (λ bytes. IsJudged (J bytes) status old new adapters)
+all_early None J status old new adapters early h = tt
+all_early (Some bytes) J status old new adapters early h = told_early (J bytes) status old new adapters early h
 
 pub told_later : (j : Judged) (status : Status) (old mid new : Option (List ℕ)) (adapters : List Standing) → Keeps old mid
     → IsJudged j status mid new adapters → IsJudged j status old new adapters
@@ -48,88 +51,51 @@ told_stops J (Ok desc) status old new adapters is s = told_early (J (Ok desc)) s
 told_stops J (Err line) status old new adapters is s =
     subst (λ j. IsJudged j status old new adapters) (sym (is line)) (record { tells = s; adapters_are = λ c. refl })
 
--- ---- `run`
+-- a session whose script is judged so
+pub told_opened : (J : Result DescData (List ℕ) → Judged) (S : (script : List ℕ) → Judged) (opening : Result DescData (List ℕ))
+    (desc : DescData) (input : Option (List ℕ)) (script : List ℕ) (status : Status) (old mid new : Option (List ℕ))
+    (adapters : List Standing) → opening ≡ Ok desc → input ≡ Some script → J (Ok desc) ≡ S script → Keeps old mid
+    → IfSome input (λ bytes. IsJudged (S bytes) status mid new adapters) → IsJudged (J opening) status old new adapters
+told_opened J S opening desc input script status old mid new adapters is rest same h t =
+    let told : IsJudged (S script) status mid new adapters = subst (λ o. IfSome o (λ bytes. IsJudged (S bytes) status mid new adapters)) rest t in
+    subst (λ j. IsJudged j status old new adapters) (sym (ap J is ∙ same)) (told_later (S script) status old mid new adapters h told)
 
-pub runs_stopped : (left : Option (List ℕ)) (adapters : List Standing) (status : Status) (old new : Option (List ℕ))
-    → IfSome left (λ bytes. Stops (opening_of bytes (kinds_of adapters)) status old new)
-    → IfSome left (λ bytes. IsJudged (judged bytes adapters) status old new adapters)
-runs_stopped None adapters status old new s = tt
-runs_stopped (Some bytes) adapters status old new s =
-    told_stops (λ o. judged_by o bytes adapters) (opening_of bytes (kinds_of adapters)) status old new adapters
-    (λ line. refl) s
+-- ---- a session that is judged by what it opens with: by its line where it is refused, and else by its script
 
-judged_open : (bytes : List ℕ) (adapters : List Standing) (desc : DescData) → opening_of bytes
-    (kinds_of adapters) ≡ Ok desc → judged bytes adapters ≡ ending_judged (script_ending desc bytes adapters)
-judged_open bytes adapters desc is = ap (λ o. judged_by o bytes adapters) is
+module _ (judge : Result DescData (List ℕ) → (bytes : List ℕ) → List Standing → Judged)
+    (of_script : DescData → (script : List ℕ) → List Standing → Judged) where
+  pub stopped_told : ((line bytes : List ℕ) (adapters : List Standing) → judge (Err line) bytes adapters ≡ refused line adapters)
+      → (left : Option (List ℕ)) (adapters : List Standing) (status : Status) (old new : Option (List ℕ))
+      → IfSome left (λ bytes. Stops (opening_of bytes (kinds_of adapters)) status old new)
+      → IfSome left (λ bytes. IsJudged (judge (opening_of bytes (kinds_of adapters)) bytes adapters) status old new adapters)
+  stopped_told is None adapters status old new s = tt
+  stopped_told is (Some bytes) adapters status old new s =
+      told_stops (λ o. judge o bytes adapters) (opening_of bytes (kinds_of adapters)) status old new adapters (λ line. is line bytes adapters) s
 
-script_told : (input : Option (List ℕ)) (rest : List ℕ) (desc : DescData) (status : Status)
-    (old new : Option (List ℕ)) (adapters now : List Standing) → input ≡ Some rest
-    → IfSome input (λ bytes. IsJudged (ending_judged (script_from 1 no_counts (first_world desc adapters)
-    (lines_of bytes))) status old new now)
-    → IsJudged (ending_judged (script_from 1 no_counts (first_world desc adapters) (lines_of rest))) status old new now
-script_told input rest desc status old new adapters now is h =
-    subst (λ o. IfSome o (λ bytes. IsJudged (ending_judged (script_from 1 no_counts (first_world desc adapters)
-    (lines_of bytes))) status old new now)) is h
-
-pub runs_opened : (left input : Option (List ℕ)) (adapters now : List Standing) (desc : DescData) (status : Status)
-    (old mid new : Option (List ℕ)) → IfSome left (λ bytes. opening_of bytes (kinds_of adapters) ≡ Ok desc)
-    → IfSome left (λ bytes. input ≡ Some (behind (separator_at bytes) bytes)) → Keeps old mid
-    → IfSome input (λ bytes. IsJudged (ending_judged (script_from 1 no_counts (first_world desc adapters)
-    (lines_of bytes))) status mid new now)
-    → IfSome left (λ bytes. IsJudged (judged bytes adapters) status old new now)
-runs_opened None input adapters now desc status old mid new is rest same t = tt
-runs_opened (Some bytes) input adapters now desc status old mid new is rest same t =
-    let told = script_told input (behind (separator_at bytes) bytes) desc status mid new adapters now rest t in
-    subst (λ j. IsJudged j status old new now) (sym (judged_open bytes adapters desc is))
-    (told_later (ending_judged (script_ending desc bytes adapters)) status old mid new now same told)
+  pub opened_told : ((desc : DescData) (bytes : List ℕ) (adapters : List Standing)
+      → judge (Ok desc) bytes adapters ≡ of_script desc (behind (separator_at bytes) bytes) adapters)
+      → (left input : Option (List ℕ)) (adapters now : List Standing) (desc : DescData) (status : Status)
+      (old mid new : Option (List ℕ)) → IfSome left (λ bytes. opening_of bytes (kinds_of adapters) ≡ Ok desc)
+      → IfSome left (λ bytes. input ≡ Some (behind (separator_at bytes) bytes)) → Keeps old mid
+      → IfSome input (λ script. IsJudged (of_script desc script adapters) status mid new now)
+      → IfSome left (λ bytes. IsJudged (judge (opening_of bytes (kinds_of adapters)) bytes adapters) status old new now)
+  opened_told same None input adapters now desc status old mid new is rest h t = tt
+  opened_told same (Some bytes) input adapters now desc status old mid new is rest h t =
+      told_opened (λ o. judge o bytes adapters) (λ script. of_script desc script adapters) (opening_of bytes (kinds_of adapters)) desc input
+      (behind (separator_at bytes) bytes) status old mid new now is rest (same desc bytes adapters) h t
 
 -- ---- from the first state
 
-pub started : (bytes : List ℕ) (desc : DescData) (adapters : List Standing) (m : ModelData) (st : State) (counts : Counts)
-    → counts ≡ no_counts → IsAt m adapters (Some st) (first_world desc adapters)
-    → script_from 1 counts (world m adapters st) (lines_of bytes) ≡ script_from 1 no_counts
-    (first_world desc adapters) (lines_of bytes)
-started bytes desc adapters m st counts none h =
-    ap (λ c. script_from 1 c (world m adapters st) (lines_of bytes)) none
-    ∙ ap (λ m. script_from 1 no_counts (world m adapters st) (lines_of bytes)) h.model_is
-    ∙ ap (λ st. script_from 1 no_counts (world (first_world desc adapters).model adapters st) (lines_of bytes))
-    (some_is h.device_is)
+-- what is made of the counts and of the state, at the start of a session
+pub from_first : {X : Type 0} (f : Counts → World → X) (desc : DescData) (adapters : List Standing) (m : ModelData) (st : State)
+    (counts : Counts) → counts ≡ no_counts → IsAt m adapters (Some st) (first_world desc adapters)
+    → f counts (world m adapters st) ≡ f no_counts (first_world desc adapters)
+from_first f desc adapters m st counts none h =
+    ap (λ c. f c (world m adapters st)) none ∙ ap (λ m. f no_counts (world m adapters st)) h.model_is
+    ∙ ap (λ st. f no_counts (world (first_world desc adapters).model adapters st)) (some_is h.device_is)
   where
     some_is : {x y : State} → Some x ≡ Some y → x ≡ y
     some_is e = cc
-
-pub session_early : (input : Option (List ℕ)) (desc : DescData) (adapters now : List Standing) (status : Status)
-    (old new : Option (List ℕ)) → is_complete status ≡ false → Keeps old new
-    → IfSome input (λ bytes. IsJudged (ending_judged (script_from 1 no_counts (first_world desc adapters)
-    (lines_of bytes))) status old new now)
-session_early None desc adapters now status old new early h = tt
-session_early (Some bytes) desc adapters now status old new early h =
-    told_early (ending_judged (script_from 1 no_counts (first_world desc adapters)
-    (lines_of bytes))) status old new now early h
-
-pub session_told : (input : Option (List ℕ)) (desc : DescData) (adapters now : List Standing) (m n : ModelData)
-    (st : State) (after : Option State) (counts last : Counts) (status : Status) (old new : Option (List ℕ))
-    → counts ≡ no_counts → IsAt m adapters (Some st) (first_world desc adapters)
-    → IfSome (coming 1 counts m adapters (Some st) input) (λ e. EndsAs e status old new last n now after)
-    → IfSome input (λ bytes. IsJudged (ending_judged (script_from 1 no_counts (first_world desc adapters)
-    (lines_of bytes))) status old new now)
-session_told None desc adapters now m n st after counts last status old new none here h = tt
-session_told (Some bytes) desc adapters now m n st after counts last status old new none here h =
-    let e = script_from 1 no_counts (first_world desc adapters) (lines_of bytes) in
-    let ends : EndsAs e status old new last n now after = subst (λ e. EndsAs e status old new last n now after)
-    (started bytes desc adapters m st counts none here) h in
-    record {
-      tells = record { whole = λ c. let o = ends.whole c in (o.status_is, o.text); part = ends.part };
-      adapters_are = λ c. (ends.whole c).after.adapters_are;
-    }
-
-pub breaks_first : (input : Option (List ℕ)) (desc : DescData) (adapters : List Standing) (m : ModelData) (st : State)
-    (left old new : Option (List ℕ)) → IsAt m adapters (Some st) (first_world desc adapters)
-    → Breaks 1 m adapters (Some st) input left old new
-    → IfSome input (λ bytes. LinesBreak (run_lines desc adapters) bytes left old new)
-breaks_first None desc adapters m st left old new here h = tt
-breaks_first (Some bytes) desc adapters m st left old new here h =
-    breaks_at 1 m adapters (Some st) (first_world desc adapters) (Some bytes) left old new bytes here refl h
 
 -- ---- what is written in the end
 

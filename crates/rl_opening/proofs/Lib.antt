@@ -1,5 +1,4 @@
 pub mod JudgedLemmas
 pub mod OpeningLemmas
-pub mod ScriptLemmas
 pub mod StaysLemmas
 pub mod StopLemmas

@@ -16,7 +16,7 @@ use Rattle.rl_log.specs.Statuses.{is_complete}
 use Rattle.rl_log.specs.Telling.{Tells}
 use Rattle.rl_session.specs.Session.{behind, head_of, opening_after, opening_of}
 use Rattle.rl_session.proofs.SessionLemmas.{found_head, missing_head, long_head, opening_refused, opening_found}
-use Rattle.rl_opening.specs.Opening.{IsFresh, IsUnread, LeavesScript, ReadsHead, OpensWith}
+use Rattle.rl_opening.specs.Opening.{IsFresh, IsUnread, LeavesScript, OpensAs, OpensWith, ReadsHead}
 use Rattle.rl_opening.specs.Telling.{Stops}
 use Rattle.rl_opening.proofs.StopLemmas.{stops_early, stops_with}
 
@@ -139,33 +139,50 @@ pub head_found : (input : Option (List ℕ)) (kinds : List AdapterKind) (desc : 
 head_found None kinds desc lines left h = tt
 head_found (Some bytes) kinds desc lines left h = (h.head, h.reads.finds)
 
+-- ---- a session that refuses more than its description's faults
+
+module _ (over : Result DescData (List ℕ) → Result DescData (List ℕ)) (keeps : (line : List ℕ) → over (Err line) ≡ Err line) where
+  stops_over : (opening : Result DescData (List ℕ)) (status : Status) (old new : Option (List ℕ)) → Stops opening status old new
+      → Stops (over opening) status old new
+  stops_over (Ok desc) status old new s = stops_early (over (Ok desc)) status old new s.0 s.1
+  stops_over (Err line) status old new s = subst (λ o. Stops o status old new) (sym (keeps line)) s
+
+  pub over_stops : (input : Option (List ℕ)) (kinds : List AdapterKind) (status : Status) (old new : Option (List ℕ))
+      → IfSome input (λ bytes. Stops (opening_of bytes kinds) status old new)
+      → IfSome input (λ bytes. Stops (over (opening_of bytes kinds)) status old new)
+  over_stops None kinds status old new s = tt
+  over_stops (Some bytes) kinds status old new s = stops_over (opening_of bytes kinds) status old new s
+
+pub checked_stops : {K : Type 0} (over : Result DescData (List ℕ) → Result DescData (List ℕ)) (written : K → Option (List ℕ))
+    (input : Option (List ℕ)) (kinds : List AdapterKind) (desc : DescData) (lines : Reading) (left : Option (List ℕ)) (status : Status)
+    (old mid new : K) → IfSome input (λ bytes. OpensWith bytes kinds desc lines left) → mid ≡ old
+    → Stops (over (Ok desc)) status (written mid) (written new)
+    → IfSome input (λ bytes. Stops (over (opening_of bytes kinds)) status (written old) (written new))
+checked_stops over written None kinds desc lines left status old mid new opens same s = tt
+checked_stops over written (Some bytes) kinds desc lines left status old mid new opens same s =
+    let stopped = subst (λ o. Stops (over o) status (written mid) (written new)) (sym opens.opening) s in
+    subst (λ k. Stops (over (opening_of bytes kinds)) status (written k) (written new)) same stopped
+
+pub checked_opens : (over : Result DescData (List ℕ) → Result DescData (List ℕ)) (input : Option (List ℕ)) (kinds : List AdapterKind)
+    (desc : DescData) (lines : Reading) (left : Option (List ℕ)) → IfSome input (λ bytes. OpensWith bytes kinds desc lines left)
+    → over (Ok desc) ≡ Ok desc → IfSome input (λ bytes. OpensAs (over (opening_of bytes kinds)) bytes desc lines left)
+checked_opens over None kinds desc lines left opens fits = tt
+checked_opens over (Some bytes) kinds desc lines left opens fits =
+    record { opening = ap over opens.opening ∙ fits; rest = opens.reads.rest }
+
 -- ---- from a reader that was just built
 
-fresh_input : (r : Reading)
-    → r ≡ record {
-      pending = [];
-      line = [];
-      asked = false;
-      found = false;
-      refused = false;
-      ended = false;
-      closed = false;
-    } → IsFresh r
+abbrev just_built : Reading
+just_built =
+    record { pending = []; line = []; asked = false; found = false; refused = false; ended = false; closed = false }
+
+fresh_input : (r : Reading) → r ≡ just_built → IsFresh r
 fresh_input r is = record {
   input = λ left. ap (λ r. input_of r left) is ∙ prepend_known-nil left;
   first = ap (λ (r : Reading). r.asked) is;
   going = ap (λ (r : Reading). r.refused) is;
 }
 
-pub fresh_inputs : {E : Type 0} (r : Result Reading E) → IfOk r
-    (λ r. r ≡ record {
-      pending = [];
-      line = [];
-      asked = false;
-      found = false;
-      refused = false;
-      ended = false;
-      closed = false;
-    }) → IfOk r IsFresh
+pub fresh_inputs : {E : Type 0} (r : Result Reading E) → IfOk r (λ r. r ≡ just_built) → IfOk r IsFresh
 fresh_inputs (Ok r) is = fresh_input r is
 fresh_inputs (Err e) is = tt

@@ -5,6 +5,7 @@ use Rattle.std.specs.Io.KnownBytes.{Keeps}
 use Rattle.std.proofs.lemmas.Bool.{true≢false}
 use Rattle.rl_bus.specs.Causes.{HasCause}
 use Rattle.rl_desc.specs.Data.{DescData}
+use Rattle.rl_report.specs.declared.sink.Sink.{Ghosts as Sink}
 use Rattle.rl_report.specs.Pieces.{Puts}
 use Rattle.rl_log.specs.declared.status.Status.{Status}
 use Rattle.rl_log.specs.declared.status.Status.TheVariants.{Refused, SinkFault}
@@ -12,8 +13,9 @@ use Rattle.rl_log.specs.Causes.{IsCaused}
 use Rattle.rl_log.specs.Statuses.{is_complete}
 use Rattle.rl_log.specs.Telling.{Tells}
 use Rattle.rl_session.specs.Session.{refusal_of}
-use Rattle.rl_play.proofs.EndingLemmas.{tells_all, tells_front, tells_none}
-use Rattle.rl_opening.specs.Telling.{Stops, refused_status}
+use Rattle.rl_log.proofs.TellingLemmas.{tells_all, tells_front, tells_none}
+use Rattle.rl_opening.specs.Telling.{Checks, Stops, refused_status}
+use Rattle.rl_opening.proofs.StaysLemmas.{open_put, open_same}
 
 -- ---- a last line that was written, or not
 
@@ -51,3 +53,22 @@ pub stops_refused : (opening : Result DescData (List ℕ)) (status : Status) (ol
     → Stops opening status old new → opening ≡ Err (refusal_of opening)
 stops_refused (Ok desc) status old new whole s = absurd (true≢false (sym whole ∙ s.0))
 stops_refused (Err line) status old new whole s = refl
+
+-- ---- a check of a description
+
+module _ {K : Type 0} (sink : Sink K) (over : Result DescData (List ℕ) → Result DescData (List ℕ)) (desc : DescData) where
+  pub check_passes : {T : Type 0} (x : T) (k : K) → over (Ok desc) ≡ Ok desc → Checks sink over desc (Ok x) k k
+  check_passes x k is =
+      record { allowed = is; unwritten = refl; stops = tt; cause = tt; stays = open_same sink.written sink.faults sink.ends k k refl }
+
+  pub check_refuses : {X T E : Type 0} (line : List ℕ) (status : Status) (r : Result T E) (old new : K) → over (Ok desc) ≡ Err line
+      → status ≡ refused_status r → Puts (sink.written old) (sink.written new) line r → HasCause (sink.faults old) (sink.faults new) r
+      → sink.ends new ≡ sink.ends old → Checks {T = X} sink over desc (Err status) old new
+  check_refuses line status r old new is answer p cause kept = record {
+    allowed = tt;
+    unwritten = tt;
+    stops = stops_with (over (Ok desc)) line status (sink.written old) (sink.written new) is
+        (tells_put status (sink.written old) (sink.written new) line r answer p);
+    cause = caused_put status 0 0 (sink.faults old) (sink.faults new) r answer cause;
+    stays = open_put sink.written sink.faults sink.ends old new line r p cause kept;
+  }

@@ -1,6 +1,5 @@
 pub mod Opening
 pub mod Output
 pub mod Prelude
-pub mod Script
 pub mod Stays
 pub mod Telling

@@ -48,6 +48,11 @@ pub record IsBehindHead (lines : Reading) : Type 0 where
   pub found : lines.found ≡ true
   pub going : lines.refused ≡ false
 
+-- A session that was opened: its description may be run, and its script is next.
+pub record AwaitsScript (desc : DescData) (lines : Reading) (kinds : List AdapterKind) : Type 0 where
+  pub runnable : IsRunnable desc kinds
+  pub behind : IsBehindHead lines
+
 -- The reader has taken nothing yet.
 pub record IsFresh (lines : Reading) : Type 0 where
   pub input : (left : Option (List ℕ)) → input_of lines left ≡ left

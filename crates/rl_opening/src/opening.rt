@@ -1,9 +1,9 @@
 // A session up to its separator, and its description.
 ghost use Rattle.std.specs.Prelude.{◌≡◌, ◌≢◌, ◌≤◌, ◌<◌, ◌^◌, List, [], Ok, Err, map, length, OnOk, IfOk, IfErr};
 ghost use Rattle.std.specs.Prelude.{IfSome};
-ghost use Rattle.rl_opening.specs.Prelude.{AdapterKind, IsBehindHead, IsCaused, IsFresh, IsRunnable, KeepsEarlier};
-ghost use Rattle.rl_opening.specs.Prelude.{LeavesScript, OpensWith, ReadsHead, Stays, Stops, TakesNoHead, kinds_of};
-ghost use Rattle.rl_opening.specs.Prelude.{opening_after, opening_of, refused_status};
+ghost use Rattle.rl_opening.specs.Prelude.{AdapterKind, AwaitsScript, IsBehindHead, IsCaused, IsFresh, IsRunnable};
+ghost use Rattle.rl_opening.specs.Prelude.{KeepsEarlier, LeavesScript, OpensWith, ReadsHead, Stays, Stops, TakesNoHead};
+ghost use Rattle.rl_opening.specs.Prelude.{kinds_of, opening_after, opening_of, refused_status};
 
 use rl_bus::{Adapter, Adapters};
 use rl_desc::{Desc, DescFault};
@@ -111,8 +111,8 @@ pub fn open_session<S: Source, K: Sink>(
     adapters: &Adapters,
 ) -> Result<(Desc, LineReader), Status>
     requires few { length (map standing adapters.now.items) < 2 ^ 32 }
-    ensures runnable { IfOk result (λ opened. IsRunnable opened.0 (kinds_of (map standing adapters.now.items))) }
-    ensures behind { IfOk result (λ opened. IsBehindHead opened.1) }
+    ensures awaits { IfOk result (λ opened.
+        AwaitsScript opened.0 opened.1 (kinds_of (map standing adapters.now.items))) }
     ensures opens { IfOk result (λ opened. IfSome (S.left source.old) (λ bytes.
         OpensWith bytes (kinds_of (map standing adapters.now.items)) opened.0 opened.1 (S.left source.new))) }
     ensures unwritten { OnOk result (log.new ≡ log.old) }

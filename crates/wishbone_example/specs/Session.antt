@@ -3,7 +3,7 @@ use Rattle.std.specs.Prelude.{ℕ, List, [], ◌∷◌, Bool, true, false, codes
 use Rattle.rl_bus.specs.Standing.{Standing, kinds_of}
 use Rattle.rl_desc.specs.Data.{DescData}
 use Rattle.rl_log.specs.declared.status.Status.{Status}
-use Rattle.rl_opening.specs.Script.{RunsSession}
+use Rattle.rl_running.specs.Script.{RunsSession}
 use Rattle.rl_session.specs.Session.{opening_of}
 
 -- it declares a flaw

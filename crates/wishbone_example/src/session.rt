@@ -1,14 +1,14 @@
 // A session on a device of one's own, from its bytes to its log.
-ghost use Rattle.std.specs.Prelude.{◌≡◌, ◌≤◌, ◌<◌, ◌^◌, Ok, map, length, true, false, OnOk, IfErr, IfSome};
-ghost use Rattle.wishbone_example.specs.Prelude.{IsCaused, KeepsEarlier, Rose, RunsOnTimer, StaysOpen, Stops};
-ghost use Rattle.wishbone_example.specs.Prelude.{has_flaws, is_complete, on_timer};
+ghost use Rattle.std.specs.Prelude.{◌≡◌, ◌<◌, ◌^◌, map, length, IfSome};
+ghost use Rattle.wishbone_example.specs.Prelude.{Checks, LeavesEnded, LeavesOpen, RunsOnTimer, has_flaws, on_timer};
 
 use crate::timer::Timer;
 use rl_bus::{Adapter, Adapters};
 use rl_desc::Desc;
 use rl_log::Status;
-use rl_opening::{end_log, open_session, play_described, refused};
+use rl_opening::{end_log, open_session, refused};
 use rl_report::{Sink, Source, put_all};
+use rl_running::play_described;
 use std::alloc::Global;
 
 // Whether a description declares a flaw.
@@ -20,12 +20,7 @@ fn has_flaws(desc: &Desc) -> bool
 
 // Ends the session where its description declares a flaw: that is one of the device model, which this device isn't.
 fn check_flaws<Q: Sink>(desc: &Desc, log: &mut Q) -> Result<(), Status>
-    ensures allowed { OnOk result (on_timer (Ok desc.now) ≡ Ok desc.now) }
-    ensures unwritten { OnOk result (log.new ≡ log.old) }
-    ensures stops { IfErr result (λ status. Stops (on_timer (Ok desc.now))
-        status (Q.written log.old) (Q.written log.new)) }
-    ensures cause { IfErr result (λ status. IsCaused status 0 0 (Q.faults log.old) (Q.faults log.new)) }
-    ensures stays { StaysOpen Q.written Q.faults Q.ends log.old log.new }
+    ensures checks { Checks Q.Sink on_timer desc.now result log.old log.new }
 {
     if !has_flaws(desc) {
         return Ok(());
@@ -46,10 +41,7 @@ fn run<P: Source, Q: Sink>(
     requires few { length (map standing adapters.old.items) < 2 ^ 32 }
     ensures does { IfSome (P.left session.old) (λ bytes. RunsOnTimer bytes result
         (Q.written log.old) (Q.written log.new) (map standing adapters.old.items) (map standing adapters.new.items)) }
-    ensures source_later { P.faults session.old ≤ P.faults session.new }
-    ensures cause { IsCaused result
-        (P.faults session.old) (P.faults session.new) (Q.faults log.old) (Q.faults log.new) }
-    ensures stays { StaysOpen Q.written Q.faults Q.ends log.old log.new }
+    ensures leaves { LeavesOpen Q.Sink result (P.faults session.old) (P.faults session.new) log.old log.new }
 {
     let (desc, mut lines) = match open_session(alloc, session, log, adapters) {
         Ok(opened) => opened,
@@ -77,17 +69,9 @@ pub(crate) fn run_session<P: Source, Q: Sink>(
     ensures does { IfSome (P.left session.old) (λ bytes. RunsOnTimer bytes result
         (Q.written log.old) (Q.written log.new) (map standing adapters.old.items) (map standing adapters.new.items)) }
 
-    // However it ends, the log keeps the bytes that it had before.
-    ensures keeps_earlier { KeepsEarlier (Q.written log.old) (Q.written log.new) }
-
-    // No fault is made up, and the status is never that of other words.
-    ensures source_later { P.faults session.old ≤ P.faults session.new }
-    ensures cause { IsCaused result
-        (P.faults session.old) (P.faults session.new) (Q.faults log.old) (Q.faults log.new) }
-
-    // The log is ended exactly where its last line was written.
-    ensures ended { is_complete result ≡ true → Rose (Q.ends log.old) (Q.ends log.new) }
-    ensures not_ended { is_complete result ≡ false → Q.ends log.new ≡ Q.ends log.old }
+    // However it ends, the log keeps the bytes that it had before, and is ended exactly where its last line was
+    // written. No fault is made up, and the status is never that of other words.
+    ensures leaves { LeavesEnded Q.Sink result (P.faults session.old) (P.faults session.new) log.old log.new }
 {
     let status = run(alloc, session, log, adapters);
     end_log(status, log)

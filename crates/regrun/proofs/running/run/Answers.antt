@@ -1,23 +1,27 @@
-use Rattle.std.proofs.Common.{◌≡◌, Err, ap, ◌∙◌}
+use Rattle.std.proofs.Common.{◌≡◌, None, Err, refl, ap, ◌∙◌}
 use Rattle.rl_log.specs.declared.status.Status.TheVariants.{SourceFault}
 use Rattle.rl_plain_log.proofs.PlainLaws.{laws}
 use Rattle.rl_plain_log.proofs.PlainSession.{plain_opened}
-use Rattle.rl_session.specs.Judged.{taken_text}
+use Rattle.rl_session.specs.Judged.{judged_by, script_judged, taken_text}
 use Rattle.rl_opening.specs.Output.{run_lines}
 use Rattle.regrun.proofs.BreakLemmas.{off_in_head, off_in_script, run_taken}
-use Rattle.rl_opening.proofs.JudgedLemmas.{runs_stopped, runs_opened}
+use Rattle.rl_opening.proofs.JudgedLemmas.{opened_told, stopped_told}
 use Rattle.rl_opening.proofs.OpeningLemmas.{opens_as, rest_of, head_found}
 use Rattle.regrun.proofs.PlainLemmas.{plain_stopped}
-use Rattle.rl_opening.proofs.StaysLemmas.{keeps_same, stays_then, still_out}
+use Rattle.rl_play.proofs.LeavesLemmas.{leaves_on}
+use Rattle.rl_running.proofs.LeavesLemmas.{ended_leaves, opened_leaves}
+use Rattle.rl_opening.proofs.StaysLemmas.{keeps_same, still_out}
 use Rattle.regrun.proofs.running.run.Goals as goal
 
 pub returns-in-Ok-clause-tells : goal.returns-in-Ok-clause-tells
 returns-in-Ok-clause-tells g c =
     let e = c.in-Ok.ensures in
-    runs_opened _ _ _ _ _ _ _ _ _ (opens_as _ _ _ _ _ e.opens) (rest_of _ _ _ _ _ e.opens) (keeps_same g.L.Sink.written _ _ e.unwritten) c.run_session.ensures.tells
+    opened_told judged_by script_judged (λ desc bytes adapters. refl) _ _ _ _ _ _ _ _ _ (opens_as _ _ _ _ _ e.opens) (rest_of _ _ _ _ _ e.opens)
+    (keeps_same g.L.Sink.written _ _ e.unwritten) c.run_session.ensures.tells
 
 pub returns-in-Err-clause-tells : goal.returns-in-Err-clause-tells
-returns-in-Err-clause-tells g c = runs_stopped _ _ _ _ _ c.in-Err.ensures.stops
+returns-in-Err-clause-tells g c =
+    stopped_told judged_by script_judged (λ line bytes adapters. refl) _ _ _ _ _ c.in-Err.ensures.stops
 
 pub returns-in-Ok-clause-at_fault : goal.returns-in-Ok-clause-at_fault
 returns-in-Ok-clause-at_fault g c = λ is.
@@ -48,5 +52,12 @@ returns-in-Ok-clause-plain g c = λ whole.
 pub returns-in-Err-clause-plain : goal.returns-in-Err-clause-plain
 returns-in-Err-clause-plain g c = λ whole. plain_stopped _ _ c.in-Err.status _ _ whole c.in-Err.ensures.stops
 
-pub returns-in-Ok-clause-stays : goal.returns-in-Ok-clause-stays
-returns-in-Ok-clause-stays g c = stays_then _ _ _ _ _ _ c.open_session.ensures.stays c.run_session.ensures.stays
+pub returns-in-Ok-clause-leaves : goal.returns-in-Ok-clause-leaves
+returns-in-Ok-clause-leaves g c =
+    let e = c.open_session.ensures in
+    leaves_on g.L.Sink _ _ _ _ _ _ None _ (opened_leaves g.L.Sink _ _ _ _ e.source_later e.stays) c.run_session.ensures.leaves
+
+pub returns-in-Err-clause-leaves : goal.returns-in-Err-clause-leaves
+returns-in-Err-clause-leaves g c =
+    let e = c.open_session.ensures in
+    ended_leaves g.L.Sink _ _ _ _ _ e.source_later c.in-Err.ensures.cause e.stays

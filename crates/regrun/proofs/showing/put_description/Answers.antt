@@ -3,7 +3,7 @@ use Rattle.rl_map.specs.LayoutText.{layout_text}
 use Rattle.rl_desc.specs.Data.{DescData}
 use Rattle.rl_log.specs.declared.status.Status.TheVariants.{Passed, SinkFault}
 use Rattle.rl_log.specs.Telling.{Tells}
-use Rattle.rl_play.proofs.EndingLemmas.{tells_all, tells_front}
+use Rattle.rl_log.proofs.TellingLemmas.{tells_all, tells_front}
 use Rattle.regrun.proofs.showing.put_description.Goals as goal
 
 pub returns-in-Ok-clause-tells : goal.returns-in-Ok-clause-tells

@@ -1,7 +1,10 @@
+use Rattle.std.proofs.Common.{None}
 use Rattle.rl_play.proofs.FaultLemmas.{no_source}
+use Rattle.rl_play.proofs.LeavesLemmas.{leaves_written}
 use Rattle.regrun.proofs.JudgedLemmas.{maps_stopped, maps_opened}
 use Rattle.rl_opening.proofs.OpeningLemmas.{opens_as}
-use Rattle.rl_opening.proofs.StaysLemmas.{keeps_same, stays_then}
+use Rattle.rl_opening.proofs.StaysLemmas.{keeps_same}
+use Rattle.rl_running.proofs.LeavesLemmas.{ended_leaves, opened_leaves}
 use Rattle.regrun.proofs.showing.show_layout.Goals as goal
 
 pub returns-in-Err-clause-tells : goal.returns-in-Err-clause-tells
@@ -12,11 +15,18 @@ returns-clause-tells g c =
     let e = c.in-Ok.ensures in
     maps_opened _ _ _ _ _ _ _ (opens_as _ _ _ _ _ e.opens) (keeps_same g.L.Sink.written _ _ e.unwritten) c.put_description.ensures.tells
 
-pub returns-clause-stays : goal.returns-clause-stays
-returns-clause-stays g c = stays_then _ _ _ _ _ _ c.open_session.ensures.stays c.put_description.ensures.stays
+pub returns-clause-leaves : goal.returns-clause-leaves
+returns-clause-leaves g c =
+    let e = c.open_session.ensures in
+    leaves_written g.L.Sink _ _ _ _ _ None _ (opened_leaves g.L.Sink _ _ _ _ e.source_later e.stays) c.put_description.ensures.leaves
+
+pub returns-in-Err-clause-leaves : goal.returns-in-Err-clause-leaves
+returns-in-Err-clause-leaves g c =
+    let e = c.open_session.ensures in
+    ended_leaves g.L.Sink _ _ _ _ _ e.source_later c.in-Err.ensures.cause e.stays
 
 pub returns-clause-at_fault : goal.returns-clause-at_fault
-returns-clause-at_fault g c = λ is. absurd (no_source _ _ _ c.put_description.ensures.cause is)
+returns-clause-at_fault g c = λ is. absurd (no_source _ _ _ c.put_description.ensures.leaves.cause is)
 
 pub returns-in-Err-clause-unread : goal.returns-in-Err-clause-unread
 returns-in-Err-clause-unread g c = λ fault memory. c.in-Err.ensures.unread (λ e. fault (cc)) (λ e. memory (cc))

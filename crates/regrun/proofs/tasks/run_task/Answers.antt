@@ -13,8 +13,8 @@ returns-clause-does g c =
     let f = c.end_buffered.ensures in
     let p = c.perform_task-status.ensures in
     let keeps = rw (← c.requires.earlier) at c.end_buffered.new.log.keeps_earlier in
-    let w = does_written _ _ _ _ _ _ _ _ _ _ _ f.kept f.given_up keeps f.told f.whole
-    (λ fault. f.at_fault fault (p.flushed fault c.new-out.ensures.empty))
+    let w = does_written _ _ _ _ _ _ _ _ _ _ f.kept f.given_up keeps f.told f.whole
+    (λ fault. f.at_fault fault (p.flushed fault c.new-out.ensures.empty)) _
     (rw c.new-out.ensures.told at p.does) in
     search (rules, w)
 

@@ -1,9 +1,14 @@
-use Rattle.std.proofs.Common.{ap, sym, ◌∙◌}
-use Rattle.rl_opening.proofs.StopLemmas.{stops_with, tells_put}
-use Rattle.wishbone_example.specs.Session.{unless_flawed}
+use Rattle.std.proofs.Common.{◌≡◌, Ok, refl, ap, sym, ◌∙◌}
+use Rattle.rl_opening.proofs.StopLemmas.{check_passes, check_refuses}
+use Rattle.wishbone_example.specs.Session.{on_timer, unless_flawed}
 use Rattle.wishbone_example.proofs.session.check_flaws.Goals as goal
 
-pub returns-clause-stops : goal.returns-clause-stops
-returns-clause-stops g c =
-    stops_with _ _ _ _ _ (ap (unless_flawed c.args.desc.now) (sym c.has_flaws.ensures ∙ c.if-not-has_flaws.false))
-    (tells_put _ _ _ _ _ c.refused.ensures c.put_all.ensures.bytes)
+pub returns-then-not-has_flaws : goal.returns-then-not-has_flaws
+returns-then-not-has_flaws g c =
+    record { checks = check_passes g.Q.Sink on_timer c.args.desc.now _ _ (ap (unless_flawed c.args.desc.now) (sym c.has_flaws.ensures ∙ c.if-not-has_flaws.true)) }
+
+pub returns : goal.returns
+returns g c =
+    let refuses = check_refuses g.Q.Sink on_timer c.args.desc.now _ _ _ _ _ (ap (unless_flawed c.args.desc.now) (sym c.has_flaws.ensures ∙ c.if-not-has_flaws.false))
+    c.refused.ensures c.put_all.ensures.bytes c.put_all.ensures.stays.cause c.put_all.ensures.stays.ends in
+    record { checks = refuses }

@@ -1,6 +1,7 @@
 use Rattle.std.proofs.Common.{refl, ◌∙◌}
-use Rattle.rl_opening.proofs.ScriptLemmas.{checked_opens, checked_stops, over_stops, runs_played, runs_stopped}
-use Rattle.rl_opening.proofs.StaysLemmas.{open_then, stays_open}
+use Rattle.rl_opening.proofs.OpeningLemmas.{checked_opens, checked_stops, over_stops}
+use Rattle.rl_opening.proofs.StaysLemmas.{open_played, open_refused, open_stopped}
+use Rattle.rl_running.proofs.ScriptLemmas.{runs_played, runs_stopped}
 use Rattle.wishbone_example.specs.Session.{on_timer}
 use Rattle.wishbone_example.proofs.session.run.Goals as goal
 
@@ -11,25 +12,27 @@ returns-in-Err-clause-does g c =
 pub returns-in-Ok-check_flaws-clause-does : goal.returns-in-Ok-check_flaws-clause-does
 returns-in-Ok-check_flaws-clause-does g c =
     let e = c.in-Ok.ensures in
-    let k = c.in-Ok-check_flaws.ensures in
+    let k = c.in-Ok-check_flaws.ensures.checks in
     runs_played g.Q.Sink.written _ _ _ _ _ _ _ _ _ _ _ (checked_opens on_timer _ _ _ _ _ e.opens k.allowed) (k.unwritten ∙ e.unwritten)
     c.play_described.ensures.plays
 
 pub returns-in-Err-check_flaws-clause-does : goal.returns-in-Err-check_flaws-clause-does
 returns-in-Err-check_flaws-clause-does g c =
     let e = c.in-Ok.ensures in
-    runs_stopped _ _ _ _ _ _ (checked_stops on_timer g.Q.Sink.written _ _ _ _ _ _ _ _ _ e.opens e.unwritten c.in-Err-check_flaws.ensures.stops)
+    runs_stopped _ _ _ _ _ _ (checked_stops on_timer g.Q.Sink.written _ _ _ _ _ _ _ _ _ e.opens e.unwritten c.in-Err-check_flaws.ensures.checks.stops)
 
-pub returns-in-Err-clause-stays : goal.returns-in-Err-clause-stays
-returns-in-Err-clause-stays g c = stays_open _ _ _ _ _ _ c.open_session.ensures.keeps_earlier c.open_session.ensures.stays
-
-pub returns-in-Ok-check_flaws-clause-stays : goal.returns-in-Ok-check_flaws-clause-stays
-returns-in-Ok-check_flaws-clause-stays g c =
+pub returns-in-Err-clause-leaves : goal.returns-in-Err-clause-leaves
+returns-in-Err-clause-leaves g c =
     let e = c.open_session.ensures in
-    open_then _ _ _ _ _ _ (open_then _ _ _ _ _ _ (stays_open _ _ _ _ _ _ e.keeps_earlier e.stays) c.check_flaws.ensures.stays)
-    c.play_described.ensures.stays
+    open_stopped g.Q.Sink _ _ _ _ _ e.source_later c.in-Err.ensures.cause e.keeps_earlier e.stays
 
-pub returns-in-Err-check_flaws-clause-stays : goal.returns-in-Err-check_flaws-clause-stays
-returns-in-Err-check_flaws-clause-stays g c =
+pub returns-in-Ok-check_flaws-clause-leaves : goal.returns-in-Ok-check_flaws-clause-leaves
+returns-in-Ok-check_flaws-clause-leaves g c =
     let e = c.open_session.ensures in
-    open_then _ _ _ _ _ _ (stays_open _ _ _ _ _ _ e.keeps_earlier e.stays) c.check_flaws.ensures.stays
+    open_played g.Q.Sink _ _ _ _ _ _ _ _ e.source_later e.keeps_earlier e.stays c.in-Ok-check_flaws.ensures.checks.unwritten c.play_described.ensures.leaves
+
+pub returns-in-Err-check_flaws-clause-leaves : goal.returns-in-Err-check_flaws-clause-leaves
+returns-in-Err-check_flaws-clause-leaves g c =
+    let e = c.open_session.ensures in
+    let k = c.in-Err-check_flaws.ensures.checks in
+    open_refused g.Q.Sink _ _ _ _ _ _ e.source_later e.keeps_earlier e.stays k.cause k.stays

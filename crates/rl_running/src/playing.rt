@@ -1,0 +1,61 @@
+// The script of a session on a device that tells nothing.
+ghost use Rattle.std.specs.Prelude.{◌≡◌, List, None, map, IfOk};
+ghost use Rattle.rl_running.specs.Prelude.{AwaitsScript, IsBuiltWith, LeavesOpen, PlaysRest, Standing};
+ghost use Rattle.rl_running.specs.Prelude.{first_world, input_of, kinds_of};
+
+use rl_access::Model;
+use rl_bus::{Adapter, Adapters, Device};
+use rl_desc::Desc;
+use rl_log::{Counts, Status};
+use rl_play::play;
+use rl_report::{LineReader, Sink, Source};
+use std::alloc::{AllocError, Global};
+
+// The register model of a description.
+fn model_of(alloc: Global, desc: Desc) -> Result<Model, AllocError>
+    requires built_with { IsBuiltWith desc.layout desc.chip }
+    ensures layout { IfOk result (λ model. model.layout ≡ desc.layout) }
+    ensures first { IfOk result (λ model. (adapters : List Standing) → model ≡ (first_world desc adapters).model) }
+{
+    let Desc {
+        chip,
+        layout,
+        flaws: _,
+    } = desc;
+    let model = Model::build(alloc, chip, layout)?;
+    Ok(model)
+}
+
+/// Runs the script of a session on a device that doesn't tell its state, and writes its log. The log isn't ended.
+pub fn play_described<S: Source, K: Sink, D: Device>(
+    alloc: Global,
+    desc: Desc,
+    device: &mut D,
+    lines: &mut LineReader,
+    source: &mut S,
+    log: &mut K,
+    adapters: &mut Adapters,
+) -> Status
+    requires awaits { AwaitsScript desc lines.old (kinds_of (map standing adapters.old.items)) }
+    requires silent { D.state device.old ≡ None }
+    requires unfailed { D.errors device.old ≡ 0 }
+    ensures plays { PlaysRest desc (input_of lines.old (S.left source.old)) result
+        (K.written log.old) (K.written log.new) (map standing adapters.old.items) (map standing adapters.new.items) }
+    ensures kinds { kinds_of (map standing adapters.new.items) ≡ kinds_of (map standing adapters.old.items) }
+    ensures leaves { LeavesOpen K.Sink result (S.faults source.old) (S.faults source.new) log.old log.new }
+{
+    let Ok(mut model) = model_of(alloc, desc) else {
+        return Status::Memory;
+    };
+    let mut counts = Counts::new();
+    play(
+        alloc,
+        &mut model,
+        device,
+        adapters,
+        lines,
+        source,
+        log,
+        &mut counts,
+    )
+}

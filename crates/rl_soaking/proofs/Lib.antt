@@ -1,0 +1,2 @@
+pub mod SoakLemmas
+pub mod TextLemmas
