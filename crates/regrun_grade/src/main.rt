@@ -5,8 +5,8 @@
 ghost use Rattle.std.specs.Prelude.{◌<◌};
 ghost use Rattle.rl_grading.specs.Asked.{share_of};
 
-use rl_apb::ApbAdapter;
-use rl_bus::{Adapters, PlainAdapter};
+use rl_apb::fresh_adapters;
+use rl_bus::Adapters;
 use rl_grading::{Asked, Meter, asked_by, run_grade};
 use rl_log::Status;
 use rl_program::{code_of, words};
@@ -45,14 +45,7 @@ fn grade(rt: &HostRuntime, asked: Asked) -> Result<Status, AllocError>
     requires { 0 < (share_of asked).every }
 {
     let alloc = rt.alloc();
-    let plain = PlainAdapter {
-        next_tag: 0,
-        trail: 0,
-    };
-    let apb = ApbAdapter {
-        next_serial: 0,
-        trail: 0,
-    };
+    let (plain, apb) = fresh_adapters();
     let mut adapters: Adapters = Vec::new(alloc);
     adapters.push(Box::new(alloc, plain)?)?;
     adapters.push(Box::new(alloc, apb)?)?;

@@ -1,5 +1,5 @@
 // The line of an event, as far as the signal of operations has room for it.
-ghost use Rattle.std.specs.Prelude.{◌≡◌, ◌≤◌, ◌<◌, ◌+◌, ◌++◌, length, take, []};
+ghost use Rattle.std.specs.Prelude.{◌≡◌, ◌≤◌, length, take, []};
 ghost use Rattle.rl_access.specs.Event.{EventFits};
 ghost use Rattle.rl_dump.specs.Label.{label_of};
 ghost use Rattle.rl_report.specs.Event.{event_line};
@@ -7,7 +7,7 @@ ghost use Rattle.rl_report.specs.Lines.{first_line};
 
 use memchr::memchr;
 use rl_access::{Event, Model as Registers};
-use rl_report::{Failed, Sink, write_event_line};
+use rl_report::{Failed, Sink, Text, write_event_line};
 use std::marker::Model;
 
 const ROOM: usize = 127;
@@ -15,29 +15,17 @@ const ROOM: usize = 127;
 /// A sink that takes no more than 127 bytes.
 #[derive(Drop)]
 pub struct Label {
-    bytes: [u8; ROOM],
-    len: usize,
+    text: Text,
 }
 
 impl Model for Label {
-    ghost use Rattle.std.specs.Prelude.{ℕ, List, take, length, ◌≡◌, ◌≤◌};
+    ghost use Rattle.std.specs.Prelude.{ℕ, List, length, ◌≤◌};
 
     ghost Value = { List ℕ };
 
-    ghost view = { λ l. take l.len l.bytes };
+    ghost view = { λ l. l.text };
 
-    ghost invariant = { λ l. (l.len ≤ 127) × (length l.bytes ≡ 127) };
-}
-
-// Copies a piece behind a place, where there is room for it. Answers where it ends.
-fn copy_behind(bytes: &mut [u8], end: usize, piece: &[u8]) -> usize
-    requires room { end + length piece.now ≤ length bytes.old }
-    ensures end { result ≡ end + length piece.now }
-    ensures front { take result bytes.new ≡ take end bytes.old ++ piece.now }
-{
-    let new_end = end + piece.len();
-    bytes[end..new_end].copy_from_slice(piece);
-    new_end
+    ghost invariant = { λ l. length l.text ≤ 127 };
 }
 
 // The first line of a text.
@@ -55,16 +43,7 @@ impl Label {
     pub(crate) fn new() -> Label
         ensures { result ≡ [] }
     {
-        Label {
-            bytes: [0; ROOM],
-            len: 0,
-        }
-    }
-
-    fn clear(&mut self)
-        ensures { self.new ≡ [] }
-    {
-        self.len = 0;
+        Label { text: Text::new() }
     }
 
     // It is 127 at most.
@@ -72,13 +51,7 @@ impl Label {
         ensures len { result ≡ length self.now }
         ensures within { result ≤ 127 }
     {
-        self.len
-    }
-
-    fn as_bytes(&self) -> &[u8]
-        ensures { result.now ≡ self.now }
-    {
-        &self.bytes[..self.len]
+        self.text.len()
     }
 
     /// Takes the line of an event, as far as there is room for it.
@@ -86,7 +59,7 @@ impl Label {
         requires { EventFits model.now event.now }
         ensures { self.new ≡ take 127 (event_line model.now event.now) }
     {
-        self.clear();
+        self.text.clear();
         let _ = write_event_line(self, model, event);
         let _ = self.len();
     }
@@ -95,15 +68,7 @@ impl Label {
     pub(crate) fn line(&self) -> &[u8]
         ensures { result.now ≡ first_line self.now }
     {
-        first_line(self.as_bytes())
-    }
-
-    // Takes a piece that there is room for.
-    fn push(&mut self, piece: &[u8])
-        requires { length self.old + length piece.now ≤ 127 }
-        ensures { self.new ≡ self.old ++ piece.now }
-    {
-        self.len = copy_behind(&mut self.bytes, self.len, piece);
+        first_line(self.text.as_bytes())
     }
 }
 
@@ -123,7 +88,7 @@ impl Sink for Label {
         if count == 0 {
             return Err(Failed);
         }
-        self.push(&piece[..count]);
+        self.text.push(&piece[..count]);
         Ok(count)
     }
 

@@ -6,9 +6,9 @@ ghost use Rattle.rl_grade.specs.Prelude.{heard_by, kinds_of, with_flaw};
 use crate::job::Task;
 use crate::run::{Tried, try_flaw};
 use crate::seen::Seen;
-use rl_apb::ApbAdapter;
+use rl_apb::fresh_adapters;
 use rl_bench::Flaw;
-use rl_bus::{Adapters, PlainAdapter};
+use rl_bus::Adapters;
 use rl_desc::Desc;
 use std::alloc::{AllocError, Global};
 
@@ -29,14 +29,7 @@ pub(crate) fn try_afresh(
     ensures found { IfOk result (λ tried. tried.found ≡ first_find base.now
         (heard_by (first_world (with_flaw desc flaw) fresh_standings) tasks.now)) }
 {
-    let plain = PlainAdapter {
-        next_tag: 0,
-        trail: 0,
-    };
-    let apb = ApbAdapter {
-        next_serial: 0,
-        trail: 0,
-    };
+    let (plain, apb) = fresh_adapters();
     let mut adapters: Adapters = Vec::new(alloc);
     adapters.push(Box::new(alloc, plain)?)?;
     adapters.push(Box::new(alloc, apb)?)?;

@@ -3,9 +3,10 @@ ghost use Rattle.std.specs.Prelude.{◌≡◌, ◌++◌, OnOk};
 ghost use Rattle.rl_graded.specs.Counts.{is_found, is_missed, counts_of, count_text, counts_text, is_told};
 
 use crate::kind::{KINDS, Kind};
-use crate::pieces::{lead, push_pieces};
+use crate::pieces::lead;
 use itoa::Buffer;
 use rl_grade::Graded;
+use rl_session::push_pieces;
 use std::alloc::AllocError;
 
 // How many of some flaws are found, and how many missed.

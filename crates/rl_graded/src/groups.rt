@@ -6,10 +6,11 @@ ghost use Rattle.rl_graded.specs.Groups.{detail_of, is_same_sort, is_first, sort
 
 use crate::kind::Kind;
 use crate::members::push_members;
-use crate::pieces::{lead, push_pieces};
+use crate::pieces::lead;
 use rl_bench::Flaw;
 use rl_map::Layout;
 use rl_model::Chip;
+use rl_session::push_pieces;
 use std::alloc::{AllocError, Global};
 
 // What tells the sorts of one kind apart: the value of a bit that is stuck, the kind of reset, the port of an address.

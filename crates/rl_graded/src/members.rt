@@ -7,12 +7,12 @@ ghost use Rattle.rl_policy.specs.Names.{name_of};
 ghost use Rattle.rl_policy.specs.Numbers.{hex_digits};
 ghost use Rattle.rl_report.specs.Pieces.{joined};
 
-use crate::pieces::{front, push_pieces};
 use itoa::Buffer;
 use rl_bench::Flaw;
 use rl_map::Layout;
 use rl_model::Chip;
 use rl_policy::{Policy, spell};
+use rl_session::{front, push_pieces};
 use std::alloc::{AllocError, Global};
 
 // How many policies a field could have instead of its own.

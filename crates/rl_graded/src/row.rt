@@ -7,13 +7,13 @@ ghost use Rattle.rl_graded.specs.Row.{of_field, value_line, stuck_row, reset_row
 ghost use Rattle.rl_graded.specs.Row.{deaf_row, flaw_row, rows_text};
 
 use crate::line::push_field;
-use crate::pieces::{front, push_pieces};
 use itoa::Buffer;
 use rl_bench::Flaw;
 use rl_grade::Graded;
 use rl_map::Layout;
 use rl_model::{Chip, Item};
 use rl_policy::{Policy, spell};
+use rl_session::{front, push_pieces};
 use std::alloc::AllocError;
 
 // Appends the kind of a flaw of a field, and the field.

@@ -2,9 +2,9 @@
 ghost use Rattle.std.specs.Prelude.{◌≡◌, ◌-◌, ◌++◌, OnOk};
 ghost use Rattle.rl_graded.specs.Totals.{tenths, tenths_text, share_text, end_text, with_graded};
 
-use crate::pieces::push_pieces;
 use itoa::Buffer;
 use rl_grade::Graded;
+use rl_session::push_pieces;
 use std::alloc::AllocError;
 
 /// How many flaws were tried, and how many of them were found. A count that has come to its end stays there.

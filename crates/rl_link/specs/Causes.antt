@@ -1,6 +1,6 @@
 -- Why a call failed.
 use Rattle.rl_link.specs.declared.answer.Cause.{Cause}
-use Rattle.rl_link.specs.declared.answer.Cause.TheVariants.{Unsent, Unread, Closed, TooLong, TooMany, Unasked, Unclear, TooWide, NotDone, Backdoor, Memory}
+use Rattle.rl_link.specs.declared.answer.Cause.TheVariants.{Unsent, Unread, Closed, TooLong, TooMany, Unasked}
 
 -- a line that answers wasn't read
 abbrev pub IsCauseOfReading : Cause → Type 0
@@ -8,13 +8,7 @@ IsCauseOfReading Unread = Unit {0}
 IsCauseOfReading Closed = Unit {0}
 IsCauseOfReading TooLong = Unit {0}
 IsCauseOfReading TooMany = Unit {0}
-IsCauseOfReading Unsent = ⊥
-IsCauseOfReading Unasked = ⊥
-IsCauseOfReading Unclear = ⊥
-IsCauseOfReading TooWide = ⊥
-IsCauseOfReading NotDone = ⊥
-IsCauseOfReading Backdoor = ⊥
-IsCauseOfReading Memory = ⊥
+IsCauseOfReading _ = ⊥
 
 -- a request wasn't sent, or the line that answers wasn't read
 abbrev pub IsCauseOfAsking : Cause → Type 0
@@ -24,8 +18,4 @@ IsCauseOfAsking Unread = Unit {0}
 IsCauseOfAsking Closed = Unit {0}
 IsCauseOfAsking TooLong = Unit {0}
 IsCauseOfAsking TooMany = Unit {0}
-IsCauseOfAsking Unclear = ⊥
-IsCauseOfAsking TooWide = ⊥
-IsCauseOfAsking NotDone = ⊥
-IsCauseOfAsking Backdoor = ⊥
-IsCauseOfAsking Memory = ⊥
+IsCauseOfAsking _ = ⊥

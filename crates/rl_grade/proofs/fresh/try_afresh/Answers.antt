@@ -23,10 +23,10 @@ try_flaw-requires-clause-kinds c =
     kinds_afresh _ _
     (two_are _ _ _ _ _ _ _ _ c.in_ok-push-2.ensures.items c.in_ok-push.ensures.items c.new-adapters.ensures.items
     (read_made {G = Ghosts} {C = Dict} (dyn-1-ghosts (own-1, lawful-own-1)).0 _ at-1-1 refl Standing (λ j v. j.1.standing v)
-    c.into_dyn_box.result.vtable c.into_dyn_box.result.value c.in_ok-new.field-0.value c.into_dyn_box.ensures.1 ∙ ap plain_standing c.in_ok-new.ensures.ok)
+    c.into_dyn_box.result.vtable c.into_dyn_box.result.value c.in_ok-new.field-0.value c.into_dyn_box.ensures.1 ∙ ap plain_standing (c.in_ok-new.ensures.ok ∙ c.fresh_adapters.ensures.plain))
     (read_made {G = Ghosts} {C = Dict} (dyn-1-ghosts (own-1, lawful-own-1)).0 _ at-1-2 refl Standing (λ j v. j.1.standing v)
     c.into_dyn_box-in_ok-new-2.result.vtable c.into_dyn_box-in_ok-new-2.result.value c.in_ok-new-2.field-0.value
-    c.into_dyn_box-in_ok-new-2.ensures.1 ∙ ap apb_standing c.in_ok-new-2.ensures.ok))
+    c.into_dyn_box-in_ok-new-2.ensures.1 ∙ ap apb_standing (c.in_ok-new-2.ensures.ok ∙ c.fresh_adapters.ensures.apb)))
     c.requires.kinds
 
 pub returns-clause-found : goal.returns-clause-found
@@ -34,8 +34,8 @@ returns-clause-found c =
     found_afresh c.args.desc c.args.flaw c.args.tasks.now c.args.base.now c.try_flaw.result _
     (two_are _ _ _ _ _ _ _ _ c.in_ok-push-2.ensures.items c.in_ok-push.ensures.items c.new-adapters.ensures.items
     (read_made {G = Ghosts} {C = Dict} (dyn-1-ghosts (own-1, lawful-own-1)).0 _ at-1-1 refl Standing (λ j v. j.1.standing v)
-    c.into_dyn_box.result.vtable c.into_dyn_box.result.value c.in_ok-new.field-0.value c.into_dyn_box.ensures.1 ∙ ap plain_standing c.in_ok-new.ensures.ok)
+    c.into_dyn_box.result.vtable c.into_dyn_box.result.value c.in_ok-new.field-0.value c.into_dyn_box.ensures.1 ∙ ap plain_standing (c.in_ok-new.ensures.ok ∙ c.fresh_adapters.ensures.plain))
     (read_made {G = Ghosts} {C = Dict} (dyn-1-ghosts (own-1, lawful-own-1)).0 _ at-1-2 refl Standing (λ j v. j.1.standing v)
     c.into_dyn_box-in_ok-new-2.result.vtable c.into_dyn_box-in_ok-new-2.result.value c.in_ok-new-2.field-0.value
-    c.into_dyn_box-in_ok-new-2.ensures.1 ∙ ap apb_standing c.in_ok-new-2.ensures.ok))
+    c.into_dyn_box-in_ok-new-2.ensures.1 ∙ ap apb_standing (c.in_ok-new-2.ensures.ok ∙ c.fresh_adapters.ensures.apb)))
     c.try_flaw.ensures.found
