@@ -81,14 +81,19 @@ fn reset_device<D: Device>(model: &Model, device: &mut D, kind: u32)
     device.reset(kind);
 }
 
-/// Writes a register by the backdoor: each field's declared write effect, with the mirror's spent mark, on the
-/// bits that the device has.
-pub fn back_write<D: Device>(model: &mut Model, device: &mut D, reg: u32, value: u64) -> Event
+/// Does what [`crate::back_write`] says, and tells it in the event.
+pub(crate) fn back_write_into<D: Device>(
+    model: &mut Model,
+    device: &mut D,
+    reg: u32,
+    value: u64,
+    event: &mut Event,
+)
     requires device { IsDeviceOf model.old (D.state device.old) }
     requires reg { reg < length model.old.chip.regs }
-    ensures stays { StaysOffBus D.errors D.state model.old model.new device.old device.new result }
+    ensures stays { StaysOffBus D.errors D.state model.old model.new device.old device.new event.new }
     ensures performs { PerformsOffBus D.errors D.state model.old model.new device.old device.new
-        (Op.BackWrite reg value) result }
+        (Op.BackWrite reg value) event.new }
     ensures refused { OnErr (grant model.old (Op.BackWrite reg value)) (device.new ≡ device.old) }
 {
     let op = Op::BackWrite { reg, value };
@@ -99,9 +104,9 @@ pub fn back_write<D: Device>(model: &mut Model, device: &mut D, reg: u32, value:
             let word = value_written(model, reg, sampled, value);
             deposit(model, device, reg, word);
             model.predict_raw(reg, word);
-            model.event(op, reg, End::Done, 0)
+            model.fill(op, reg, End::Done, 0, event)
         }
-        Err(why) => model.refuse(op, reg, why),
+        Err(why) => model.refuse(op, reg, why, event),
     }
 }
 
@@ -127,23 +132,28 @@ fn sample<D: Device>(model: &mut Model, device: &mut D, reg: u32, check: bool) -
     (value, differ)
 }
 
-/// Reads a register by the backdoor, with each field's declared read effect. With `check` the event names the
-/// compared fields whose bits aren't those that were mirrored before the read.
-pub fn back_read<D: Device>(model: &mut Model, device: &mut D, reg: u32, check: bool) -> Event
+/// Does what [`crate::back_read`] says, and tells it in the event.
+pub(crate) fn back_read_into<D: Device>(
+    model: &mut Model,
+    device: &mut D,
+    reg: u32,
+    check: bool,
+    event: &mut Event,
+)
     requires device { IsDeviceOf model.old (D.state device.old) }
     requires reg { reg < length model.old.chip.regs }
-    ensures stays { StaysOffBus D.errors D.state model.old model.new device.old device.new result }
+    ensures stays { StaysOffBus D.errors D.state model.old model.new device.old device.new event.new }
     ensures performs { PerformsOffBus D.errors D.state model.old model.new device.old device.new
-        (if check then Op.BackCheck reg else Op.BackRead reg) result }
+        (if check then Op.BackCheck reg else Op.BackRead reg) event.new }
     ensures refused { OnErr (grant model.old (Op.BackRead reg)) (device.new ≡ device.old) }
 {
     let op = back_reading(reg, check);
     match model.by_backdoor(Item::Reg(reg)) {
         Ok(_) => {
             let (value, differ) = sample(model, device, reg, check);
-            model.event(op, reg, End::Value { value }, differ)
+            model.fill(op, reg, End::Value { value }, differ, event)
         }
-        Err(why) => model.refuse(op, reg, why),
+        Err(why) => model.refuse(op, reg, why, event),
     }
 }
 
@@ -157,12 +167,13 @@ fn back_reading(reg: u32, check: bool) -> Op
     }
 }
 
-/// Samples the bits of a register, and takes them as mirrored and desired value.
-pub fn peek<D: Device>(model: &mut Model, device: &mut D, reg: u32) -> Event
+/// Does what [`crate::peek`] says, and tells it in the event.
+pub(crate) fn peek_into<D: Device>(model: &mut Model, device: &mut D, reg: u32, event: &mut Event)
     requires device { IsDeviceOf model.old (D.state device.old) }
     requires reg { reg < length model.old.chip.regs }
-    ensures stays { StaysOffBus D.errors D.state model.old model.new device.old device.new result }
-    ensures performs { PerformsOffBus D.errors D.state model.old model.new device.old device.new (Op.Peek reg) result }
+    ensures stays { StaysOffBus D.errors D.state model.old model.new device.old device.new event.new }
+    ensures performs { PerformsOffBus D.errors D.state model.old model.new device.old device.new
+        (Op.Peek reg) event.new }
     ensures unchanged { device.new ≡ device.old }
 {
     let op = Op::Peek { reg };
@@ -170,19 +181,25 @@ pub fn peek<D: Device>(model: &mut Model, device: &mut D, reg: u32) -> Event
         Ok(_) => {
             let bits = sampled(model, device, reg);
             model.predict_raw(reg, bits);
-            model.event(op, reg, End::Value { value: bits }, 0)
+            model.fill(op, reg, End::Value { value: bits }, 0, event)
         }
-        Err(why) => model.refuse(op, reg, why),
+        Err(why) => model.refuse(op, reg, why, event),
     }
 }
 
-/// Deposits bits in a register, and takes them as mirrored and desired value.
-pub fn poke<D: Device>(model: &mut Model, device: &mut D, reg: u32, value: u64) -> Event
+/// Does what [`crate::poke`] says, and tells it in the event.
+pub(crate) fn poke_into<D: Device>(
+    model: &mut Model,
+    device: &mut D,
+    reg: u32,
+    value: u64,
+    event: &mut Event,
+)
     requires device { IsDeviceOf model.old (D.state device.old) }
     requires reg { reg < length model.old.chip.regs }
-    ensures stays { StaysOffBus D.errors D.state model.old model.new device.old device.new result }
+    ensures stays { StaysOffBus D.errors D.state model.old model.new device.old device.new event.new }
     ensures performs { PerformsOffBus D.errors D.state model.old model.new device.old device.new
-        (Op.Poke reg value) result }
+        (Op.Poke reg value) event.new }
     ensures refused { OnErr (grant model.old (Op.Poke reg value)) (device.new ≡ device.old) }
 {
     let op = Op::Poke { reg, value };
@@ -191,19 +208,25 @@ pub fn poke<D: Device>(model: &mut Model, device: &mut D, reg: u32, value: u64) 
         Ok(_) => {
             deposit(model, device, reg, value);
             model.predict_raw(reg, value);
-            model.event(op, reg, End::Done, 0)
+            model.fill(op, reg, End::Done, 0, event)
         }
-        Err(why) => model.refuse(op, reg, why),
+        Err(why) => model.refuse(op, reg, why, event),
     }
 }
 
-/// The hardware changes a volatile field by itself. The model learns nothing of it.
-pub fn hw<D: Device>(model: &mut Model, device: &mut D, field: u32, value: u64) -> Event
+/// Does what [`crate::hw`] says, and tells it in the event.
+pub(crate) fn hw_into<D: Device>(
+    model: &mut Model,
+    device: &mut D,
+    field: u32,
+    value: u64,
+    event: &mut Event,
+)
     requires device { IsDeviceOf model.old (D.state device.old) }
     requires field { field < length model.old.chip.fields }
-    ensures stays { StaysOffBus D.errors D.state model.old model.new device.old device.new result }
+    ensures stays { StaysOffBus D.errors D.state model.old model.new device.old device.new event.new }
     ensures performs { PerformsOffBus D.errors D.state model.old model.new device.old device.new
-        (Op.Hw field value) result }
+        (Op.Hw field value) event.new }
     ensures refused { OnErr (grant model.old (Op.Hw field value)) (device.new ≡ device.old) }
 {
     let shape = model.field(field);
@@ -212,23 +235,23 @@ pub fn hw<D: Device>(model: &mut Model, device: &mut D, field: u32, value: u64) 
     match model.fitting_field(field, value, grant) {
         Ok(_) => {
             set_by_hardware(model, device, field, value);
-            model.event(op, shape.reg, End::Done, 0)
+            model.fill(op, shape.reg, End::Done, 0, event)
         }
-        Err(why) => model.refuse(op, shape.reg, why),
+        Err(why) => model.refuse(op, shape.reg, why, event),
     }
 }
 
-/// Resets the device and the model. Kind 0 is HARD, kind 1 is SOFT.
-pub fn reset<D: Device>(model: &mut Model, device: &mut D, kind: u32) -> Event
+/// Does what [`crate::reset`] says, and tells it in the event.
+pub(crate) fn reset_into<D: Device>(model: &mut Model, device: &mut D, kind: u32, event: &mut Event)
     requires device { IsDeviceOf model.old (D.state device.old) }
     requires kind { kind < length model.old.chip.kinds }
-    ensures stays { StaysOffBus D.errors D.state model.old model.new device.old device.new result }
+    ensures stays { StaysOffBus D.errors D.state model.old model.new device.old device.new event.new }
     ensures performs { PerformsOffBus D.errors D.state model.old model.new device.old device.new
-        (Op.Reset kind) result }
+        (Op.Reset kind) event.new }
 {
     reset_device(model, device, kind);
     model.reset(kind);
-    model.memory_event(Op::Reset { kind }, End::Done)
+    model.fill_memory(Op::Reset { kind }, End::Done, event)
 }
 
 /// Takes the bits of a register as known: each field takes its part of them as mirrored and desired value.

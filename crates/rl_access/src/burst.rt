@@ -10,7 +10,7 @@ ghost use Rattle.rl_access.specs.Tally.{counted, is_bus_error};
 ghost use Rattle.rl_access.specs.declared.event.End.TheVariants as end;
 
 use crate::event::{End, Event, Op, Refused, Tally};
-use crate::memory::{mem_read, mem_write};
+use crate::memory::{mem_read_into, mem_write_into};
 use crate::model::Model;
 use crate::recorder::Recorder;
 use crate::refusal::{Grant, only_where};
@@ -61,7 +61,8 @@ fn refuse_burst<R: Recorder>(
     ensures steady { R.steady rec.new ≡ R.steady rec.old }
 {
     let mut tally = Tally::new();
-    let event = model.refuse_memory(op, why);
+    let mut event = Event::blank();
+    model.refuse_memory(op, why, &mut event);
     hand_over(model, &event, rec, &mut tally)?;
     Ok(tally)
 }
@@ -146,8 +147,10 @@ fn write_locations<D: Device, R: Recorder>(
     ensures steady { R.steady rec.new ≡ R.steady rec.old }
 {
     let mut tally = Tally::new();
+    let mut event = Event::blank();
     for (k, value) in values.iter().enumerate() {
-        let event = mem_write(model, device, adapters, mem, map, first + k as u64, *value);
+        let index = first + k as u64;
+        mem_write_into(model, device, adapters, mem, map, index, *value, &mut event);
         hand_over(model, &event, rec, &mut tally)?;
         if is_bus_error(event.end) {
             return Ok(tally);
@@ -219,8 +222,9 @@ fn read_locations<D: Device, R: Recorder>(
     ensures steady { R.steady rec.new ≡ R.steady rec.old }
 {
     let mut tally = Tally::new();
+    let mut event = Event::blank();
     for index in first..first + count {
-        let event = mem_read(model, device, adapters, mem, map, index);
+        mem_read_into(model, device, adapters, mem, map, index, &mut event);
         hand_over(model, &event, rec, &mut tally)?;
         if is_bus_error(event.end) {
             return Ok(tally);

@@ -8,24 +8,25 @@ use crate::event::{End, Event, Op, Refused};
 use crate::model::Model;
 
 impl Model {
-    /// The event of an operation on a register that has ended and sent nothing.
-    pub(crate) fn event(&self, op: Op, reg: u32, end: End, differ: u64) -> Event
+    /// Fills the event of an operation on a register that has ended and sent nothing.
+    pub(crate) fn fill(&self, op: Op, reg: u32, end: End, differ: u64, event: &mut Event)
         requires reg { reg < length self.now.chip.regs }
         requires register { register_of self.now.chip op ≡ Some reg }
         requires numbers { HasNumbers self.now.chip (length self.now.layout.maps) op }
         requires ends { has_end op end ≡ true }
         requires within { IsEndWithin (digits_of self.now.chip op) end }
         requires differ { differ < 2 ^ count_of self.now.chip reg }
-        ensures event { result ≡ register_event op reg [] (record { end = end; model = self.now; differ = differ }) }
-        ensures fits { EventFits self.now result }
+        ensures event { event.new ≡
+            register_event op reg [] (record { end = end; model = self.now; differ = differ }) }
+        ensures fits { EventFits self.now event.new }
     {
-        let mut event = Event::begun(op);
-        self.conclude(reg, end, differ, &mut event);
-        event
+        event.begin(op);
+        self.conclude(reg, end, differ, event);
     }
 
-    /// Ends the event of an operation on a register, whose items it has.
-    pub(crate) fn conclude(&self, reg: u32, end: End, differ: u64, event: &mut Event)
+    /// Ends the event of an operation on a register, whose items it has: it tells how the operation ended and what is
+    /// believed of the register, with the fields that a check found to differ.
+    pub fn conclude(&self, reg: u32, end: End, differ: u64, event: &mut Event)
         requires reg { reg < length self.now.chip.regs }
         requires register { register_of self.now.chip event.old.op ≡ Some reg }
         requires numbers { HasNumbers self.now.chip (length self.now.layout.maps) event.old.op }
@@ -45,25 +46,25 @@ impl Model {
         event.differ = differ;
     }
 
-    /// The event of an operation on a register that was refused.
-    pub(crate) fn refuse(&self, op: Op, reg: u32, why: Refused) -> Event
+    /// Fills the event of an operation on a register that was refused.
+    pub(crate) fn refuse(&self, op: Op, reg: u32, why: Refused, event: &mut Event)
         requires told { IsTold self.now op reg }
         requires ends { has_end op (end.Refused why) ≡ true }
-        ensures event { result ≡ register_event op reg [] (quiet (end.Refused why) self.now) }
-        ensures fits { EventFits self.now result }
+        ensures event { event.new ≡ register_event op reg [] (quiet (end.Refused why) self.now) }
+        ensures fits { EventFits self.now event.new }
     {
-        self.event(op, reg, End::Refused { why }, 0)
+        self.fill(op, reg, End::Refused { why }, 0, event);
     }
 
-    /// The event of an operation on a memory that was refused.
-    pub(crate) fn refuse_memory(&self, op: Op, why: Refused) -> Event
+    /// Fills the event of an operation on a memory that was refused.
+    pub(crate) fn refuse_memory(&self, op: Op, why: Refused, event: &mut Event)
         requires register { register_of self.now.chip op ≡ None }
         requires numbers { HasNumbers self.now.chip (length self.now.layout.maps) op }
         requires ends { has_end op (end.Refused why) ≡ true }
-        ensures event { result ≡ memory_event op [] (quiet (end.Refused why) self.now) }
-        ensures fits { EventFits self.now result }
+        ensures event { event.new ≡ memory_event op [] (quiet (end.Refused why) self.now) }
+        ensures fits { EventFits self.now event.new }
     {
-        self.memory_event(op, End::Refused { why })
+        self.fill_memory(op, End::Refused { why }, event);
     }
 
     /// Ends the event of an operation on a memory, whose items it has.
@@ -84,17 +85,16 @@ impl Model {
         event.differ = differ;
     }
 
-    /// The event of an operation on no register that has ended and sent nothing.
-    pub(crate) fn memory_event(&self, op: Op, end: End) -> Event
+    /// Fills the event of an operation on no register that has ended and sent nothing.
+    pub(crate) fn fill_memory(&self, op: Op, end: End, event: &mut Event)
         requires register { register_of self.now.chip op ≡ None }
         requires numbers { HasNumbers self.now.chip (length self.now.layout.maps) op }
         requires ends { has_end op end ≡ true }
         requires within { IsEndWithin (digits_of self.now.chip op) end }
-        ensures event { result ≡ memory_event op [] (record { end = end; model = self.now; differ = 0 }) }
-        ensures fits { EventFits self.now result }
+        ensures event { event.new ≡ memory_event op [] (record { end = end; model = self.now; differ = 0 }) }
+        ensures fits { EventFits self.now event.new }
     {
-        let mut event = Event::begun(op);
-        self.conclude_memory(end, 0, &mut event);
-        event
+        event.begin(op);
+        self.conclude_memory(end, 0, event);
     }
 }

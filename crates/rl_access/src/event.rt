@@ -208,18 +208,30 @@ impl Event {
     ghost use Rattle.std.specs.Prelude.{◌≡◌, []};
     ghost use Rattle.rl_access.specs.declared.event.End.TheVariants as end;
 
-    /// An operation that has sent nothing yet.
-    pub(crate) fn begun(op: Op) -> Event
-        ensures { result ≡ record { op = op; end = end.Done; trace = []; mirrored = 0; desired = 0; differ = 0 } }
+    /// An event that a call may fill. It has no items, and tells of nothing that was done.
+    pub fn blank() -> Event
+        ensures no_items { result.trace ≡ [] }
     {
         Event {
-            op,
+            op: Op::Reset { kind: 0 },
             end: End::Done,
             trace: Trace::new(),
             mirrored: 0,
             desired: 0,
             differ: 0,
         }
+    }
+
+    /// Becomes that of an operation that has sent nothing yet.
+    pub(crate) fn begin(&mut self, op: Op)
+        ensures { self.new ≡ record { op = op; end = end.Done; trace = []; mirrored = 0; desired = 0; differ = 0 } }
+    {
+        self.op = op;
+        self.end = End::Done;
+        self.trace.clear();
+        self.mirrored = 0;
+        self.desired = 0;
+        self.differ = 0;
     }
 }
 

@@ -14,17 +14,16 @@
 mod access;
 mod backdoor;
 mod burst;
+mod calls;
 mod ending;
 mod engine;
 mod event;
-mod fields;
 mod frontdoor;
 pub mod law;
 mod location;
 mod memory;
 mod model;
 mod operation;
-mod other;
 mod predictor;
 mod recorder;
 mod refusal;
@@ -32,20 +31,20 @@ mod register;
 mod send;
 mod tally;
 mod trace;
-mod updates;
+mod wishes;
 mod word;
 
-pub use backdoor::{adopt, back_read, back_write, hw, peek, poke, reset};
+pub use backdoor::adopt;
 pub use burst::{burst_read, burst_write};
+pub use calls::{
+    back_read, back_write, field_read, field_write, front_read, front_write, hw, mem_check,
+    mem_peek, mem_poke, mem_read, mem_write, mirror, other_read, other_write, peek, poke, reset,
+    set, show, update,
+};
 pub use event::{End, Event, Op, Refused, Tally};
-pub use fields::{field_read, field_write, set, show};
-pub use frontdoor::{front_read, front_write, mirror};
-pub use memory::{mem_check, mem_peek, mem_poke, mem_read, mem_write};
 pub use model::Model;
-pub use operation::perform;
-pub use other::{other_read, other_write};
+pub use operation::{perform, perform_into};
 pub use predictor::Predictor;
 pub use recorder::Recorder;
 pub use trace::{Trace, TraceItem};
-pub use updates::update;
 pub use word::send_word;

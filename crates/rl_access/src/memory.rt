@@ -12,8 +12,8 @@ use crate::model::Model;
 use rl_bus::{Adapter, Adapters, Device};
 use rl_model::Item;
 
-/// Writes a location of a memory over the bus.
-pub fn mem_write<D: Device>(
+/// Does what [`crate::mem_write`] says, and tells it in the event.
+pub(crate) fn mem_write_into<D: Device>(
     model: &mut Model,
     device: &mut D,
     adapters: &mut Adapters,
@@ -21,14 +21,15 @@ pub fn mem_write<D: Device>(
     map: Option<u32>,
     index: u64,
     value: u64,
-) -> Event
+    event: &mut Event,
+)
     requires ready { IsReady model.old (each standing adapters.old.items) (D.state device.old) }
     requires mem { mem < length model.old.chip.mems }
     requires map { IsMapIn (length model.old.layout.maps) map }
     ensures model { model.new ≡ model.old }
     ensures does { Does (scene_of standing D.errors D.state model.old adapters.old.items device.old)
         (scene_of standing D.errors D.state model.new adapters.new.items device.new)
-        (Op.MemWrite mem map index value) result }
+        (Op.MemWrite mem map index value) event.new }
     ensures refused { OnErr (grant model.old (Op.MemWrite mem map index value)) (device.new ≡ device.old) }
 {
     let item = Item::Mem(mem);
@@ -42,31 +43,32 @@ pub fn mem_write<D: Device>(
     let way = model.writable(mem, model.way(place, true));
     let place = match model.fitting(item, value, model.at_location(mem, index, way)) {
         Ok(place) => place,
-        Err(why) => return model.refuse_memory(op, why),
+        Err(why) => return model.refuse_memory(op, why, event),
     };
-    let mut event = Event::begun(op);
+    event.begin(op);
     let outgoing = outgoing_at(model, mem, place, index as u32, value, true);
     send(model, device, adapters, &outgoing, &mut event.trace);
     let end = end_of_write(&event.trace);
-    model.conclude_memory(end, 0, &mut event);
-    event
+    model.conclude_memory(end, 0, event);
 }
 
-/// Reads a location of a memory over the bus.
-pub fn mem_read<D: Device>(
+/// Does what [`crate::mem_read`] says, and tells it in the event.
+pub(crate) fn mem_read_into<D: Device>(
     model: &mut Model,
     device: &mut D,
     adapters: &mut Adapters,
     mem: u32,
     map: Option<u32>,
     index: u64,
-) -> Event
+    event: &mut Event,
+)
     requires ready { IsReady model.old (each standing adapters.old.items) (D.state device.old) }
     requires mem { mem < length model.old.chip.mems }
     requires map { IsMapIn (length model.old.layout.maps) map }
     ensures model { model.new ≡ model.old }
     ensures does { Does (scene_of standing D.errors D.state model.old adapters.old.items device.old)
-        (scene_of standing D.errors D.state model.new adapters.new.items device.new) (Op.MemRead mem map index) result }
+        (scene_of standing D.errors D.state model.new adapters.new.items device.new)
+        (Op.MemRead mem map index) event.new }
     ensures refused { OnErr (grant model.old (Op.MemRead mem map index)) (device.new ≡ device.old) }
 {
     let place = model.place_of(Item::Mem(mem), map);
@@ -77,16 +79,15 @@ pub fn mem_read<D: Device>(
     };
     let place = match model.at_location(mem, index, model.way(place, false)) {
         Ok(place) => place,
-        Err(why) => return model.refuse_memory(op, why),
+        Err(why) => return model.refuse_memory(op, why, event),
     };
-    let mut event = Event::begun(op);
+    event.begin(op);
     let end = read_location(model, device, adapters, mem, place, index, &mut event.trace);
-    model.conclude_memory(end, 0, &mut event);
-    event
+    model.conclude_memory(end, 0, event);
 }
 
-/// Reads a location of a memory over the bus, and compares it with a value.
-pub fn mem_check<D: Device>(
+/// Does what [`crate::mem_check`] says, and tells it in the event.
+pub(crate) fn mem_check_into<D: Device>(
     model: &mut Model,
     device: &mut D,
     adapters: &mut Adapters,
@@ -94,14 +95,15 @@ pub fn mem_check<D: Device>(
     map: Option<u32>,
     index: u64,
     value: u64,
-) -> Event
+    event: &mut Event,
+)
     requires ready { IsReady model.old (each standing adapters.old.items) (D.state device.old) }
     requires mem { mem < length model.old.chip.mems }
     requires map { IsMapIn (length model.old.layout.maps) map }
     ensures model { model.new ≡ model.old }
     ensures does { Does (scene_of standing D.errors D.state model.old adapters.old.items device.old)
         (scene_of standing D.errors D.state model.new adapters.new.items device.new)
-        (Op.MemCheck mem map index value) result }
+        (Op.MemCheck mem map index value) event.new }
     ensures refused { OnErr (grant model.old (Op.MemCheck mem map index value)) (device.new ≡ device.old) }
 {
     let item = Item::Mem(mem);
@@ -115,12 +117,11 @@ pub fn mem_check<D: Device>(
     let way = model.at_location(mem, index, model.way(place, false));
     let place = match model.fitting(item, value, way) {
         Ok(place) => place,
-        Err(why) => return model.refuse_memory(op, why),
+        Err(why) => return model.refuse_memory(op, why, event),
     };
-    let mut event = Event::begun(op);
+    event.begin(op);
     let end = read_location(model, device, adapters, mem, place, index, &mut event.trace);
-    model.conclude_memory(end, differs(end, value), &mut event);
-    event
+    model.conclude_memory(end, differs(end, value), event);
 }
 
 // 1 where a value was read that isn't the given one.
@@ -134,42 +135,49 @@ fn differs(end: End, value: u64) -> u64
     }
 }
 
-/// Samples a location of a memory by the backdoor.
-pub fn mem_peek<D: Device>(model: &mut Model, device: &mut D, mem: u32, index: u64) -> Event
+/// Does what [`crate::mem_peek`] says, and tells it in the event.
+pub(crate) fn mem_peek_into<D: Device>(
+    model: &mut Model,
+    device: &mut D,
+    mem: u32,
+    index: u64,
+    event: &mut Event,
+)
     requires device { IsDeviceOf model.old (D.state device.old) }
     requires mem { mem < length model.old.chip.mems }
     ensures model { model.new ≡ model.old }
     ensures device { device.new ≡ device.old }
-    ensures fits { EventFits model.new result }
+    ensures fits { EventFits model.new event.new }
     ensures performs { PerformsOffBus D.errors D.state model.old model.new device.old device.new
-        (Op.MemPeek mem index) result }
+        (Op.MemPeek mem index) event.new }
 {
     let op = Op::MemPeek { mem, index };
     match model.at_location(mem, index, model.by_backdoor(Item::Mem(mem))) {
         Ok(_) => {
             let value = location_sampled(model, device, mem, index as u32);
-            model.memory_event(op, End::Value { value })
+            model.fill_memory(op, End::Value { value }, event)
         }
-        Err(why) => model.refuse_memory(op, why),
+        Err(why) => model.refuse_memory(op, why, event),
     }
 }
 
-/// Deposits a value in a location of a memory by the backdoor.
-pub fn mem_poke<D: Device>(
+/// Does what [`crate::mem_poke`] says, and tells it in the event.
+pub(crate) fn mem_poke_into<D: Device>(
     model: &mut Model,
     device: &mut D,
     mem: u32,
     index: u64,
     value: u64,
-) -> Event
+    event: &mut Event,
+)
     requires device { IsDeviceOf model.old (D.state device.old) }
     requires mem { mem < length model.old.chip.mems }
     ensures model { model.new ≡ model.old }
     ensures device { IsDeviceOf model.new (D.state device.new) }
-    ensures fits { EventFits model.new result }
+    ensures fits { EventFits model.new event.new }
     ensures later { D.errors device.old ≤ D.errors device.new }
     ensures performs { PerformsOffBus D.errors D.state model.old model.new device.old device.new
-        (Op.MemPoke mem index value) result }
+        (Op.MemPoke mem index value) event.new }
     ensures refused { OnErr (grant model.old (Op.MemPoke mem index value)) (device.new ≡ device.old) }
 {
     let op = Op::MemPoke { mem, index, value };
@@ -178,8 +186,8 @@ pub fn mem_poke<D: Device>(
     match model.fitting(item, value, grant) {
         Ok(_) => {
             deposit_location(model, device, mem, index as u32, value);
-            model.memory_event(op, End::Done)
+            model.fill_memory(op, End::Done, event)
         }
-        Err(why) => model.refuse_memory(op, why),
+        Err(why) => model.refuse_memory(op, why, event),
     }
 }

@@ -20,7 +20,8 @@ pub(crate) fn write_register<D: Device>(
     place: u32,
     value: u64,
     good: End,
-) -> Event
+    event: &mut Event,
+)
     requires ready { IsReady model.old (each standing adapters.old.items) (D.state device.old) }
     requires place { IsPlaceFor model.old (item.Reg reg) place }
     requires value { value < 256 ^ size_of model.old.chip reg }
@@ -29,17 +30,16 @@ pub(crate) fn write_register<D: Device>(
     requires within { IsEndWithin (digits_of model.old.chip op) good }
     ensures ready { IsReady model.new (each standing adapters.new.items) (D.state device.new) }
     ensures parts { IsSameChip model.old model.new }
-    ensures fits { EventFits model.new result }
+    ensures fits { EventFits model.new event.new }
     ensures written { IsWrittenBy
         (scene_of standing D.errors D.state (forgetting model.old place) adapters.old.items device.old)
         (scene_of standing D.errors D.state model.new adapters.new.items device.new)
-        op (whole model.old reg place value) good result }
+        op (whole model.old reg place value) good event.new }
 {
     let access = model.whole(reg, place, value);
     model.forget(place);
-    let mut event = Event::begun(op);
-    write_as(model, device, adapters, &access, good, &mut event);
-    event
+    event.begin(op);
+    write_as(model, device, adapters, &access, good, event);
 }
 
 /// Reads the register. In a check the event names the compared fields whose bits aren't those that were mirrored
@@ -52,7 +52,8 @@ pub(crate) fn read_register<D: Device>(
     reg: u32,
     place: u32,
     check: bool,
-) -> Event
+    event: &mut Event,
+)
     requires ready { IsReady model.old (each standing adapters.old.items) (D.state device.old) }
     requires place { IsPlaceFor model.old (item.Reg reg) place }
     requires told { IsTold model.old op reg }
@@ -60,15 +61,14 @@ pub(crate) fn read_register<D: Device>(
     requires digits { digits_of model.old.chip op ≡ 2 * size_of model.old.chip reg }
     ensures ready { IsReady model.new (each standing adapters.new.items) (D.state device.new) }
     ensures parts { IsSameChip model.old model.new }
-    ensures fits { EventFits model.new result }
+    ensures fits { EventFits model.new event.new }
     ensures read { IsReadBy
         (scene_of standing D.errors D.state (forgetting model.old place) adapters.old.items device.old)
         (scene_of standing D.errors D.state model.new adapters.new.items device.new)
-        op (whole model.old reg place 0) check result }
+        op (whole model.old reg place 0) check event.new }
 {
     let access = model.whole_read(reg, place);
     model.forget(place);
-    let mut event = Event::begun(op);
-    read_as(model, device, adapters, &access, check, &mut event);
-    event
+    event.begin(op);
+    read_as(model, device, adapters, &access, check, event);
 }

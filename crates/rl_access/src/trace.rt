@@ -144,6 +144,13 @@ impl Trace {
         }
     }
 
+    /// Lets its items go.
+    pub fn clear(&mut self)
+        ensures { self.new ≡ [] }
+    {
+        self.len = 0;
+    }
+
     /// Appends an item.
     pub fn push(&mut self, item: TraceItem)
         requires { length self.old < 8 }

@@ -13,6 +13,6 @@ returns-clause-read g c =
     c.forget.ensures c.whole_read-access.ensures.access (record {
       sent = c.read_as.ensures.sent;
       event_is = c.read_as.ensures.event ∙ ap (λ (x : Event). register_event x.op access.reg event.trace
-          (read_outcome c.forget.new.self c.args.check access event.trace)) c.begun-event.ensures;
+          (read_outcome c.forget.new.self c.args.check access event.trace)) c.begin.ensures;
       model = c.read_as.ensures.model;
     })

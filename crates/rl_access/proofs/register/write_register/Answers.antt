@@ -13,6 +13,6 @@ returns-clause-written g c =
     c.forget.ensures c.whole-access.ensures.access (record {
       sent = c.write_as.ensures.sent;
       event_is = c.write_as.ensures.event ∙ ap (λ (x : Event). register_event x.op access.reg event.trace
-          (write_outcome c.forget.new.self c.args.good access event.trace)) c.begun-event.ensures;
+          (write_outcome c.forget.new.self c.args.good access event.trace)) c.begin.ensures;
       model = c.write_as.ensures.model;
     })

@@ -1,0 +1,11 @@
+use Rattle.std.proofs.Common.{refl}
+use Rattle.rl_model.specs.declared.rows.Item.TheVariants as item
+use Rattle.rl_access.specs.Rules.{by_backdoor, fitting}
+use Rattle.rl_access.proofs.BackPerforms.{then_only, poke_performs}
+use Rattle.rl_access.proofs.backdoor.poke_into.Goals as goal
+
+pub returns-in-Ok-clause-performs : goal.returns-in-Ok-clause-performs
+returns-in-Ok-clause-performs g c =
+    let m = c.args.model.now in
+    let granted = then_only (fitting m (item.Reg c.args.reg) c.args.value) (by_backdoor m (item.Reg c.args.reg)) _ _ _ c.by_backdoor.ensures c.fitting.ensures.grant c.in-Ok.is in
+    poke_performs m c.predict_raw.new.self _ _ _ _ c.args.reg c.args.value _ _ _ granted c.deposit.ensures.step c.predict_raw.ensures refl c.fill.ensures.event c.deposit.ensures.later
