@@ -14,6 +14,8 @@ use Rattle.rl_access.specs.declared.event.Tally.{Tally}
 use Rattle.rl_access.specs.declared.recorder.Recorder.{Ghosts as Recorder}
 use Rattle.rl_seq.specs.declared.sequence.Sequence.{Sequence}
 use Rattle.rl_seq.specs.Plan.{Plan, stop, step, look, followed_by, each_below}
+use Rattle.rl_seq.specs.Running.{GoesOn, IsReadyAt, IsSameRun, stage_at}
+use Rattle.rl_seq.specs.declared.running.Running.{Running}
 use Rattle.rl_seq.specs.Sequences.{walk, beginning_of, plan_of}
 use Rattle.rl_seq.specs.Stage.{Stage, stage_of, Stays, Follows, IsRunOf}
 use Rattle.rl_seq.proofs.Planned.{walks_one, walks_none, walks_then, walks_broke, walks_below, walks_look, walks_same, walks_alike, Alike, grown, same_plan, sequence_done, sequence_broke}
@@ -23,6 +25,21 @@ same_parts m = record { chip = refl; layout = refl }
 
 parts_on : (a b c : ModelData) → IsSameChip a b → IsSameChip b c → IsSameChip a c
 parts_on a b c first then = record { chip = then.chip ∙ first.chip; layout = then.layout ∙ first.layout }
+
+-- ---- a run that stays the same
+
+pub same_run : {D R X : Type 0} {V : X → Type 0} (run : Running D R X V) → IsSameRun run run
+same_run run = record { model = refl; device = refl; adapters = refl; recorder = refl }
+
+pub same_on : {D R X : Type 0} {V : X → Type 0} (run mid new : Running D R X V) → IsSameRun run mid → IsSameRun mid new → IsSameRun run new
+same_on run mid new first then = record {
+  model = then.model ∙ first.model;
+  device = then.device ∙ first.device;
+  adapters = then.adapters ∙ first.adapters;
+  recorder = then.recorder ∙ first.recorder;
+}
+
+-- ---- what a recorder was told
 
 module _ {R : Type 0} (r : Recorder R) where
   pub stays_none : {T E : Type 0} (s : Stage R) (x : T) → IsReady s.scene.model s.scene.adapters s.scene.device → Stays {E = E} r s s (Ok x)
@@ -103,7 +120,7 @@ module _ {R : Type 0} (r : Recorder R) where
   follows_same s new t0 t1 p q result e a = record { walks = walks_same r.takes r.breaks s.recorder new.recorder s.scene new.scene t0 t1 p q result e a.walks; stays = a.stays }
 
   -- or does the same
-  pub follows_alike : {T E : Type 0} (s new : Stage R) (t0 t1 : Tally) (p q : Plan) (result : Result T E) → Alike p q
+  follows_alike : {T E : Type 0} (s new : Stage R) (t0 t1 : Tally) (p q : Plan) (result : Result T E) → Alike p q
       → Follows r s new t0 t1 p result → Follows r s new t0 t1 q result
   follows_alike s new t0 t1 p q result e a = record { walks = walks_alike r.takes r.breaks s.recorder new.recorder s.scene new.scene t0 t1 p q result e a.walks; stays = a.stays }
 
@@ -113,18 +130,6 @@ module _ {R : Type 0} (r : Recorder R) where
 
   -- ---- for each number below a count
 
-  -- a plan was followed to its end
-  abbrev pub Followed : Stage R → Stage R → Tally → Tally → Plan → Type 0
-  Followed s new before after p = Follows {T = Unit {0}} {E = Unit {0}} r s new before after p (Ok tt)
-
-  -- with the adapters in boxes
-  abbrev pub FollowedBy : {A D : Type 0} → (A → Standing) → Device D → (first now : ModelData) → (before after : List A) → (d e : D) → (old rec : R) → (t0 t1 : Tally) → Plan → Type 0
-  FollowedBy f device first now before after d e old rec t0 t1 p = Followed (stage_of f device first before d old) (stage_of f device now after e rec) t0 t1 p
-
-  pub each_first : (s : Stage R) (tally : Tally) (f : ℕ → Plan) → IsReady s.scene.model s.scene.adapters s.scene.device
-      → Followed s s tally tally (each_below 0 f)
-  each_first s tally f ready = follows_none s tally tt ready
-
   done : {T E F : Type 0} {U : Type 0} (s new : Stage R) (t0 t1 : Tally) (p : Plan) (x : T) (y : U) → Follows {E = E} r s new t0 t1 p (Ok x)
       → Follows {E = F} r s new t0 t1 p (Ok y)
   done s new t0 t1 p x y a = record {
@@ -132,40 +137,72 @@ module _ {R : Type 0} (r : Recorder R) where
     stays = stays_ok s new x y a.stays;
   }
 
+  -- a run went on by a plan, to its end
+  abbrev pub WentOn : {D X : Type 0} {V : X → Type 0} → Device D → (before after : List Standing) → (run new : Running D R X V) → Plan → Type 0
+  WentOn d before after run new p = GoesOn {T = Unit {0}} {E = Unit {0}} r d before after run new p (Ok tt)
+
+  pub each_first : {D X : Type 0} {V : X → Type 0} (d : Device D) (adapters : List Standing) (run : Running D R X V) (f : ℕ → Plan)
+      → IsReadyAt (stage_at d adapters run) → WentOn d adapters adapters run run (each_below 0 f)
+  each_first d adapters run f ready = record { follows = follows_none (stage_at d adapters run) run.tally tt ready; same = same_run run }
+
   -- the one that comes next was followed
-  pub each_more : {T E : Type 0} (s m new : Stage R) (t0 t1 t2 : Tally) (f : ℕ → Plan) (i : ℕ) (q : Plan) (x : T) → q ≡ f i
-      → Followed s m t0 t1 (each_below i f) → Follows {E = E} r m new t1 t2 q (Ok x) → Followed s new t0 t2 (each_below (i + 1) f)
-  each_more s m new t0 t1 t2 f i q x same a b =
-      done s new t0 t2 (each_below (i + 1) f) x tt
-      (follows_same s new t0 t2 (followed_by (each_below i f) q) (each_below (i + 1) f) (Ok x)
-      (ap (followed_by (each_below i f)) same ∙ grown i f)
-      (follows_then s m new t0 t1 t2 (each_below i f) q tt (Ok x) a b))
+  pub each_more : {D X : Type 0} {V : X → Type 0} {T E : Type 0} (d : Device D) (before between after : List Standing) (run mid new : Running D R X V) (f : ℕ → Plan) (i : ℕ)
+      (q : Plan) (x : T) → q ≡ f i → WentOn d before between run mid (each_below i f) → GoesOn {E = E} r d between after mid new q (Ok x)
+      → WentOn d before after run new (each_below (i + 1) f)
+  each_more d before between after run mid new f i q x same a b =
+      let s = stage_at d before run in let m = stage_at d between mid in let n = stage_at d after new in
+      record {
+        follows = done s n run.tally new.tally (each_below (i + 1) f) x tt
+            (follows_same s n run.tally new.tally (followed_by (each_below i f) q) (each_below (i + 1) f) (Ok x)
+            (ap (followed_by (each_below i f)) same ∙ grown i f)
+            (follows_then s m n run.tally mid.tally new.tally (each_below i f) q tt (Ok x) a.follows b.follows));
+        same = same_on run mid new a.same b.same;
+      }
 
   -- the one that comes next was left out
-  pub each_skipped : (s m : Stage R) (t0 t1 : Tally) (f : ℕ → Plan) (i : ℕ) → f i ≡ stop → Followed s m t0 t1 (each_below i f)
-      → Followed s m t0 t1 (each_below (i + 1) f)
-  each_skipped s m t0 t1 f i out a = each_more {E = Unit {0}} s m m t0 t1 t1 f i stop (tt {0}) (sym out) a
-      (follows_none m t1 (tt {0}) a.stays.ready)
+  pub each_skipped : {D X : Type 0} {V : X → Type 0} (d : Device D) (before after : List Standing) (run mid : Running D R X V) (f : ℕ → Plan) (i : ℕ)
+      → f i ≡ stop → WentOn d before after run mid (each_below i f) → WentOn d before after run mid (each_below (i + 1) f)
+  each_skipped d before after run mid f i out a =
+      each_more {E = Unit {0}} d before after after run mid mid f i stop (tt {0}) (sym out) a
+      (record { follows = follows_none (stage_at d after mid) mid.tally (tt {0}) a.follows.stays.ready; same = same_run mid })
 
   -- the one that comes next broke off
-  pub each_broke : {U V E : Type 0} (s m new : Stage R) (t0 t1 t2 t3 : Tally) (f : ℕ → Plan) (i n : ℕ) (q : Plan) (e : E)
-      (result : Result V E) → q ≡ f i → i < n
-      → Followed s m t0 t1 (each_below i f) → Follows {T = U} r m new t1 t2 q (Err e) → IsErr result
-      → Follows r s new t0 t3 (each_below n f) result
-  each_broke s m new t0 t1 t2 t3 f i n q e result same low a b is =
-      let both = follows_then s m new t0 t1 t2 (each_below i f) q tt (Err e) a b in
-      let this = follows_same s new t0 t2 (followed_by (each_below i f) q) (followed_by (each_below i f) (f i)) (Err e)
+  pub each_broke : {D X : Type 0} {V : X → Type 0} {U W E : Type 0} (d : Device D) (before between after : List Standing) (run mid new : Running D R X V) (f : ℕ → Plan)
+      (i n : ℕ) (q : Plan) (e : E) (result : Result W E) → q ≡ f i → i < n
+      → WentOn d before between run mid (each_below i f) → GoesOn {T = U} r d between after mid new q (Err e) → IsErr result
+      → GoesOn r d before after run new (each_below n f) result
+  each_broke d before between after run mid new f i n q e result same low a b is =
+      let s = stage_at d before run in let m = stage_at d between mid in let end = stage_at d after new in
+      let both = follows_then s m end run.tally mid.tally new.tally (each_below i f) q tt (Err e) a.follows b.follows in
+      let this = follows_same s end run.tally new.tally (followed_by (each_below i f) q) (followed_by (each_below i f) (f i)) (Err e)
       (ap (followed_by (each_below i f)) same) both in
       record {
-        walks = walks_below r.takes r.breaks s.recorder new.recorder s.scene new.scene t0 t2 t3 f i n e result low this.walks is;
-        stays = stays_err s new e result this.stays is;
+        follows = record {
+          walks = walks_below r.takes r.breaks s.recorder end.recorder s.scene end.scene run.tally new.tally new.tally f i n e result low
+              this.walks is;
+          stays = stays_err s end e result this.stays is;
+        };
+        same = same_on run mid new a.same b.same;
       }
 
   -- all of them were followed
-  pub each_all : {T E : Type 0} (s new : Stage R) (t0 t1 : Tally) (f : ℕ → Plan) (i n : ℕ) (x : T) → i ≡ n
-      → Followed s new t0 t1 (each_below i f) → Follows {E = E} r s new t0 t1 (each_below n f) (Ok x)
-  each_all s new t0 t1 f i n x same a = follows_same s new t0 t1 (each_below i f) (each_below n f) (Ok x) (ap (λ k. each_below k f) same)
-      (done s new t0 t1 (each_below i f) tt x a)
+  pub each_all : {D X : Type 0} {V : X → Type 0} {T E : Type 0} (d : Device D) (before after : List Standing) (run new : Running D R X V) (f : ℕ → Plan) (i n : ℕ) (x : T)
+      → i ≡ n → WentOn d before after run new (each_below i f) → GoesOn {E = E} r d before after run new (each_below n f) (Ok x)
+  each_all d before after run new f i n x same a =
+      let s = stage_at d before run in let end = stage_at d after new in
+      record {
+        follows = follows_same s end run.tally new.tally (each_below i f) (each_below n f) (Ok x) (ap (λ k. each_below k f) same)
+            (done s end run.tally new.tally (each_below i f) tt x a.follows);
+        same = a.same;
+      }
+
+  -- by a plan that does the same
+  pub goes_alike : {D X : Type 0} {V : X → Type 0} {T E : Type 0} (d : Device D) (before after : List Standing) (run new : Running D R X V) (p q : Plan) (result : Result T E)
+      → Alike p q → GoesOn r d before after run new p result → GoesOn r d before after run new q result
+  goes_alike d before after run new p q result alike a = record {
+    follows = follows_alike (stage_at d before run) (stage_at d after new) run.tally new.tally p q result alike a.follows;
+    same = a.same;
+  }
 
   -- ---- a sequence
 

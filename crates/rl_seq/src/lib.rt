@@ -9,6 +9,7 @@
 
 mod choice;
 pub mod law;
+mod running;
 mod sequence;
 mod sequences;
 mod step;

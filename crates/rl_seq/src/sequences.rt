@@ -1,9 +1,11 @@
 //! The five sequences.
 ghost use Rattle.std.specs.Prelude.{◌<◌, map, IfSome};
 ghost use Rattle.rl_access.specs.Model.{IsReady};
+ghost use Rattle.rl_seq.specs.Running.{GoesOn, IsReadyAt, stage_at};
 ghost use Rattle.rl_seq.specs.Sequences.{beginning_of};
-ghost use Rattle.rl_seq.specs.Stage.{Follows, IsRunOf, stage_of};
+ghost use Rattle.rl_seq.specs.Stage.{IsRunOf, stage_of};
 
+use crate::running::Running;
 use crate::sequence::Sequence;
 use crate::step::perform_step;
 use crate::walk::walk;
@@ -116,34 +118,40 @@ fn run<D: Device, R: Recorder>(
         (stage_of standing D.Device model.old adapters.old.items device.old recorder.old)
         (stage_of standing D.Device model.new adapters.new.items device.new recorder.new) result }
 {
-    let mut tally = Tally::new();
-    begin(sequence, model, device, adapters, recorder, &mut tally)?;
-    walk(
-        sequence, block, model, device, adapters, recorder, &mut tally,
-    )?;
-    Ok(tally)
+    let mut running = Running {
+        model,
+        device,
+        adapters,
+        recorder,
+        tally: Tally::new(),
+    };
+    begin(sequence, &mut running)?;
+    walk(sequence, block, &mut running)?;
+    Ok(running.tally)
 }
 
 // What comes before its walk: a HARD reset, or nothing.
 fn begin<D: Device, R: Recorder>(
     sequence: Sequence,
-    model: &mut Model,
-    device: &mut D,
-    adapters: &mut Adapters,
-    recorder: &mut R,
-    tally: &mut Tally,
+    run: &mut Running<'_, D, R>,
 ) -> Result<(), Failed>
-    requires { IsReady model.old (map standing adapters.old.items) (D.state device.old) }
-    ensures { Follows R.Recorder
-        (stage_of standing D.Device model.old adapters.old.items device.old recorder.old)
-        (stage_of standing D.Device model.new adapters.new.items device.new recorder.new)
-        tally.old tally.new (beginning_of sequence) result }
+    requires { IsReadyAt (stage_at D.Device (map standing run.old.adapters.now.items) run.old) }
+    ensures { GoesOn R.Recorder D.Device
+        (map standing run.old.adapters.now.items) (map standing run.new.adapters.now.items) run.old run.new
+        (beginning_of sequence) result }
 {
     match sequence {
         Sequence::HwReset => {
-            let _has_kinds = model.chip(); // HARD is one of its kinds
+            let _has_kinds = run.model.chip(); // HARD is one of its kinds
             let reset = Op::Reset { kind: 0 };
-            perform_step(model, device, adapters, reset, recorder, tally)
+            perform_step(
+                run.model,
+                run.device,
+                run.adapters,
+                reset,
+                run.recorder,
+                &mut run.tally,
+            )
         }
         _ => Ok(()),
     }

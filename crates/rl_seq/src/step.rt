@@ -5,7 +5,7 @@ ghost use Rattle.rl_seq.specs.Plan.{step, stop};
 ghost use Rattle.rl_seq.specs.Stage.{Follows, stage_of};
 ghost use Rattle.rl_seq.specs.Visits.{IsStep};
 
-use rl_access::{Model, Op, Recorder, Tally, perform};
+use rl_access::{Event, Model, Op, Recorder, Tally, perform_into};
 use rl_bus::{Adapter, Adapters, Device, Failed};
 
 /// Performs an operation, hands its event to the recorder, and counts it.
@@ -24,7 +24,8 @@ pub(crate) fn perform_step<D: Device, R: Recorder>(
         (stage_of standing D.Device model.new adapters.new.items device.new recorder.new)
         tally.old tally.new (step op stop) result }
 {
-    let event = perform(model, device, adapters, op);
+    let mut event = Event::blank();
+    perform_into(model, device, adapters, op, &mut event);
     recorder.step(model, &event)?;
     tally.count(&event);
     Ok(())

@@ -1,39 +1,34 @@
 //! The walk of every sequence: over registers or memories, over the places of each, and over the turns at a place.
 ghost use Rattle.std.specs.Prelude.{◌<◌, map, length, IfSome};
-ghost use Rattle.rl_access.specs.Model.{IsReady};
 ghost use Rattle.rl_seq.specs.Plan.{each_below};
+ghost use Rattle.rl_seq.specs.Running.{GoesOn, IsReadyAt, stage_at};
 ghost use Rattle.rl_seq.specs.Sequences.{items_of, walk, visit};
-ghost use Rattle.rl_seq.specs.Stage.{Follows, stage_of};
 ghost use Rattle.rl_seq.specs.Visits.{IsVisit, turns_of, turn_of, turns};
 
+use crate::running::Running;
 use crate::sequence::Sequence;
 use crate::step::perform_step;
 use crate::visit::Visit;
-use rl_access::{Model, Recorder, Tally};
-use rl_bus::{Adapter, Adapters, Device, Failed};
+use rl_access::Recorder;
+use rl_bus::{Adapter, Device, Failed};
 
 /// Goes over the registers, or memories, that the sequence chooses.
 pub(crate) fn walk<D: Device, R: Recorder>(
     sequence: Sequence,
     block: Option<u32>,
-    model: &mut Model,
-    device: &mut D,
-    adapters: &mut Adapters,
-    recorder: &mut R,
-    tally: &mut Tally,
+    run: &mut Running<'_, D, R>,
 ) -> Result<(), Failed>
-    requires ready { IsReady model.old (map standing adapters.old.items) (D.state device.old) }
-    requires block { IfSome block (λ b. b < model.old.chip.blocks) }
-    ensures follows { Follows R.Recorder
-        (stage_of standing D.Device model.old adapters.old.items device.old recorder.old)
-        (stage_of standing D.Device model.new adapters.new.items device.new recorder.new)
-        tally.old tally.new (walk sequence model.old.chip model.old.layout block) result }
+    requires ready { IsReadyAt (stage_at D.Device (map standing run.old.adapters.now.items) run.old) }
+    requires block { IfSome block (λ b. b < run.old.model.now.chip.blocks) }
+    ensures { GoesOn R.Recorder D.Device
+        (map standing run.old.adapters.now.items) (map standing run.new.adapters.now.items) run.old run.new
+        (walk sequence run.old.model.now.chip run.old.model.now.layout block) result }
 {
-    for number in 0..sequence.items(model.chip()) {
-        if !sequence.is_chosen(model.chip(), model.layout(), block, number) {
+    for number in 0..sequence.items(run.model.chip()) {
+        if !sequence.is_chosen(run.model.chip(), run.model.layout(), block, number) {
             continue;
         }
-        visit_places(sequence, number, model, device, adapters, recorder, tally)?;
+        visit_places(sequence, number, run)?;
     }
     Ok(())
 }
@@ -42,26 +37,20 @@ pub(crate) fn walk<D: Device, R: Recorder>(
 fn visit_places<D: Device, R: Recorder>(
     sequence: Sequence,
     number: u32,
-    model: &mut Model,
-    device: &mut D,
-    adapters: &mut Adapters,
-    recorder: &mut R,
-    tally: &mut Tally,
+    run: &mut Running<'_, D, R>,
 ) -> Result<(), Failed>
-    requires ready { IsReady model.old (map standing adapters.old.items) (D.state device.old) }
-    requires number { number < items_of sequence model.old.chip }
-    ensures follows { Follows R.Recorder
-        (stage_of standing D.Device model.old adapters.old.items device.old recorder.old)
-        (stage_of standing D.Device model.new adapters.new.items device.new recorder.new)
-        tally.old tally.new
-        (each_below (length model.old.layout.places) (visit sequence model.old.chip model.old.layout number)) result }
+    requires ready { IsReadyAt (stage_at D.Device (map standing run.old.adapters.now.items) run.old) }
+    requires number { number < items_of sequence run.old.model.now.chip }
+    ensures { GoesOn R.Recorder D.Device
+        (map standing run.old.adapters.now.items) (map standing run.new.adapters.now.items) run.old run.new
+        (each_below (length run.old.model.now.layout.places)
+        (visit sequence run.old.model.now.chip run.old.model.now.layout number)) result }
 {
-    for place in 0..model.layout().places() {
-        if !sequence.visits(model.layout(), number, place) {
+    for place in 0..run.model.layout().places() {
+        if !sequence.visits(run.model.layout(), number, place) {
             continue;
         }
-        let visit = Visit::of(sequence, model, number, place);
-        take_turns(visit, model, device, adapters, recorder, tally)?;
+        take_turns(Visit::of(sequence, run.model, number, place), run)?;
     }
     Ok(())
 }
@@ -69,21 +58,16 @@ fn visit_places<D: Device, R: Recorder>(
 // Does what the sequence does at a place.
 fn take_turns<D: Device, R: Recorder>(
     visit: Visit,
-    model: &mut Model,
-    device: &mut D,
-    adapters: &mut Adapters,
-    recorder: &mut R,
-    tally: &mut Tally,
+    run: &mut Running<'_, D, R>,
 ) -> Result<(), Failed>
-    requires ready { IsReady model.old (map standing adapters.old.items) (D.state device.old) }
-    requires visit { IsVisit model.old.chip model.old.layout visit }
-    ensures follows { Follows R.Recorder
-        (stage_of standing D.Device model.old adapters.old.items device.old recorder.old)
-        (stage_of standing D.Device model.new adapters.new.items device.new recorder.new)
-        tally.old tally.new (turns model.old.chip model.old.layout visit) result }
+    requires ready { IsReadyAt (stage_at D.Device (map standing run.old.adapters.now.items) run.old) }
+    requires visit { IsVisit run.old.model.now.chip run.old.model.now.layout visit }
+    ensures { GoesOn R.Recorder D.Device
+        (map standing run.old.adapters.now.items) (map standing run.new.adapters.now.items) run.old run.new
+        (turns run.old.model.now.chip run.old.model.now.layout visit) result }
 {
-    for turn in 0..visit.turns(model) {
-        take_turn(visit, turn, model, device, adapters, recorder, tally)?;
+    for turn in 0..visit.turns(run.model) {
+        take_turn(visit, turn, run)?;
     }
     Ok(())
 }
@@ -91,25 +75,27 @@ fn take_turns<D: Device, R: Recorder>(
 fn take_turn<D: Device, R: Recorder>(
     visit: Visit,
     turn: u32,
-    model: &mut Model,
-    device: &mut D,
-    adapters: &mut Adapters,
-    recorder: &mut R,
-    tally: &mut Tally,
+    run: &mut Running<'_, D, R>,
 ) -> Result<(), Failed>
-    requires ready { IsReady model.old (map standing adapters.old.items) (D.state device.old) }
-    requires visit { IsVisit model.old.chip model.old.layout visit }
-    requires turn { turn < turns_of model.old.chip model.old.layout visit }
-    ensures follows { Follows R.Recorder
-        (stage_of standing D.Device model.old adapters.old.items device.old recorder.old)
-        (stage_of standing D.Device model.new adapters.new.items device.new recorder.new)
-        tally.old tally.new (turn_of model.old.chip model.old.layout visit turn) result }
+    requires ready { IsReadyAt (stage_at D.Device (map standing run.old.adapters.now.items) run.old) }
+    requires visit { IsVisit run.old.model.now.chip run.old.model.now.layout visit }
+    requires turn { turn < turns_of run.old.model.now.chip run.old.model.now.layout visit }
+    ensures { GoesOn R.Recorder D.Device
+        (map standing run.old.adapters.now.items) (map standing run.new.adapters.now.items) run.old run.new
+        (turn_of run.old.model.now.chip run.old.model.now.layout visit turn) result }
 {
-    for part in 0..visit.parts(model, turn) {
-        let Some(op) = visit.part(model, turn, part) else {
+    for part in 0..visit.parts(run.model, turn) {
+        let Some(op) = visit.part(run.model, turn, part) else {
             continue;
         };
-        perform_step(model, device, adapters, op, recorder, tally)?;
+        perform_step(
+            run.model,
+            run.device,
+            run.adapters,
+            op,
+            run.recorder,
+            &mut run.tally,
+        )?;
     }
     Ok(())
 }
