@@ -1,11 +1,11 @@
 // A source that gives a line at a time.
-ghost use Rattle.std.specs.Prelude.{◌≡◌, ◌<◌, ◌≤◌, ◌++◌, min, length, take, drop, OnOk};
+ghost use Rattle.std.specs.Prelude.{◌≡◌, ◌<◌, ◌≤◌, length, OnOk};
 ghost use Rattle.std.specs.Io.KnownBytes.{IsAtEnd, Keeps};
 ghost use Rattle.rl_bus.specs.Causes.{HasCause};
 ghost use Rattle.rl_link.specs.Coming.{coming};
 
 use crate::held::Held;
-use rl_report::{Failed, Source};
+use rl_report::{Failed, Source, copy_front};
 use std::alloc::{AllocError, Global};
 
 /// A source that gives what another one gives, and with a read no more than a line: so that what a caller writes after
@@ -47,16 +47,6 @@ fn line_size(held: &Held) -> usize
         Some(len) => len + 1,
         None => held.bytes().len(),
     }
-}
-
-// Copies as many bytes as both have, and no more than `most`. Answers how many.
-fn copy_front(from: &[u8], to: &mut [u8], most: usize) -> usize
-    ensures count { result ≡ min (min (length from.now) (length to.old)) most }
-    ensures copied { to.new ≡ take result from.now ++ drop result to.old }
-{
-    let count = from.len().min(to.len()).min(most);
-    to[..count].copy_from_slice(&from[..count]);
-    count
 }
 
 impl<S: Source> Source for ByLine<S> {

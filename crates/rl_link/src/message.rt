@@ -6,25 +6,20 @@ ghost use Rattle.rl_link.specs.Message.{cause_text, is_of_line};
 use crate::answer::Cause;
 use crate::link::Link;
 use itoa::Buffer;
-use rl_report::{Failed, Sink, Source, put_all};
+use rl_report::{Failed, Sink, Source, put_all, text_beside};
 
 const MOST: usize = 80;
 
 fn cause_text(cause: Cause) -> &'static [u8]
     ensures { result.now ≡ cause_text cause }
 {
-    match cause {
-        Cause::Unsent => b"the request couldn't be sent",
-        Cause::Unread => b"the answer couldn't be read",
-        Cause::Closed => b"the output ended before an answer",
-        Cause::TooLong => b"a line of more than 4096 bytes",
-        Cause::TooMany => b"too many lines that say nothing",
-        Cause::Unasked => b"an answer that nothing was asked for",
-        Cause::Unclear => b"a line that doesn't answer the request",
-        Cause::TooWide => b"a word that is wider than the bus",
-        Cause::NotDone => b"this wasn't done",
-        Cause::Backdoor => b"a link has no backdoor",
-        Cause::Memory => b"no memory",
+    text_beside! {
+        cause: Cause;
+        Unsent b"the request couldn't be sent", Unread b"the answer couldn't be read",
+        Closed b"the output ended before an answer", TooLong b"a line of more than 4096 bytes",
+        TooMany b"too many lines that say nothing", Unasked b"an answer that nothing was asked for",
+        Unclear b"a line that doesn't answer the request", TooWide b"a word that is wider than the bus",
+        NotDone b"this wasn't done", Backdoor b"a link has no backdoor", Memory b"no memory"
     }
 }
 

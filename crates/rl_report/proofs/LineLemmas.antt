@@ -10,7 +10,7 @@ use Rattle.std.proofs.lemmas.Bool.Decides.{nat_tests}
 use Rattle.memchr.specs.Find.{IsFirstByte, Nowhere, Passes, is_byte}
 use Rattle.rl_report.specs.Lines.{first_line, after_line, lines_of, onto_first, whole_lines, onto_whole}
 use Rattle.rl_report.specs.Reading.{Reading, input_of, HandsLine}
-use Rattle.rl_report.proofs.RangeLemmas.{grown_behind, length_part}
+use Rattle.rl_report.proofs.RangeLemmas.{length_part}
 
 -- where the first line isn't all, a 10 ends it
 ends_by : (b : ℕ) (bs : List ℕ) (t : Bool) → eqb b 10 ≡ t → (length (first_line bs) < length bs → bs ≡ first_line bs ++ 10 ∷ after_line bs)
@@ -146,16 +146,6 @@ line_behind p size e = ap (λ n. drop (n + 1) p) e ∙ behind p
 pub line_within : (p : List ℕ) (size : ℕ) → size ≡ length (first_line p) → size ≤ length p
 line_within p size e = omega (arith, first_within p)
 
--- a line without a 10 goes on in the bytes behind it
-goes_on_by : (b : ℕ) (bs more : List ℕ) (t : Bool) → (first_line bs ≡ bs → length (first_line (bs ++ more)) ≡ length bs + length (first_line more))
-    → cond t [] (b ∷ first_line bs) ≡ b ∷ bs → length (cond t [] (b ∷ first_line (bs ++ more))) ≡ length (b ∷ bs) + length (first_line more)
-goes_on_by b bs more true rest h = absurd (omega (arith, ap length h))
-goes_on_by b bs more false rest h = let e = rest (cc) in omega (arith, e)
-
-pub goes_on : (p more : List ℕ) → first_line p ≡ p → length (first_line (p ++ more)) ≡ length p + length (first_line more)
-goes_on [] more h = omega arith
-goes_on (b ∷ bs) more h = goes_on_by b bs more (eqb b 10) (goes_on bs more) h
-
 -- a search for a 10 tells how long the first line is
 ten_first : (b : ℕ) (bs : List ℕ) (t : Bool) → t ≡ true → length (cond t [] (b ∷ first_line bs)) ≡ 0
 ten_first b bs true e = refl
@@ -178,17 +168,6 @@ missed (b ∷ bs) none = ten_later b (length bs) bs (eqb b 10) (none 0 (omega ar
 pub searched : (p : List ℕ) (at : Option ℕ) → IsFirstByte (is_byte 10) p at → unwrap_or at (length p) ≡ length (first_line p)
 searched p None none = sym (missed p none)
 searched p (Some k) h = sym (found p k h.0.high h.0.before h.1)
-
--- the first line of what grew by some bytes
-pub grown_line : (old more whole : List ℕ) (size n : ℕ) → whole ≡ old ++ more → first_line old ≡ old → size ≡ length (first_line old)
-    → n ≡ length (first_line more) → size + n ≡ length (first_line whole)
-grown_line old more whole size n grown none size_is n_is = omega (arith, ap length none, ap (λ l. length (first_line l)) grown, goes_on old more none)
-
--- the same where the bytes were read behind what stood there
-pub grown_behind_line : (moved new held : List ℕ) (from to count size n : ℕ) → from ≤ to → take to new ≡ take to moved → slice_range moved from to ≡ held → first_line held ≡ held
-    → size ≡ length (first_line held) → n ≡ length (first_line (slice_range new to (to + count))) → size + n ≡ length (first_line (slice_range new from (to + count)))
-grown_behind_line moved new held from to count size n ordered before same none size_is n_is =
-    grown_line held (slice_range new to (to + count)) (slice_range new from (to + count)) size n (grown_behind moved new held from to count ordered before same) none size_is n_is
 
 -- a reader at its end hands out a last line that has no 10
 last_by : (e : Bool) (p : List ℕ) (a f r k : Bool) (left : Option (List ℕ)) (size : ℕ) → e ≡ true → size ≡ length (first_line p) → length p ≤ size → 0 < length p → size ≤ 4096

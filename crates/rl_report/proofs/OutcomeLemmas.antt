@@ -9,7 +9,7 @@ use Rattle.rl_access.specs.declared.event.Event.{Event}
 use Rattle.rl_access.specs.declared.event.End.{End}
 use Rattle.rl_access.specs.declared.event.End.TheVariants as end
 use Rattle.rl_access.specs.declared.event.Refused.{Refused}
-use Rattle.rl_access.specs.declared.event.Refused.TheVariants.{NotPlaced, NotObserved, NoRight, NoBackdoor, NotVolatile, NotWritable, OutOfRange, TooWide}
+use Rattle.rl_access.specs.declared.event.Refused.TheVariants.{NotPlaced}
 use Rattle.rl_access.specs.Operation.{register_of, digits_of}
 use Rattle.rl_report.specs.Numbers.{padded}
 use Rattle.rl_report.specs.Outcome.{why_text, end_text, is_done, is_show, name_text, has_differ, desired_text, differ_text, after_text, is_refused, result_text}
@@ -19,13 +19,7 @@ use Rattle.rl_report.proofs.Unbroken.{IsUnbroken, unbroken-fixed, unbroken-joine
 
 unbroken-why_text : (why : Refused) → IsUnbroken (why_text why)
 unbroken-why_text NotPlaced = unbroken-fixed _ refl
-unbroken-why_text NotObserved = unbroken-fixed _ refl
-unbroken-why_text NoRight = unbroken-fixed _ refl
-unbroken-why_text NoBackdoor = unbroken-fixed _ refl
-unbroken-why_text NotVolatile = unbroken-fixed _ refl
-unbroken-why_text NotWritable = unbroken-fixed _ refl
-unbroken-why_text OutOfRange = unbroken-fixed _ refl
-unbroken-why_text TooWide = unbroken-fixed _ refl
+unbroken-why_text _ = unbroken-fixed _ refl
 
 unbroken-end_text : (digits : ℕ) (e : End) → IsUnbroken (end_text digits e)
 unbroken-end_text digits end.Done = unbroken-fixed _ refl

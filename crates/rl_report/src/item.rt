@@ -6,10 +6,11 @@ ghost use Rattle.rl_report.specs.Item.{way_text, answer_text, word_of, transfer_
 ghost use Rattle.rl_report.specs.Pieces.{GathersTo, PutsText, SinkStays, joined};
 
 use crate::pieces::gather;
+use crate::telling::Telling;
 use crate::text::Text;
 use crate::{Failed, Sink, put_all};
 use itoa::Buffer;
-use rl_access::{Event, Model, TraceItem};
+use rl_access::{Model, TraceItem};
 
 // Appends the way of an item.
 #[inline]
@@ -102,20 +103,17 @@ pub fn write_item<K: Sink>(sink: &mut K, model: &Model, item: &TraceItem) -> Res
     put_all(sink, text.as_bytes())
 }
 
-// Gathers the lines of an event's items.
-pub(crate) fn put_items<K: Sink>(
-    sink: &mut K,
-    text: &mut Text,
-    model: &Model,
-    event: &Event,
-) -> Result<(), Failed>
-    requires { EventFits model.now event.now }
-    ensures bytes { GathersTo K.Sink sink.old sink.new text.old text.new
-        (flat_map (item_line model.now.layout) event.now.trace) result }
-    ensures stays { SinkStays K.Sink sink.old sink.new result }
-{
-    for k in 0..event.trace.len() {
-        put_item(sink, text, model, &event.trace.item(k))?;
+impl<'a> Telling<'a> {
+    // Gathers the lines of an event's items.
+    pub(crate) fn put_items<K: Sink>(&self, sink: &mut K, text: &mut Text) -> Result<(), Failed>
+        requires { EventFits self.now.model.now self.now.event.now }
+        ensures bytes { GathersTo K.Sink sink.old sink.new text.old text.new
+            (flat_map (item_line self.now.model.now.layout) self.now.event.now.trace) result }
+        ensures stays { SinkStays K.Sink sink.old sink.new result }
+    {
+        for k in 0..self.event.trace.len() {
+            put_item(sink, text, self.model, &self.event.trace.item(k))?;
+        }
+        Ok(())
     }
-    Ok(())
 }

@@ -1,11 +1,12 @@
 // Lines over a source, however it is cut into reads.
-ghost use Rattle.std.specs.Prelude.{◌≡◌, ◌≢◌, ℕ, ◌+◌, ◌-◌, ◌<◌, ◌≤◌, List, [], ◌++◌, true, false, length, take, drop};
+ghost use Rattle.std.specs.Prelude.{◌≡◌, ◌≢◌, ℕ, ◌+◌, ◌-◌, ◌<◌, ◌≤◌, List, [], true, false, length, take, drop};
 ghost use Rattle.std.specs.Prelude.{slice_range, Option, Some, IfSome, IfNone, IfOk, OnOk, OnErr, Ok, Err, IsTrue, ◌↔◌};
 ghost use Rattle.std.specs.Prelude.{if◌then◌else◌};
 ghost use Rattle.rl_report.specs.Prelude.{first_line, strip_last, input_of, HoldsLine, IsLaterPhase, SamePhase};
-ghost use Rattle.rl_report.specs.Prelude.{Consumes, IsAtEnd, Keeps, HasCause, Rose, Hands, HeadIs, TakesNoHead, Takes};
+ghost use Rattle.rl_report.specs.Prelude.{Keeps, HasCause, Rose, Hands, HeadIs, TakesNoHead, Takes};
 
 use crate::opening::{Part, next_part};
+use crate::window::refill;
 use crate::{Failed, Head, HeadFault, Source};
 use memchr::memchr;
 use std::alloc::{AllocError, Global};
@@ -135,20 +136,6 @@ fn keep_line(line: &mut [u8], copied: &mut bool, buffer: &[u8], start: usize, le
         line[..len].copy_from_slice(&buffer[start..start + len]);
         *copied = true;
     }
-}
-
-// Reads once, behind what the buffer holds.
-fn read_behind<S: Source>(buffer: &mut [u8], end: usize, source: &mut S) -> Result<usize, Failed>
-    requires { end < length buffer.old }
-    ensures room { IfOk result (λ count. count ≤ length buffer.old - end) }
-    ensures before { take end buffer.new ≡ take end buffer.old }
-    ensures bytes { IfOk result (λ count. Consumes (S.left source.old) (S.left source.new)
-        (slice_range buffer.new end (end + count))) }
-    ensures end { IfOk result (λ count. count ≡ 0 → IsAtEnd (S.left source.new)) }
-    ensures kept { OnErr result (Keeps (S.left source.old) (S.left source.new)) }
-    ensures cause { HasCause (S.faults source.old) (S.faults source.new) result }
-{
-    source.read(&mut buffer[end..])
 }
 
 impl LineReader {
@@ -417,13 +404,8 @@ impl LineReader {
             self.line_start,
             self.line_len,
         );
-        let count = refill(
-            &mut self.buffer,
-            &mut self.start,
-            &mut self.end,
-            &mut self.size,
-            source,
-        )?;
+        let count = refill(&mut self.buffer, &mut self.start, &mut self.end, source)?;
+        self.size = line_len(&self.buffer[self.start..self.end]);
         self.ended = count == 0;
         Ok(())
     }
@@ -437,56 +419,4 @@ impl LineReader {
         }
         &self.buffer[self.line_start..self.line_start + self.line_len]
     }
-}
-
-// Reads once, behind the part of a line that stands between the two places, and tells anew how long the first line is.
-fn refill<S: Source>(
-    buffer: &mut [u8],
-    start: &mut usize,
-    end: &mut usize,
-    size: &mut usize,
-    source: &mut S,
-) -> Result<usize, Failed>
-    requires ordered { start.old ≤ end.old }
-    requires within { end.old ≤ length buffer.old }
-    requires apart { end.old ≡ length buffer.old → (0 < start.old) × (end.old - start.old ≤ start.old) }
-    requires none_whole { first_line (slice_range buffer.old start.old end.old)
-        ≡ slice_range buffer.old start.old end.old }
-    requires size { size.old ≡ length (first_line (slice_range buffer.old start.old end.old)) }
-    ensures ordered { start.new ≤ end.new }
-    ensures within { end.new ≤ length buffer.new }
-    ensures size { size.new ≡ length (first_line (slice_range buffer.new start.new end.new)) }
-    ensures grown { IfOk result (λ count. (bytes : List ℕ) × (length bytes ≡ count)
-        × (slice_range buffer.new start.new end.new ≡ slice_range buffer.old start.old end.old ++ bytes)
-        × Consumes (S.left source.old) (S.left source.new) bytes) }
-    ensures ended { IfOk result (λ count. count ≡ 0 → IsAtEnd (S.left source.new)) }
-    ensures same { OnErr result (slice_range buffer.new start.new end.new ≡ slice_range buffer.old start.old end.old) }
-    ensures kept { OnErr result (Keeps (S.left source.old) (S.left source.new)) }
-    ensures cause { HasCause (S.faults source.old) (S.faults source.new) result }
-{
-    let (from, to) = make_room(buffer, *start, *end);
-    *start = from;
-    *end = to;
-    let count = read_behind(buffer, to, source)?;
-    *size += line_len(&buffer[to..to + count]);
-    *end = to + count;
-    Ok(count)
-}
-
-// Moves what stands between two places to the front, where there is no room behind it. Answers where it stands now.
-fn make_room(buffer: &mut [u8], start: usize, end: usize) -> (usize, usize)
-    requires ordered { start ≤ end }
-    requires within { end ≤ length buffer.old }
-    requires apart { end ≡ length buffer.old → (0 < start) × (end - start ≤ start) }
-    ensures ordered { result.0 ≤ result.1 }
-    ensures room { result.1 < length buffer.new }
-    ensures same { slice_range buffer.new result.0 result.1 ≡ slice_range buffer.old start end }
-{
-    if end < buffer.len() {
-        return (start, end);
-    }
-    let count = end - start;
-    let (front, back) = buffer.split_at_mut(start);
-    front[..count].copy_from_slice(&back[..count]);
-    (0, count)
 }

@@ -10,6 +10,7 @@ ghost use Rattle.rl_report.specs.Operation.{reset_text, counted_text, op_text, I
 ghost use Rattle.rl_report.specs.Pieces.{GathersTo, SinkStays};
 
 use crate::pieces::gather;
+use crate::telling::Telling;
 use crate::text::Text;
 use crate::{Failed, Sink};
 use itoa::Buffer;
@@ -281,42 +282,36 @@ fn put_field<K: Sink>(
     gather(sink, text, name_of(model, field))
 }
 
-// Gathers the path of what a command is on.
-fn put_subject<K: Sink>(
-    sink: &mut K,
-    text: &mut Text,
-    model: &Model,
-    subject: Subject,
-) -> Result<(), Failed>
-    requires { IsSubjectIn model.now.chip subject }
-    ensures bytes { GathersTo K.Sink sink.old sink.new text.old text.new (subject_path model.now.chip subject) result }
-    ensures room { OnOk result (length text.new ≤ 384) }
-    ensures stays { SinkStays K.Sink sink.old sink.new result }
-{
-    match subject {
-        Subject::Reg(reg) => gather(sink, text, path_of(model, Item::Reg(reg))),
-        Subject::Field(field) => put_field(sink, text, model, field),
-        Subject::Mem(mem) => gather(sink, text, path_of(model, Item::Mem(mem))),
+impl Subject {
+    // Gathers the path of what a command is on.
+    fn put<K: Sink>(self, sink: &mut K, text: &mut Text, model: &Model) -> Result<(), Failed>
+        requires { IsSubjectIn model.now.chip self }
+        ensures bytes { GathersTo K.Sink sink.old sink.new text.old text.new (subject_path model.now.chip self) result }
+        ensures room { OnOk result (length text.new ≤ 384) }
+        ensures stays { SinkStays K.Sink sink.old sink.new result }
+    {
+        match self {
+            Subject::Reg(reg) => gather(sink, text, path_of(model, Item::Reg(reg))),
+            Subject::Field(field) => put_field(sink, text, model, field),
+            Subject::Mem(mem) => gather(sink, text, path_of(model, Item::Mem(mem))),
+        }
     }
 }
 
-// Gathers a command on one item.
-fn put_spoken<K: Sink>(
-    sink: &mut K,
-    text: &mut Text,
-    model: &Model,
-    spoken: &Spoken,
-) -> Result<(), Failed>
-    requires { IsSpokenIn model.now spoken.now }
-    ensures bytes { GathersTo K.Sink sink.old sink.new text.old text.new (spoken_text model.now spoken.now) result }
-    ensures stays { SinkStays K.Sink sink.old sink.new result }
-{
-    let row = spoken.command.row();
-    gather(sink, text, spoken.command.name())?;
-    text.push(b" ");
-    put_subject(sink, text, model, spoken.subject)?;
-    push_numbers(text, row.numbers, spoken.first, spoken.second);
-    put_map(sink, text, model, spoken.map)
+impl Spoken {
+    // Gathers a command on one item.
+    fn put<K: Sink>(self, sink: &mut K, text: &mut Text, model: &Model) -> Result<(), Failed>
+        requires { IsSpokenIn model.now self }
+        ensures bytes { GathersTo K.Sink sink.old sink.new text.old text.new (spoken_text model.now self) result }
+        ensures stays { SinkStays K.Sink sink.old sink.new result }
+    {
+        let row = self.command.row();
+        gather(sink, text, self.command.name())?;
+        text.push(b" ");
+        self.subject.put(sink, text, model)?;
+        push_numbers(text, row.numbers, self.first, self.second);
+        put_map(sink, text, model, self.map)
+    }
 }
 
 // Gathers a burst.
@@ -357,50 +352,51 @@ fn put_reset<K: Sink>(sink: &mut K, text: &mut Text, model: &Model, kind: u32) -
     gather(sink, text, kind_name(model, kind))
 }
 
-// Gathers a burst or a reset.
-fn put_other<K: Sink>(sink: &mut K, text: &mut Text, model: &Model, op: Op) -> Result<(), Failed>
-    requires numbers { HasNumbers model.now.chip (length model.now.layout.maps) op }
-    requires other { spoken_of op ≡ None }
-    ensures bytes { GathersTo K.Sink sink.old sink.new text.old text.new (op_text model.now op) result }
-    ensures stays { SinkStays K.Sink sink.old sink.new result }
-{
-    match op {
-        Op::BurstWrite {
-            mem,
-            map,
-            first,
-            count,
-        } => {
-            let name = Command::BurstWrite.name();
-            put_burst(sink, text, model, name, mem, first, count, map)
+impl<'a> Telling<'a> {
+    // Gathers a burst or a reset.
+    fn put_other<K: Sink>(&self, sink: &mut K, text: &mut Text) -> Result<(), Failed>
+        requires numbers { HasNumbers self.now.model.now.chip (length self.now.model.now.layout.maps)
+            self.now.event.now.op }
+        requires other { spoken_of self.now.event.now.op ≡ None }
+        ensures bytes { GathersTo K.Sink sink.old sink.new text.old text.new
+            (op_text self.now.model.now self.now.event.now.op) result }
+        ensures stays { SinkStays K.Sink sink.old sink.new result }
+    {
+        match self.event.op {
+            Op::BurstWrite {
+                mem,
+                map,
+                first,
+                count,
+            } => {
+                let name = Command::BurstWrite.name();
+                put_burst(sink, text, self.model, name, mem, first, count, map)
+            }
+            Op::BurstRead {
+                mem,
+                map,
+                first,
+                count,
+            } => {
+                let name = Verb::BurstRead.name();
+                put_burst(sink, text, self.model, name, mem, first, count, map)
+            }
+            Op::Reset { kind } => put_reset(sink, text, self.model, kind),
+            _ => unreachable!(),
         }
-        Op::BurstRead {
-            mem,
-            map,
-            first,
-            count,
-        } => {
-            let name = Verb::BurstRead.name();
-            put_burst(sink, text, model, name, mem, first, count, map)
-        }
-        Op::Reset { kind } => put_reset(sink, text, model, kind),
-        _ => unreachable!(),
     }
-}
 
-// Gathers an operation in canonical spelling.
-pub(crate) fn put_op<K: Sink>(
-    sink: &mut K,
-    text: &mut Text,
-    model: &Model,
-    op: Op,
-) -> Result<(), Failed>
-    requires { HasNumbers model.now.chip (length model.now.layout.maps) op }
-    ensures bytes { GathersTo K.Sink sink.old sink.new text.old text.new (op_text model.now op) result }
-    ensures stays { SinkStays K.Sink sink.old sink.new result }
-{
-    match Spoken::of(op) {
-        Some(spoken) => put_spoken(sink, text, model, &spoken),
-        None => put_other(sink, text, model, op),
+    // Gathers an operation in canonical spelling.
+    pub(crate) fn put_op<K: Sink>(&self, sink: &mut K, text: &mut Text) -> Result<(), Failed>
+        requires { HasNumbers self.now.model.now.chip (length self.now.model.now.layout.maps)
+            self.now.event.now.op }
+        ensures bytes { GathersTo K.Sink sink.old sink.new text.old text.new
+            (op_text self.now.model.now self.now.event.now.op) result }
+        ensures stays { SinkStays K.Sink sink.old sink.new result }
+    {
+        match Spoken::of(self.event.op) {
+            Some(spoken) => spoken.put(sink, text, self.model),
+            None => self.put_other(sink, text),
+        }
     }
 }

@@ -11,6 +11,7 @@ ghost use Rattle.rl_report.specs.Pieces.{GathersTo, SinkStays, joined};
 
 use crate::operation::{Subject, name_of, register_with, subject_of};
 use crate::pieces::{gather, make_room};
+use crate::telling::Telling;
 use crate::text::Text;
 use crate::{Failed, Sink};
 use itoa::Buffer;
@@ -102,31 +103,6 @@ fn push_value(text: &mut Text, before: &[u8], value: u64, count: u32)
     text.push_padded(value, count);
 }
 
-// Appends how an operation ended.
-#[inline]
-fn push_end(text: &mut Text, model: &Model, event: &Event)
-    requires fits { EventFits model.now event.now }
-    requires room { length text.old + 40 ≤ 512 }
-    ensures text { text.new ≡ text.old ++ spec.end_text (digits_of model.now.chip event.now.op) event.now.end }
-    ensures len { length text.new ≤ length text.old + 40 }
-{
-    match event.end {
-        End::Done => text.push(b": ok"),
-        End::Value { value } => push_value(text, b": ok 0x", value, digits_of(model, event.op)),
-        End::Sent { word } => push_value(text, b": ok sent 0x", word, digits_of(model, event.op)),
-        End::Nothing => text.push(b": ok none"),
-        End::BusError { word } => {
-            let mut buffer = Buffer::new();
-            text.push(b": bus error at word ");
-            text.push(buffer.format(word).as_bytes());
-        }
-        End::Refused { why } => {
-            text.push(b": refused ");
-            text.push(why_text(why));
-        }
-    }
-}
-
 // The desired value is told.
 fn shows_desired(op: Op, end: End) -> bool
     ensures { result ≡ (spec.is_show op && spec.is_done end) }
@@ -202,26 +178,6 @@ fn put_names<K: Sink>(
     Ok(())
 }
 
-// Gathers which fields of a register differ, if any.
-fn put_differ<K: Sink>(
-    sink: &mut K,
-    text: &mut Text,
-    model: &Model,
-    event: &Event,
-    reg: u32,
-) -> Result<(), Failed>
-    requires reg { reg < length model.now.chip.regs }
-    ensures bytes { GathersTo K.Sink sink.old sink.new text.old text.new
-        (spec.differ_text model.now.chip event.now reg) result }
-    ensures stays { SinkStays K.Sink sink.old sink.new result }
-{
-    if !has_differ(event) {
-        return Ok(());
-    }
-    gather(sink, text, b" differ")?;
-    put_names(sink, text, model, reg, event.differ)
-}
-
 // The first of a register's fields, and how many they are.
 fn fields_with(model: &Model, reg: u32) -> (u32, u32)
     requires { reg < length model.now.chip.regs }
@@ -236,101 +192,133 @@ fn fields_with(model: &Model, reg: u32) -> (u32, u32)
     (chip.first_field(reg), chip.field_count(reg))
 }
 
-// Appends the desired value, where the operation shows it.
-fn push_desired(text: &mut Text, model: &Model, event: &Event, reg: u32)
-    requires reg { reg < length model.now.chip.regs }
-    requires desired { event.now.desired < 16 ^ (2 * size_of model.now.chip reg) }
-    requires room { length text.old + 32 ≤ 512 }
-    ensures text { text.new ≡ text.old ++ spec.desired_text model.now.chip event.now reg }
-    ensures len { length text.new ≤ length text.old + 32 }
-{
-    if !shows_desired(event.op, event.end) {
-        return;
-    }
-    let digits = item_digits(model, Item::Reg(reg));
-    push_value(text, b" desired 0x", event.desired, digits);
-}
-
-// Gathers what is believed of the register of an event.
-fn put_register<K: Sink>(
-    sink: &mut K,
-    text: &mut Text,
-    model: &Model,
-    event: &Event,
-    reg: u32,
-) -> Result<(), Failed>
-    requires reg { reg < length model.now.chip.regs }
-    requires room { length text.old + 64 ≤ 512 }
-    requires mirrored { event.now.mirrored < 16 ^ (2 * size_of model.now.chip reg) }
-    requires desired { event.now.desired < 16 ^ (2 * size_of model.now.chip reg) }
-    ensures bytes { GathersTo K.Sink sink.old sink.new text.old text.new
-        (spec.after_text model.now.chip event.now (Some reg)) result }
-    ensures stays { SinkStays K.Sink sink.old sink.new result }
-{
-    let digits = item_digits(model, Item::Reg(reg));
-    push_desired(text, model, event, reg);
-    push_value(text, b" mirror 0x", event.mirrored, digits);
-    put_differ(sink, text, model, event, reg)
-}
-
-// Gathers what is known after an operation that wasn't refused.
-fn put_after<K: Sink>(
-    sink: &mut K,
-    text: &mut Text,
-    model: &Model,
-    event: &Event,
-) -> Result<(), Failed>
-    requires room { length text.old + 64 ≤ 512 }
-    requires fits { EventFits model.now event.now }
-    ensures bytes { GathersTo K.Sink sink.old sink.new text.old text.new
-        (spec.after_text model.now.chip event.now (register_of model.now.chip event.now.op)) result }
-    ensures stays { SinkStays K.Sink sink.old sink.new result }
-{
-    match register_of(model, event.op) {
-        Some(reg) => put_register(sink, text, model, event, reg),
-        None if has_differ(event) => gather(sink, text, b" differ"),
-        None => Ok(()),
-    }
-}
-
 fn is_refused(end: End) -> bool
     ensures { result ≡ spec.is_refused end }
 {
     matches!(end, End::Refused { .. })
 }
 
-// Gathers what stands after an operation: nothing where that is refused.
-fn put_rest<K: Sink>(
-    sink: &mut K,
-    text: &mut Text,
-    model: &Model,
-    event: &Event,
-) -> Result<(), Failed>
-    requires room { length text.old + 64 ≤ 512 }
-    requires fits { EventFits model.now event.now }
-    ensures bytes { GathersTo K.Sink sink.old sink.new text.old text.new
-        (spec.rest_text model.now.chip event.now) result }
-    ensures stays { SinkStays K.Sink sink.old sink.new result }
-{
-    if is_refused(event.end) {
-        return Ok(());
+impl<'a> Telling<'a> {
+    // Appends how an operation ended.
+    #[inline]
+    fn push_end(&self, text: &mut Text)
+        requires fits { EventFits self.now.model.now self.now.event.now }
+        requires room { length text.old + 40 ≤ 512 }
+        ensures text { text.new ≡ text.old
+            ++ spec.end_text (digits_of self.now.model.now.chip self.now.event.now.op) self.now.event.now.end }
+        ensures len { length text.new ≤ length text.old + 40 }
+    {
+        match self.event.end {
+            End::Done => text.push(b": ok"),
+            End::Value { value } => push_value(
+                text,
+                b": ok 0x",
+                value,
+                digits_of(self.model, self.event.op),
+            ),
+            End::Sent { word } => push_value(
+                text,
+                b": ok sent 0x",
+                word,
+                digits_of(self.model, self.event.op),
+            ),
+            End::Nothing => text.push(b": ok none"),
+            End::BusError { word } => {
+                let mut buffer = Buffer::new();
+                text.push(b": bus error at word ");
+                text.push(buffer.format(word).as_bytes());
+            }
+            End::Refused { why } => {
+                text.push(b": refused ");
+                text.push(why_text(why));
+            }
+        }
     }
-    put_after(sink, text, model, event)
-}
 
-// Gathers what came of an operation.
-pub(crate) fn put_result<K: Sink>(
-    sink: &mut K,
-    text: &mut Text,
-    model: &Model,
-    event: &Event,
-) -> Result<(), Failed>
-    requires { EventFits model.now event.now }
-    ensures bytes { GathersTo K.Sink sink.old sink.new text.old text.new
-        (spec.result_text model.now.chip event.now) result }
-    ensures stays { SinkStays K.Sink sink.old sink.new result }
-{
-    make_room(sink, text)?;
-    push_end(text, model, event);
-    put_rest(sink, text, model, event)
+    // Gathers which fields of a register differ, if any.
+    fn put_differ<K: Sink>(&self, sink: &mut K, text: &mut Text, reg: u32) -> Result<(), Failed>
+        requires reg { reg < length self.now.model.now.chip.regs }
+        ensures bytes { GathersTo K.Sink sink.old sink.new text.old text.new
+            (spec.differ_text self.now.model.now.chip self.now.event.now reg) result }
+        ensures stays { SinkStays K.Sink sink.old sink.new result }
+    {
+        if !has_differ(self.event) {
+            return Ok(());
+        }
+        gather(sink, text, b" differ")?;
+        put_names(sink, text, self.model, reg, self.event.differ)
+    }
+
+    // Appends the desired value, where the operation shows it.
+    fn push_desired(&self, text: &mut Text, reg: u32)
+        requires reg { reg < length self.now.model.now.chip.regs }
+        requires desired { self.now.event.now.desired < 16 ^ (2 * size_of self.now.model.now.chip reg) }
+        requires room { length text.old + 32 ≤ 512 }
+        ensures text { text.new ≡ text.old ++ spec.desired_text self.now.model.now.chip self.now.event.now reg }
+        ensures len { length text.new ≤ length text.old + 32 }
+    {
+        if !shows_desired(self.event.op, self.event.end) {
+            return;
+        }
+        let digits = item_digits(self.model, Item::Reg(reg));
+        push_value(text, b" desired 0x", self.event.desired, digits);
+    }
+
+    // Gathers what is believed of the register of an event.
+    fn put_register<K: Sink>(&self, sink: &mut K, text: &mut Text, reg: u32) -> Result<(), Failed>
+        requires reg { reg < length self.now.model.now.chip.regs }
+        requires room { length text.old + 64 ≤ 512 }
+        requires mirrored { self.now.event.now.mirrored < 16 ^ (2 * size_of self.now.model.now.chip reg) }
+        requires desired { self.now.event.now.desired < 16 ^ (2 * size_of self.now.model.now.chip reg) }
+        ensures bytes { GathersTo K.Sink sink.old sink.new text.old text.new
+            (spec.after_text self.now.model.now.chip self.now.event.now (Some reg)) result }
+        ensures stays { SinkStays K.Sink sink.old sink.new result }
+    {
+        let digits = item_digits(self.model, Item::Reg(reg));
+        self.push_desired(text, reg);
+        push_value(text, b" mirror 0x", self.event.mirrored, digits);
+        self.put_differ(sink, text, reg)
+    }
+
+    // Gathers what is known after an operation that wasn't refused.
+    fn put_after<K: Sink>(&self, sink: &mut K, text: &mut Text) -> Result<(), Failed>
+        requires room { length text.old + 64 ≤ 512 }
+        requires fits { EventFits self.now.model.now self.now.event.now }
+        ensures bytes { GathersTo K.Sink sink.old sink.new text.old text.new
+            (spec.after_text self.now.model.now.chip self.now.event.now
+            (register_of self.now.model.now.chip self.now.event.now.op)) result }
+        ensures stays { SinkStays K.Sink sink.old sink.new result }
+    {
+        match register_of(self.model, self.event.op) {
+            Some(reg) => self.put_register(sink, text, reg),
+            None if has_differ(self.event) => gather(sink, text, b" differ"),
+            None => Ok(()),
+        }
+    }
+
+    // Gathers what stands after an operation: nothing where that is refused.
+    fn put_rest<K: Sink>(&self, sink: &mut K, text: &mut Text) -> Result<(), Failed>
+        requires room { length text.old + 64 ≤ 512 }
+        requires fits { EventFits self.now.model.now self.now.event.now }
+        ensures bytes { GathersTo K.Sink sink.old sink.new text.old text.new
+            (spec.rest_text self.now.model.now.chip self.now.event.now) result }
+        ensures stays { SinkStays K.Sink sink.old sink.new result }
+    {
+        if is_refused(self.event.end) {
+            return Ok(());
+        }
+        self.put_after(sink, text)
+    }
+
+    // Gathers what came of an operation.
+    pub(crate) fn put_result<K: Sink>(&self, sink: &mut K, text: &mut Text) -> Result<(), Failed>
+        requires { EventFits self.now.model.now self.now.event.now }
+        ensures bytes { GathersTo K.Sink sink.old sink.new text.old text.new
+            (spec.result_text self.now.model.now.chip self.now.event.now) result }
+        ensures stays { SinkStays K.Sink sink.old sink.new result }
+    {
+        make_room(sink, text)?;
+        self.push_end(text);
+        self.put_rest(sink, text)
+    }
 }

@@ -98,85 +98,77 @@ fn push_label(text: &mut Vec<u8>, label: &[u8]) -> Result<(), AllocError>
     Ok(())
 }
 
-// Appends the setup phase, in which the operation appears.
-#[tactic(auto, using(crate::proofs::TextLemmas::more, crate::proofs::TextLemmas::last))]
-fn push_setup(
-    text: &mut Vec<u8>,
-    n: u64,
+// A transfer as it is drawn: on this bus, with this operation beside it.
+#[derive(Clone, Copy)]
+struct Drawn<'a> {
     bus: Bus,
-    label: &[u8],
-    setup: &Pins,
-) -> Result<(), AllocError>
-    requires { bus.bytes ≤ 4 }
-    ensures { OnOk result (text.new.items ≡ text.old.items
-        ++ cycle_text n (joined (label_text label.now ∷ changes bus idle setup.now ∷ []))) }
-{
-    open_cycle(text, n)?;
-    push_label(text, label)?;
-    push_changes(text, bus, &IDLE, setup)?;
-    close_cycle(text, n)?;
-    Ok(())
+    label: &'a [u8],
+    transfer: &'a ApbTransfer,
+    response: &'a ApbResponse,
 }
 
-// Appends the access phase.
-fn push_access(
-    text: &mut Vec<u8>,
-    n: u64,
-    bus: Bus,
-    transfer: &ApbTransfer,
-    response: &ApbResponse,
-) -> Result<(), AllocError>
-    requires narrow { bus.bytes ≤ 4 }
-    requires early { n ≤ 2 ^ 64 - 1024 }
-    ensures { OnOk result (text.new.items ≡ text.old.items
-        ++ access_text bus transfer.now response.now n (response.now.waits + 1)) }
-{
-    for k in 0..response.waits as u32 + 1 {
-        let before = pins_at(transfer, response, k);
-        let after = pins_at(transfer, response, k + 1);
-        push_cycle(text, n + k as u64 + 1, bus, &before, &after)?;
+impl<'a> Drawn<'a> {
+    // Appends the setup phase, in which the operation appears.
+    #[tactic(auto, using(crate::proofs::TextLemmas::more, crate::proofs::TextLemmas::last))]
+    fn push_setup(&self, text: &mut Vec<u8>, n: u64, setup: &Pins) -> Result<(), AllocError>
+        requires { self.now.bus.bytes ≤ 4 }
+        ensures { OnOk result (text.new.items ≡ text.old.items
+            ++ cycle_text n (joined (label_text self.now.label.now ∷ changes self.now.bus idle setup.now ∷ []))) }
+    {
+        open_cycle(text, n)?;
+        push_label(text, self.label)?;
+        push_changes(text, self.bus, &IDLE, setup)?;
+        close_cycle(text, n)?;
+        Ok(())
     }
-    Ok(())
-}
 
-// Appends the idle cycle behind a transfer, in which its operation disappears.
-#[tactic(auto, using(crate::proofs::TextLemmas::more, crate::proofs::TextLemmas::last))]
-fn push_end(text: &mut Vec<u8>, n: u64, bus: Bus, last: &Pins) -> Result<(), AllocError>
-    requires { bus.bytes ≤ 4 }
-    ensures { OnOk result (text.new.items ≡ text.old.items
-        ++ cycle_text n (joined (changes bus last.now idle ∷ label_text [] ∷ []))) }
-{
-    open_cycle(text, n)?;
-    push_changes(text, bus, last, &IDLE)?;
-    push_label(text, &[])?;
-    close_cycle(text, n)?;
-    Ok(())
-}
+    // Appends the access phase.
+    fn push_access(&self, text: &mut Vec<u8>, n: u64) -> Result<(), AllocError>
+        requires narrow { self.now.bus.bytes ≤ 4 }
+        requires early { n ≤ 2 ^ 64 - 1024 }
+        ensures { OnOk result (text.new.items ≡ text.old.items
+            ++ access_text self.now.bus self.now.transfer.now self.now.response.now n
+            (self.now.response.now.waits + 1)) }
+    {
+        for k in 0..self.response.waits as u32 + 1 {
+            let before = pins_at(self.transfer, self.response, k);
+            let after = pins_at(self.transfer, self.response, k + 1);
+            push_cycle(text, n + k as u64 + 1, self.bus, &before, &after)?;
+        }
+        Ok(())
+    }
 
-// Appends a transfer that begins in cycle `n`.
-fn push_transfer(
-    text: &mut Vec<u8>,
-    n: u64,
-    bus: Bus,
-    label: &[u8],
-    transfer: &ApbTransfer,
-    response: &ApbResponse,
-) -> Result<(), AllocError>
-    requires narrow { bus.bytes ≤ 4 }
-    requires early { n ≤ 2 ^ 64 - 1024 }
-    ensures { OnOk result (text.new.items ≡ text.old.items
-        ++ transfer_text bus label.now transfer.now response.now n) }
-{
-    let waits = response.waits as u32;
-    push_setup(text, n, bus, label, &pins_at(transfer, response, 0))?;
-    push_access(text, n, bus, transfer, response)?;
-    push_end(
-        text,
-        n + waits as u64 + 2,
-        bus,
-        &pins_at(transfer, response, waits + 1),
-    )?;
-    Ok(())
+    // Appends the idle cycle behind a transfer, in which its operation disappears.
+    #[tactic(auto, using(crate::proofs::TextLemmas::more, crate::proofs::TextLemmas::last))]
+    fn push_end(&self, text: &mut Vec<u8>, n: u64, last: &Pins) -> Result<(), AllocError>
+        requires { self.now.bus.bytes ≤ 4 }
+        ensures { OnOk result (text.new.items ≡ text.old.items
+            ++ cycle_text n (joined (changes self.now.bus last.now idle ∷ label_text [] ∷ []))) }
+    {
+        open_cycle(text, n)?;
+        push_changes(text, self.bus, last, &IDLE)?;
+        push_label(text, &[])?;
+        close_cycle(text, n)?;
+        Ok(())
+    }
+
+    // Appends a transfer that begins in cycle `n`.
+    fn push(&self, text: &mut Vec<u8>, n: u64) -> Result<(), AllocError>
+        requires narrow { self.now.bus.bytes ≤ 4 }
+        requires early { n ≤ 2 ^ 64 - 1024 }
+        ensures { OnOk result (text.new.items ≡ text.old.items
+            ++ transfer_text self.now.bus self.now.label.now self.now.transfer.now self.now.response.now n) }
+    {
+        let waits = self.response.waits as u32;
+        self.push_setup(text, n, &pins_at(self.transfer, self.response, 0))?;
+        self.push_access(text, n)?;
+        self.push_end(
+            text,
+            n + waits as u64 + 2,
+            &pins_at(self.transfer, self.response, waits + 1),
+        )?;
+        Ok(())
+    }
 }
 
 /// The text of a dump as far as it isn't written elsewhere, and the number of the next clock cycle.
@@ -219,7 +211,13 @@ impl Wave {
         if self.cycle > LAST {
             return Err(Fault::Full);
         }
-        push_transfer(&mut self.text, self.cycle, bus, label, transfer, response)?;
+        let drawn = Drawn {
+            bus,
+            label,
+            transfer,
+            response,
+        };
+        drawn.push(&mut self.text, self.cycle)?;
         self.cycle += response.waits as u64 + 3;
         Ok(())
     }

@@ -1,4 +1,4 @@
-use Rattle.std.proofs.Common.{◌≡◌, true, length, ap, sym, ◌∙◌, subst, arith, IfSome}
+use Rattle.std.proofs.Common.{◌≡◌, true, ap, sym, ◌∙◌, subst, arith, IfSome}
 use Rattle.rl_report.specs.Reading.{input_of, HandsLine}
 use Rattle.rl_report.proofs.LineLemmas.{hands_whole, hands_last, too_long, line_front, line_behind, line_within, sizes_held}
 use Rattle.std.proofs.lemmas.List.{take_all}

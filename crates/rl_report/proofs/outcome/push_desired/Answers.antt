@@ -1,7 +1,0 @@
-use Rattle.std.proofs.Common.{sym, ◌∙◌}
-use Rattle.rl_report.proofs.outcome.push_desired.Goals as goal
-
-pub returns-clause-text : goal.returns-clause-text
-returns-clause-text c =
-    let shown = sym c.shows_desired.ensures ∙ c.if-not-shows_desired.false in
-    rw shown (rw (c.item_digits-digits.ensures.value) at c.push_value.ensures.text)
