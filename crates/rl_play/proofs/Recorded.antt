@@ -19,6 +19,7 @@ use Rattle.rl_log.specs.Recording.{with_events, told_text, events_text}
 use Rattle.rl_play.specs.AnyDevice.{Logs, LogsTallied, Point}
 use Rattle.rl_play.specs.Work.{Work, Does, BreaksOff, planned, burst, single}
 use Rattle.rl_play.specs.Recording.{IsWritten, IsBegun}
+use Rattle.rl_play.specs.declared.recorder.Writing.{Writing}
 
 pub events_append : (told more : List Told) → events_text (told ++ more) ≡ events_text told ++ events_text more
 events_append [] more = refl
@@ -122,7 +123,7 @@ module _ {R : Type 0} (written : R → Option (List ℕ)) (counts : R → Counts
 
   -- ---- a sequence
 
-  pub sequence_logged : {E : Type 0} (p : Plan) (s new : Scene) (old rec : R) (r : Result Tally E)
+  sequence_logged : {E : Type 0} (p : Plan) (s new : Scene) (old rec : R) (r : Result Tally E)
       → IsSequence Takes Breaks old rec s new p r → LogsTallied (planned p) (at s old) (at new rec) r
   sequence_logged p s new old rec (Ok tally) q =
       all_logged (planned p) s new old rec q.told tally q.run q.handed.all q.counts
@@ -134,7 +135,7 @@ module _ {R : Type 0} (written : R → Option (List ℕ)) (counts : R → Counts
   abbrev alone : Scene → Event → List Told
   alone s event = record { model = s.model; event = event } ∷ []
 
-  pub burst_logged : {E : Type 0} (granted : Grant) (op : Op) (ops : List Op) (s new : Scene) (old rec : R)
+  burst_logged : {E : Type 0} (granted : Grant) (op : Op) (ops : List Op) (s new : Scene) (old rec : R)
       (r : Result Tally E) → IsBurst Takes Breaks old rec s new granted op ops r
       → LogsTallied (burst granted op ops) (at s old) (at new rec) r
   burst_logged (Ok place) op ops s new old rec (Ok tally) q =
@@ -147,3 +148,22 @@ module _ {R : Type 0} (written : R → Option (List ℕ)) (counts : R → Counts
   burst_logged (Err why) op ops s new old rec (Err e) q =
       cut_logged (burst (Err why) op ops) s new old rec (alone s q.event) e
       (record { event = q.event; refused = q.refused; told_is = refl }) q.handed.part
+
+-- ---- by one that counts the events, and writes them to a sink
+
+module _ {K : Type 0} (written : K → Option (List ℕ)) where
+  abbrev told_by : Writing K → Option (List ℕ)
+  told_by rec = written rec.sink.now
+
+  abbrev counted_by : Writing K → Counts
+  counted_by rec = rec.counts
+
+  pub sequence_recorded : {E : Type 0} (p : Plan) (s new : Scene) (old rec : Writing K) (r : Result Tally E)
+      → IsSequence (Takes told_by counted_by) (Breaks told_by counted_by) old rec s new p r
+      → LogsTallied (planned p) (at told_by counted_by s old) (at told_by counted_by new rec) r
+  sequence_recorded p s new old rec r q = sequence_logged told_by counted_by p s new old rec r q
+
+  pub burst_recorded : {E : Type 0} (granted : Grant) (op : Op) (ops : List Op) (s new : Scene) (old rec : Writing K)
+      (r : Result Tally E) → IsBurst (Takes told_by counted_by) (Breaks told_by counted_by) old rec s new granted op ops r
+      → LogsTallied (burst granted op ops) (at told_by counted_by s old) (at told_by counted_by new rec) r
+  burst_recorded granted op ops s new old rec r q = burst_logged told_by counted_by granted op ops s new old rec r q

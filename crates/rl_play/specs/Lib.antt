@@ -7,6 +7,7 @@ pub mod Moment
 pub mod Played
 pub mod Prelude
 pub mod Recording
+pub mod Stage
 pub mod Texts
 pub mod Told
 pub mod Work

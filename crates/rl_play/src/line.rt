@@ -2,6 +2,7 @@
 ghost use Rattle.std.specs.Prelude.{◌≡◌, ◌<◌, ◌∷◌, [], length, map as each, IfSome, Ok};
 ghost use Rattle.rl_play.specs.Prelude.{HasCause, IsReady, IsSameChip, line_said, plan_of, JobHasNumbers, asked};
 ghost use Rattle.rl_play.specs.Prelude.{job_work, one_op, planned, spot, LogsTallied, RunsOn, SinkStays, StaysReady};
+ghost use Rattle.rl_play.specs.Stage.{CanRun, StaysOn, recorded, spot_of};
 ghost use Rattle.rl_script.specs.declared.line.Line.TheVariants as say;
 
 use crate::log::Log;
@@ -14,6 +15,16 @@ use rl_bus::{Adapter, Adapters, Device};
 use rl_log::{Counts, LineRefusal};
 use rl_report::Failed;
 use rl_script::{IdentRef, Item, ItemLine, LineRef, PathRef, Sequence, Values};
+
+// What a line is run on, and where its log goes.
+#[derive(Drop)]
+struct Stage<'a, D, K> {
+    model: &'a mut Model,
+    device: &'a mut D,
+    adapters: &'a mut Adapters,
+    out: &'a mut K,
+    counts: &'a mut Counts,
+}
 
 // What a line asks for that is more than one operation.
 #[derive(Clone, Copy)]
@@ -53,11 +64,8 @@ fn run_sequence<D: Device, K: Log>(
     ensures ready { IsReady model.new (each standing adapters.new.items) (D.state device.new) }
     ensures parts { IsSameChip model.old model.new }
     ensures logs { LogsTallied (planned (plan_of which model.old block))
-        (spot standing D.errors D.state K.written
-        model.old adapters.old.items device.old rec.old.sink.now rec.old.counts)
-        (spot standing D.errors D.state K.written
-        model.new adapters.new.items device.new rec.new.sink.now rec.new.counts)
-        result }
+        (recorded standing D.errors D.state K.written model.old adapters.old.items device.old rec.old)
+        (recorded standing D.errors D.state K.written model.new adapters.new.items device.new rec.new) result }
     ensures cause { HasCause (K.faults rec.old.sink.now) (K.faults rec.new.sink.now) result }
     ensures steady { rec.new.sink.ghost_name ∷ K.ends rec.new.sink.now ∷ K.target rec.new.sink.now ∷ []
         ≡ rec.old.sink.ghost_name ∷ K.ends rec.old.sink.now ∷ K.target rec.old.sink.now ∷ [] }
@@ -85,11 +93,8 @@ fn record_job<D: Device, K: Log>(
     ensures ready { IsReady model.new (each standing adapters.new.items) (D.state device.new) }
     ensures parts { IsSameChip model.old model.new }
     ensures logs { LogsTallied (job_work job.entry model.old)
-        (spot standing D.errors D.state K.written
-        model.old adapters.old.items device.old rec.old.sink.now rec.old.counts)
-        (spot standing D.errors D.state K.written
-        model.new adapters.new.items device.new rec.new.sink.now rec.new.counts)
-        result }
+        (recorded standing D.errors D.state K.written model.old adapters.old.items device.old rec.old)
+        (recorded standing D.errors D.state K.written model.new adapters.new.items device.new rec.new) result }
     ensures cause { HasCause (K.faults rec.old.sink.now) (K.faults rec.new.sink.now) result }
     ensures ends_kept { K.ends rec.new.sink.now ≡ K.ends rec.old.sink.now }
     ensures same_target { K.target rec.new.sink.now ≡ K.target rec.old.sink.now }
@@ -113,55 +118,42 @@ fn record_job<D: Device, K: Log>(
 }
 
 // The same, to a sink.
-fn log_job<D: Device, K: Log>(
-    model: &mut Model,
-    device: &mut D,
-    adapters: &mut Adapters,
-    job: Job<'_>,
-    out: &mut K,
-    counts: &mut Counts,
-) -> Result<Tally, Failed>
-    requires ready { IsReady model.old (each standing adapters.old.items) (D.state device.old) }
-    requires numbers { JobHasNumbers model.old.chip (length model.old.layout.maps) job }
-    ensures ready { StaysReady model.old model.new (each standing adapters.new.items) (D.state device.new) }
-    ensures logs { LogsTallied (job_work job.entry model.old)
-        (spot standing D.errors D.state K.written model.old adapters.old.items device.old out.old counts.old)
-        (spot standing D.errors D.state K.written model.new adapters.new.items device.new out.new counts.new) result }
-    ensures stays { SinkStays K.Sink out.old out.new result }
+fn log_job<D: Device, K: Log>(stage: &mut Stage<'_, D, K>, job: Job<'_>) -> Result<Tally, Failed>
+    requires ready { CanRun D.Device (each standing stage.old.adapters.now.items) stage.old }
+    requires numbers { JobHasNumbers stage.old.model.now.chip (length stage.old.model.now.layout.maps) job }
+    ensures logs { LogsTallied (job_work job.entry stage.old.model.now)
+        (spot_of D.Device K.Sink (each standing stage.old.adapters.now.items) stage.old)
+        (spot_of D.Device K.Sink (each standing stage.new.adapters.now.items) stage.new) result }
+    ensures stays { StaysOn D.Device K.Sink (each standing stage.new.adapters.now.items) stage.old stage.new result }
 {
     let mut rec = Writing {
-        sink: out,
-        counts: *counts,
+        sink: stage.out,
+        counts: *stage.counts,
     };
-    let result = record_job(model, device, adapters, job, &mut rec);
-    *counts = rec.counts;
+    let result = record_job(stage.model, stage.device, stage.adapters, job, &mut rec);
+    *stage.counts = rec.counts;
     result
 }
 
 // Runs a line that is a burst of writes.
 #[inline(never)]
 fn write_burst<D: Device, K: Log>(
-    model: &mut Model,
-    device: &mut D,
-    adapters: &mut Adapters,
+    stage: &mut Stage<'_, D, K>,
     mem: &PathRef<'_>,
     first: u64,
     values: &Values,
     name: &Option<IdentRef<'_>>,
-    out: &mut K,
-    counts: &mut Counts,
 ) -> Result<Option<LineRefusal>, Failed>
-    requires ready { IsReady model.old (each standing adapters.old.items) (D.state device.old) }
-    ensures ready { StaysReady model.old model.new (each standing adapters.new.items) (D.state device.new) }
-    ensures run { RunsOn (asked model.old (Ok (say.BurstWrite mem.now first values.now name.now)))
-        (spot standing D.errors D.state K.written model.old adapters.old.items device.old out.old counts.old)
-        (spot standing D.errors D.state K.written model.new adapters.new.items device.new out.new counts.new) result }
-    ensures stays { SinkStays K.Sink out.old out.new result }
+    requires ready { CanRun D.Device (each standing stage.old.adapters.now.items) stage.old }
+    ensures run { RunsOn (asked stage.old.model.now (Ok (say.BurstWrite mem.now first values.now name.now)))
+        (spot_of D.Device K.Sink (each standing stage.old.adapters.now.items) stage.old)
+        (spot_of D.Device K.Sink (each standing stage.new.adapters.now.items) stage.new) result }
+    ensures stays { StaysOn D.Device K.Sink (each standing stage.new.adapters.now.items) stage.old stage.new result }
 {
-    let Some(mem) = mem_at(model, mem) else {
+    let Some(mem) = mem_at(stage.model, mem) else {
         return Ok(Some(LineRefusal::NoSuchName));
     };
-    let Some(through) = map_asked(model, name) else {
+    let Some(through) = map_asked(stage.model, name) else {
         return Ok(Some(LineRefusal::NoSuchName));
     };
     let job = Job::BurstWrite {
@@ -170,32 +162,27 @@ fn write_burst<D: Device, K: Log>(
         first,
         values: values.items(),
     };
-    log_job(model, device, adapters, job, out, counts)?;
+    log_job(stage, job)?;
     Ok(None)
 }
 
 // Runs a line that is a burst of reads.
 #[inline(never)]
 fn read_burst<D: Device, K: Log>(
-    model: &mut Model,
-    device: &mut D,
-    adapters: &mut Adapters,
+    stage: &mut Stage<'_, D, K>,
     line: &ItemLine<'_>,
-    out: &mut K,
-    counts: &mut Counts,
 ) -> Result<Option<LineRefusal>, Failed>
-    requires ready { IsReady model.old (each standing adapters.old.items) (D.state device.old) }
-    ensures ready { StaysReady model.old model.new (each standing adapters.new.items) (D.state device.new) }
+    requires ready { CanRun D.Device (each standing stage.old.adapters.now.items) stage.old }
     ensures run { RunsOn
-        (asked model.old (Ok (say.BurstRead line.now.path line.now.first line.now.second line.now.map)))
-        (spot standing D.errors D.state K.written model.old adapters.old.items device.old out.old counts.old)
-        (spot standing D.errors D.state K.written model.new adapters.new.items device.new out.new counts.new) result }
-    ensures stays { SinkStays K.Sink out.old out.new result }
+        (asked stage.old.model.now (Ok (say.BurstRead line.now.path line.now.first line.now.second line.now.map)))
+        (spot_of D.Device K.Sink (each standing stage.old.adapters.now.items) stage.old)
+        (spot_of D.Device K.Sink (each standing stage.new.adapters.now.items) stage.new) result }
+    ensures stays { StaysOn D.Device K.Sink (each standing stage.new.adapters.now.items) stage.old stage.new result }
 {
-    let Some(mem) = mem_at(model, &line.path) else {
+    let Some(mem) = mem_at(stage.model, &line.path) else {
         return Ok(Some(LineRefusal::NoSuchName));
     };
-    let Some(through) = map_asked(model, &line.map) else {
+    let Some(through) = map_asked(stage.model, &line.map) else {
         return Ok(Some(LineRefusal::NoSuchName));
     };
     let job = Job::BurstRead {
@@ -204,65 +191,55 @@ fn read_burst<D: Device, K: Log>(
         first: line.first,
         count: line.second,
     };
-    log_job(model, device, adapters, job, out, counts)?;
+    log_job(stage, job)?;
     Ok(None)
 }
 
 // Runs a line that is a sequence, with the lines around its events.
 #[inline(never)]
 fn sequence<D: Device, K: Log>(
-    model: &mut Model,
-    device: &mut D,
-    adapters: &mut Adapters,
+    stage: &mut Stage<'_, D, K>,
     which: Sequence,
     path: &Option<PathRef<'_>>,
-    out: &mut K,
-    counts: &mut Counts,
 ) -> Result<Option<LineRefusal>, Failed>
-    requires ready { IsReady model.old (each standing adapters.old.items) (D.state device.old) }
-    ensures ready { StaysReady model.old model.new (each standing adapters.new.items) (D.state device.new) }
-    ensures run { RunsOn (asked model.old (Ok (say.Seq which path.now)))
-        (spot standing D.errors D.state K.written model.old adapters.old.items device.old out.old counts.old)
-        (spot standing D.errors D.state K.written model.new adapters.new.items device.new out.new counts.new) result }
-    ensures stays { SinkStays K.Sink out.old out.new result }
+    requires ready { CanRun D.Device (each standing stage.old.adapters.now.items) stage.old }
+    ensures run { RunsOn (asked stage.old.model.now (Ok (say.Seq which path.now)))
+        (spot_of D.Device K.Sink (each standing stage.old.adapters.now.items) stage.old)
+        (spot_of D.Device K.Sink (each standing stage.new.adapters.now.items) stage.new) result }
+    ensures stays { StaysOn D.Device K.Sink (each standing stage.new.adapters.now.items) stage.old stage.new result }
 {
-    let Some(block) = block_asked(model, path) else {
+    let Some(block) = block_asked(stage.model, path) else {
         return Ok(Some(LineRefusal::NoSuchName));
     };
-    put_sequence_begin(out, which, path)?;
-    let tally = log_job(
-        model,
-        device,
-        adapters,
-        Job::Sequence { which, block },
-        out,
-        counts,
-    )?;
-    put_sequence_end(out, which, path, &Counts::of(&tally))?;
+    put_sequence_begin(stage.out, which, path)?;
+    let tally = log_job(stage, Job::Sequence { which, block })?;
+    put_sequence_end(stage.out, which, path, &Counts::of(&tally))?;
     Ok(None)
 }
 
 // Runs a line that is one operation.
 #[inline(never)]
 fn operation<D: Device, K: Log>(
-    model: &mut Model,
-    device: &mut D,
-    adapters: &mut Adapters,
+    stage: &mut Stage<'_, D, K>,
     line: &LineRef<'_>,
-    out: &mut K,
-    counts: &mut Counts,
 ) -> Result<Option<LineRefusal>, Failed>
-    requires ready { IsReady model.old (each standing adapters.old.items) (D.state device.old) }
-    ensures ready { StaysReady model.old model.new (each standing adapters.new.items) (D.state device.new) }
-    ensures run { RunsOn (one_op model.old (line_said line.now))
-        (spot standing D.errors D.state K.written model.old adapters.old.items device.old out.old counts.old)
-        (spot standing D.errors D.state K.written model.new adapters.new.items device.new out.new counts.new) result }
-    ensures stays { SinkStays K.Sink out.old out.new result }
+    requires ready { CanRun D.Device (each standing stage.old.adapters.now.items) stage.old }
+    ensures run { RunsOn (one_op stage.old.model.now (line_said line.now))
+        (spot_of D.Device K.Sink (each standing stage.old.adapters.now.items) stage.old)
+        (spot_of D.Device K.Sink (each standing stage.new.adapters.now.items) stage.new) result }
+    ensures stays { StaysOn D.Device K.Sink (each standing stage.new.adapters.now.items) stage.old stage.new result }
 {
-    let Some(op) = op_of(model, line) else {
+    let Some(op) = op_of(stage.model, line) else {
         return Ok(Some(LineRefusal::NoSuchName));
     };
-    perform(model, device, adapters, op, out, counts)?;
+    perform(
+        stage.model,
+        stage.device,
+        stage.adapters,
+        op,
+        stage.out,
+        stage.counts,
+    )?;
     Ok(None)
 }
 
@@ -282,6 +259,27 @@ pub(crate) fn run_line<D: Device, K: Log>(
         (spot standing D.errors D.state K.written model.new adapters.new.items device.new out.new counts.new) result }
     ensures stays { SinkStays K.Sink out.old out.new result }
 {
+    let mut stage = Stage {
+        model,
+        device,
+        adapters,
+        out,
+        counts,
+    };
+    run_on(&mut stage, line)
+}
+
+// The same, on a stage.
+fn run_on<D: Device, K: Log>(
+    stage: &mut Stage<'_, D, K>,
+    line: &LineRef<'_>,
+) -> Result<Option<LineRefusal>, Failed>
+    requires ready { CanRun D.Device (each standing stage.old.adapters.now.items) stage.old }
+    ensures run { RunsOn (asked stage.old.model.now (Ok (line_said line.now)))
+        (spot_of D.Device K.Sink (each standing stage.old.adapters.now.items) stage.old)
+        (spot_of D.Device K.Sink (each standing stage.new.adapters.now.items) stage.new) result }
+    ensures stays { StaysOn D.Device K.Sink (each standing stage.new.adapters.now.items) stage.old stage.new result }
+{
     match line {
         LineRef::Blank => Ok(None),
         LineRef::BurstWrite {
@@ -289,18 +287,12 @@ pub(crate) fn run_line<D: Device, K: Log>(
             first,
             values,
             map,
-        } => {
-            write_burst(
-                model, device, adapters, mem, *first, values, map, out, counts,
-            )
-        }
+        } => write_burst(stage, mem, *first, values, map),
         LineRef::OnItem(item) => match item.item {
-            Item::BurstRead => read_burst(model, device, adapters, item, out, counts),
-            _ => operation(model, device, adapters, line, out, counts),
+            Item::BurstRead => read_burst(stage, item),
+            _ => operation(stage, line),
         },
-        LineRef::Reset { .. } => operation(model, device, adapters, line, out, counts),
-        LineRef::Seq { which, block } => sequence(
-            model, device, adapters, *which, block, out, counts,
-        ),
+        LineRef::Reset { .. } => operation(stage, line),
+        LineRef::Seq { which, block } => sequence(stage, *which, block),
     }
 }

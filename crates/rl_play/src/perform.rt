@@ -9,7 +9,7 @@ ghost use Rattle.rl_play.specs.Work.{single};
 
 use crate::log::Log;
 use crate::recorder::record;
-use rl_access::{Model, Op};
+use rl_access::{Event, Model, Op, perform_into};
 use rl_bus::{Adapter, Adapters, Device};
 use rl_log::Counts;
 use rl_report::Failed;
@@ -32,6 +32,7 @@ pub(crate) fn perform<D: Device, K: Log>(
         (spot standing D.errors D.state K.written model.new adapters.new.items device.new out.new counts.new) result }
     ensures stays { SinkStays K.Sink out.old out.new result }
 {
-    let event = rl_access::perform(model, device, adapters, op);
+    let mut event = Event::blank();
+    perform_into(model, device, adapters, op, &mut event);
     record(&event, model, out, counts)
 }

@@ -8,23 +8,17 @@ ghost use Rattle.rl_play.specs.Texts.{counts_text, refused_so_text};
 
 use itoa::Buffer;
 use rl_log::{Counts, LineRefusal};
-use rl_report::{Failed, Sink, put_all, put_pieces};
+use rl_report::{Failed, Sink, put_all, put_pieces, text_beside};
 use rl_script::{LineFault, PathRef, Sequence};
 
 fn reason(refusal: LineRefusal) -> &'static [u8]
     ensures { result.now ≡ reason_text refusal }
 {
-    match refusal {
-        LineRefusal::TooLong => b"too long",
-        LineRefusal::NotAscii => b"not ascii",
-        LineRefusal::NoSuchCommand => b"no such command",
-        LineRefusal::WrongCount => b"wrong count",
-        LineRefusal::BadName => b"bad name",
-        LineRefusal::BadNumber => b"bad number",
-        LineRefusal::NumberTooLarge => b"number too large",
-        LineRefusal::CountOutOfRange => b"count out of range",
-        LineRefusal::NoSuchName => b"no such name",
-        LineRefusal::TooManyLines => b"too many lines",
+    text_beside! {
+        refusal: LineRefusal;
+        TooLong b"too long", NotAscii b"not ascii", NoSuchCommand b"no such command", WrongCount b"wrong count",
+        BadName b"bad name", BadNumber b"bad number", NumberTooLarge b"number too large",
+        CountOutOfRange b"count out of range", NoSuchName b"no such name", TooManyLines b"too many lines"
     }
 }
 

@@ -1,4 +1,4 @@
-use Rattle.rl_play.proofs.Recorded.{burst_logged}
+use Rattle.rl_play.proofs.Recorded.{burst_recorded}
 use Rattle.rl_play.proofs.line.record_job.Goals as goal
 
 pub returns-in-Sequence-clause-logs : goal.returns-in-Sequence-clause-logs
@@ -6,10 +6,8 @@ returns-in-Sequence-clause-logs g c = rw c.in-Sequence.is c.run_sequence.ensures
 
 pub returns-in-BurstWrite-clause-logs : goal.returns-in-BurstWrite-clause-logs
 returns-in-BurstWrite-clause-logs g c =
-    let w = burst_logged (λ r. g.K.Sink.written r.sink.now) (λ r. r.counts) _ _ _ _ _ _ _ _ c.burst_write.ensures.hands_over in
-    rw c.in-BurstWrite.is w
+    rw c.in-BurstWrite.is (burst_recorded g.K.Sink.written _ _ _ _ _ _ _ _ c.burst_write.ensures.hands_over)
 
 pub returns-in-BurstRead-clause-logs : goal.returns-in-BurstRead-clause-logs
 returns-in-BurstRead-clause-logs g c =
-    let w = burst_logged (λ r. g.K.Sink.written r.sink.now) (λ r. r.counts) _ _ _ _ _ _ _ _ c.burst_read.ensures.hands_over in
-    rw c.in-BurstRead.is w
+    rw c.in-BurstRead.is (burst_recorded g.K.Sink.written _ _ _ _ _ _ _ _ c.burst_read.ensures.hands_over)

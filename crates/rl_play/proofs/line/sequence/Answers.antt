@@ -6,20 +6,20 @@ use Rattle.rl_play.proofs.line.sequence.Goals as goal
 
 pub returns-in_err-put_sequence_begin-clause-run : goal.returns-in_err-put_sequence_begin-clause-run
 returns-in_err-put_sequence_begin-clause-run g c =
-    let asks = one_is _ c.in-Some.block (λ block. sequence c.args.which c.args.path.now (plan_of c.args.which c.args.model.now block))
+    let asks = one_is _ c.in-Some.block (λ block. sequence c.args.which c.args.path.now (plan_of c.args.which c.args.stage.now.model.now block))
     (sym c.block_asked.ensures.named ∙ c.in-Some.is) in
     begin_failed _ _ _ _ _ _ _ c.from_residual.ensures.0 asks c.in_err-put_sequence_begin.ensures.bytes.part
 
 pub returns-in_err-tally-clause-run : goal.returns-in_err-tally-clause-run
 returns-in_err-tally-clause-run g c =
-    let asks = one_is _ c.in-Some.block (λ block. sequence c.args.which c.args.path.now (plan_of c.args.which c.args.model.now block))
+    let asks = one_is _ c.in-Some.block (λ block. sequence c.args.which c.args.path.now (plan_of c.args.which c.args.stage.now.model.now block))
     (sym c.block_asked.ensures.named ∙ c.in-Some.is) in
     events_failed _ _ _ _ _ _ _ _ _ c.from_residual-in_err-tally.ensures.0 asks
     c.in_ok-put_sequence_begin.ensures.bytes.whole c.in_err-tally.ensures.logs
 
 pub returns-in_err-put_sequence_end-clause-run : goal.returns-in_err-put_sequence_end-clause-run
 returns-in_err-put_sequence_end-clause-run g c =
-    let asks = one_is _ c.in-Some.block (λ block. sequence c.args.which c.args.path.now (plan_of c.args.which c.args.model.now block))
+    let asks = one_is _ c.in-Some.block (λ block. sequence c.args.which c.args.path.now (plan_of c.args.which c.args.stage.now.model.now block))
     (sym c.block_asked.ensures.named ∙ c.in-Some.is) in
     closing_failed _ _ _ _ _ _ _ _ _ _ _ _ c.from_residual-in_err-put_sequence_end.ensures.0 asks
     c.in_ok-put_sequence_begin.ensures.bytes.whole c.in_ok-tally.ensures.logs c.of.ensures
@@ -27,7 +27,7 @@ returns-in_err-put_sequence_end-clause-run g c =
 
 pub returns-clause-run : goal.returns-clause-run
 returns-clause-run g c =
-    let asks = one_is _ c.in-Some.block (λ block. sequence c.args.which c.args.path.now (plan_of c.args.which c.args.model.now block))
+    let asks = one_is _ c.in-Some.block (λ block. sequence c.args.which c.args.path.now (plan_of c.args.which c.args.stage.now.model.now block))
     (sym c.block_asked.ensures.named ∙ c.in-Some.is) in
     sequence_done _ _ _ _ _ _ _ _ _ _ _ asks c.in_ok-put_sequence_begin.ensures.bytes.whole
     c.in_ok-tally.ensures.logs c.of.ensures c.in_ok-put_sequence_end.ensures.bytes.whole

@@ -2,11 +2,11 @@ use Rattle.std.proofs.Common.{◌≡◌, Ok}
 use Rattle.rl_script.specs.Said.{line_said}
 use Rattle.rl_play.specs.Work.{asked, one_op}
 use Rattle.rl_play.proofs.LineLemmas.{item_asks, runs_as}
-use Rattle.rl_play.proofs.line.run_line.Goals as goal
+use Rattle.rl_play.proofs.line.run_on.Goals as goal
 
 pub returns-in_default-clause-run : goal.returns-in_default-clause-run
 returns-in_default-clause-run g c =
     let l = c.in-OnItem.item in
-    let same : asked c.args.model.now (Ok (line_said c.args.line.now)) ≡ one_op c.args.model.now (line_said c.args.line.now) =
-    rw c.in-OnItem.is (item_asks c.args.model.now l.item l.path l.first l.second l.map c.in_default.not-BurstRead) in
+    let same : asked c.args.stage.now.model.now (Ok (line_said c.args.line.now)) ≡ one_op c.args.stage.now.model.now (line_said c.args.line.now) =
+    rw c.in-OnItem.is (item_asks c.args.stage.now.model.now l.item l.path l.first l.second l.map c.in_default.not-BurstRead) in
     runs_as _ _ _ _ _ same c.operation.ensures.run
