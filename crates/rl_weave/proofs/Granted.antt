@@ -1,21 +1,17 @@
 -- What a grant of another master's access says of its place.
-use Rattle.std.proofs.Common.{◌≡◌, ℕ, ◌^◌, ◌<◌, nat_lt, ltb, Bool, true, false, ◌&&◌, eqb-true, Option, None, Some, is_some, Ok, Err, refl, sym, ap, subst, arith}
+use Rattle.std.proofs.Common.{◌≡◌, ℕ, ◌^◌, ◌<◌, nat_lt, ltb, true, Option, None, Some, is_some, Ok, sym, subst, arith}
 use Rattle.std.specs.Prelude.{unwrap_or}
 use Rattle.std.proofs.lemmas.Bool.Decides.{nat_tests}
-use Rattle.std.proofs.lemmas.List.Quantifiers.{position-Some}
-use Rattle.rl_model.specs.declared.rows.Item.{Item}
 use Rattle.rl_model.specs.declared.rows.Item.TheVariants as item
 use Rattle.rl_model.specs.Fields.{size_of}
-use Rattle.rl_map.specs.declared.rows.PlaceRow.{PlaceRow}
-use Rattle.rl_map.specs.Layout.{LayoutData, place_at, port_at, place_of, same_item, is_in, has_right, no_place}
-use Rattle.rl_access.specs.declared.event.Refused.{Refused}
-use Rattle.rl_access.specs.declared.event.Refused.TheVariants.{NoRight, NotObserved, TooWide}
+use Rattle.rl_map.specs.Layout.{LayoutData, place_at, port_at, place_of, has_right}
+use Rattle.rl_access.specs.declared.event.Refused.TheVariants.{TooWide}
 use Rattle.rl_access.specs.declared.trace.TraceItem.{TraceItem}
 use Rattle.rl_access.specs.Access.{IsPlaceIn}
 use Rattle.rl_access.specs.Gathering.{IsRegister, IsRegisterPlace}
 use Rattle.rl_access.specs.Model.{ModelData, IsModel}
 use Rattle.rl_access.specs.Observed.{observing}
-use Rattle.rl_access.specs.Rules.{Grant, only_where, placed, with_right, with_watch, watched_way, grant}
+use Rattle.rl_access.specs.Rules.{watched_way, grant}
 use Rattle.rl_access.proofs.Bytes.{zero_fits}
 use Rattle.rl_access.proofs.Granted.{only_ok, watched_way_found}
 use Rattle.rl_access.proofs.Places.{place_size}

@@ -1,5 +1,5 @@
 -- What one step of an access does, and the event that ends it.
-use Rattle.std.specs.Prelude.{◌≡◌, ℕ, if◌then◌else◌, List, [], ◌∷◌, ◌++◌, length, Option, None, Some}
+use Rattle.std.specs.Prelude.{◌≡◌, ℕ, Bool, if◌then◌else◌, List, [], ◌∷◌, ◌++◌, length, Option, None, Some}
 use Rattle.rl_access.specs.declared.event.End.{End}
 use Rattle.rl_access.specs.declared.event.End.TheVariants.{Done, Value, BusError}
 use Rattle.rl_access.specs.declared.event.Event.{Event}
@@ -8,6 +8,7 @@ use Rattle.rl_access.specs.Call.{Scene}
 use Rattle.rl_access.specs.Model.{ModelData}
 use Rattle.rl_access.specs.Rules.{named, register_event, quiet, whole, value_of}
 use Rattle.rl_access.specs.Word.{IsWordSent}
+use Rattle.rl_weave.specs.declared.weave.Sent.{Sent}
 use Rattle.rl_weave.specs.declared.weave.Step.{Step}
 use Rattle.rl_weave.specs.declared.woven.Woven.{Woven}
 use Rattle.rl_weave.specs.Access.{op_of}
@@ -29,6 +30,13 @@ event_with m v item = register_event (named m (op_of v.access)) v.access.reg (v.
 
 abbrev pub end_of : ModelData → Woven → TraceItem → Option Event
 end_of m v item = if is_over v item then Some (event_with m v item) else None
+
+-- the event, where the access is over
+abbrev pub event_told : Bool → Event → Option Event
+event_told over event = if over then Some event else None
+
+abbrev pub step_told : Sent → Event → Step
+step_told sent event = record { item = sent.item; end = event_told sent.over event }
 
 -- ---- a step: the next word of the access goes out, the predictor sees its item, and the event tells of the access that is over
 

@@ -1,12 +1,12 @@
 //! The event of an access that is over.
-ghost use Rattle.std.specs.Prelude.{◌≡◌, ◌<◌, ◌≤◌, ◌^◌, ◌+◌, ◌++◌, ◌∷◌, [], true, false, length, All, None, Ok};
+ghost use Rattle.std.specs.Prelude.{◌≡◌, ◌<◌, ◌≤◌, ◌^◌, ◌+◌, [], true, false, length, Ok};
 ghost use Rattle.rl_map.specs.Layout.{place_at, words_of};
 ghost use Rattle.rl_split.specs.Access.{all_bytes, joined};
 ghost use Rattle.rl_model.specs.Fields.{size_of};
 ghost use Rattle.rl_access.specs.Event.{EventFits, ItemFits, IsEndWithin};
 ghost use Rattle.rl_access.specs.Items.{words_answered};
-ghost use Rattle.rl_access.specs.Operation.{register_of, HasNumbers, has_end, digits_of};
-ghost use Rattle.rl_access.specs.Rules.{grant, named, quiet, register_event};
+ghost use Rattle.rl_access.specs.Operation.{has_end, digits_of};
+ghost use Rattle.rl_access.specs.Rules.{grant, named};
 ghost use Rattle.rl_weave.specs.Access.{op_of, IsWovenOn};
 ghost use Rattle.rl_weave.specs.Step.{good_end, event_with};
 
@@ -16,27 +16,27 @@ use rl_access::{End, Event, Model, Op, Trace, TraceItem};
 use rl_split::{Answers, join_whole};
 
 impl Woven {
-    /// Ends the access with its last item: its event.
-    pub(crate) fn close(&mut self, model: &Model, item: TraceItem) -> Event
+    /// Ends the access with its last item, and tells it in the event.
+    pub(crate) fn close(&mut self, model: &Model, item: TraceItem, event: &mut Event)
         requires on { IsWovenOn model.now self.old }
         requires item { ItemFits model.now.layout item }
         requires room { length self.old.items < self.old.words }
         requires last { item.answer.failed ≡ false → length self.old.items + 1 ≡ self.old.words }
-        ensures event { result ≡ event_with model.now self.old item }
-        ensures fits { EventFits model.now result }
+        ensures event { event.new ≡ event_with model.now self.old item }
+        ensures fits { EventFits model.now event.new }
         ensures left { self.new ≡ record self.old { items = [] } }
     {
         // The call tells that the model is sound.
         let _ = model.layout();
         let word = self.items.len();
-        let op = op_used(model, &self.access, self.place);
-        let items = self.take_items(item);
+        event.op = op_used(model, &self.access, self.place);
+        event.trace = self.take_items(item);
         let end = if item.answer.failed {
             End::BusError { word }
         } else {
-            good_end(model, &self.access, self.place, &items)
+            good_end(model, &self.access, self.place, &event.trace)
         };
-        event_of(model, op, self.access.reg, end, items)
+        model.conclude(self.access.reg, end, 0, event);
     }
 }
 
@@ -90,25 +90,4 @@ fn answers_of(items: &Trace) -> Answers
         answers.push(items.item(k).answer.word);
     }
     answers
-}
-
-/// The event of an operation on a register that has ended, with its items.
-fn event_of(model: &Model, op: Op, reg: u32, end: End, items: Trace) -> Event
-    requires reg { reg < length model.now.chip.regs }
-    requires register { register_of model.now.chip op ≡ Some reg }
-    requires numbers { HasNumbers model.now.chip (length model.now.layout.maps) op }
-    requires ends { has_end op end ≡ true }
-    requires within { IsEndWithin (digits_of model.now.chip op) end }
-    requires items { All (ItemFits model.now.layout) items }
-    ensures event { result ≡ register_event op reg items (quiet end model.now) }
-    ensures fits { EventFits model.now result }
-{
-    Event {
-        op,
-        end,
-        trace: items,
-        mirrored: model.mirror().mirrored(reg),
-        desired: model.mirror().desired(reg),
-        differ: 0,
-    }
 }

@@ -12,4 +12,4 @@ mod weave;
 mod woven;
 
 pub use access::{Access, WeaveFault};
-pub use weave::{Step, Weave};
+pub use weave::{Sent, Step, Weave};

@@ -1,9 +1,10 @@
 //! A weave: which accesses are open, and the next word of one of them.
 ghost use Rattle.std.specs.Prelude.{◌≡◌, ◌<◌, ◌≤◌, ◌==◌, true, map as each, length, slice_get, position, Some};
-ghost use Rattle.std.specs.Prelude.{Contains, All, IfOk, IfSome, IfNone, OnOk, OnErr};
+ghost use Rattle.std.specs.Prelude.{Contains, All, IfOk, IfSome, IfNone, IsTrue, OnOk, OnErr};
 ghost use Rattle.rl_weave.specs.Prelude.{EventFits, IsNumbered, IsReady, IsSameChip, IsStepOf, IsWeave, IsWeaveOn};
-ghost use Rattle.rl_weave.specs.Prelude.{IsWovenOn, ItemFits, adding, appended, empty, end_of, number_of, place_used};
-ghost use Rattle.rl_weave.specs.Prelude.{same_register, scene_of, stepped, words_left, woven_at, woven_of};
+ghost use Rattle.rl_weave.specs.Prelude.{IsWovenOn, ItemFits, adding, appended, empty, end_of, event_told, number_of};
+ghost use Rattle.rl_weave.specs.Prelude.{place_used, same_register, scene_of, step_told, stepped, words_left, woven_at};
+ghost use Rattle.rl_weave.specs.Prelude.{woven_of};
 
 use crate::access::{Access, WeaveFault};
 use crate::granting::granted;
@@ -44,6 +45,15 @@ impl std::marker::Model for Weave {
 pub struct Step {
     pub item: TraceItem,
     pub end: Option<Event>,
+}
+
+/// What one step sent, and whether this ended its access.
+#[derive(Clone, Copy, Debug)]
+pub struct Sent {
+    /// The item of the word.
+    pub item: TraceItem,
+    /// It was the last one of the access.
+    pub over: bool,
 }
 
 impl Weave {
@@ -125,6 +135,37 @@ impl Weave {
         ensures item { ItemFits model.new.layout result.item }
         ensures event { IfSome result.end (EventFits model.new) }
     {
+        let mut event = Event::blank();
+        let sent = self.step_into(model, device, adapters, which, &mut event);
+        Step {
+            item: sent.item,
+            end: if sent.over { Some(event) } else { None },
+        }
+    }
+
+    /// The same, with the event told in one that the caller has, where the access is over.
+    pub fn step_into<D: Device>(
+        &mut self,
+        model: &mut Model,
+        device: &mut D,
+        adapters: &mut Adapters,
+        which: u32,
+        event: &mut Event,
+    ) -> Sent
+        requires open { Contains self.old.still_open which }
+        requires ready { IsReady model.old (each standing adapters.old.items) (D.state device.old) }
+        requires weave { IsWeaveOn model.old self.old }
+        ensures steps { IsStepOf (scene_of standing D.errors D.state model.old adapters.old.items device.old)
+            (scene_of standing D.errors D.state model.new adapters.new.items device.new)
+            (woven_at self.old.accesses which) (step_told result event.new) }
+        ensures stepped { self.new ≡ stepped self.old which result.item }
+        ensures fewer { words_left self.new < words_left self.old }
+        ensures ready { IsReady model.new (each standing adapters.new.items) (D.state device.new) }
+        ensures parts { IsSameChip model.old model.new }
+        ensures weave { IsWeaveOn model.new self.new }
+        ensures item { ItemFits model.new.layout result.item }
+        ensures event { IsTrue result.over → EventFits model.new event.new }
+    {
         // The call tells that the model is sound.
         let _ = model.layout();
         let woven = &self.accesses[which as usize];
@@ -136,9 +177,9 @@ impl Weave {
             woven.items.len(),
             woven.access.value,
         );
-        Step {
+        Sent {
             item,
-            end: self.take_in(model, which, item),
+            over: self.take_in(model, which, item, event),
         }
     }
 
@@ -179,13 +220,13 @@ impl Weave {
         number
     }
 
-    /// Keeps the item of an access or, where it is the last one, closes the access.
-    fn take_in(&mut self, model: &Model, which: u32, item: TraceItem) -> Option<Event>
+    /// Keeps the item of an access or, where it is the last one, closes the access. It tells which.
+    fn take_in(&mut self, model: &Model, which: u32, item: TraceItem, event: &mut Event) -> bool
         requires open { Contains self.old.still_open which }
         requires on { IsWeaveOn model.now self.old }
         requires item { ItemFits model.now.layout item }
-        ensures end { result ≡ end_of model.now (woven_at self.old.accesses which) item }
-        ensures fits { IfSome result (EventFits model.now) }
+        ensures end { event_told result event.new ≡ end_of model.now (woven_at self.old.accesses which) item }
+        ensures fits { IsTrue result → EventFits model.now event.new }
         ensures stepped { self.new ≡ stepped self.old which item }
         ensures on { IsWeaveOn model.now self.new }
     {
@@ -195,10 +236,11 @@ impl Weave {
         let woven = &mut self.accesses[which as usize];
         if woven.is_over(&item) {
             self.still_open.retain(|&number| number != which);
-            Some(woven.close(model, item))
+            woven.close(model, item, event);
+            true
         } else {
             woven.items.push(item);
-            None
+            false
         }
     }
 }

@@ -4,6 +4,7 @@ pub use Rattle.rl_play.specs.Prelude.{IsReady, IsSameChip, IsCounted, Tells, sai
 pub use Rattle.rl_play.specs.Prelude.{SinkStays, input_of, read_of, line_said}
 pub use Rattle.rl_report.specs.Item.{item_line}
 pub use Rattle.rl_report.specs.Pieces.{PutsText}
+pub use Rattle.rl_weave.specs.Step.{event_told}
 pub use Rattle.rl_weave.specs.Weave.{IsWeave, IsWeaveOn, words_left}
 pub use Rattle.rl_woven_log.specs.Adding.{access_in, access_said, adding_line, is_named}
 pub use Rattle.rl_woven_log.specs.Refusals.{further_reason, refused_woven_text}

@@ -1,43 +1,46 @@
 //! The words of a group.
-ghost use Rattle.std.specs.Prelude.{◌≡◌, ◌<◌, true, map as each, length, IfSome, OnOk};
+ghost use Rattle.std.specs.Prelude.{◌≡◌, ◌<◌, true, map as each, length, IsTrue, OnOk};
 ghost use Rattle.rl_woven_log.specs.Prelude.{EventFits, IsGathering, IsReady, IsWeave, IsWeaveOn, StaysReady};
-ghost use Rattle.rl_woven_log.specs.Prelude.{ItemFits, PutsText, SinkStays, Writes, counted_at_end, group, setting_of};
-ghost use Rattle.rl_woven_log.specs.Prelude.{step_text, word_drawn, words, words_left};
+ghost use Rattle.rl_woven_log.specs.Prelude.{ItemFits, PutsText, SinkStays, Writes, counted_at_end, event_told};
+ghost use Rattle.rl_woven_log.specs.Prelude.{group, setting_of, step_text, word_drawn, words, words_left};
 
 use crate::script::WovenScript;
-use rl_access::Model;
+use rl_access::{Event, Model};
 use rl_bus::{Adapter, Adapters, Device};
 use rl_log::Counts;
 use rl_play::Log;
 use rl_report::{Failed, write_event_line, write_item};
-use rl_weave::Step;
+use rl_weave::Sent;
 
 /// 64 accesses of 8 words have so many: no access is open behind them.
 const MOST_WORDS: u32 = 512;
 
-/// Writes the item of a step, and the line of the event that it ends.
-fn put_step<L: Log>(model: &Model, step: &Step, out: &mut L) -> Result<(), Failed>
-    requires item { ItemFits model.now.layout step.now.item }
-    requires event { IfSome step.now.end (EventFits model.now) }
-    ensures { PutsText L.Sink out.old out.new (step_text model.now step.now.item step.now.end) result }
+/// Writes the item that was sent and, where it ended its access, the line of the event.
+fn put_step<L: Log>(model: &Model, sent: &Sent, event: &Event, out: &mut L) -> Result<(), Failed>
+    requires item { ItemFits model.now.layout sent.now.item }
+    requires event { IsTrue sent.now.over → EventFits model.now event.now }
+    ensures { PutsText L.Sink out.old out.new
+        (step_text model.now sent.now.item (event_told sent.now.over event.now)) result }
 {
-    write_item(out, model, &step.item)?;
-    match &step.end {
-        Some(event) => write_event_line(out, model, event),
-        None => Ok(()),
+    write_item(out, model, &sent.item)?;
+    if sent.over {
+        write_event_line(out, model, event)
+    } else {
+        Ok(())
     }
 }
 
-/// Counts the event that a step ends.
-fn count_end(step: &Step, counts: &mut Counts)
-    ensures { counts.new ≡ counted_at_end counts.old step.now.end }
+/// Counts the event of an access that is over.
+fn count_end(sent: &Sent, event: &Event, counts: &mut Counts)
+    ensures { counts.new ≡ counted_at_end counts.old (event_told sent.now.over event.now) }
 {
-    if let Some(event) = &step.end {
+    if sent.over {
         counts.count(event);
     }
 }
 
-/// Sends the next word of the open access that is drawn, and writes its log.
+/// Sends the next word of the open access that is drawn, and writes its log. The event is for an access that is then
+/// over.
 fn run_word<D: Device, L: Log>(
     script: &mut WovenScript,
     model: &mut Model,
@@ -45,6 +48,7 @@ fn run_word<D: Device, L: Log>(
     adapters: &mut Adapters,
     out: &mut L,
     counts: &mut Counts,
+    event: &mut Event,
 ) -> Result<(), Failed>
     requires open { 0 < length script.old.weave.still_open }
     requires ready { IsReady model.old (each standing adapters.old.items) (D.state device.old) }
@@ -61,9 +65,11 @@ fn run_word<D: Device, L: Log>(
 {
     let drawn = script.draws.draw(script.weave.open_count());
     let which = script.weave.nth_open(drawn);
-    let step = script.weave.step(model, device, adapters, which);
-    count_end(&step, counts);
-    put_step(model, &step, out)
+    let sent = script
+        .weave
+        .step_into(model, device, adapters, which, event);
+    count_end(&sent, event, counts);
+    put_step(model, &sent, event, out)
 }
 
 /// Sends words until no access is open.
@@ -89,11 +95,12 @@ fn run_words<D: Device, L: Log>(
 {
     // The call tells that the model is sound.
     let _ = model.layout();
+    let mut event = Event::blank();
     for k in 0..MOST_WORDS {
         if script.weave.open_count() == 0 {
             return Ok(());
         }
-        run_word(script, model, device, adapters, out, counts)?;
+        run_word(script, model, device, adapters, out, counts, &mut event)?;
     }
     Ok(())
 }

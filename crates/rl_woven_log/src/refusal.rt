@@ -5,7 +5,7 @@ ghost use Rattle.rl_woven_log.specs.Refusals.{further_reason, refused_woven_text
 
 use rl_log::LineRefusal;
 use rl_play::{put_line_refused, put_refused_so};
-use rl_report::{Failed, Sink};
+use rl_report::{Failed, Sink, text_beside};
 use rl_weave::WeaveFault;
 
 /// Why a line of a woven script is refused, in the order in which the causes are tested.
@@ -22,13 +22,10 @@ pub enum WovenRefusal {
 fn further_reason(fault: WeaveFault) -> &'static [u8]
     ensures { result.now ≡ further_reason fault }
 {
-    match fault {
-        WeaveFault::TooMany => b"too many in group",
-        WeaveFault::NotPlaced => b"not placed",
-        WeaveFault::NotObserved => b"not observed",
-        WeaveFault::NoRight => b"no right",
-        WeaveFault::TooWide => b"too wide",
-        WeaveFault::SameRegister { .. } => b"same register",
+    text_beside! {
+        fault: WeaveFault;
+        TooMany b"too many in group", NotPlaced b"not placed", NotObserved b"not observed", NoRight b"no right",
+        TooWide b"too wide", SameRegister {..} b"same register"
     }
 }
 

@@ -10,9 +10,9 @@ returns-clause-writes g c =
     let w = c.args.script.now.weave in
     step_writes _ _ w _ _ _ _ _ _ _ _ _ _ _ _ _ _ _ _ drawn.state
     (chosen_is w _ _ _ _ c.nth_open-which.ensures.number drawn.drawn c.open_count.ensures.count)
-    c.step-step.ensures.steps c.step-step.ensures.stepped c.count_end.ensures c.put_step.ensures.bytes
+    c.step_into-sent.ensures.steps c.step_into-sent.ensures.stepped c.count_end.ensures c.put_step.ensures.bytes
 
 pub returns-clause-sound : goal.returns-clause-sound
 returns-clause-sound g c =
-    subst IsWeave (sym c.step-step.ensures.stepped)
+    subst IsWeave (sym c.step_into-sent.ensures.stepped)
     (weave_stepped c.args.script.now.weave _ _ c.open_count.ensures.weave c.nth_open-which.ensures.open)

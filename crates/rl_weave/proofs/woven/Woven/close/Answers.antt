@@ -17,27 +17,27 @@ pub good_end-end-requires-clause-bytes : goal.good_end-end-requires-clause-bytes
 good_end-end-requires-clause-bytes c =
     let m = c.args.model.now in
     let v = c.args.self.now in
-    ap (λ (u : Woven). (place_at m.layout u.place).bytes) c.take_items-items.ensures.left
+    ap (λ (u : Woven). (place_at m.layout u.place).bytes) c.take_items-event.ensures.left
     ∙ granted_size m v.access.reg v.access.map v.access.value v.place c.layout.ensures.sound (granted_is m v.access.reg v.access.map v.access.value v.place c.requires.on.granted)
-    ∙ sym (ap (λ (u : Woven). size_of m.chip u.access.reg) c.take_items-items.ensures.left)
+    ∙ sym (ap (λ (u : Woven). size_of m.chip u.access.reg) c.take_items-event.ensures.left)
 
-pub event_of-requires-clause-ends : goal.event_of-requires-clause-ends
-event_of-requires-clause-ends c =
+pub conclude-requires-clause-ends : goal.conclude-requires-clause-ends
+conclude-requires-clause-ends c =
     let m = c.args.model.now in
     let v = c.args.self.now in
     elim c.if-item.branch [
       | then-item w ↦
-          ap (λ (o : Op). has_end o c.if-item.end) c.op_used-op.ensures
+          ap (λ (o : Op). has_end o c.if-item.end) c.op_used-event.ensures
           ∙ ap (has_end (named m (op_of v.access))) w.end-is
           ∙ named_fails m v.access.reg c.len-word.result v.access.map v.access.value
       | else-item w ↦
-          ap (λ (o : Op). has_end o c.if-item.end) c.op_used-op.ensures
+          ap (λ (o : Op). has_end o c.if-item.end) c.op_used-event.ensures
           ∙ ap (has_end (named m (op_of v.access))) w.end-is
           ∙ named_ends m v.access.reg v.access.map v.access.value w.good_end-end.result
-          (subst (λ (u : Woven). has_end (op_of u.access) w.good_end-end.result ≡ true) c.take_items-items.ensures.left w.good_end-end.ensures.ends)
+          (subst (λ (u : Woven). has_end (op_of u.access) w.good_end-end.result ≡ true) c.take_items-event.ensures.left w.good_end-end.ensures.ends)
     ]
 
-pub event_of-requires-clause-items : goal.event_of-requires-clause-items
-event_of-requires-clause-items c =
+pub conclude-requires-clause-items : goal.conclude-requires-clause-items
+conclude-requires-clause-items c =
     let fits = ItemFits c.args.model.now.layout in
-    subst (All fits) (sym c.take_items-items.ensures.items) (All-push fits c.args.self.now.items c.args.item c.requires.on.items c.requires.item)
+    subst (All fits) (sym c.take_items-event.ensures.items) (All-push fits c.args.self.now.items c.args.item c.requires.on.items c.requires.item)

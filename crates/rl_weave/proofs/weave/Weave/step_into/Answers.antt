@@ -3,7 +3,7 @@ use Rattle.rl_weave.specs.Weave.{IsWeave, words_left}
 use Rattle.rl_weave.proofs.Granted.{granted_is, granted_value, register_place}
 use Rattle.rl_weave.proofs.Left.{step_takes}
 use Rattle.rl_weave.proofs.Weaves.{found_in}
-use Rattle.rl_weave.proofs.weave.Weave.step.Goals as goal
+use Rattle.rl_weave.proofs.weave.Weave.step_into.Goals as goal
 
 pub send_word-item-requires-clause-place : goal.send_word-item-requires-clause-place
 send_word-item-requires-clause-place g c =
