@@ -2,32 +2,16 @@
 use Rattle.std.proofs.Common.{◌≡◌, ℕ, ◌+◌, ◌<◌, ◌≤◌, List, ◌++◌, length, drop, get_or, Result, Ok, Err, IsErr, sym, ap, subst, ◌∙◌}
 use Rattle.std.specs.declared.option.Option.{Option}
 use Rattle.std.specs.Io.KnownBytes.{Appends}
-use Rattle.std.proofs.KnownBytes.{Appends-trans}
 use Rattle.std.proofs.lemmas.List.{drop_all, drop_more}
 use Rattle.rl_desc.specs.Data.{DescData}
 use Rattle.rl_report.specs.Pieces.{AppendsFront, Puts}
-use Rattle.rl_report.proofs.PieceLemmas.{front_after, front_before, puts_stopped}
-use Rattle.rl_session.proofs.ListingLemmas.{IsLeft}
+use Rattle.rl_session.proofs.ListingLemmas.{IsLeft, left_stopped, less_left}
 use Rattle.rl_grade.specs.declared.place.Place.{Place}
 use Rattle.rl_graded.specs.declared.totals.Totals.{Totals}
 use Rattle.rl_graded.specs.Totals.{with_graded}
 use Rattle.rl_grading.specs.declared.asked.Asked.{Asked}
 use Rattle.rl_grading.specs.Grading.{Base, flaws_behind, graded_at, last_text, place_text, places_text}
 use Rattle.rl_grading.specs.Progress.{IsNext}
-
--- ---- what is left behind a part
-
-less_left : (first now next : Option (List ℕ)) (all rest x others : List ℕ) → IsLeft first now all rest → rest ≡ x ++ others → Appends now next x
-    → IsLeft first next all others
-less_left first now next all rest x others left split put = record {
-  whole = λ new h. left.whole new (subst (Appends now new) (sym split) (Appends-trans now next new x others put h));
-  part = λ new h. left.part new (subst (AppendsFront now new) (sym split) (front_after now next new x others put h));
-}
-
-left_stopped : {T E : Type 0} (first now next : Option (List ℕ)) (all rest x others : List ℕ) (r : Result T E)
-    → IsLeft first now all rest → rest ≡ x ++ others → IsErr r → AppendsFront now next x → Puts first next all r
-left_stopped first now next all rest x others r left split e put =
-    puts_stopped first next all r e (left.part next (subst (AppendsFront now next) (sym split) (front_before now next x others put)))
 
 -- ---- the next place
 

@@ -1,7 +1,8 @@
 -- What was told of a session that is graded.
-use Rattle.std.proofs.Common.{◌≡◌, ◌≢◌, ℕ, ◌≤◌, true, false, List, [], Result, Ok, Err, IfErr, Some, None, IfSome, refl, sym, ap, subst, ◌∙◌, arith}
+use Rattle.std.proofs.Common.{◌≡◌, ◌≢◌, ◌==◌, if◌then◌else◌, Bool, ℕ, ◌≤◌, true, false, List, [], ◌∷◌, length, Result, Ok, Err, IfErr, Some, None, IfSome, refl, sym, ap, subst, ◌∙◌, arith}
 use Rattle.std.specs.declared.option.Option.{Option}
 use Rattle.std.specs.Io.KnownBytes.{Keeps}
+use Rattle.std.proofs.lemmas.Bool.{eqb-true}
 use Rattle.rl_access.specs.Model.{ModelData}
 use Rattle.rl_access.specs.World.{IsAt, World, world}
 use Rattle.rl_bus.specs.Causes.{Rose}
@@ -36,7 +37,7 @@ use Rattle.rl_grade.specs.Reading.{refused_line}
 use Rattle.rl_grade.specs.Script.{tasks_from}
 use Rattle.rl_grading.specs.declared.asked.Asked.{Asked}
 use Rattle.rl_grading.specs.Grading.{Grading, grading_of, opened_graded, report, script_graded, tasks_graded}
-use Rattle.rl_grading.specs.Opening.{unflawed}
+use Rattle.rl_grading.specs.Opening.{flaws_text, unflawed}
 use Rattle.rl_grading.specs.Progress.{TellsGraded, desc_of, status_of}
 use Rattle.rl_grading.specs.Refusal.{EndsUnread}
 
@@ -117,6 +118,19 @@ script_unread (Some bytes) asked desc m standings fault.Source status old new is
     early (script_graded asked desc (lines_of bytes)) status old new ends.0 ends.1
 script_unread (Some bytes) asked desc m standings fault.Memory status old new is given ends =
     early (script_graded asked desc (lines_of bytes)) status old new ends.0 ends.1
+
+-- ---- what passes the check
+
+passes : (desc : DescData) (none : Bool) → (if none then Ok desc else Err flaws_text) ≡ Ok desc → none ≡ true
+passes desc true is = refl
+passes desc false is = let no : Err flaws_text ≡ Ok desc = is in absurd (cc)
+
+no_flaws : (flaws : List Flaw) → (length flaws == 0) ≡ true → flaws ≡ []
+no_flaws [] none = refl
+no_flaws (flaw ∷ flaws) none = absurd (omega (arith, eqb-true (length (flaw ∷ flaws)) 0 none))
+
+pub none_flawed : (desc : DescData) → unflawed (Ok desc) ≡ Ok desc → desc.flaws ≡ []
+none_flawed desc is = no_flaws desc.flaws (passes desc (length desc.flaws == 0) is)
 
 -- ---- a session
 

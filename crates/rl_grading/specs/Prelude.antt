@@ -1,6 +1,6 @@
 -- The words that the contracts of this crate use, passed on from one place. Declares nothing.
 pub use Rattle.rl_play.specs.Prelude.{Tells, refused_text}
-pub use Rattle.rl_opening.specs.Prelude.{AwaitsScript, Checks, IsBuiltWith, IsCaused, LeavesEnded, LeavesOpen, Rose, Stays, StaysOpen, input_of, is_complete, kinds_of}
+pub use Rattle.rl_opening.specs.Prelude.{AwaitsScript, IsBuiltWith, IsCaused, LeavesEnded, LeavesOpen, Rose, Stays, StaysOpen, input_of, is_complete, kinds_of}
 pub use Rattle.rl_report.specs.Lines.{lines_of}
 pub use Rattle.rl_report.specs.Pieces.{Puts}
 pub use Rattle.rl_grade.specs.Prelude.{IsReady, world, bench_state, IsPlaceIn, TasksFit, fresh_standings, heard_by}

@@ -9,7 +9,7 @@ ghost use Rattle.rl_grading.specs.Prelude.{places_of, places_text, report, scrip
 use crate::asked::Asked;
 use crate::meter::Meter;
 use crate::places::places_of;
-use crate::refusal::{check_flaws, end_unread};
+use crate::refusal::{Unflawed, end_unread};
 use crate::writing::{put_last, put_place};
 use rl_access::Model;
 use rl_bench::Bench;
@@ -18,7 +18,7 @@ use rl_desc::Desc;
 use rl_grade::{Place, Shown, Task, grade_place, read_script, show};
 use rl_graded::Totals;
 use rl_log::Status;
-use rl_opening::{end_log, open_session};
+use rl_opening::{end_log, open_checked};
 use rl_report::{LineReader, Sink, Source};
 use rl_session::open;
 use std::alloc::Global;
@@ -206,31 +206,6 @@ fn grade_script<S: Source, K: Sink, M: Meter>(
     }
 }
 
-// Grades a session, and leaves its log open.
-fn grade_session<S: Source, K: Sink, M: Meter>(
-    alloc: Global,
-    asked: Asked,
-    source: &mut S,
-    log: &mut K,
-    adapters: &mut Adapters,
-    meter: &mut M,
-) -> Status
-    requires fresh { map standing adapters.old.items ≡ fresh_standings }
-    requires every { 0 < (share_of asked).every }
-    ensures tells { IfSome (S.left source.old) (λ bytes.
-        TellsGraded (grading_of asked bytes) result (K.written log.old) (K.written log.new)) }
-    ensures leaves { LeavesOpen K.Sink result (S.faults source.old) (S.faults source.new) log.old log.new }
-{
-    let (desc, mut lines) = match open_session(alloc, source, log, adapters) {
-        Ok(opened) => opened,
-        Err(status) => return status,
-    };
-    match check_flaws(&desc, log) {
-        Ok(()) => grade_script(alloc, asked, desc, &mut lines, source, log, adapters, meter),
-        Err(status) => status,
-    }
-}
-
 /// Grades a session: tries which single flaws of its device its script finds, and writes for each place what was found,
 /// or each flaw that is missed as a row. The adapters are a plain and an APB adapter that have sent nothing.
 ///
@@ -254,8 +229,10 @@ pub fn run_grade<S: Source, K: Sink, M: Meter>(
     // written. No fault is made up, and the status is never that of other words.
     ensures leaves { LeavesEnded K.Sink result (S.faults source.old) (S.faults source.new) log.old log.new }
 {
-    end_log(
-        grade_session(alloc, asked, source, log, adapters, meter),
-        log,
-    )
+    let (desc, mut lines) = match open_checked(alloc, source, log, adapters, &Unflawed {}) {
+        Ok(opened) => opened,
+        Err(status) => return end_log(status, log),
+    };
+    let graded = grade_script(alloc, asked, desc, &mut lines, source, log, adapters, meter);
+    end_log(graded, log)
 }

@@ -1,28 +1,33 @@
 // What can't be graded.
-ghost use Rattle.std.specs.Prelude.{◌≡◌, ◌≢◌, [], Err, OnOk, IfSome};
-ghost use Rattle.std.specs.Io.KnownBytes.{Keeps};
-ghost use Rattle.rl_grading.specs.Prelude.{Checks, EndsUnread, IsCaused, Rose, StaysOpen, Tells, is_complete};
-ghost use Rattle.rl_grading.specs.Prelude.{refused_line, refused_text, unflawed};
+ghost use Rattle.std.specs.Prelude.{◌≡◌, ◌≢◌, refl};
+ghost use Rattle.rl_grading.specs.Prelude.{EndsUnread, IsCaused, Rose, StaysOpen, Tells};
+ghost use Rattle.rl_grading.specs.Prelude.{refused_text, unflawed};
 
 use rl_desc::Desc;
 use rl_grade::ScriptFault;
 use rl_log::{LineRefusal, Status};
-use rl_opening::refused;
+use rl_opening::{Check, refused};
 use rl_play::put_line_refused;
 use rl_report::{Sink, put_all};
 
-// Ends the session where its description has flaws of its own.
-pub(crate) fn check_flaws<K: Sink>(desc: &Desc, log: &mut K) -> Result<(), Status>
-    ensures none { OnOk result (desc.now.flaws ≡ []) }
-    ensures checks { Checks K.Sink unflawed desc.now result log.old log.new }
-{
-    if desc.flaws.is_empty() {
-        return Ok(());
+// That a description has no flaws of its own.
+#[derive(Clone, Copy)]
+pub(crate) struct Unflawed {}
+
+impl Check for Unflawed {
+    ghost over = { unflawed };
+
+    ghost keeps_refusals = { λ line. refl };
+
+    fn check<K: Sink>(&self, desc: &Desc, log: &mut K) -> Result<(), Status> {
+        if desc.flaws.is_empty() {
+            return Ok(());
+        }
+        Err(refused(put_all(
+            log,
+            b"refused session: the description has flaws of its own\n",
+        )))
     }
-    Err(refused(put_all(
-        log,
-        b"refused session: the description has flaws of its own\n",
-    )))
 }
 
 // Ends the session at a line that is refused.

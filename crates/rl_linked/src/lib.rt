@@ -1,7 +1,7 @@
 //! Runs a session on a device over a link: refuses what a link can't have, plays the script, and says how it broke.
 #![tactic(auto)]
 
-mod playing;
+mod host;
 mod ran;
 mod refusal;
 mod session;

@@ -2,15 +2,11 @@
 ghost use Rattle.std.specs.Prelude.{◌≡◌};
 ghost use Rattle.rl_bus.specs.Causes.{HasCause};
 ghost use Rattle.rl_report.specs.Pieces.{Puts};
-ghost use Rattle.rl_linked.specs.Prelude.{Checks};
-ghost use Rattle.rl_linked.specs.Opening.{over_link};
 ghost use Rattle.rl_linked.specs.Refusals.{backdoor_reg, backdoor_mem, backdoor_text, refusal_of, refusal_text};
 
 use itoa::Buffer;
 use rl_desc::Desc;
-use rl_log::Status;
 use rl_model::{Chip, Item};
-use rl_opening::refused;
 use rl_report::{Failed, Sink, put_all, put_pieces};
 
 /// Why a description that can be run on a device model can't be run over a link.
@@ -90,15 +86,5 @@ pub fn put_refusal<Q: Sink>(log: &mut Q, refusal: Refusal) -> Result<(), Failed>
         Refusal::Flaw => put_all(log, b"refused description flaw 1: no flaws over a link\n"),
         Refusal::Reg(reg) => put_backdoor(log, b"reg ", reg),
         Refusal::Mem(mem) => put_backdoor(log, b"mem ", mem),
-    }
-}
-
-// Ends the session where its description asks of a link what this can't have.
-pub(crate) fn check_link<Q: Sink>(desc: &Desc, log: &mut Q) -> Result<(), Status>
-    ensures checks { Checks Q.Sink over_link desc.now result log.old log.new }
-{
-    match refusal_of(desc) {
-        Some(refusal) => Err(refused(put_refusal(log, refusal))),
-        None => Ok(()),
     }
 }

@@ -1,44 +1,24 @@
 // A session on a device over a link.
 ghost use Rattle.std.specs.Prelude.{◌≡◌, ◌<◌, ◌^◌, List, ℕ, Err, map, length, IfSome, IsNone};
-ghost use Rattle.rl_linked.specs.Prelude.{LeavesEnded, LeavesOpen, kinds_of};
+ghost use Rattle.rl_linked.specs.Prelude.{LeavesEnded, kinds_of};
 ghost use Rattle.rl_linked.specs.Opening.{linked_opening};
 ghost use Rattle.rl_linked.specs.Session.{RunsLinked};
 
-use crate::playing::play_over;
+use crate::host::Streams;
 use crate::ran::Ran;
-use crate::refusal::check_link;
 use rl_bus::{Adapter, Adapters};
-use rl_opening::{end_log, open_session};
+use rl_link::Link;
 use rl_report::{Sink, Source};
+use rl_running::run_on;
 use std::alloc::Global;
 
-// Runs a session, and leaves its log open.
-fn run<P: Source, Q: Sink, S: Source + Drop, K: Sink + Drop>(
-    alloc: Global,
-    session: &mut P,
-    log: &mut Q,
-    source: S,
-    sink: K,
-    adapters: &mut Adapters,
-) -> Ran<S, K>
-    requires few { length (map standing adapters.old.items) < 2 ^ 32 }
-    ensures does { IfSome (P.left session.old) (λ bytes. RunsLinked bytes result.status
-        (Q.written log.old) (Q.written log.new) (map standing adapters.old.items) (map standing adapters.new.items)) }
-    ensures unsent { IfSome (P.left session.old) (λ bytes. (line : List ℕ)
-        → linked_opening bytes (kinds_of (map standing adapters.old.items)) ≡ Err line → IsNone result.link) }
-    ensures kinds { kinds_of (map standing adapters.new.items) ≡ kinds_of (map standing adapters.old.items) }
-    ensures leaves { LeavesOpen Q.Sink result.status (P.faults session.old) (P.faults session.new) log.old log.new }
+// The link of a session that is over.
+fn closed<S: Source, K: Sink>(link: Option<Link<S, K>>) -> Option<Link<S, K>>
+    ensures none { IsNone link → IsNone result }
 {
-    let (desc, mut lines) = match open_session(alloc, session, log, adapters) {
-        Ok(opened) => opened,
-        Err(status) => return Ran { status, link: None },
-    };
-    match check_link(&desc, log) {
-        Ok(()) => play_over(
-            alloc, desc, &mut lines, session, log, source, sink, adapters,
-        ),
-        Err(status) => Ran { status, link: None },
-    }
+    let mut link = link?;
+    link.close();
+    Some(link)
 }
 
 /// Runs a session on a device over a link to these streams, and writes its log.
@@ -71,9 +51,9 @@ pub fn run_linked<P: Source, Q: Sink, S: Source + Drop, K: Sink + Drop>(
     // made up, and the status is never that of other words.
     ensures leaves { LeavesEnded Q.Sink result.status (P.faults session.old) (P.faults session.new) log.old log.new }
 {
-    let ran = run(alloc, session, log, source, sink, adapters);
+    let ran = run_on(alloc, session, log, adapters, Streams { source, sink });
     Ran {
-        status: end_log(ran.status, log),
-        link: ran.link,
+        status: ran.status,
+        link: closed(ran.device),
     }
 }

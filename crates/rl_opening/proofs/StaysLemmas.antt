@@ -148,17 +148,28 @@ module _ {K : Type 0} (sink : Sink K) where
     stays = open_then sink.written sink.faults sink.ends old mid new (stays_open sink.written sink.faults sink.ends sink.target old mid earlier s) then;
   }
 
-  -- its script was played behind its head and a check
-  pub open_played : (status : Status) (a b c : ℕ) (old mid checked new : K) → a ≤ b → KeepsEarlier (sink.written old) (sink.written mid)
-      → Stays sink.faults sink.ends sink.target old mid → checked ≡ mid → LeavesOpen sink status b c checked new → LeavesOpen sink status a c old new
-  open_played status a b c old mid checked new later earlier s same then =
-      let behind : LeavesOpen sink status b c mid new = subst (λ k. LeavesOpen sink status b c k new) same then in
+  -- its script was played behind its head
+  pub open_behind : (status : Status) (a b c : ℕ) (old mid new : K) → a ≤ b → mid ≡ old → LeavesOpen sink status b c mid new
+      → LeavesOpen sink status a c old new
+  open_behind status a b c old mid new later same then =
+      let behind : LeavesOpen sink status b c old new = subst (λ k. LeavesOpen sink status b c k new) same then in
       record {
         source_later = omega (arith, later, behind.source_later);
-        cause = cause_on status a b c (sink.faults old) (sink.faults mid) (sink.faults new) later s.later behind.cause;
-        stays = open_then sink.written sink.faults sink.ends old mid new
-            (stays_open sink.written sink.faults sink.ends sink.target old mid earlier s) behind.stays;
+        cause = cause_on status a b c (sink.faults old) (sink.faults old) (sink.faults new) later (omega arith) behind.cause;
+        stays = behind.stays;
       }
+
+  -- it was given up before its last line
+  pub open_given_up : (status : Status) (a b : ℕ) (old new : K) → is_complete status ≡ false → LeavesOpen sink status a b old new
+      → LeavesEnded sink status a b old new
+  open_given_up status a b old new broken left = record {
+    keeps_earlier = left.stays.earlier;
+    source_later = left.source_later;
+    log_later = left.stays.later;
+    cause = left.cause;
+    ended = λ e. let no : true ≡ false = sym e ∙ broken in absurd (cc);
+    not_ended = λ e. left.stays.ends_kept;
+  }
 
   -- and its log was ended
   pub open_ended : (status result : Status) (a b : ℕ) (old mid new : K) → LeavesOpen sink status a b old mid
@@ -174,3 +185,18 @@ module _ {K : Type 0} (sink : Sink K) where
     ended = λ e. omega (arith, ended e, left.stays.ends_kept);
     not_ended = λ e. not_ended e ∙ left.stays.ends_kept;
   }
+
+  -- its script was played behind its head, and its log was ended
+  pub ended_behind : (status result : Status) (a b c : ℕ) (old mid log new : K) → a ≤ b → mid ≡ old → LeavesOpen sink status b c mid log
+      → (result ≢ SinkFault → result ≡ status) → Keeps (sink.written log) (sink.written new) → sink.faults log ≤ sink.faults new
+      → (result ≡ SinkFault → status ≢ SinkFault → Rose (sink.faults log) (sink.faults new))
+      → (is_complete result ≡ true → Rose (sink.ends log) (sink.ends new))
+      → (is_complete result ≡ false → sink.ends new ≡ sink.ends log) → LeavesEnded sink result a c old new
+  ended_behind status result a b c old mid log new before unwritten left same kept later rose ended not_ended =
+      open_ended status result a c old log new (open_behind status a b c old mid log before unwritten left) same kept later rose ended not_ended
+
+  pub kept_behind : (status : Status) (b c : ℕ) (old mid log new : K) → mid ≡ old → LeavesOpen sink status b c mid log
+      → Keeps (sink.written log) (sink.written new) → KeepsEarlier (sink.written old) (sink.written new)
+  kept_behind status b c old mid log new unwritten left kept =
+      let earlier = subst (λ k. KeepsEarlier (sink.written k) (sink.written log)) unwritten left.stays.earlier in
+      earlier_kept (sink.written old) (sink.written log) (sink.written new) earlier kept

@@ -1,5 +1,5 @@
 -- What a session tells that ended before its script.
-use Rattle.std.proofs.Common.{◌≡◌, ℕ, true, false, List, Result, Ok, Err, refl, sym, subst, ◌∙◌}
+use Rattle.std.proofs.Common.{◌≡◌, ℕ, true, false, List, Result, Ok, Err, IsErr, IsErrAnd, IfErr, refl, sym, subst, ◌∙◌}
 use Rattle.std.specs.declared.option.Option.{Option}
 use Rattle.std.specs.Io.KnownBytes.{Keeps}
 use Rattle.std.proofs.lemmas.Bool.{true≢false}
@@ -53,6 +53,12 @@ pub stops_refused : (opening : Result DescData (List ℕ)) (status : Status) (ol
     → Stops opening status old new → opening ≡ Err (refusal_of opening)
 stops_refused (Ok desc) status old new whole s = absurd (true≢false (sym whole ∙ s.0))
 stops_refused (Err line) status old new whole s = refl
+
+-- what is said of its status is said of the status that `?` hands on
+pub handed_on : {T : Type 0} (r : Result T Status) (status : Status) (P : Status → Type 0) → IsErr r × IsErrAnd r (λ s. s ≡ status) → P status
+    → IfErr r P
+handed_on (Ok x) status P h p = tt
+handed_on (Err s) status P h p = subst P (sym h.1) p
 
 -- ---- a check of a description
 

@@ -2,8 +2,10 @@
 //! log is ended.
 #![tactic(auto)]
 
+mod checking;
 mod ending;
 mod opening;
 
+pub use checking::{Check, open_checked};
 pub use ending::end_log;
 pub use opening::{open_session, refused};

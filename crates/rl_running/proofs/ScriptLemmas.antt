@@ -126,6 +126,13 @@ pub unsent : (input : Option (List ℕ)) (opening : List ℕ → Result DescData
 unsent None opening P h = tt
 unsent (Some bytes) opening P h = λ line e. h
 
+-- and so does what it comes to
+pub unsent_then : (input : Option (List ℕ)) (opening : List ℕ → Result DescData (List ℕ)) (P Q : Type 0) → (P → Q)
+    → IfSome input (λ bytes. (line : List ℕ) → opening bytes ≡ Err line → P)
+    → IfSome input (λ bytes. (line : List ℕ) → opening bytes ≡ Err line → Q)
+unsent_then None opening P Q f h = tt
+unsent_then (Some bytes) opening P Q f h = λ line e. f (h line e)
+
 -- and of one that opened anything is said where it is refused
 pub never_refused : (input : Option (List ℕ)) (opening : List ℕ → Result DescData (List ℕ)) (desc : DescData) (lines : Reading)
     (left : Option (List ℕ)) (P : Type 0) → IfSome input (λ bytes. OpensAs (opening bytes) bytes desc lines left)

@@ -1,30 +1,14 @@
 // The script of a session on a device that tells nothing.
-ghost use Rattle.std.specs.Prelude.{◌≡◌, List, None, map, IfOk};
-ghost use Rattle.rl_running.specs.Prelude.{AwaitsScript, IsBuiltWith, LeavesOpen, PlaysRest, Standing};
-ghost use Rattle.rl_running.specs.Prelude.{first_world, input_of, kinds_of};
+ghost use Rattle.std.specs.Prelude.{◌≡◌, None, map};
+ghost use Rattle.rl_running.specs.Prelude.{AwaitsScript, LeavesOpen, PlaysRest, input_of, kinds_of};
 
-use rl_access::Model;
 use rl_bus::{Adapter, Adapters, Device};
 use rl_desc::Desc;
 use rl_log::{Counts, Status};
 use rl_play::play;
 use rl_report::{LineReader, Sink, Source};
-use std::alloc::{AllocError, Global};
-
-// The register model of a description.
-fn model_of(alloc: Global, desc: Desc) -> Result<Model, AllocError>
-    requires built_with { IsBuiltWith desc.layout desc.chip }
-    ensures layout { IfOk result (λ model. model.layout ≡ desc.layout) }
-    ensures first { IfOk result (λ model. (adapters : List Standing) → model ≡ (first_world desc adapters).model) }
-{
-    let Desc {
-        chip,
-        layout,
-        flaws: _,
-    } = desc;
-    let model = Model::build(alloc, chip, layout)?;
-    Ok(model)
-}
+use rl_session::model_of;
+use std::alloc::Global;
 
 /// Runs the script of a session on a device that doesn't tell its state, and writes its log. The log isn't ended.
 pub fn play_described<S: Source, K: Sink, D: Device>(

@@ -24,14 +24,14 @@ pub record IsLeft (first now : Option (List ℕ)) (all rest : List ℕ) : Type 0
 pub all_left : (now : Option (List ℕ)) (all : List ℕ) → IsLeft now now all all
 all_left now all = record { whole = λ new h. h; part = λ new h. h }
 
-less_left : (first now next : Option (List ℕ)) (all rest x others : List ℕ) → IsLeft first now all rest → rest ≡ x
+pub less_left : (first now next : Option (List ℕ)) (all rest x others : List ℕ) → IsLeft first now all rest → rest ≡ x
     ++ others → Appends now next x → IsLeft first next all others
 less_left first now next all rest x others left split put = record {
   whole = λ new h. left.whole new (subst (Appends now new) (sym split) (Appends-trans now next new x others put h));
   part = λ new h. left.part new (subst (AppendsFront now new) (sym split) (front_after now next new x others put h));
 }
 
-left_stopped : {T E : Type 0} (first now next : Option (List ℕ)) (all rest x others : List ℕ) (r : Result T E)
+pub left_stopped : {T E : Type 0} (first now next : Option (List ℕ)) (all rest x others : List ℕ) (r : Result T E)
     → IsLeft first now all rest → rest ≡ x ++ others → IsErr r → AppendsFront now next x → Puts first next all r
 left_stopped first now next all rest x others r left split e put =
     puts_stopped first next all r e

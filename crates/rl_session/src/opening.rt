@@ -15,8 +15,8 @@ fn boxed_kind(adapter: &Box<dyn Adapter>) -> AdapterKind
     adapter.kind()
 }
 
-// The kinds of the adapters in order.
-fn kinds_of(alloc: Global, adapters: &Adapters) -> Result<Vec<AdapterKind>, AllocError>
+/// The kinds of the adapters in order.
+pub fn kinds_of(alloc: Global, adapters: &Adapters) -> Result<Vec<AdapterKind>, AllocError>
     ensures { IfOk result (λ kinds. kinds.items ≡ kinds_of (map standing adapters.now.items)) }
 {
     let mut kinds = Vec::new(alloc);
@@ -44,6 +44,22 @@ pub fn described(alloc: Global, head: &[u8], adapters: &Adapters) -> Result<Desc
     read_description(alloc, head, &kinds)
 }
 
+/// The register model of a description, after a hard reset.
+pub fn model_of(alloc: Global, desc: Desc) -> Result<Model, AllocError>
+    requires built_with { IsBuiltWith desc.layout desc.chip }
+    ensures layout { IfOk result (λ model. model.layout ≡ desc.layout) }
+    ensures first { IfOk result (λ model. (adapters : List Standing) → model ≡ (first_world desc adapters).model) }
+    ensures sound { IfOk result IsModel }
+{
+    let Desc {
+        chip,
+        layout,
+        flaws: _,
+    } = desc;
+    let model = Model::build(alloc, chip, layout)?;
+    Ok(model)
+}
+
 /// The model and the device of a description, after a hard reset.
 pub fn open(alloc: Global, desc: Desc) -> Result<(Model, Bench), AllocError>
     requires built_with { IsBuiltWith desc.layout desc.chip }
@@ -54,11 +70,6 @@ pub fn open(alloc: Global, desc: Desc) -> Result<(Model, Bench), AllocError>
     ensures sound { IfOk result (λ opened. (adapters : List Standing) → IsModel (first_world desc adapters).model) }
 {
     let bench = Bench::build(alloc, &desc.chip, &desc.layout, &desc.flaws)?;
-    let Desc {
-        chip,
-        layout,
-        flaws: _,
-    } = desc;
-    let model = Model::build(alloc, chip, layout)?;
+    let model = model_of(alloc, desc)?;
     Ok((model, bench))
 }

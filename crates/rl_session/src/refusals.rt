@@ -10,19 +10,14 @@ use rl_desc::{DescCause, DescFault};
 use rl_map::MapCause;
 use rl_model::{Array, ModelCause, Spot};
 use rl_policy::spell;
-use rl_report::{Failed, Sink, put_all, put_pieces};
+use rl_report::{Failed, Sink, put_all, put_pieces, text_beside};
 
 fn array_name(array: Array) -> &'static [u8]
     ensures { result.now ≡ array_name array }
 {
-    match array {
-        Array::Block => b"block",
-        Array::File => b"file",
-        Array::Reg => b"reg",
-        Array::Mem => b"mem",
-        Array::Map => b"map",
-        Array::Place => b"place",
-        Array::Flaw => b"flaw",
+    text_beside! {
+        array: Array;
+        Block b"block", File b"file", Reg b"reg", Mem b"mem", Map b"map", Place b"place", Flaw b"flaw"
     }
 }
 
@@ -101,17 +96,11 @@ fn put_bad<K: Sink>(sink: &mut K, cause: DescCause, spot: Option<Spot>) -> Resul
 fn model_reason(cause: ModelCause) -> &'static [u8]
     ensures { result.now ≡ model_reason cause }
 {
-    match cause {
-        ModelCause::TooMany => b"too many",
-        ModelCause::NoSuchParent => b"no such parent",
-        ModelCause::BadName => b"bad name",
-        ModelCause::DuplicateName => b"duplicate name",
-        ModelCause::TooDeep => b"too deep",
-        ModelCause::BadWidth => b"bad width",
-        ModelCause::BadSize => b"bad size",
-        ModelCause::FieldOutside => b"field outside",
-        ModelCause::FieldsOverlap => b"fields overlap",
-        ModelCause::ResetTooWide => b"reset too wide",
+    text_beside! {
+        cause: ModelCause;
+        TooMany b"too many", NoSuchParent b"no such parent", BadName b"bad name",
+        DuplicateName b"duplicate name", TooDeep b"too deep", BadWidth b"bad width", BadSize b"bad size",
+        FieldOutside b"field outside", FieldsOverlap b"fields overlap", ResetTooWide b"reset too wide"
     }
 }
 

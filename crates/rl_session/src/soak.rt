@@ -12,7 +12,7 @@ use itoa::Buffer;
 use rl_log::Counts;
 use rl_mirror::Mirror;
 use rl_policy::{POLICIES, Policy, spell};
-use rl_report::{Failed, Sink, put_pieces};
+use rl_report::{Failed, Sink, put_pieces, text_beside};
 use std::alloc::{AllocError, Global};
 
 const REGISTERS: u32 = 64;
@@ -79,14 +79,10 @@ fn policy_of(k: u32) -> Policy
 fn verb(step: Step) -> &'static [u8]
     ensures { result.now ≡ verb_text step }
 {
-    match step {
-        Step::Write => b"write r",
-        Step::Read => b"read r",
-        Step::Check => b"check r",
-        Step::Set => b"set r",
-        Step::Update => b"update r",
-        Step::Peek => b"peek r",
-        Step::FieldWrite => b"field-write r",
+    text_beside! {
+        step: Step;
+        Write b"write r", Read b"read r", Check b"check r", Set b"set r", Update b"update r", Peek b"peek r",
+        FieldWrite b"field-write r"
     }
 }
 

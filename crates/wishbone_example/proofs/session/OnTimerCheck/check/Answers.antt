@@ -1,7 +1,7 @@
 use Rattle.std.proofs.Common.{◌≡◌, Ok, refl, ap, sym, ◌∙◌}
 use Rattle.rl_opening.proofs.StopLemmas.{check_passes, check_refuses}
 use Rattle.wishbone_example.specs.Session.{on_timer, unless_flawed}
-use Rattle.wishbone_example.proofs.session.check_flaws.Goals as goal
+use Rattle.wishbone_example.proofs.session.OnTimerCheck.check.Goals as goal
 
 pub returns-then-not-has_flaws : goal.returns-then-not-has_flaws
 returns-then-not-has_flaws g c =

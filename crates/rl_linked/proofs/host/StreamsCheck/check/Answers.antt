@@ -1,7 +1,7 @@
 use Rattle.std.proofs.Common.{sym, ap, ◌∙◌}
 use Rattle.rl_opening.proofs.StopLemmas.{check_passes, check_refuses}
 use Rattle.rl_linked.specs.Opening.{allowed, over_link}
-use Rattle.rl_linked.proofs.refusal.check_link.Goals as goal
+use Rattle.rl_linked.proofs.host.StreamsCheck.check.Goals as goal
 
 pub returns-in-Some : goal.returns-in-Some
 returns-in-Some g c =

@@ -3,7 +3,7 @@ use Rattle.rl_map.specs.Maps.{IsBuiltWith}
 use Rattle.rl_desc.specs.Data.{DescData}
 use Rattle.rl_session.specs.Judged.{first_world}
 use Rattle.rl_session.proofs.FirstLemmas.{first_is}
-use Rattle.rl_running.proofs.playing.model_of.Goals as goal
+use Rattle.rl_session.proofs.opening.model_of.Goals as goal
 
 pub build-requires : goal.build-requires
 build-requires c = record { built_with = subst (λ (d : DescData). IsBuiltWith d.layout d.chip) (sym c.desc.view_is) c.requires.built_with }
