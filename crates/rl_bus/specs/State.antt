@@ -151,13 +151,17 @@ reset_by s kind = record s {
   beats = λ p a. 0;
 }
 
--- the state after a hard reset, with no item so far and these many locations that hold 0
-unfoldable pub first_state : Setup → ℕ → State
-first_state t count = reset_by (record {
+-- no item so far, these many locations that hold 0, and all else 0
+abbrev pub empty_state : Setup → ℕ → State
+empty_state t count = record {
   setup = t;
   bits = replicate (length t.regs) 0;
   marks = replicate (length t.regs) 0;
   locations = replicate count 0;
   beats = λ p a. 0;
   items = 0;
-}) 0
+}
+
+-- the same after a hard reset
+unfoldable pub first_state : Setup → ℕ → State
+first_state t count = reset_by (empty_state t count) 0

@@ -1,17 +1,18 @@
 -- Items never look at reset values: a device without its wrong ones answers and goes on as it does with them.
 use Rattle.std.proofs.Common.{◌≡◌, ℕ, Bool, true, false, not, List, [], ◌∷◌, Option, None, Some, if◌then◌else◌, refl, ap, ◌∙◌}
-use Rattle.rl_policy.specs.Bits.{bit, from_bits}
+use Rattle.rl_policy.specs.Bits.{bit}
 use Rattle.rl_bus.specs.declared.op.Answer.{Answer}
 use Rattle.rl_bus.specs.declared.op.BusOp.{BusOp}
 use Rattle.rl_bus.specs.declared.table.Cell.{Cell}
 use Rattle.rl_bus.specs.declared.table.Cell.TheVariants.{Reg, Loc}
 use Rattle.rl_bus.specs.declared.table.WordRow.{WordRow}
 use Rattle.rl_bus.specs.Setup.{Setup, Flaws, mem_of, is_deaf, held}
-use Rattle.rl_bus.specs.Spread.{lane_bit, spread_bit, gathered_bit, lanes_in}
+use Rattle.rl_bus.specs.Spread.{lane_bit, spread_bit, lanes_in}
 use Rattle.rl_bus.specs.Standing.{Standing}
-use Rattle.rl_bus.specs.State.{State, counted, word_at, is_faulty, beats_on, shown_bit, after_reading, after_writing, after_word, after_touch, answer_at, state_after, answer_of}
+use Rattle.rl_bus.specs.State.{State, counted, word_at, is_faulty, beats_on, after_reading, after_writing, after_word, after_touch, state_after, answer_of}
 use Rattle.rl_access.specs.declared.trace.TraceItem.{TraceItem}
 use Rattle.rl_access.specs.Items.{item_of, took_item, items_of, state_after_all}
+use Rattle.rl_finds.proofs.Answering.{answers_as}
 
 abbrev no_resets : Flaws → Flaws
 no_resets f = record f { resets = [] }
@@ -55,20 +56,10 @@ pub goes_without : (s : State) (port : ℕ) (op : BusOp) → state_after (withou
 unfolding state_after
 goes_without s port op = touch (counted s) port op (word_at s port op)
 
-shown : (s : State) (c : Cell) → shown_bit (without s) c ≡ shown_bit s c
-shown s (Reg r) = refl
-shown s (Loc m i) = refl
-
-answer : (s : State) (port : ℕ) (op : BusOp) (w : Option WordRow) → answer_at (without s) port op w ≡ answer_at s port op w
-answer s port op None = refl
-answer s port op (Some w) =
-    ap (λ (f : ℕ → Bool). let fine : Answer = record { word = (if op.write then 0 else from_bits 64 (gathered_bit (lanes_in w.lanes op.lanes) f)); failed = false } in
-    let bad : Answer = record { word = 0; failed = true } in
-    if is_faulty s port op then bad else fine) (shown s w.cell)
-
 pub answers_without : (s : State) (port : ℕ) (op : BusOp) → answer_of (without s) port op ≡ answer_of s port op
 unfolding answer_of
-answers_without s port op = answer (counted s) port op (word_at s port op)
+answers_without s port op =
+    answers_as (counted s) (counted (without s)) port op (record { faulty = refl; registers = λ r. refl; locations = λ m i. refl }) (word_at s port op)
 
 -- ---- items one after another
 

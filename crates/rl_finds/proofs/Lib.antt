@@ -1,3 +1,4 @@
+pub mod Answering
 pub mod Quiet
 pub mod Holding
 pub mod Standing

@@ -6,18 +6,18 @@ use Rattle.std.proofs.lemmas.Bool.{cases_eq}
 use Rattle.std.proofs.lemmas.List.{get_or-set_same, get_or-set_other, length-set}
 use Rattle.std.proofs.lemmas.List.Elements.{All-head, All-tail}
 use Rattle.rl_policy.proofs.BitLemmas.{bit-from_bits}
-use Rattle.rl_policy.specs.Bits.{bit, from_bits}
-use Rattle.rl_bus.specs.declared.op.Answer.{Answer}
+use Rattle.rl_policy.specs.Bits.{bit}
 use Rattle.rl_bus.specs.declared.op.BusOp.{BusOp}
 use Rattle.rl_bus.specs.declared.table.Cell.{Cell}
 use Rattle.rl_bus.specs.declared.table.Cell.TheVariants.{Reg, Loc}
 use Rattle.rl_bus.specs.declared.table.WordRow.{WordRow}
 use Rattle.rl_bus.specs.Setup.{Setup, Flaws, mem_of, is_deaf, stuck_at, or_else, held}
-use Rattle.rl_bus.specs.Spread.{lane_bit, spread_bit, gathered_bit, lanes_in}
-use Rattle.rl_bus.specs.State.{State, counted, word_at, is_faulty, shown_bit, after_writing, after_word, after_touch, answer_at, state_after, answer_of}
+use Rattle.rl_bus.specs.Spread.{lane_bit, spread_bit, lanes_in}
+use Rattle.rl_bus.specs.State.{State, counted, word_at, is_faulty, after_writing, after_word, after_touch, state_after, answer_of}
 use Rattle.rl_access.specs.declared.trace.TraceItem.{TraceItem}
 use Rattle.rl_access.specs.Items.{state_after_all}
 use Rattle.rl_access.proofs.Setups.{setup-state_after}
+use Rattle.rl_finds.proofs.Answering.{answers_as}
 
 abbrev none_firm : Flaws → Flaws
 none_firm f = record f { stuck = []; deaf = [] }
@@ -57,20 +57,10 @@ firm_holds t reg b v n x is here j low = by (cases_eq n reg) (cases_eq j b)
 
 -- ---- a read answers what the device holds
 
-shown : (s : State) (c : Cell) → shown_bit (plain s) c ≡ shown_bit s c
-shown s (Reg r) = refl
-shown s (Loc m i) = refl
-
-answer : (s : State) (port : ℕ) (op : BusOp) (o : Option WordRow) → answer_at (plain s) port op o ≡ answer_at s port op o
-answer s port op None = refl
-answer s port op (Some w) =
-    ap (λ (f : ℕ → Bool). let fine : Answer = record { word = (if op.write then 0 else from_bits 64 (gathered_bit (lanes_in w.lanes op.lanes) f)); failed = false } in
-    let bad : Answer = record { word = 0; failed = true } in
-    if is_faulty s port op then bad else fine) (shown s w.cell)
-
 pub answer_plain : (s : State) (port : ℕ) (op : BusOp) → answer_of (plain s) port op ≡ answer_of s port op
 unfolding answer_of
-answer_plain s port op = answer (counted s) port op (word_at s port op)
+answer_plain s port op =
+    answers_as (counted s) (counted (plain s)) port op (record { faulty = refl; registers = λ r. refl; locations = λ m i. refl }) (word_at s port op)
 
 -- ---- no write changes the bit
 

@@ -2,7 +2,7 @@
 -- same items fail. One that hears, and holds the same, answers reads the same.
 use Rattle.std.proofs.Common.{◌≡◌, ℕ, Bool, true, false, not, List, [], ◌∷◌, Option, None, Some, All, if◌then◌else◌, refl, sym, ap, ◌∙◌, subst}
 use Rattle.std.proofs.lemmas.List.Elements.{All-nil, All-cons, All-head, All-tail}
-use Rattle.rl_policy.specs.Bits.{bit, from_bits}
+use Rattle.rl_policy.specs.Bits.{bit}
 use Rattle.rl_bus.specs.declared.op.Answer.{Answer}
 use Rattle.rl_bus.specs.declared.op.BusOp.{BusOp}
 use Rattle.rl_bus.specs.declared.table.Cell.{Cell}
@@ -11,11 +11,12 @@ use Rattle.rl_bus.specs.declared.table.ItemRow.{ItemRow}
 use Rattle.rl_bus.specs.declared.table.StuckRow.{StuckRow}
 use Rattle.rl_bus.specs.declared.table.WordRow.{WordRow}
 use Rattle.rl_bus.specs.Setup.{Setup, Flaws, mem_of, is_deaf, held}
-use Rattle.rl_bus.specs.Spread.{lane_bit, spread_bit, gathered_bit, lanes_in}
-use Rattle.rl_bus.specs.State.{State, counted, word_at, is_faulty, beats_on, shown_bit, after_reading, after_writing, after_word, after_touch, answer_at, state_after, answer_of}
+use Rattle.rl_bus.specs.Spread.{lane_bit, spread_bit, lanes_in}
+use Rattle.rl_bus.specs.State.{State, counted, word_at, is_faulty, beats_on, after_reading, after_writing, after_word, after_touch, answer_at, state_after, answer_of}
 use Rattle.rl_split.specs.Runs.{answers_of, state_after_all}
 use Rattle.rl_access.specs.declared.trace.TraceItem.{TraceItem}
 use Rattle.rl_access.specs.Items.{state_after_all as items_after}
+use Rattle.rl_finds.proofs.Answering.{answers_as}
 
 abbrev with_others : List ItemRow → List StuckRow → Flaws → Flaws
 with_others deaf stuck f = record f { deaf = deaf; stuck = stuck }
@@ -208,20 +209,10 @@ state_heard : (s : State) (port : ℕ) (op : BusOp) → op.write ≡ false → s
 unfolding state_after
 state_heard s port op reads = touch_heard (counted s) port op (word_at s port op) reads
 
-shown : (s : State) (c : Cell) → shown_bit (heard s) c ≡ shown_bit s c
-shown s (Reg r) = refl
-shown s (Loc m i) = refl
-
-answer : (s : State) (port : ℕ) (op : BusOp) (o : Option WordRow) → answer_at (heard s) port op o ≡ answer_at s port op o
-answer s port op None = refl
-answer s port op (Some w) =
-    ap (λ (f : ℕ → Bool). let fine : Answer = record { word = (if op.write then 0 else from_bits 64 (gathered_bit (lanes_in w.lanes op.lanes) f)); failed = false } in
-    let bad : Answer = record { word = 0; failed = true } in
-    if is_faulty s port op then bad else fine) (shown s w.cell)
-
 answer_heard : (s : State) (port : ℕ) (op : BusOp) → answer_of (heard s) port op ≡ answer_of s port op
 unfolding answer_of
-answer_heard s port op = answer (counted s) port op (word_at s port op)
+answer_heard s port op =
+    answers_as (counted s) (counted (heard s)) port op (record { faulty = refl; registers = λ r. refl; locations = λ m i. refl }) (word_at s port op)
 
 pub reads_heard : (d : State) (port : ℕ) (ops : List BusOp) → All (λ (op : BusOp). op.write ≡ false) ops → answers_of (heard d) port ops ≡ answers_of d port ops
 reads_heard d port [] h = refl

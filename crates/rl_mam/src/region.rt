@@ -3,7 +3,7 @@ ghost use Rattle.std.specs.Prelude.{◌≡◌, ◌+◌, ◌<◌, ◌^◌, nat_lt
 ghost use Rattle.rl_mam.specs.Regions.{location_of};
 ghost use Rattle.rl_mam.specs.declared.region.MamFault.TheVariants.{Memory};
 
-use std::alloc::{AllocError, AllocFailed};
+use std::alloc::AllocError;
 
 /// Consecutive locations of a memory: `uvm_mem_region`, whose start and end offset these give.
 #[derive(Clone, Copy, Debug, PartialEq, Eq)]
@@ -49,18 +49,11 @@ pub enum MamFault {
     Memory,
 }
 
-impl From<AllocError> for MamFault {
+/// An allocation that failed, whether or not it hands its value back.
+impl<E: Into<AllocError> + Drop> From<E> for MamFault {
     ghost from_gives = { λ _ e. e ≡ Memory };
 
-    fn from(_e: AllocError) -> MamFault {
-        MamFault::Memory
-    }
-}
-
-impl<T: Drop> From<AllocFailed<T>> for MamFault {
-    ghost from_gives = { λ _ e. e ≡ Memory };
-
-    fn from(_e: AllocFailed<T>) -> MamFault {
+    fn from(_e: E) -> MamFault {
         MamFault::Memory
     }
 }

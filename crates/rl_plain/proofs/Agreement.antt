@@ -25,11 +25,12 @@ use Rattle.rl_access.specs.Model.{IsModel}
 use Rattle.rl_access.specs.Operation.{reg_of, register_of, HasNumbers}
 use Rattle.rl_access.specs.Rules.{Grant, grant}
 use Rattle.rl_plain.specs.OneStep.{Step, write_step, read_step, no_step, register_after, device_after, step_of, IsAccess}
-use Rattle.rl_plain.specs.Agree.{believed, is_spendable, IsMarkedAlone, IsAsBelieved, Agree, AccessKeepsAgreement}
+use Rattle.rl_plain.specs.Agree.{believed, is_spendable, IsMarkedAlone, IsAsBelieved, Agree, KeepsAgreement}
 use Rattle.rl_plain.proofs.Registers.{written_bits, left_bits, marks_after, other_marks}
 use Rattle.rl_plain.proofs.Followed.{FollowsStep}
 use Rattle.rl_plain.proofs.Accesses.{IsStepped}
 use Rattle.rl_plain.proofs.EachAccess.{one_step}
+use Rattle.rl_plain.specs.Sorts as sort
 
 -- ---- two descriptions of a register
 
@@ -259,7 +260,7 @@ pub refused_agree : (s new : Scene) (op : Op) (event : Event) (g : Grant) → Ag
 refused_agree s new op event (Ok place) a is granted = granted place refl is
 refused_agree s new op event (Err why) a is granted = subst Agree (sym is.unchanged) a
 
-pub access_keeps_agreement : AccessKeepsAgreement
+pub access_keeps_agreement : KeepsAgreement sort.access
 access_keeps_agreement s new op event is numbers ok a performs =
     let c = s.model.chip in
     let n = register_in c (length s.model.layout.maps) op ok.chip is numbers in

@@ -33,9 +33,10 @@ use Rattle.rl_access.specs.Items.{items_of, port_for}
 use Rattle.rl_access.specs.Model.{ModelData, IsModel}
 use Rattle.rl_access.specs.Operation.{HasNumbers}
 use Rattle.rl_access.specs.Rules.{grant, sends, outcome, every_field, device_after, back_written, back_left, back_value}
-use Rattle.rl_plain.specs.Agree.{IsAsBelieved, Agree, IsBackdoor, BackdoorKeepsAgreement}
+use Rattle.rl_plain.specs.Agree.{IsAsBelieved, Agree, IsBackdoor, KeepsAgreement}
 use Rattle.rl_plain.proofs.Registers.{learned_is}
 use Rattle.rl_plain.proofs.Agreement.{refused_agree}
+use Rattle.rl_plain.specs.Sorts as sort
 
 -- ---- a deposit in a device without flaws
 
@@ -251,6 +252,6 @@ back_done s new (op.Peek reg) event place is numbers ok a done =
     (λ q other. raw_other c reg (owned fs done.sampled) q s.model.mirror other) (raw_spent c reg (owned fs done.sampled) s.model.mirror)
 back_done s new _ event place is numbers ok a done = absurd is
 
-pub backdoor_keeps_agreement : BackdoorKeepsAgreement
+pub backdoor_keeps_agreement : KeepsAgreement sort.backdoor
 backdoor_keeps_agreement s new op event is numbers ok a performs =
     refused_agree s new op event (grant s.model op) a performs (λ place granted done. back_done s new op event place is numbers ok a done)

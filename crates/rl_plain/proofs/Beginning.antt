@@ -5,7 +5,7 @@ use Rattle.std.proofs.lemmas.List.{get_or-replicate, length-replicate, length-ma
 use Rattle.rl_policy.specs.Bits.{bit}
 use Rattle.rl_policy.proofs.BitLemmas.{bit-zero}
 use Rattle.rl_bus.specs.Setup.{Setup}
-use Rattle.rl_bus.specs.State.{State, first_state}
+use Rattle.rl_bus.specs.State.{State, first_state, empty_state}
 use Rattle.rl_model.specs.declared.rows.RegRow.{RegRow}
 use Rattle.rl_model.specs.Rows.{ChipData}
 use Rattle.rl_model.specs.Chip.{IsSound}
@@ -19,17 +19,6 @@ use Rattle.rl_mirror.proofs.MirrorLemmas.{blank_built}
 use Rattle.rl_mirror.proofs.PlaceLemmas.{place_is}
 use Rattle.rl_plain.specs.Agree.{HasNoVolatile, IsAsBelieved, NewOnesAgree}
 use Rattle.rl_plain.proofs.Resets.{after}
-
--- the state that the first reset meets
-abbrev empty_state : Setup → ℕ → State
-empty_state t count = record {
-  setup = t;
-  bits = replicate (length t.regs) 0;
-  marks = replicate (length t.regs) 0;
-  locations = replicate count 0;
-  beats = λ p a. 0;
-  items = 0;
-}
 
 registers_of : (c : ChipData) (l : LayoutData) → length (setup_of c l no_flaws).regs ≡ length c.regs
 unfolding setup_of

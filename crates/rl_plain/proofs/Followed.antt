@@ -109,36 +109,35 @@ pub record Followed (m new : ModelData) (reg : ℕ) (step : Step) (r : Register)
   pub many : length new.gathered ≡ length m.gathered
   pub mirror : FollowsStep m.chip reg m.mirror new.mirror r step
 
-pub write_follows : (m entry : ModelData) (reg word fields : ℕ) (chosen : ℕ → Bool) (r : Register) (new : ModelData) → IsEntry m entry → AreChosen (fields_of m.chip reg) chosen fields →
-    new ≡ record entry { mirror = predict_write entry.chip reg word fields entry.mirror } → Followed m new reg (write_step chosen word) r
-write_follows m entry reg word fields chosen r new is are e = record {
+-- an entry with another mirror, which goes by the step
+follows_by : (m entry : ModelData) (reg : ℕ) (step : Step) (r : Register) (mirror : MirrorData) (new : ModelData) → IsEntry m entry → new ≡ record entry { mirror = mirror } →
+    FollowsStep m.chip reg m.mirror mirror r step → Followed m new reg step r
+follows_by m entry reg step r mirror new is e goes = record {
   chip = ap (λ (x : ModelData). x.chip) e ∙ is.chip;
   layout = ap (λ (x : ModelData). x.layout) e ∙ is.layout;
   gathered = λ none. subst IsNothingGathered (sym (ap (λ (x : ModelData). x.gathered) e)) (is.gathered none);
   many = ap (λ (x : ModelData). length x.gathered) e ∙ is.many;
-  mirror = record {
-    fields = fields;
-    are = are;
-    is = ap (λ (x : ModelData). x.mirror) e ∙ ap (λ c. predict_write c reg word fields entry.mirror) is.chip ∙ ap (predict_write m.chip reg word fields) is.mirror;
-  };
+  mirror = subst (λ x. FollowsStep m.chip reg m.mirror x r step) (sym (ap (λ (x : ModelData). x.mirror) e)) goes;
 }
+
+pub write_follows : (m entry : ModelData) (reg word fields : ℕ) (chosen : ℕ → Bool) (r : Register) (new : ModelData) → IsEntry m entry → AreChosen (fields_of m.chip reg) chosen fields →
+    new ≡ record entry { mirror = predict_write entry.chip reg word fields entry.mirror } → Followed m new reg (write_step chosen word) r
+write_follows m entry reg word fields chosen r new is are e =
+    follows_by m entry reg (write_step chosen word) r (predict_write entry.chip reg word fields entry.mirror) new is e (record {
+      fields = fields;
+      are = are;
+      is = ap (λ c. predict_write c reg word fields entry.mirror) is.chip ∙ ap (predict_write m.chip reg word fields) is.mirror;
+    })
 
 pub read_follows : (m entry : ModelData) (reg fields : ℕ) (chosen : ℕ → Bool) (r : Register) (new : ModelData) → IsEntry m entry → AreChosen (fields_of m.chip reg) chosen fields →
     new ≡ record entry { mirror = predict_read entry.chip reg (ranswer (fields_of m.chip reg) chosen r) fields entry.mirror } → Followed m new reg (read_step chosen) r
-read_follows m entry reg fields chosen r new is are e = record {
-  chip = ap (λ (x : ModelData). x.chip) e ∙ is.chip;
-  layout = ap (λ (x : ModelData). x.layout) e ∙ is.layout;
-  gathered = λ none. subst IsNothingGathered (sym (ap (λ (x : ModelData). x.gathered) e)) (is.gathered none);
-  many = ap (λ (x : ModelData). length x.gathered) e ∙ is.many;
-  mirror = record {
-    fields = fields;
-    are = are;
-    is =
-        ap (λ (x : ModelData). x.mirror) e
-        ∙ ap (λ c. predict_read c reg (ranswer (fields_of m.chip reg) chosen r) fields entry.mirror) is.chip
-        ∙ ap (predict_read m.chip reg (ranswer (fields_of m.chip reg) chosen r) fields) is.mirror;
-  };
-}
+read_follows m entry reg fields chosen r new is are e =
+    let value = ranswer (fields_of m.chip reg) chosen r in
+    follows_by m entry reg (read_step chosen) r (predict_read entry.chip reg value fields entry.mirror) new is e (record {
+      fields = fields;
+      are = are;
+      is = ap (λ c. predict_read c reg value fields entry.mirror) is.chip ∙ ap (predict_read m.chip reg value fields) is.mirror;
+    })
 
 pub nothing_follows : (m : ModelData) (reg : ℕ) (r : Register) (new : ModelData) → new ≡ m → Followed m new reg no_step r
 nothing_follows m reg r new e = record {

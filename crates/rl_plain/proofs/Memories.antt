@@ -12,10 +12,11 @@ use Rattle.rl_access.specs.Call.{Scene, IsDone}
 use Rattle.rl_access.specs.Gathering.{IsNothingGathered}
 use Rattle.rl_access.specs.Model.{ModelData}
 use Rattle.rl_access.specs.Rules.{grant}
-use Rattle.rl_plain.specs.Agree.{IsAsBelieved, Agree, IsMemoryBackdoor, MemoryBackdoorKeepsAgreement}
+use Rattle.rl_plain.specs.Agree.{IsAsBelieved, Agree, IsMemoryBackdoor, KeepsAgreement}
 use Rattle.rl_plain.proofs.Agreement.{refused_agree}
 use Rattle.rl_plain.proofs.Backdoor.{alone_by}
 use Rattle.rl_plain.proofs.Wishes.{stays_agreed}
+use Rattle.rl_plain.specs.Sorts as sort
 
 poked_there : (c : ChipData) (l : LayoutData) (m : MirrorData) (d : State) (mem index value : ℕ) → IsAsBelieved c l m d → IsAsBelieved c l m (poked d (cell.Loc mem index) value)
 unfolding poked
@@ -42,6 +43,6 @@ memory_done s new (op.MemPoke mem index value) event place is a done =
     }
 memory_done s new _ event place is a done = absurd is
 
-pub memory_backdoor_keeps_agreement : MemoryBackdoorKeepsAgreement
+pub memory_backdoor_keeps_agreement : KeepsAgreement sort.memory_backdoor
 memory_backdoor_keeps_agreement s new op event is numbers ok a performs =
     refused_agree s new op event (grant s.model op) a performs (λ place granted done. memory_done s new op event place is a done)

@@ -6,12 +6,13 @@ use Rattle.std.proofs.lemmas.Bool.{ltb-true}
 use Rattle.rl_policy.specs.Bits.{bit}
 use Rattle.rl_bus.specs.Setup.{Setup, mem_of, location}
 use Rattle.rl_bus.specs.State.{State}
+use Rattle.rl_bus.specs.declared.op.BusOp.{BusOp}
 use Rattle.rl_model.specs.declared.rows.Item.TheVariants as item
 use Rattle.rl_model.specs.Rows.{ChipData}
 use Rattle.rl_map.specs.Layout.{LayoutData, place_at}
 use Rattle.rl_split.specs.Access.{all_bytes, ops_of, joined}
 use Rattle.rl_split.specs.Law.{IsReady, IsLocationOf, HasLocation, IsStore, IsLoad}
-use Rattle.rl_split.specs.Runs.{answers_of, counted_on}
+use Rattle.rl_split.specs.Runs.{answers_of, counted_on, state_after_all}
 use Rattle.rl_split.proofs.Locations.{memory_write_is_store, memory_read_is_load}
 use Rattle.rl_mirror.specs.Mirror.{MirrorData}
 use Rattle.rl_access.specs.declared.event.End.{End}
@@ -31,7 +32,7 @@ use Rattle.rl_access.proofs.Places.{place_size}
 use Rattle.rl_plain.specs.Agree.{IsAsBelieved, Agree, HasLocations, IsMemoryAccess, MemoryAccessKeepsAgreement}
 use Rattle.rl_plain.proofs.Accesses.{all_written}
 use Rattle.rl_plain.proofs.Agreement.{refused_agree}
-use Rattle.rl_plain.proofs.Answered.{IsSentAs, has_run_as}
+use Rattle.rl_plain.proofs.Answered.{IsSentAs, HasRunAs, has_run_as}
 use Rattle.rl_plain.proofs.Granted.{only_ok, IsWay, way_found}
 use Rattle.rl_plain.proofs.Locations.{memory_row}
 use Rattle.rl_plain.proofs.Outcomes.{good_is}
@@ -145,6 +146,18 @@ pub record IsMemoryStep (s new : Scene) (event : Event) (after : State) (e : End
   pub ends : event.end ≡ e
   pub finds : event.differ ≡ differ
 
+-- an operation that has run so, and no item of which failed, makes this of it
+memory_step : (s new : Scene) (op : Op) (event : Event) (place : ℕ) (d after : State) (ops : List BusOp) (o : List TraceItem → Outcome) (e : End) (differ : ℕ) →
+    HasRunAs s new op event place None d ops o → state_after_all d (port_for s.model.layout place) ops ≡ after →
+    o event.trace ≡ (record { end = e; model = s.model; differ = differ }) → IsReady s.model.chip s.model.layout after → IsMemoryStep s new event after e differ
+memory_step s new op event place d after ops o e differ run state good ready = record {
+  told = run.told ∙ ap Some state;
+  ready = ready;
+  model = run.model ∙ ap (λ (x : Outcome). x.model) good;
+  ends = ap (λ (e : Event). e.end) run.event_is ∙ ap (λ (x : Outcome). x.end) good;
+  finds = ap (λ (e : Event). e.differ) run.event_is ∙ ap (λ (x : Outcome). x.differ) good;
+}
+
 pub write_step_is : (s new : Scene) (mem index value : ℕ) (map : Option ℕ) (event : Event) (place : ℕ) → IsModel s.model → (a : Agree s) → mem < length s.model.chip.mems →
     HasLocation a.device mem index (location_size s.model.chip mem) →
     grant s.model (op.MemWrite mem map index value) ≡ Ok place → IsDone s new (op.MemWrite mem map index value) place event →
@@ -158,14 +171,8 @@ write_step_is s new mem index value map event place ok a inside has granted done
     let o : List TraceItem → Outcome = λ items. or_error (failed_at items) m (quiet end.Done m) in
     let run = has_run_as s new (op.MemWrite mem map index value) event place None d ops o done a.told
     (record { sends_are = refl; outcome_is = λ sampled items. refl; register = refl; goes = λ sampled items d. refl }) (all_written (answers_of d (port_for m.layout place) ops) ops w.answers) in
-    let good : o event.trace ≡ quiet end.Done m = good_is (failed_at event.trace) m (quiet end.Done m) run.none in
-    record {
-      told = run.told ∙ ap Some w.state;
-      ready = subst (IsReady m.chip m.layout) w.state w.ready;
-      model = run.model ∙ ap (λ (x : Outcome). x.model) good;
-      ends = ap (λ (e : Event). e.end) run.event_is ∙ ap (λ (x : Outcome). x.end) good;
-      finds = ap (λ (e : Event). e.differ) run.event_is ∙ ap (λ (x : Outcome). x.differ) good;
-    }
+    memory_step s new (op.MemWrite mem map index value) event place d (stored d mem index value (length ops)) ops o end.Done 0 run w.state
+    (good_is (failed_at event.trace) m (quiet end.Done m) run.none) (subst (IsReady m.chip m.layout) w.state w.ready)
 
 -- a read ends with what the location holds
 abbrev good_load : ModelData → (found : ℕ → ℕ) → ℕ → Outcome
@@ -190,14 +197,9 @@ load_step_by s new op mem index event place found ok a has granted done sent =
     let o : List TraceItem → Outcome = load_outcome m mem place index found in
     let run = has_run_as s new op event place None d ops o done a.told sent w.answers in
     let value : location_value m mem place index event.trace ≡ held = ap (joined m.layout place index chosen) run.words ∙ w.value_is in
-    let good : o event.trace ≡ good_load m found held = good_is (failed_at event.trace) m (good_load m found (location_value m mem place index event.trace)) run.none ∙ ap (good_load m found) value in
-    record {
-      told = run.told ∙ ap Some w.state;
-      ready = subst (IsReady m.chip m.layout) w.state w.ready;
-      model = run.model ∙ ap (λ (x : Outcome). x.model) good;
-      ends = ap (λ (e : Event). e.end) run.event_is ∙ ap (λ (x : Outcome). x.end) good;
-      finds = ap (λ (e : Event). e.differ) run.event_is ∙ ap (λ (x : Outcome). x.differ) good;
-    }
+    memory_step s new op event place d (loaded d (length ops)) ops o (end.Value held) (found held) run w.state
+    (good_is (failed_at event.trace) m (good_load m found (location_value m mem place index event.trace)) run.none ∙ ap (good_load m found) value)
+    (subst (IsReady m.chip m.layout) w.state w.ready)
 
 pub read_step_is : (s new : Scene) (mem index : ℕ) (map : Option ℕ) (event : Event) (place : ℕ) → IsModel s.model → (a : Agree s) → HasLocation a.device mem index (location_size s.model.chip mem) →
     grant s.model (op.MemRead mem map index) ≡ Ok place → IsDone s new (op.MemRead mem map index) place event →

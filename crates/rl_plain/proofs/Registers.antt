@@ -71,19 +71,31 @@ left_bits fs chosen fields r own are =
 
 -- ---- marks
 
+-- the number of a register's field
+record IsNumbered (c : ChipData) (reg k : ℕ) : Type 0 where
+  within : first_of c reg + k < length c.fields
+  own : (field_of c (first_of c reg + k)).shape.reg ≡ reg
+
+numbered : (c : ChipData) (reg k : ℕ) → IsSound c → reg < length c.regs → k < length (fields_of c reg) → IsNumbered c reg k
+numbered c reg k sound l place =
+    let n = first_of c reg + k in
+    let all : length (fields_of c reg) ≡ count_of c reg = length-fields_of c reg sound l in
+    record {
+      within = number_within c reg k sound l place;
+      own = owner_is c reg n sound l (omega arith) (omega (arith, all, place));
+    }
+
 pub marks_after : (c : ChipData) (reg fields k : ℕ) (spent : List Bool) (chosen : ℕ → Bool) → IsSound c → reg < length c.regs → length spent ≡ length c.fields → k < length (fields_of c reg) →
     AreChosen (fields_of c reg) chosen fields →
     (marks_in c spent reg k || (chosen k && spends_mark (policy_in (fields_of c reg) k))) ≡ marks_in c (spent_after c reg fields spent) reg k
 unfolding spent_after
 marks_after c reg fields k spent chosen sound l long place are =
     let n = first_of c reg + k in
-    let within : n < length c.fields = number_within c reg k sound l place in
-    let inside : n < length spent = omega (arith, within, long) in
-    let all : length (fields_of c reg) ≡ count_of c reg = length-fields_of c reg sound l in
-    let own : (field_of c n).shape.reg ≡ reg = owner_is c reg n sound l (omega arith) (omega (arith, all, place)) in
+    let is = numbered c reg k sound l place in
+    let inside : n < length spent = omega (arith, is.within, long) in
     let number : n - first_of c reg ≡ k = omega arith in
     let by : is_spent_by c reg fields n ≡ (chosen k && spends_mark (policy_in (fields_of c reg) k)) =
-    ap (λ t. t && (bit fields (n - first_of c reg) && spends_mark (field_of c n).shape.policy)) (eq-eqb (field_of c n).shape.reg reg own)
+    ap (λ t. t && (bit fields (n - first_of c reg) && spends_mark (field_of c n).shape.policy)) (eq-eqb (field_of c n).shape.reg reg is.own)
     ∙ ap (λ j. bit fields j && spends_mark (field_of c n).shape.policy) number
     ∙ ap (λ (f : FieldSeen). bit fields k && spends_mark f.shape.policy) (sym (field_in-fields_of c reg k sound l place))
     ∙ ap (λ t. t && spends_mark (policy_in (fields_of c reg) k)) (sym (are.same k place))
@@ -101,12 +113,10 @@ pub other_marks : (c : ChipData) (reg q fields k : ℕ) (spent : List Bool) → 
 unfolding spent_after
 other_marks c reg q fields k spent sound l other long place =
     let n = first_of c q + k in
-    let within : n < length c.fields = number_within c q k sound l place in
-    let inside : n < length spent = omega (arith, within, long) in
-    let all : length (fields_of c q) ≡ count_of c q = length-fields_of c q sound l in
-    let own : (field_of c n).shape.reg ≡ q = owner_is c q n sound l (omega arith) (omega (arith, all, place)) in
+    let is = numbered c q k sound l place in
+    let inside : n < length spent = omega (arith, is.within, long) in
     let none : is_spent_by c reg fields n ≡ false =
-    ap (λ r. eqb r reg && (bit fields (n - first_of c reg) && spends_mark (field_of c n).shape.policy)) own
+    ap (λ r. eqb r reg && (bit fields (n - first_of c reg) && spends_mark (field_of c n).shape.policy)) is.own
     ∙ ap (λ t. t && (bit fields (n - first_of c reg) && spends_mark (field_of c n).shape.policy)) (ne_eqb q reg other)
     in
     or_false (get_or spent n false)

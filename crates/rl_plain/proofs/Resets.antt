@@ -33,9 +33,10 @@ use Rattle.rl_access.specs.Call.{Scene, IsDone}
 use Rattle.rl_access.specs.Gathering.{IsNothingGathered}
 use Rattle.rl_access.specs.Model.{ModelData, IsModel}
 use Rattle.rl_access.specs.Rules.{grant}
-use Rattle.rl_plain.specs.Agree.{IsAsBelieved, Agree, IsReset, ResetKeepsAgreement}
+use Rattle.rl_plain.specs.Agree.{IsAsBelieved, Agree, IsReset, KeepsAgreement}
 use Rattle.rl_plain.proofs.Agreement.{refused_agree}
 use Rattle.rl_plain.proofs.Backdoor.{alone_by, is_field, none_stuck}
+use Rattle.rl_plain.specs.Sorts as sort
 
 -- ---- the reset values of a field, among the rows of all fields
 
@@ -253,6 +254,6 @@ reset_done s new (op.Reset kind) event place is ok a done =
     }
 reset_done s new _ event place is ok a done = absurd is
 
-pub reset_keeps_agreement : ResetKeepsAgreement
+pub reset_keeps_agreement : KeepsAgreement sort.reset
 reset_keeps_agreement s new op event is numbers ok a performs =
     refused_agree s new op event (grant s.model op) a performs (λ place granted done. reset_done s new op event place is ok a done)

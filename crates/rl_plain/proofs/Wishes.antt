@@ -13,9 +13,10 @@ use Rattle.rl_access.specs.Gathering.{IsNothingGathered}
 use Rattle.rl_access.specs.Model.{ModelData}
 use Rattle.rl_access.specs.Operation.{reg_of}
 use Rattle.rl_access.specs.Rules.{grant, quiet}
-use Rattle.rl_plain.specs.Agree.{believed, IsAsBelieved, Agree, IsWish, WishKeepsAgreement}
+use Rattle.rl_plain.specs.Agree.{believed, IsAsBelieved, Agree, IsWish, KeepsAgreement}
 use Rattle.rl_plain.proofs.Answered.{has_run}
 use Rattle.rl_plain.proofs.Agreement.{refused_agree}
+use Rattle.rl_plain.specs.Sorts as sort
 
 believed_set : (c : ChipData) (field value : ℕ) (m : MirrorData) (reg : ℕ) → believed c (set c field value m) reg ≡ believed c m reg
 unfolding set
@@ -58,6 +59,6 @@ wish_done s new (op.Show reg) event place is a done =
     stays_agreed s new m.mirror a run.told run.model (λ reg. refl)
 wish_done s new _ event place is a done = absurd is
 
-pub wish_keeps_agreement : WishKeepsAgreement
+pub wish_keeps_agreement : KeepsAgreement sort.wish
 wish_keeps_agreement s new op event is numbers ok a performs =
     refused_agree s new op event (grant s.model op) a performs (λ place granted done. wish_done s new op event place is a done)

@@ -20,8 +20,7 @@ use Rattle.rl_access.specs.Model.{IsModel}
 use Rattle.rl_access.specs.Operation.{location_size, HasNumbers}
 use Rattle.rl_access.specs.Rules.{memory_size}
 use Rattle.rl_plain.specs.Sorts as sort
-use Rattle.rl_plain.specs.Sorts.{IsOf}
-use Rattle.rl_plain.specs.OneStep.{IsAccess}
+use Rattle.rl_plain.specs.Sorts.{Sort, IsOf}
 
 -- what is believed of a register: its mirrored value, and the marks of its fields
 abbrev pub believed : ChipData → MirrorData → (reg : ℕ) → Register
@@ -54,11 +53,11 @@ pub record Agree (s : Scene) : Type 0 where
   pub believed_is : IsAsBelieved s.model.chip s.model.layout s.model.mirror device
   pub gathered : IsNothingGathered s.model.gathered
 
--- the operations of a kind leave a device and a model that agree in agreement, also where they are refused
-abbrev pub KeepsAgreement : (Op → Type 0) → Type 0
-KeepsAgreement IsOne =
+-- the operations of a sort leave a device and a model that agree in agreement, also where they are refused
+abbrev pub KeepsAgreement : Sort → Type 0
+KeepsAgreement kind =
     (s new : Scene) (op : Op) (event : Event)
-    → IsOne op → HasNumbers s.model.chip (length s.model.layout.maps) op → IsModel s.model → Agree s → Performs s new op event
+    → IsOf kind op → HasNumbers s.model.chip (length s.model.layout.maps) op → IsModel s.model → Agree s → Performs s new op event
     → Agree new
 
 -- the operations that concern desired values alone, or nothing
@@ -79,24 +78,6 @@ IsReset op = IsOf sort.reset op
 -- a change by the hardware, which is refused where no field is volatile
 abbrev pub IsHardware : Op → Type 0
 IsHardware op = IsOf sort.hardware op
-
-abbrev pub AccessKeepsAgreement : Type 0
-AccessKeepsAgreement = KeepsAgreement IsAccess
-
-abbrev pub WishKeepsAgreement : Type 0
-WishKeepsAgreement = KeepsAgreement IsWish
-
-abbrev pub BackdoorKeepsAgreement : Type 0
-BackdoorKeepsAgreement = KeepsAgreement IsBackdoor
-
-abbrev pub MemoryBackdoorKeepsAgreement : Type 0
-MemoryBackdoorKeepsAgreement = KeepsAgreement IsMemoryBackdoor
-
-abbrev pub ResetKeepsAgreement : Type 0
-ResetKeepsAgreement = KeepsAgreement IsReset
-
-abbrev pub HardwareKeepsAgreement : Type 0
-HardwareKeepsAgreement = KeepsAgreement IsHardware
 
 -- ---- accesses to a memory over the bus
 

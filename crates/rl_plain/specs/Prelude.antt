@@ -1,6 +1,5 @@
 -- The laws that the functions of this crate state, passed on from one place. Declares nothing.
-pub use Rattle.rl_plain.specs.Agree.{AccessKeepsAgreement, BackdoorKeepsAgreement, HardwareKeepsAgreement, MemoryAccessKeepsAgreement, MemoryBackdoorKeepsAgreement}
-pub use Rattle.rl_plain.specs.Agree.{NewOnesAgree, ResetKeepsAgreement, WishKeepsAgreement}
+pub use Rattle.rl_plain.specs.Agree.{KeepsAgreement, MemoryAccessKeepsAgreement, NewOnesAgree}
 pub use Rattle.rl_plain.specs.Alike.{AlikeLayoutsStepAlike}
 pub use Rattle.rl_plain.specs.Believed.{AccessIsBelieved, DepositIsBelieved, WriteIsStored}
 pub use Rattle.rl_plain.specs.Calls.{BrokenPlanIsPlain, BrokenRunIsPlain, BurstIsPlain, BurstsHaveNumbers, CallIsPlain, CallKeepsModel, FirstOnesArePlain}

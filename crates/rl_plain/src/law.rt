@@ -1,13 +1,13 @@
 //! What holds of the calls on a device without flaws. Each function does nothing; its contract is the law.
-ghost use Rattle.rl_plain.specs.Prelude.{AccessIsBelieved, AccessIsStep, AccessKeepsAgreement, AlikeLayoutsStepAlike};
-ghost use Rattle.rl_plain.specs.Prelude.{BackdoorKeepsAgreement, BrokenPlanIsPlain, BrokenRunIsPlain};
-ghost use Rattle.rl_plain.specs.Prelude.{BurstHandsOverFront, BurstIsPlain, BurstsHaveNumbers, CallIsPlain};
-ghost use Rattle.rl_plain.specs.Prelude.{CallKeepsModel, DepositIsBelieved, EachCallKeepsAgreement};
-ghost use Rattle.rl_plain.specs.Prelude.{FirstOnesArePlain, HardwareKeepsAgreement, MemoryAccessKeepsAgreement};
-ghost use Rattle.rl_plain.specs.Prelude.{MemoryBackdoorKeepsAgreement, NewOnesAgree, NewOnesAgreeWithMemories};
+ghost use Rattle.rl_plain.specs.Prelude.{AccessIsBelieved, AccessIsStep, AlikeLayoutsStepAlike};
+ghost use Rattle.rl_plain.specs.Prelude.{BrokenPlanIsPlain, BrokenRunIsPlain, BurstHandsOverFront, BurstIsPlain};
+ghost use Rattle.rl_plain.specs.Prelude.{BurstsHaveNumbers, CallIsPlain, CallKeepsModel, DepositIsBelieved};
+ghost use Rattle.rl_plain.specs.Prelude.{EachCallKeepsAgreement, FirstOnesArePlain, KeepsAgreement};
+ghost use Rattle.rl_plain.specs.Prelude.{MemoryAccessKeepsAgreement, NewOnesAgree, NewOnesAgreeWithMemories};
 ghost use Rattle.rl_plain.specs.Prelude.{OtherStepsCommute, PlanIsPlain, PlansHaveNumbers, RefusedIsPlain};
-ghost use Rattle.rl_plain.specs.Prelude.{RegisterCallIsPlain, ResetIsPlain, ResetKeepsAgreement, RunIsPlain};
-ghost use Rattle.rl_plain.specs.Prelude.{SequenceHandsOverFront, WishKeepsAgreement, WriteIsStored};
+ghost use Rattle.rl_plain.specs.Prelude.{RegisterCallIsPlain, ResetIsPlain, RunIsPlain, SequenceHandsOverFront};
+ghost use Rattle.rl_plain.specs.Prelude.{WriteIsStored};
+ghost use Rattle.rl_plain.specs.Sorts as sort;
 
 use rl_access::Recorder;
 
@@ -24,22 +24,22 @@ pub fn new_ones_agree()
 
 /// An access over the bus leaves a device and a model that agree in agreement.
 pub fn access_keeps_agreement()
-    ensures { AccessKeepsAgreement }
+    ensures { KeepsAgreement sort.access }
 {}
 
 /// So do `set` and `show`.
 pub fn wish_keeps_agreement()
-    ensures { WishKeepsAgreement }
+    ensures { KeepsAgreement sort.wish }
 {}
 
 /// So do the operations of the backdoor on registers.
 pub fn backdoor_keeps_agreement()
-    ensures { BackdoorKeepsAgreement }
+    ensures { KeepsAgreement sort.backdoor }
 {}
 
 /// The backdoor of a memory leaves a device and a model that agree in agreement.
 pub fn memory_backdoor_keeps_agreement()
-    ensures { MemoryBackdoorKeepsAgreement }
+    ensures { KeepsAgreement sort.memory_backdoor }
 {}
 
 /// So does an access to a memory over the bus, where the device has the memory's locations.
@@ -49,12 +49,12 @@ pub fn memory_access_keeps_agreement()
 
 /// So does a reset of any kind.
 pub fn reset_keeps_agreement()
-    ensures { ResetKeepsAgreement }
+    ensures { KeepsAgreement sort.reset }
 {}
 
 /// And so does a change by the hardware, which is refused there: no field is volatile.
 pub fn hardware_keeps_agreement()
-    ensures { HardwareKeepsAgreement }
+    ensures { KeepsAgreement sort.hardware }
 {}
 
 /// From a device and a model that are the plain machine's, each call leaves them so, and its event without its

@@ -26,7 +26,7 @@ use Rattle.rl_report.proofs.PlainPart.{plain_part-line, plain_part-nil}
 use Rattle.rl_report.proofs.Unbroken.{IsUnbroken, unbroken-fixed, unbroken-joined, unbroken-last, unbroken-decimal, unbroken-hex_digits, one_line-joined}
 use Rattle.rl_script.specs.Commands.{sequence_name}
 use Rattle.rl_script.specs.declared.line.Sequence.{Sequence}
-use Rattle.rl_script.specs.declared.line.Sequence.TheVariants.{HwReset, BitBash, Access, Shared, MemWalk}
+use Rattle.rl_script.specs.declared.line.Sequence.TheVariants.{HwReset}
 use Rattle.rl_log.specs.declared.counts.Counts.{Counts}
 use Rattle.rl_log.specs.declared.refusal.LineRefusal.{LineRefusal}
 use Rattle.rl_log.specs.declared.refusal.LineRefusal.TheVariants as refusal
@@ -52,10 +52,7 @@ last_ends text h = ap is_one_line (append-nil text) ∙ h
 
 unbroken-sequence_name : (which : Sequence) → IsUnbroken (sequence_name which)
 unbroken-sequence_name HwReset = unbroken-fixed _ refl
-unbroken-sequence_name BitBash = unbroken-fixed _ refl
-unbroken-sequence_name Access = unbroken-fixed _ refl
-unbroken-sequence_name Shared = unbroken-fixed _ refl
-unbroken-sequence_name MemWalk = unbroken-fixed _ refl
+unbroken-sequence_name _ = unbroken-fixed _ refl
 
 unbroken-sequence_text : (which : Sequence) (over : Option (List ℕ)) → IsUnbroken (over_text over) → IsUnbroken (sequence_text which over)
 unbroken-sequence_text which over path =
@@ -143,18 +140,7 @@ unbroken-map : (cause : MapCause) → IsUnbroken (joined (map_reason cause))
 unbroken-map (map.SharedAddress address other) =
     unbroken-joined (codes "shared address 0x") _ (unbroken-fixed _ refl) (unbroken-joined (hex_digits address) _ (unbroken-hex_digits address)
     (unbroken-joined (codes " with place ") _ (unbroken-fixed _ refl) (unbroken-last (decimal (other + 1)) (unbroken-decimal (other + 1)))))
-unbroken-map map.TooMany = unbroken-last (codes "too many") (unbroken-fixed _ refl)
-unbroken-map map.BadName = unbroken-last (codes "bad name") (unbroken-fixed _ refl)
-unbroken-map map.DuplicateName = unbroken-last (codes "duplicate name") (unbroken-fixed _ refl)
-unbroken-map map.NoSuchMap = unbroken-last (codes "no such map") (unbroken-fixed _ refl)
-unbroken-map map.TooDeep = unbroken-last (codes "too deep") (unbroken-fixed _ refl)
-unbroken-map map.BadBytes = unbroken-last (codes "bad bytes") (unbroken-fixed _ refl)
-unbroken-map map.NoSuchAdapter = unbroken-last (codes "no such adapter") (unbroken-fixed _ refl)
-unbroken-map map.NoSuchItem = unbroken-last (codes "no such item") (unbroken-fixed _ refl)
-unbroken-map map.PlacedTwice = unbroken-last (codes "placed twice") (unbroken-fixed _ refl)
-unbroken-map map.MemInFifo = unbroken-last (codes "memory in fifo") (unbroken-fixed _ refl)
-unbroken-map map.AddressOverflow = unbroken-last (codes "address overflow") (unbroken-fixed _ refl)
-unbroken-map map.Unaligned = unbroken-last (codes "unaligned") (unbroken-fixed _ refl)
+unbroken-map _ = unbroken-last _ (unbroken-fixed _ refl)
 
 unbroken-array : (a : Array) → IsUnbroken (array_name a)
 unbroken-array array.Block = unbroken-fixed _ refl

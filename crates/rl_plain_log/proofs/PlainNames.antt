@@ -12,11 +12,11 @@ use Rattle.rl_desc.specs.Refusals.{or_else}
 use Rattle.rl_report.specs.WithoutItems.{HasNames, BuiltOnesHaveNames}
 use Rattle.rl_session.specs.Session.{said_by, opening_after, head_of, opening_of}
 
-none_first : {X : Type 0} (a b : Option X) → or_else a b ≡ None → (a ≡ None) × (b ≡ None)
+pub none_first : {X : Type 0} (a b : Option X) → or_else a b ≡ None → (a ≡ None) × (b ≡ None)
 none_first None b is = (refl, is)
 none_first (Some x) b is = absurd (cc)
 
-none_mapped : {A B : Type 0} (f : A → B) (o : Option A) → option_map f o ≡ None → o ≡ None
+pub none_mapped : {A B : Type 0} (f : A → B) (o : Option A) → option_map f o ≡ None → o ≡ None
 none_mapped f None is = refl
 none_mapped f (Some a) is = absurd (cc)
 

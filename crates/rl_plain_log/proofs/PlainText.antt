@@ -15,6 +15,7 @@ use Rattle.rl_access.specs.declared.event.Tally.{Tally}
 use Rattle.rl_access.specs.HandsOver.{Told}
 use Rattle.rl_access.specs.Runs.{no_tally, counted_all}
 use Rattle.rl_access.specs.Tally.{counted}
+use Rattle.rl_plain.specs.Calls.{without_items}
 use Rattle.rl_plain.specs.Machine.{Machine, seen}
 use Rattle.rl_plain.specs.Courses as plain
 use Rattle.rl_report.specs.Event.{event_line, event_text}
@@ -36,22 +37,24 @@ use Rattle.rl_log.specs.Recording.{told_text, events_text, with_event, with_even
 use Rattle.rl_plain_log.proofs.LogLines.{begin_is_line, closing_is_line}
 use Rattle.rl_plain_log.proofs.PlainCourse.{IsPlainWorld, IsPlainEvent, ArePlainEvents, IsPlainCourse}
 
--- what is counted of them
-pub counts_plain : (c : ChipData) (l : LayoutData) (told : List Told) (events : List Event) (p : Machine) (counts : Counts) → ArePlainEvents c l told events
+-- what is counted over the events alone
+counted_plain : {A : Type 0} (one : A → Event → A) (over : A → List Told → A) → ((a : A) (t : Told) (told : List Told) → over a (t ∷ told) ≡ over (one a t.event) told)
+    → ((a : A) (e : Event) → one a e ≡ one a (without_items e)) → (c : ChipData) (l : LayoutData) (told : List Told) (events : List Event) (p : Machine) (a : A)
+    → ArePlainEvents c l told events → over a told ≡ over a (told_with (seen c l p) events)
+counted_plain one over each_counts none_of_items c l [] [] p a h = refl
+counted_plain one over each_counts none_of_items c l [] (e ∷ events) p a h = absurd h
+counted_plain one over each_counts none_of_items c l (t ∷ told) [] p a h = absurd h
+counted_plain one over each_counts none_of_items c l (t ∷ told) (e ∷ events) p a h =
+    each_counts a t told ∙ ap (λ a. over a told) (none_of_items a t.event ∙ ap (one a) h.0.event) ∙ counted_plain one over each_counts none_of_items c l told events p (one a e) h.1
+    ∙ sym (each_counts a (record { model = seen c l p; event = e }) (told_with (seen c l p) events))
+
+counts_plain : (c : ChipData) (l : LayoutData) (told : List Told) (events : List Event) (p : Machine) (counts : Counts) → ArePlainEvents c l told events
     → with_events counts told ≡ with_events counts (told_with (seen c l p) events)
-counts_plain c l [] [] p counts h = refl
-counts_plain c l [] (e ∷ events) p counts h = absurd h
-counts_plain c l (t ∷ told) [] p counts h = absurd h
-counts_plain c l (t ∷ told) (e ∷ events) p counts h =
-    ap (λ (e : Event). with_events (with_event counts e) told) h.0.event ∙ counts_plain c l told events p (with_event counts e) h.1
+counts_plain = counted_plain with_event with_events (λ a t told. refl) (λ a e. refl)
 
 tally_plain : (c : ChipData) (l : LayoutData) (told : List Told) (events : List Event) (p : Machine) (tally : Tally) → ArePlainEvents c l told events
     → counted_all tally told ≡ counted_all tally (told_with (seen c l p) events)
-tally_plain c l [] [] p tally h = refl
-tally_plain c l [] (e ∷ events) p tally h = absurd h
-tally_plain c l (t ∷ told) [] p tally h = absurd h
-tally_plain c l (t ∷ told) (e ∷ events) p tally h =
-    ap (λ (e : Event). counted_all (counted tally e) told) h.0.event ∙ tally_plain c l told events p (counted tally e) h.1
+tally_plain = counted_plain counted counted_all (λ a t told. refl) (λ a e. refl)
 
 -- an entry of a line, and the plain one
 pub record IsPlainEntry (c : ChipData) (l : LayoutData) (e : Entry) (other : PlainEntry) : Type 0 where

@@ -25,20 +25,13 @@ use Rattle.rl_session.specs.Judged.{first_world}
 use Rattle.rl_session.specs.Session.{head_of, said_by, opening_after, opening_of}
 use Rattle.rl_plain_log.specs.PlainLog.{IsPlainLog}
 use Rattle.rl_plain_log.proofs.PlainLaws.{laws}
+use Rattle.rl_plain_log.proofs.PlainNames.{none_first, none_mapped}
 use Rattle.rl_plain_log.proofs.PlainSession.{log_of_desc, log_of_refused}
 use Rattle.rl_sound.specs.Sound.{AreKinds, IsLayoutOf}
 use Rattle.rl_model.proofs.ChipSound.{each_chip_sound}
 use Rattle.rl_sound.proofs.Layouts.{each_layout_sound}
 
 -- ---- a description
-
-both_none : {X : Type 0} (a b : Option X) → or_else a b ≡ None → (a ≡ None) × (b ≡ None)
-both_none None b h = (refl, h)
-both_none (Some x) b h = absurd (cc)
-
-mapped_none : {X Y : Type 0} (f : X → Y) (o : Option X) → option_map f o ≡ None → o ≡ None
-mapped_none f None h = refl
-mapped_none f (Some x) h = absurd (cc)
 
 -- its chip and its layout are sound
 record IsFine (desc : DescData) : Type 0 where
@@ -48,12 +41,12 @@ record IsFine (desc : DescData) : Type 0 where
 rows_fine : (rows : DocumentData) (kinds : List AdapterKind) → AreKinds kinds → rows_fault rows kinds ≡ None → IsFine (described rows kinds)
 unfolding rows_fault described
 rows_fine rows kinds k none =
-    let a = both_none _ _ none in
-    let b = both_none _ _ a.1 in
-    let chip : IsChip (chip_of rows.parts) = each_chip_sound rows.parts (mapped_none _ (chip_fault rows.parts) a.0) in
+    let a = none_first _ _ none in
+    let b = none_first _ _ a.1 in
+    let chip : IsChip (chip_of rows.parts) = each_chip_sound rows.parts (none_mapped _ (chip_fault rows.parts) a.0) in
     record {
       chip = chip;
-      layout = each_layout_sound (chip_of rows.parts) rows.maps rows.places kinds chip k (mapped_none _ (layout_fault (chip_of rows.parts) rows.maps rows.places kinds) b.0);
+      layout = each_layout_sound (chip_of rows.parts) rows.maps rows.places kinds chip k (none_mapped _ (layout_fault (chip_of rows.parts) rows.maps rows.places kinds) b.0);
     }
 
 text_fine : (doc : Option Members) (kinds : List AdapterKind) (desc : DescData) → AreKinds kinds → text_fault doc kinds ≡ None
@@ -61,7 +54,7 @@ text_fine : (doc : Option Members) (kinds : List AdapterKind) (desc : DescData) 
 text_fine None kinds desc k none is = absurd (cc)
 text_fine (Some doc) kinds desc k none is =
     let same : described (document_data doc) kinds ≡ desc = cc in
-    subst IsFine same (rows_fine (document_data doc) kinds k (both_none (document_fault doc) (rows_fault (document_data doc) kinds) none).1)
+    subst IsFine same (rows_fine (document_data doc) kinds k (none_first (document_fault doc) (rows_fault (document_data doc) kinds) none).1)
 
 said_fine : (fault : Option DescFault) (given : Option DescData) (desc : DescData) → said_by fault given ≡ Ok desc → (fault ≡ None) × (given ≡ Some desc)
 said_fine (Some fault) given desc is = absurd (cc)

@@ -23,7 +23,7 @@ use Rattle.rl_report.proofs.Unbroken.{IsUnbroken, unbroken-fixed, unbroken-decim
 use Rattle.rl_script.specs.declared.line.Line.{Line}
 use Rattle.rl_script.specs.declared.line.Line.TheVariants as line
 use Rattle.rl_weave.specs.declared.access.WeaveFault.{WeaveFault}
-use Rattle.rl_weave.specs.declared.access.WeaveFault.TheVariants.{TooMany, NotPlaced, NotObserved, NoRight, TooWide, SameRegister}
+use Rattle.rl_weave.specs.declared.access.WeaveFault.TheVariants.{TooMany}
 use Rattle.rl_woven_log.specs.declared.refusal.WovenRefusal.{WovenRefusal}
 use Rattle.rl_woven_log.specs.declared.refusal.WovenRefusal.TheVariants as refusal
 use Rattle.rl_play.specs.Texts.{refused_so_text}
@@ -111,11 +111,7 @@ has_entry m p l op is = record {
 
 unbroken-further : (fault : WeaveFault) → IsUnbroken (further_reason fault)
 unbroken-further TooMany = unbroken-fixed _ refl
-unbroken-further NotPlaced = unbroken-fixed _ refl
-unbroken-further NotObserved = unbroken-fixed _ refl
-unbroken-further NoRight = unbroken-fixed _ refl
-unbroken-further TooWide = unbroken-fixed _ refl
-unbroken-further (SameRegister other) = unbroken-fixed _ refl
+unbroken-further _ = unbroken-fixed _ refl
 
 newline_ends : is_one_line (joined (codes "\n" ∷ [])) ≡ true
 unfolding joined

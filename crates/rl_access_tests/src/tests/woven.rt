@@ -22,10 +22,7 @@ type Added = (Asked, Result<u32, WeaveFault>);
 type Seen = (u64, u64, Option<(End, u64)>);
 
 /// The accesses, which of the open ones goes on at each step, and what it does.
-pub(crate) struct Group {
-    accesses: &'static [Added],
-    steps: &'static [(u32, Seen)],
-}
+pub(crate) type Group = (&'static [Added], &'static [(u32, Seen)]);
 
 const WRITES: &[Added] = &[((0, Some(0x1122)), Ok(0)), ((1, Some(0x3344)), Ok(1))];
 
@@ -49,37 +46,31 @@ const HIGH_2: Seen = (3, 0x55, Some((End::Done, 0x5566)));
 
 // By turns.
 static BY_TURNS: [Group; 2] = [
-    Group {
-        accesses: WRITES,
-        steps: &[(0, LOW_0), (1, LOW_1), (0, HIGH_0), (0, HIGH_1)],
-    },
-    Group {
-        accesses: READ_AND_WRITE,
-        steps: &[(0, LOW_0), (1, LOW_2), (0, READ_0), (0, HIGH_2)],
-    },
+    (WRITES, &[(0, LOW_0), (1, LOW_1), (0, HIGH_0), (0, HIGH_1)]),
+    (
+        READ_AND_WRITE,
+        &[(0, LOW_0), (1, LOW_2), (0, READ_0), (0, HIGH_2)],
+    ),
 ];
 
 // One access after the other, and one within the other.
 static NESTED: [Group; 2] = [
-    Group {
-        accesses: WRITES,
-        steps: &[(1, LOW_1), (1, HIGH_1), (0, LOW_0), (0, HIGH_0)],
-    },
-    Group {
-        accesses: READ_AND_WRITE,
-        steps: &[(0, LOW_0), (1, LOW_2), (1, HIGH_2), (0, READ_0)],
-    },
+    (WRITES, &[(1, LOW_1), (1, HIGH_1), (0, LOW_0), (0, HIGH_0)]),
+    (
+        READ_AND_WRITE,
+        &[(0, LOW_0), (1, LOW_2), (1, HIGH_2), (0, READ_0)],
+    ),
 ];
 
 // The second item fails, and its access ends there.
-static FAILED: [Group; 1] = [Group {
-    accesses: WRITES,
-    steps: &[
+static FAILED: [Group; 1] = [(
+    WRITES,
+    &[
         (0, LOW_0),
         (1, (2, 0x44, Some((End::BusError { word: 0 }, 0x0000)))),
         (0, HIGH_0),
     ],
-}];
+)];
 
 // The first cause that holds counts.
 static ADDED: [Added; 9] = [
@@ -213,9 +204,10 @@ fn group_woven<D: Device>(
     requires ready { IsReady model.old (map standing adapters.old.items) (D.state device.old) }
     ensures ready { IsReady model.new (map standing adapters.new.items) (D.state device.new) }
 {
+    let (accesses, steps) = group;
     weave.clear();
-    all_added(rt, weave, model, group.accesses)?;
-    all_stepped(rt, weave, model, device, adapters, group.steps)?;
+    all_added(rt, weave, model, accesses)?;
+    all_stepped(rt, weave, model, device, adapters, steps)?;
     assert_eq!(rt; weave.open_count(), 0);
     Ok(())
 }

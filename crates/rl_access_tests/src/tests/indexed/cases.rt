@@ -2,6 +2,18 @@
 use super::calls::{Call, Case, NO_SUCH_ENTRY, Seen, WRITTEN};
 use rl_access::{End, Refused};
 
+// The index is written, and the access brings a value in two words, with so many differing fields.
+macro_rules! brought {
+    ($value:expr, $differ:expr) => {
+        (
+            Some(End::Done),
+            Some(End::Value { value: $value }),
+            $differ,
+            3,
+        )
+    };
+}
+
 // Two entries are written, and one of them is read.
 const TWO_ENTRIES: Case = Case {
     flaws: "",
@@ -10,10 +22,7 @@ const TWO_ENTRIES: Case = Case {
     rows: &[
         (Call::Write(1, 0x1234), WRITTEN),
         (Call::Write(2, 0x5678), WRITTEN),
-        (
-            Call::Read(1),
-            (Some(End::Done), Some(End::Value { value: 0x1234 }), 0, 3),
-        ),
+        (Call::Read(1), brought!(0x1234, 0)),
         (Call::Write(4, 0x9abc), NO_SUCH_ENTRY),
     ],
     entries: (
@@ -30,14 +39,8 @@ const AT_THE_ENDS: Case = Case {
     rows: &[
         (Call::Write(3, 0xffff), WRITTEN),
         (Call::Write(0, 0x8001), WRITTEN),
-        (
-            Call::Check(3),
-            (Some(End::Done), Some(End::Value { value: 0xffff }), 0, 3),
-        ),
-        (
-            Call::Check(0),
-            (Some(End::Done), Some(End::Value { value: 0x8001 }), 0, 3),
-        ),
+        (Call::Check(3), brought!(0xffff, 0)),
+        (Call::Check(0), brought!(0x8001, 0)),
         (Call::Check(u32::MAX), NO_SUCH_ENTRY),
         (
             Call::Write(1, 0x1_0000),
@@ -74,14 +77,8 @@ const CLEARED_BY_READING: Case = Case {
     index: "ix",
     data: "rc",
     rows: &[
-        (
-            Call::Read(2),
-            (Some(End::Done), Some(End::Value { value: 0xffff }), 0, 3),
-        ),
-        (
-            Call::Check(2),
-            (Some(End::Done), Some(End::Value { value: 0 }), 0, 3),
-        ),
+        (Call::Read(2), brought!(0xffff, 0)),
+        (Call::Check(2), brought!(0, 0)),
     ],
     entries: (
         [0xffff, 0xffff, 0x0000, 0xffff],
@@ -115,18 +112,9 @@ const STUCK: Case = Case {
     rows: &[
         (Call::Write(1, 0x1234), WRITTEN),
         (Call::Write(2, 0x5679), WRITTEN),
-        (
-            Call::Check(1),
-            (Some(End::Done), Some(End::Value { value: 0x1235 }), 1, 3),
-        ),
-        (
-            Call::Check(2),
-            (Some(End::Done), Some(End::Value { value: 0x5679 }), 0, 3),
-        ),
-        (
-            Call::Check(3),
-            (Some(End::Done), Some(End::Value { value: 0x0001 }), 1, 3),
-        ),
+        (Call::Check(1), brought!(0x1235, 1)),
+        (Call::Check(2), brought!(0x5679, 0)),
+        (Call::Check(3), brought!(0x0001, 1)),
     ],
     entries: (
         [0x0001, 0x1235, 0x5679, 0x0001],
@@ -141,14 +129,8 @@ const DEAF: Case = Case {
     data: "rw",
     rows: &[
         (Call::Write(1, 0x1234), WRITTEN),
-        (
-            Call::Check(1),
-            (Some(End::Done), Some(End::Value { value: 0x1234 }), 0, 3),
-        ),
-        (
-            Call::Check(2),
-            (Some(End::Done), Some(End::Value { value: 0x1234 }), 1, 3),
-        ),
+        (Call::Check(1), brought!(0x1234, 0)),
+        (Call::Check(2), brought!(0x1234, 1)),
     ],
     entries: ([0x1234, 0, 0, 0], [0, 0x1234, 0x1234, 0]),
 };
@@ -175,14 +157,8 @@ const FIFTH: Case = Case {
             Call::Write(2, 0x5678),
             (Some(End::Done), Some(End::BusError { word: 0 }), 0, 2),
         ),
-        (
-            Call::Check(1),
-            (Some(End::Done), Some(End::Value { value: 0x1234 }), 0, 3),
-        ),
-        (
-            Call::Check(2),
-            (Some(End::Done), Some(End::Value { value: 0x0000 }), 0, 3),
-        ),
+        (Call::Check(1), brought!(0x1234, 0)),
+        (Call::Check(2), brought!(0x0000, 0)),
     ],
     entries: (
         [0x0000, 0x1234, 0x0000, 0x0000],
@@ -200,10 +176,7 @@ static HALF: Case = Case {
             Call::Write(1, 0x1234),
             (Some(End::Done), Some(End::BusError { word: 1 }), 0, 3),
         ),
-        (
-            Call::Read(0),
-            (Some(End::Done), Some(End::Value { value: 0x0000 }), 0, 3),
-        ),
+        (Call::Read(0), brought!(0x0000, 0)),
     ],
     entries: ([0, 0x0034, 0, 0], [0; 4]),
 };
@@ -216,10 +189,7 @@ static ONCE: Case = Case {
     rows: &[
         (Call::Write(1, 0x1234), WRITTEN),
         (Call::Write(2, 0x5678), FAILED),
-        (
-            Call::Check(1),
-            (Some(End::Done), Some(End::Value { value: 0x1234 }), 0, 3),
-        ),
+        (Call::Check(1), brought!(0x1234, 0)),
     ],
     entries: ([0, 0x1234, 0, 0], [0, 0x1234, 0, 0]),
 };
