@@ -4,6 +4,7 @@ pub mod Beliefs
 pub mod Brought
 pub mod Bursting
 pub mod Bytes
+pub mod Carried
 pub mod Concluded
 pub mod Seated
 pub mod Gathers

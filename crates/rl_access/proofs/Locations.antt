@@ -1,5 +1,5 @@
 -- Locations of memories.
-use Rattle.std.proofs.Common.{◌≡◌, ℕ, ◌*◌, ◌^◌, ◌<◌, ◌≤◌, Bool, List, Option, Some, sym, ap, ◌∙◌, subst}
+use Rattle.std.proofs.Common.{◌≡◌, ℕ, ◌*◌, ◌^◌, ◌<◌, ◌≤◌, Bool, false, List, Option, Some, sym, ap, ◌∙◌, subst}
 use Rattle.rl_policy.specs.Bits.{from_bits}
 use Rattle.rl_policy.proofs.BitLemmas.{from_bits-lt}
 use Rattle.rl_bus.specs.Standing.{Standing}
@@ -8,15 +8,17 @@ use Rattle.rl_model.specs.Rows.{ChipData}
 use Rattle.rl_model.specs.Chip.{bytes_of}
 use Rattle.rl_model.specs.declared.rows.Item.TheVariants as item
 use Rattle.rl_map.specs.Layout.{LayoutData, place_at}
-use Rattle.rl_split.specs.Access.{IsChoice, all_bytes}
+use Rattle.rl_split.specs.Access.{IsChoice, all_bytes, ops_of}
 use Rattle.rl_split.specs.Outgoing.{outgoing_ops}
 use Rattle.rl_split.specs.declared.access.Outgoing.{Outgoing}
+use Rattle.rl_access.specs.declared.event.End.{End}
+use Rattle.rl_access.specs.declared.event.End.TheVariants as end
 use Rattle.rl_access.specs.declared.trace.TraceItem.{TraceItem}
 use Rattle.rl_access.specs.Access.{IsPlaceFor}
-use Rattle.rl_access.specs.Items.{AreSent, adapter_for, port_for}
+use Rattle.rl_access.specs.Items.{AreSent, adapter_for, failed_at, port_for}
 use Rattle.rl_access.specs.Model.{ModelData, IsModel}
 use Rattle.rl_access.specs.Operation.{location_size}
-use Rattle.rl_access.specs.Rules.{low_bytes}
+use Rattle.rl_access.specs.Rules.{location_bytes, location_value, low_bytes, or_error, quiet}
 use Rattle.rl_access.proofs.Bytes.{bytes_bits, below_digits}
 use Rattle.rl_access.proofs.Places.{size_is, place_size, all_chosen}
 
@@ -49,3 +51,14 @@ pub same_sent : {items : List TraceItem} {before now : List Standing} {errors la
     AreSent (adapter_for l it.place) (port_for l it.place) (outgoing_ops l it) items before now errors later state after
 same_sent {items} {before} {now} {errors} {later} {state} {after} l o it same sent =
     subst (λ (x : Outgoing). AreSent (adapter_for l x.place) (port_for l x.place) (outgoing_ops l x) items before now errors later state after) same sent
+
+-- a read of a location by an equal number
+pub read_at : (m : ModelData) (mem place index it : ℕ) (items : List TraceItem) (e : End) (before now : List Standing) (errors later : ℕ) (state after : Option State) → index ≡ it →
+    AreSent (adapter_for m.layout place) (port_for m.layout place) (ops_of m.layout place index (location_bytes m mem) 0 false) items before now errors later state after →
+    e ≡ (or_error (failed_at items) m (quiet (end.Value (location_value m mem place index items)) m)).end →
+    AreSent (adapter_for m.layout place) (port_for m.layout place) (ops_of m.layout place it (location_bytes m mem) 0 false) items before now errors later state after
+    × (e ≡ (or_error (failed_at items) m (quiet (end.Value (location_value m mem place it items)) m)).end)
+read_at m mem place index it items e before now errors later state after same sent ends = (
+  subst (λ i. AreSent (adapter_for m.layout place) (port_for m.layout place) (ops_of m.layout place i (location_bytes m mem) 0 false) items before now errors later state after) same sent,
+  subst (λ i. e ≡ (or_error (failed_at items) m (quiet (end.Value (location_value m mem place i items)) m)).end) same ends,
+)

@@ -1,10 +1,9 @@
 -- A call on a location of a memory performed its operation.
-use Rattle.std.proofs.Common.{◌≡◌, ℕ, ◌≤◌, ◌==◌, Bool, true, false, if◌then◌else◌, List, [], Option, None, Some, option_map, Ok, refl, sym, ap, ◌∙◌, subst}
+use Rattle.std.proofs.Common.{◌≡◌, ◌⊎◌, ℕ, ◌≤◌, ◌==◌, true, false, if◌then◌else◌, List, [], Option, None, Some, option_map, Ok, refl, sym, ap, ◌∙◌, subst, inl, inr}
 use Rattle.rl_bus.specs.Standing.{Standing}
 use Rattle.rl_bus.specs.State.{State, poked}
 use Rattle.rl_bus.specs.declared.op.BusOp.{BusOp}
 use Rattle.rl_bus.specs.declared.table.Cell.TheVariants as cell
-use Rattle.rl_map.specs.Layout.{place_of}
 use Rattle.rl_model.specs.declared.rows.Item.TheVariants as item
 use Rattle.rl_split.specs.Access.{ops_of}
 use Rattle.rl_access.specs.declared.event.End.{End}
@@ -15,21 +14,11 @@ use Rattle.rl_access.specs.declared.event.Op.TheVariants as op
 use Rattle.rl_access.specs.declared.trace.TraceItem.{TraceItem}
 use Rattle.rl_access.specs.Items.{AreSent, failed_at, state_after_all, port_for, adapter_for}
 use Rattle.rl_access.specs.Model.{ModelData}
-use Rattle.rl_access.specs.Rules.{Grant, Outcome, quiet, or_error, grant, named, sends, outcome, memory_event, event_of, map_of_place, map_used, location_bytes, location_value, value_differs, placed}
-use Rattle.rl_access.specs.Rules.{with_right, found_by, device_after}
+use Rattle.rl_access.specs.Rules.{marked, Outcome, quiet, or_error, grant, named, sends, outcome, memory_event, event_of, map_used, location_bytes, location_value, value_differs}
+use Rattle.rl_access.specs.Rules.{found_by, device_after}
 use Rattle.rl_access.specs.Call.{scene, Performs}
 use Rattle.rl_access.proofs.BackPerforms.{quiet_performs, told_memory_event}
 use Rattle.rl_access.proofs.Performed.{performs_done}
-
--- ---- the place
-
--- the place that is used, with the right of the direction
-pub way_is : (m : ModelData) (mem : ℕ) (map place : Option ℕ) (write : Bool) (way : Grant) → place ≡ place_of m.layout (item.Mem mem) map → way ≡ with_right m.layout write (placed place) →
-    way ≡ with_right m.layout write (placed (place_of m.layout (item.Mem mem) map))
-way_is m mem map place write way e is = is ∙ ap (λ p. with_right m.layout write (placed p)) e
-
-pub map_is : (m : ModelData) (mem : ℕ) (map place used : Option ℕ) → place ≡ place_of m.layout (item.Mem mem) map → used ≡ map_of_place m.layout place map → used ≡ map_used m (item.Mem mem) map
-map_is m mem map place used e is = is ∙ ap (λ p. map_of_place m.layout p map) e
 
 -- ---- one whose items were sent
 
@@ -78,6 +67,10 @@ told_as o good op named items event e same is =
     let t : event.trace ≡ items = ap (λ (x : Event). x.trace) e in
     (t, e ∙ ap (λ x. memory_event x items o) same ∙ ap (memory_event named items) is ∙ ap (λ x. memory_event named x good) (sym t))
 
+-- a read of a location, or a check of it
+abbrev pub IsLocationRead : Op → (mem index : ℕ) → Type 0
+IsLocationRead o mem index = ((map : Option ℕ) × (o ≡ op.MemRead mem map index)) ⊎ ((map : Option ℕ) × (value : ℕ) × (o ≡ op.MemCheck mem map index value))
+
 module _ (m : ModelData) (before now : List Standing) (errors later : ℕ) (told after : Option State) where
   -- the items of the operations through the adapter of a place
   abbrev WereSent : (place : ℕ) → List BusOp → List TraceItem → Type 0
@@ -85,6 +78,14 @@ module _ (m : ModelData) (before now : List Standing) (errors later : ℕ) (told
 
   abbrev Done : Op → Event → Type 0
   Done op event = Performs (scene m before errors told) (scene m now later after) op event
+
+  -- the event by the name of an operation
+  told_of : (o asked told_op : Op) (items : List TraceItem) (e : End) (event : Event) → o ≡ asked → told_op ≡ named m o →
+      event ≡ memory_event told_op items (record { end = e; model = m; differ = marked o e }) → event ≡ memory_event (named m asked) items (record { end = e; model = m; differ = marked asked e })
+  told_of o asked told_op items e event is names is_event =
+      is_event
+      ∙ ap (λ t. memory_event t items (record { end = e; model = m; differ = marked o e })) names
+      ∙ ap (λ x. memory_event (named m x) items (record { end = e; model = m; differ = marked x e })) is
 
   pub mem_write_performs : (mem index value place : ℕ) (map used : Option ℕ) (e : End) (items : List TraceItem) (event : Event) → grant m (op.MemWrite mem map index value) ≡ Ok place →
       used ≡ map_used m (item.Mem mem) map
@@ -136,6 +137,19 @@ module _ (m : ModelData) (before now : List Standing) (errors later : ℕ) (told
         differ = if location_value m mem place index event.trace == value then 0
             else 1;
       }) refl) (λ d. refl) (λ x d. refl)
+
+  -- a read of a location, or a check of it
+  pub location_read_performs : (o told_op : Op) (mem index place : ℕ) (e : End) (items : List TraceItem) (event : Event) → IsLocationRead o mem index → grant m o ≡ Ok place → told_op ≡ named m o
+      → WereSent place (ops_of m.layout place index (location_bytes m mem) 0 false) items → e ≡ (or_error (failed_at items) m (quiet (end.Value (location_value m mem place index items)) m)).end
+      → event ≡ memory_event told_op items (record { end = e; model = m; differ = marked o e }) → Done o event
+  location_read_performs o told_op mem index place e items event (inl is) granted names sent is_end is_event =
+      subst (λ x. Done x event) (sym is.1)
+      (mem_read_performs mem index place is.0 (map_used m (item.Mem mem) is.0) e items event (sym (ap (grant m) is.1) ∙ granted) refl sent is_end
+      (told_of o (op.MemRead mem is.0 index) told_op items e event is.1 names is_event))
+  location_read_performs o told_op mem index place e items event (inr is) granted names sent is_end is_event =
+      subst (λ x. Done x event) (sym is.2)
+      (mem_check_performs mem index is.1 place is.0 (map_used m (item.Mem mem) is.0) e (value_differs e is.1) items event (sym (ap (grant m) is.2) ∙ granted) refl sent is_end refl
+      (told_of o (op.MemCheck mem is.0 index is.1) told_op items e event is.2 names is_event))
 
 -- ---- the backdoor of a memory
 

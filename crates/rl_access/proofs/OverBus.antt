@@ -2,10 +2,7 @@
 use Rattle.std.proofs.Common.{◌≡◌, ℕ, List, [], Bool, true, false, if◌then◌else◌, Option, None, Some, Ok, refl, sym, ap, ◌∙◌, subst}
 use Rattle.rl_bus.specs.Standing.{Standing}
 use Rattle.rl_bus.specs.State.{State}
-use Rattle.rl_map.specs.Layout.{place_of}
 use Rattle.rl_model.specs.declared.rows.Field.{Field}
-use Rattle.rl_model.specs.declared.rows.Item.{Item}
-use Rattle.rl_model.specs.declared.rows.Item.TheVariants as item
 use Rattle.rl_model.specs.Fields.{field_of}
 use Rattle.rl_mirror.specs.Prediction.{predict_read, set, needs_update, update_word_of, neutral_around}
 use Rattle.rl_access.specs.declared.access.Access.{Access}
@@ -19,44 +16,9 @@ use Rattle.rl_access.specs.Call.{scene, Performs}
 use Rattle.rl_access.specs.Items.{AreSent, failed_at, port_for, adapter_for}
 use Rattle.rl_access.specs.Model.{ModelData, IsSameChip}
 use Rattle.rl_access.specs.Operation.{reg_of}
-use Rattle.rl_access.specs.Rules.{Grant, placed, with_right, with_watch, way, watched_way, map_of_place, map_used, grant, named, forgetting, forgetting_field, whole, field_written, field_read}
+use Rattle.rl_access.specs.Rules.{grant, named, forgetting, forgetting_field, whole, field_written, field_read}
 use Rattle.rl_access.specs.Rules.{field_alone, is_alone, access_ops, Outcome, or_error, write_outcome, read_outcome, value_of, end_in_field, in_field, register_event, quiet}
 use Rattle.rl_access.proofs.Performed.{IsOverBus, IsAccessOf, IsWriteOf, IsReadOf, IsQuiet, sent_over_bus}
-
--- ---- the way, and the map that is named
-
-pub way_is : (m : ModelData) (i : Item) (map place : Option ℕ) (write : Bool) (found : Grant) → place ≡ place_of m.layout i map → found ≡ with_right m.layout write (placed place) →
-    found ≡ way m i map write
-way_is m i map place write found there is = is ∙ ap (λ p. with_right m.layout write (placed p)) there
-
-pub watched_way_is : (m : ModelData) (reg : ℕ) (map place : Option ℕ) (write : Bool) (found : Grant) → place ≡ place_of m.layout (item.Reg reg) map →
-    found ≡ with_right m.layout write (with_watch m.layout (placed place)) → found ≡ watched_way m reg map write
-watched_way_is m reg map place write found there is = is ∙ ap (λ p. with_right m.layout write (with_watch m.layout (placed p))) there
-
-pub map_is : (m : ModelData) (i : Item) (map place used : Option ℕ) → place ≡ place_of m.layout i map → used ≡ map_of_place m.layout place map → used ≡ map_used m i map
-map_is m i map place used there is = is ∙ ap (λ p. map_of_place m.layout p map) there
-
--- a way and a named map, from the place that was looked up
-pub record IsFound (m : ModelData) (i : Item) (asked used : Option ℕ) (found there : Grant) : Type 0 where
-  pub way : there ≡ found
-  pub named : used ≡ map_used m i asked
-
-pub found_by : (m : ModelData) (i : Item) (map place used : Option ℕ) (write : Bool) (there : Grant) → place ≡ place_of m.layout i map →
-    used ≡ map_of_place m.layout place map → there ≡ with_right m.layout write (placed place) → IsFound m i map used (way m i map write) there
-found_by m i map place used write there at names is = record { way = way_is m i map place write there at is; named = map_is m i map place used at names }
-
-pub watched_by : (m : ModelData) (reg : ℕ) (map place used : Option ℕ) (write : Bool) (there : Grant) → place ≡ place_of m.layout (item.Reg reg) map →
-    used ≡ map_of_place m.layout place map → there ≡ with_right m.layout write (with_watch m.layout (placed place)) →
-    IsFound m (item.Reg reg) map used (watched_way m reg map write) there
-watched_by m reg map place used write there at names is = record {
-  way = watched_way_is m reg map place write there at is;
-  named = map_is m (item.Reg reg) map place used at names;
-}
-
--- the place of a field's register
-pub field_place_is : (m : ModelData) (field : ℕ) (shape : Field) (map place : Option ℕ) → shape ≡ (field_of m.chip field).shape → place ≡ place_of m.layout (item.Reg shape.reg) map →
-    place ≡ place_of m.layout (item.Reg (reg_of m.chip field)) map
-field_place_is m field shape map place same there = there ∙ ap (λ (f : Field). place_of m.layout (item.Reg f.reg) map) same
 
 -- what is forgotten around a field's access leaves the chip and the layout
 pub parts_around : (m entry new : ModelData) (field place : ℕ) (write : Bool) → entry ≡ forgetting_field m field place write → IsSameChip entry new → IsSameChip m new
@@ -71,11 +33,6 @@ begun : {m : ModelData} {op : Op} {reg place value : ℕ} {write : Bool} {o : Li
 begun is = record { over_bus = is; layout_is = refl; place_is = refl }
 
 -- ---- writes
-
-is_write_by : (m : ModelData) (op : Op) (place : ℕ) (first entry : ModelData) (it a : Access) (good : End) → IsWriteOf m op place first it good → entry ≡ first → a ≡ it →
-    IsWriteOf m op place entry a good
-is_write_by m op place first entry it a good is from same =
-    subst (λ (x : Access). IsWriteOf m op place entry x good) (sym same) (subst (λ (e : ModelData). IsWriteOf m op place e it good) (sym from) is)
 
 pub whole_write : (m : ModelData) (reg : ℕ) (map : Option ℕ) (value place : ℕ) → IsWriteOf m (op.Write reg map value) place (forgetting m place) (whole m reg place value) end.Done
 whole_write m reg map value place = begun (record { sends_are = refl; outcome_is = λ items. refl; register = refl; sampled = λ d. refl; device = λ items d. refl })
@@ -105,16 +62,6 @@ pub whole_mirroring : (m : ModelData) (reg : ℕ) (map : Option ℕ) (place : �
     → IsReadOf m (mirroring check reg map) place (forgetting m place) (whole m reg place 0) check
 whole_mirroring m reg map place true = whole_check m reg map place
 whole_mirroring m reg map place false = whole_mirror m reg map place
-
-pub mirroring_granted : (m : ModelData) (reg : ℕ) (map : Option ℕ) (check : Bool)
-    → grant m (mirroring check reg map) ≡ way m (item.Reg reg) map false
-mirroring_granted m reg map true = refl
-mirroring_granted m reg map false = refl
-
-pub mirroring_named : (m : ModelData) (reg : ℕ) (map used : Option ℕ) (check : Bool) → used ≡ map_used m (item.Reg reg) map
-    → mirroring check reg used ≡ named m (mirroring check reg map)
-mirroring_named m reg map used true e = ap (op.Check reg) e
-mirroring_named m reg map used false e = ap (op.Mirror reg) e
 
 -- ---- an update
 
@@ -178,7 +125,7 @@ written_place : (m : ModelData) (field place value word : ℕ) (alone : Bool) �
 written_place m field place value word true = refl
 written_place m field place value word false = refl
 
-field_write_done : (m : ModelData) (field : ℕ) (map : Option ℕ) (value place : ℕ) → IsWriteOf m (op.FieldWrite field map value) place (forgetting_field m field place true) (field_written m field
+pub field_write_done : (m : ModelData) (field : ℕ) (map : Option ℕ) (value place : ℕ) → IsWriteOf m (op.FieldWrite field map value) place (forgetting_field m field place true) (field_written m field
     place value) end.Done
 field_write_done m field map value place =
     let word = neutral_around m.chip field value m.mirror in
@@ -193,12 +140,6 @@ field_write_done m field map value place =
       layout_is = refl;
       place_is = written_place m field place value word (is_alone m field place true);
     }
-
-pub is_field_write : (m : ModelData) (field : ℕ) (map : Option ℕ) (value place : ℕ) (entry : ModelData) (a : Access) → entry ≡ forgetting_field m field place true →
-    a ≡ field_written m field place value →
-    IsWriteOf m (op.FieldWrite field map value) place entry a end.Done
-is_field_write m field map value place entry a from same =
-    is_write_by m (op.FieldWrite field map value) place (forgetting_field m field place true) entry (field_written m field place value) a end.Done (field_write_done m field map value place) from same
 
 error_differs : (failed : Option ℕ) (m : ModelData) (good : Outcome) → good.differ ≡ 0 → (or_error failed m good).differ ≡ 0
 error_differs None m good none = none

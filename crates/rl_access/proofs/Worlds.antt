@@ -1,5 +1,5 @@
 -- What a call performs over a device that tells its state is the step.
-use Rattle.std.proofs.Common.{◌≡◌, ℕ, ◌+◌, Bool, true, false, List, [], ◌∷◌, if◌then◌else◌, Option, Some, None, Ok, Err, MatchResult, IfSome, refl, sym, ap, subst, ◌∙◌, arith}
+use Rattle.std.proofs.Common.{◌≡◌, ℕ, ◌+◌, Bool, true, false, List, [], ◌∷◌, if◌then◌else◌, Option, Some, None, Ok, Err, MatchResult, refl, sym, ap, subst, ◌∙◌, arith}
 use Rattle.std.specs.Bool.{MatchBool}
 use Rattle.rl_bus.specs.Standing.{Standing, standing_at}
 use Rattle.rl_bus.specs.State.{State, answer_of, state_after}
@@ -10,10 +10,9 @@ use Rattle.rl_access.specs.declared.event.Refused.{Refused}
 use Rattle.rl_access.specs.declared.trace.TraceItem.{TraceItem}
 use Rattle.rl_access.specs.Call.{Scene, scene, IsRefused, IsDone, Performs}
 use Rattle.rl_access.specs.Items.{AreItemsOf, HasCauses, item_of, items_of, took_item, moved_on_by_all, port_for, adapter_for}
-use Rattle.rl_access.specs.Model.{ModelData}
 use Rattle.rl_access.specs.Operation.{register_of}
 use Rattle.rl_access.specs.Rules.{Grant, grant, named, sends, Outcome, outcome, event_at, event_of, found_by, device_after}
-use Rattle.rl_access.specs.World.{World, IsAt, Step, world, scene_at, IsStepOf, IsPerformed, items_at, done_at, unchanged, step_by, step_of}
+use Rattle.rl_access.specs.World.{World, IsAt, Step, scene_at, IsStepOf, IsPerformed, items_at, done_at, unchanged, step_by, step_of}
 
 -- the scene is this world
 abbrev pub IsWorld : Scene → World → Type 0
@@ -84,13 +83,6 @@ pub refused_alone : (s new : Scene) (w : World) (op : Op) (why : Refused) (e : E
 refused_alone s new w op why e h r =
     let st = refused w s.errors new op why e (subst (λ x. IsRefused x new op why e) (scene_is s w h) r) in
     (st.event, st.world)
-
--- from a model, adapters and a device
-pub step_from : (m n : ModelData) (a b : List Standing) (errors later : ℕ) (before now : Option State) (op : Op) (e : Event)
-    → Performs (scene m a errors before) (scene n b later now) op e → IfSome before
-    (λ d. IsStepOf (world m a d) op e n b now)
-step_from m n a b errors later None now op e p = tt
-step_from m n a b errors later (Some d) now op e p = call_does_step (world m a d) errors (scene n b later now) op e p
 
 -- ---- the step is what a call performs
 

@@ -6,6 +6,7 @@ pub mod HandsOver
 pub mod Runs
 pub mod Items
 pub mod Access
+pub mod Asked
 pub mod Rules
 pub mod Call
 pub mod World

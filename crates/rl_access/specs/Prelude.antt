@@ -23,4 +23,4 @@ pub use Rattle.rl_access.specs.Observed.{observing}
 pub use Rattle.rl_access.specs.Operation.{HasNumbers, IsMapIn, digits_of, ends_done, ends_with_value, field_digits, has_end, is_off_bus, is_on_memory, is_single, location_size, reg_of, register_of}
 pub use Rattle.rl_access.specs.Rules.{access_ops, end_in_field, field_alone, field_read, field_written, forgetting}
 pub use Rattle.rl_access.specs.Rules.{forgetting_field, grant, is_alone, location_bytes, outgoing_at, location_value, map_of_place}
-pub use Rattle.rl_access.specs.Rules.{memory_event, memory_size, only_where, or_error, quiet, read_outcome, register_event, taking_raw, value_differs, value_of, whole, write_outcome}
+pub use Rattle.rl_access.specs.Rules.{event_of, memory_event, memory_size, only_where, or_error, quiet, read_outcome, register_event, taking_raw, value_differs, value_of, whole, write_outcome}

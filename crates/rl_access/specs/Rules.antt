@@ -266,6 +266,11 @@ value_differs end.Nothing value = 0
 value_differs (end.BusError word) value = 0
 value_differs (end.Refused why) value = 0
 
+-- the mark of a check
+abbrev pub marked : Op → End → ℕ
+marked (op.MemCheck mem map index value) e = value_differs e value
+marked _ e = 0
+
 -- ---- the backdoor: what is made of the bits that the device has
 
 -- the lowest bytes

@@ -6,6 +6,7 @@ ghost use Rattle.rl_access.specs.Prelude.{shown, size_of, taking_raw, written};
 ghost use Rattle.rl_bus.specs.declared.table.Cell.TheVariants as cell;
 
 use crate::event::{End, Event, Op, Refused};
+use crate::location::{deposit_location, location_sampled};
 use crate::model::Model;
 use crate::refusal::only_where;
 use rl_bus::{Cell, Device};
@@ -211,6 +212,59 @@ pub(crate) fn poke_into<D: Device>(
             model.fill(op, reg, End::Done, 0, event)
         }
         Err(why) => model.refuse(op, reg, why, event),
+    }
+}
+
+/// Does what [`crate::mem_peek`] says, and tells it in the event.
+pub(crate) fn mem_peek_into<D: Device>(
+    model: &mut Model,
+    device: &mut D,
+    mem: u32,
+    index: u64,
+    event: &mut Event,
+)
+    requires device { IsDeviceOf model.old (D.state device.old) }
+    requires mem { mem < length model.old.chip.mems }
+    ensures stays { StaysOffBus D.errors D.state model.old model.new device.old device.new event.new }
+    ensures performs { PerformsOffBus D.errors D.state model.old model.new device.old device.new
+        (Op.MemPeek mem index) event.new }
+    ensures unchanged { device.new ≡ device.old }
+{
+    let op = Op::MemPeek { mem, index };
+    match model.at_location(mem, index, model.by_backdoor(Item::Mem(mem))) {
+        Ok(_) => {
+            let value = location_sampled(model, device, mem, index as u32);
+            model.fill_memory(op, End::Value { value }, event)
+        }
+        Err(why) => model.refuse_memory(op, why, event),
+    }
+}
+
+/// Does what [`crate::mem_poke`] says, and tells it in the event.
+pub(crate) fn mem_poke_into<D: Device>(
+    model: &mut Model,
+    device: &mut D,
+    mem: u32,
+    index: u64,
+    value: u64,
+    event: &mut Event,
+)
+    requires device { IsDeviceOf model.old (D.state device.old) }
+    requires mem { mem < length model.old.chip.mems }
+    ensures stays { StaysOffBus D.errors D.state model.old model.new device.old device.new event.new }
+    ensures performs { PerformsOffBus D.errors D.state model.old model.new device.old device.new
+        (Op.MemPoke mem index value) event.new }
+    ensures refused { OnErr (grant model.old (Op.MemPoke mem index value)) (device.new ≡ device.old) }
+{
+    let op = Op::MemPoke { mem, index, value };
+    let item = Item::Mem(mem);
+    let grant = model.at_location(mem, index, model.by_backdoor(item));
+    match model.fitting(item, value, grant) {
+        Ok(_) => {
+            deposit_location(model, device, mem, index as u32, value);
+            model.fill_memory(op, End::Done, event)
+        }
+        Err(why) => model.refuse_memory(op, why, event),
     }
 }
 

@@ -10,8 +10,8 @@ ghost use Rattle.rl_access.specs.Tally.{counted, is_bus_error};
 ghost use Rattle.rl_access.specs.declared.event.End.TheVariants as end;
 
 use crate::event::{End, Event, Op, Refused, Tally};
-use crate::memory::{mem_read_into, mem_write_into};
 use crate::model::Model;
+use crate::operation::perform_on_memory_into;
 use crate::recorder::Recorder;
 use crate::refusal::{Grant, only_where};
 use rl_bus::{Adapter, Adapters, Device, Failed};
@@ -149,8 +149,13 @@ fn write_locations<D: Device, R: Recorder>(
     let mut tally = Tally::new();
     let mut event = Event::blank();
     for (k, value) in values.iter().enumerate() {
-        let index = first + k as u64;
-        mem_write_into(model, device, adapters, mem, map, index, *value, &mut event);
+        let op = Op::MemWrite {
+            mem,
+            map,
+            index: first + k as u64,
+            value: *value,
+        };
+        perform_on_memory_into(model, device, adapters, op, &mut event);
         hand_over(model, &event, rec, &mut tally)?;
         if is_bus_error(event.end) {
             return Ok(tally);
@@ -224,7 +229,8 @@ fn read_locations<D: Device, R: Recorder>(
     let mut tally = Tally::new();
     let mut event = Event::blank();
     for index in first..first + count {
-        mem_read_into(model, device, adapters, mem, map, index, &mut event);
+        let op = Op::MemRead { mem, map, index };
+        perform_on_memory_into(model, device, adapters, op, &mut event);
         hand_over(model, &event, rec, &mut tally)?;
         if is_bus_error(event.end) {
             return Ok(tally);

@@ -1,18 +1,18 @@
 //! The calls of one operation each.
 ghost use Rattle.std.specs.Prelude.{◌≡◌, ◌<◌, ◌≤◌, map as each, length, if◌then◌else◌, OnErr};
-ghost use Rattle.rl_access.specs.Prelude.{Does, EventFits, IsDeviceOf, IsMapIn, IsReady, IsSameChip, PerformsAlone};
-ghost use Rattle.rl_access.specs.Prelude.{PerformsOffBus, StaysOffBus, grant, scene_of};
+ghost use Rattle.rl_access.specs.Prelude.{Does, EventFits, IsDeviceOf, IsMapIn, IsModel, IsReady, IsSameChip};
+ghost use Rattle.rl_access.specs.Prelude.{PerformsAlone, PerformsOffBus, StaysOffBus, grant, scene_of};
 ghost use Rattle.rl_access.specs.Wishes.{BringsWishes};
 ghost use Rattle.rl_access.specs.declared.event.Op.TheVariants as op;
+ghost use Rattle.rl_mirror.specs.Reachable.{UpdateBrings};
 
-use crate::backdoor::peek_into;
+use crate::backdoor::{mem_peek_into, mem_poke_into, peek_into};
 use crate::event::{Event, Op};
-use crate::frontdoor::update_into;
-use crate::memory::{mem_peek_into, mem_poke_into};
 use crate::model::Model;
 use crate::operation::{perform, perform_off_bus, perform_on_memory};
 use crate::wishes::{set_into, show_into};
 use rl_bus::{Adapter, Adapters, Device};
+use rl_mirror::law::update_brings;
 
 /// Writes a register over the bus.
 pub fn front_write<D: Device>(
@@ -163,9 +163,18 @@ pub fn update<D: Device>(
     ensures wishes { BringsWishes model.old model.new reg result.end }
     ensures refused { OnErr (grant model.old (op.Update reg map)) (device.new ≡ device.old) }
 {
-    let mut event = Event::blank();
-    update_into(model, device, adapters, reg, map, &mut event);
-    event
+    law_of_update(model);
+    perform(model, device, adapters, Op::Update { reg, map })
+}
+
+// It does nothing; its contract is the law of update, at this model.
+fn law_of_update(model: &Model)
+    ensures known { IsModel model.now }
+    ensures law { UpdateBrings model.now.chip }
+{
+    // The call tells that the model is sound.
+    let _ = model.chip();
+    update_brings();
 }
 
 /// Writes a location of a memory over the bus.

@@ -1,9 +1,11 @@
 //! The events of operations that have ended.
-ghost use Rattle.std.specs.Prelude.{◌≡◌, ◌<◌, ◌≤◌, ◌^◌, length, [], true, All, Some, None};
+ghost use Rattle.std.specs.Prelude.{◌≡◌, ◌<◌, ◌≤◌, ◌^◌, length, [], true, All, IfSome, Some, None};
 ghost use Rattle.rl_access.specs.Prelude.{EventFits, HasNumbers, IsEndWithin, IsTold, ItemFits, count_of};
-ghost use Rattle.rl_access.specs.Prelude.{digits_of, has_end, memory_event, quiet, register_event, register_of};
+ghost use Rattle.rl_access.specs.Prelude.{digits_of, event_of, has_end, memory_event, quiet, register_event};
+ghost use Rattle.rl_access.specs.Prelude.{register_of};
 ghost use Rattle.rl_access.specs.declared.event.End.TheVariants as end;
 
+use crate::asking::Asked;
 use crate::event::{End, Event, Op, Refused};
 use crate::model::Model;
 
@@ -54,6 +56,22 @@ impl Model {
         ensures fits { EventFits self.now event.new }
     {
         self.fill(op, reg, End::Refused { why }, 0, event);
+    }
+
+    /// Fills the event of an operation over the bus that was refused.
+    pub(crate) fn refuse_asked(&self, asked: Asked, why: Refused, event: &mut Event)
+        requires numbers { HasNumbers self.now.chip (length self.now.layout.maps) asked.op }
+        requires register { register_of self.now.chip asked.op ≡ asked.reg }
+        requires reg_in { IfSome asked.reg (λ reg. reg < length self.now.chip.regs) }
+        ensures event { event.new ≡ event_of self.now asked.op [] (quiet (end.Refused why) self.now) }
+        ensures fits { EventFits self.now event.new }
+    {
+        event.begin(asked.op);
+        let end = End::Refused { why };
+        match asked.reg {
+            Some(reg) => self.conclude(reg, end, 0, event),
+            None => self.conclude_memory(end, 0, event),
+        }
     }
 
     /// Fills the event of an operation on a memory that was refused.

@@ -12,22 +12,20 @@
 #![tactic(auto)]
 
 mod access;
+mod asking;
 mod backdoor;
 mod burst;
 mod calls;
 mod ending;
 mod engine;
 mod event;
-mod frontdoor;
 pub mod law;
 mod location;
-mod memory;
 mod model;
 mod operation;
 mod predictor;
 mod recorder;
 mod refusal;
-mod register;
 mod send;
 mod tally;
 mod trace;

@@ -4,12 +4,13 @@ ghost use Rattle.rl_access.specs.Prelude.{AreSent, IsBrought, IsDeviceOf, IsEndW
 ghost use Rattle.rl_access.specs.Prelude.{IsPlaceFor, IsReady, ItemFits, ModelData, adapter_for, ends_done};
 ghost use Rattle.rl_access.specs.Prelude.{ends_with_value, failed_at, location_bytes, location_size, location_value};
 ghost use Rattle.rl_access.specs.Prelude.{memory_size, ops_of, or_error, outgoing_at, poked, port_for, quiet};
+ghost use Rattle.rl_access.specs.Rules.{marked};
 ghost use Rattle.rl_bus.specs.declared.table.Cell.TheVariants as cell;
 ghost use Rattle.rl_access.specs.declared.event.End.TheVariants as end;
 ghost use Rattle.rl_model.specs.declared.rows.Item.TheVariants as item;
 
 use crate::engine::send;
-use crate::event::End;
+use crate::event::{End, Op};
 use crate::model::{Model, all_bytes};
 use crate::trace::Trace;
 use rl_bus::{Adapter, Adapters, Cell, Device};
@@ -80,7 +81,7 @@ pub(crate) fn read_location<D: Device>(
     adapters: &mut Adapters,
     mem: u32,
     place: u32,
-    index: u64,
+    index: u32,
     trace: &mut Trace,
 ) -> End
     requires empty { trace.old ≡ [] }
@@ -88,7 +89,6 @@ pub(crate) fn read_location<D: Device>(
     requires mem { mem < length model.now.chip.mems }
     requires place { IsPlaceFor model.now (item.Mem mem) place }
     requires index { index < memory_size model.now.chip mem }
-    requires small { index < 65536 }
     ensures ready { IsReady model.now (each standing adapters.new.items) (D.state device.new) }
     ensures sent { AreSent (adapter_for model.now.layout place) (port_for model.now.layout place)
         (ops_of model.now.layout place index (location_bytes model.now mem) 0 false) trace.new
@@ -101,10 +101,20 @@ pub(crate) fn read_location<D: Device>(
     ensures ends { ends_with_value result ≡ true }
     ensures within { IsEndWithin (2 * location_size model.now.chip mem) result }
 {
-    let index = index as u32;
     let outgoing = outgoing_at(model, mem, place, index, 0, false);
     let value = send(model, device, adapters, &outgoing, trace);
     end_of_read(model, mem, place, index, value, trace)
+}
+
+/// 1 where a check of a location read another value than the given one.
+pub(crate) fn marked(op: Op, end: End) -> u64
+    ensures value { result ≡ marked op end }
+    ensures mark { result ≤ 1 }
+{
+    match (op, end) {
+        (Op::MemCheck { value, .. }, End::Value { value: read }) if read != value => 1,
+        _ => 0,
+    }
 }
 
 /// The bytes of a location, as the device has them.

@@ -2,9 +2,10 @@
 ghost use Rattle.std.specs.Prelude.{◌≡◌, ◌+◌, ◌-◌, ◌*◌, ◌<◌, ◌≤◌, ◌^◌, length, IfOk, IfSome, if◌then◌else◌};
 ghost use Rattle.rl_access.specs.Prelude.{IsAccessOn, IsBuiltWith, IsFieldIn, IsMapIn, IsModel, IsNothingGathered};
 ghost use Rattle.rl_access.specs.Prelude.{IsPlaceFor, all_bytes, bytes_of_field, count_of, differ, field_alone};
-ghost use Rattle.rl_access.specs.Prelude.{field_of, field_read, field_written, first_of, forgetting, fresh, is_alone};
-ghost use Rattle.rl_access.specs.Prelude.{map_of_place, needs_update, observing, place_at, predict_raw, predict_read};
-ghost use Rattle.rl_access.specs.Prelude.{predict_write, reg_of, reset, set, size_of, update_word_of, whole};
+ghost use Rattle.rl_access.specs.Prelude.{field_of, field_read, field_written, first_of, forgetting, forgetting_field};
+ghost use Rattle.rl_access.specs.Prelude.{fresh, is_alone, map_of_place, memory_size, needs_update, observing};
+ghost use Rattle.rl_access.specs.Prelude.{place_at, predict_raw, predict_read, predict_write, reg_of, reset, set};
+ghost use Rattle.rl_access.specs.Prelude.{size_of, update_word_of, whole};
 ghost use Rattle.rl_model.specs.declared.rows.Item.TheVariants as item;
 
 use crate::access::Access;
@@ -125,6 +126,17 @@ impl Model {
         }
     }
 
+    /// Forgets what was gathered of the place, unless the access reaches the field's bytes alone.
+    pub(crate) fn forget_around(&mut self, field: u32, place: u32, write: bool)
+        requires field { field < length self.old.chip.fields }
+        requires place { place < length self.old.layout.places }
+        ensures { self.new ≡ forgetting_field self.old field place write }
+    {
+        if !self.is_narrow(field, place, write) {
+            self.forget(place);
+        }
+    }
+
     /// The predictor sees an item.
     pub(crate) fn observe(&mut self, item: &TraceItem)
         requires { item.now.port < length self.old.layout.ports }
@@ -217,6 +229,17 @@ impl Model {
             fields: u64::MAX,
             value,
         }
+    }
+
+    /// The number of a location of a memory, which is below 65536.
+    pub(crate) fn location(&self, mem: u32, index: u64) -> u32
+        requires mem { mem < length self.now.chip.mems }
+        requires index { index < memory_size self.now.chip mem }
+        ensures { result ≡ index }
+    {
+        // The call tells how large a memory may be.
+        let _ = self.chip.size(mem);
+        index as u32
     }
 
     /// The shape of a field.

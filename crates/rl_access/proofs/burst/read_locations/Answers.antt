@@ -9,7 +9,7 @@ loop-index-init g c = bursting_first g.R.Recorder c.args.rec.now _ _ _ _ c.requi
 
 pub loop-index-preserved : goal.loop-index-preserved
 loop-index-preserved g c =
-    let done = c.mem_read_into.ensures in
+    let done = c.perform_on_memory_into.ensures in
     let told = c.in_ok-hand_over.ensures in
     bursting_next g.R.Recorder c.loop-index.invariant (reads_left c.args.mem c.args.map c.loop-index.index (c.args.first + c.args.count) c.loop-index-test.true) done.model done.does
     (sym c.is_bus_error.ensures ∙ c.if-is_bus_error.false) told.taken told.counted told.cause.later told.steady
@@ -17,12 +17,13 @@ loop-index-preserved g c =
 pub returns-in_err-hand_over-clause-run : goal.returns-in_err-hand_over-clause-run
 returns-in_err-hand_over-clause-run g c =
     bursting_broke g.R.Recorder c.from_residual.result c.from_residual.ensures.0 c.loop-index.invariant
-    (reads_left c.args.mem c.args.map c.loop-index.index (c.args.first + c.args.count) c.loop-index-test.true) c.mem_read_into.ensures.does c.in_err-hand_over.ensures.broken
+    (reads_left c.args.mem c.args.map c.loop-index.index (c.args.first + c.args.count) c.loop-index-test.true) c.perform_on_memory_into.ensures.does c.in_err-hand_over.ensures.broken
 
 pub returns-then-is_bus_error-clause-run : goal.returns-then-is_bus_error-clause-run
 returns-then-is_bus_error-clause-run g c =
     let told = c.in_ok-hand_over.ensures in
-    bursting_stopped g.R.Recorder c.loop-index.invariant (reads_left c.args.mem c.args.map c.loop-index.index (c.args.first + c.args.count) c.loop-index-test.true) c.mem_read_into.ensures.does
+    bursting_stopped g.R.Recorder c.loop-index.invariant (reads_left c.args.mem c.args.map c.loop-index.index (c.args.first + c.args.count) c.loop-index-test.true)
+    c.perform_on_memory_into.ensures.does
     (sym c.is_bus_error.ensures ∙ c.if-is_bus_error.true) told.taken told.counted
 
 pub returns-clause-run : goal.returns-clause-run

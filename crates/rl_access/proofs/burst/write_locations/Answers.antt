@@ -10,7 +10,7 @@ loop-k-init g c = bursting_first g.R.Recorder c.args.rec.now _ _ _ _ c.requires.
 
 pub loop-k-preserved : goal.loop-k-preserved
 loop-k-preserved g c =
-    let done = c.mem_write_into.ensures in
+    let done = c.perform_on_memory_into.ensures in
     let told = c.in_ok-hand_over.ensures in
     bursting_next g.R.Recorder c.loop-k.invariant (writes_left c.args.mem c.args.map c.args.first c.loop-k.k c.args.values.now 0 c.loop-k-test.true) done.model done.does
     (sym c.is_bus_error.ensures ∙ c.if-is_bus_error.false) told.taken told.counted told.cause.later told.steady
@@ -18,12 +18,12 @@ loop-k-preserved g c =
 pub returns-in_err-hand_over-clause-run : goal.returns-in_err-hand_over-clause-run
 returns-in_err-hand_over-clause-run g c =
     bursting_broke g.R.Recorder c.from_residual.result c.from_residual.ensures.0 c.loop-k.invariant
-    (writes_left c.args.mem c.args.map c.args.first c.loop-k.k c.args.values.now 0 c.loop-k-test.true) c.mem_write_into.ensures.does c.in_err-hand_over.ensures.broken
+    (writes_left c.args.mem c.args.map c.args.first c.loop-k.k c.args.values.now 0 c.loop-k-test.true) c.perform_on_memory_into.ensures.does c.in_err-hand_over.ensures.broken
 
 pub returns-then-is_bus_error-clause-run : goal.returns-then-is_bus_error-clause-run
 returns-then-is_bus_error-clause-run g c =
     let told = c.in_ok-hand_over.ensures in
-    bursting_stopped g.R.Recorder c.loop-k.invariant (writes_left c.args.mem c.args.map c.args.first c.loop-k.k c.args.values.now 0 c.loop-k-test.true) c.mem_write_into.ensures.does
+    bursting_stopped g.R.Recorder c.loop-k.invariant (writes_left c.args.mem c.args.map c.args.first c.loop-k.k c.args.values.now 0 c.loop-k-test.true) c.perform_on_memory_into.ensures.does
     (sym c.is_bus_error.ensures ∙ c.if-is_bus_error.true) told.taken told.counted
 
 pub returns-clause-run : goal.returns-clause-run

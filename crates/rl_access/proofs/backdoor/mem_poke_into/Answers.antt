@@ -3,7 +3,7 @@ use Rattle.rl_model.specs.declared.rows.Item.TheVariants as item
 use Rattle.rl_access.specs.Rules.{by_backdoor, at_location, fitting}
 use Rattle.rl_access.proofs.BackPerforms.{then_only}
 use Rattle.rl_access.proofs.MemoryPerforms.{mem_poke_performs}
-use Rattle.rl_access.proofs.memory.mem_poke_into.Goals as goal
+use Rattle.rl_access.proofs.backdoor.mem_poke_into.Goals as goal
 
 pub returns-in-Ok-clause-performs : goal.returns-in-Ok-clause-performs
 returns-in-Ok-clause-performs g c =
