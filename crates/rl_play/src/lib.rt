@@ -4,7 +4,6 @@
 mod buffered;
 mod line;
 mod log;
-mod perform;
 mod playing;
 mod recorder;
 mod resolve;

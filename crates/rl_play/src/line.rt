@@ -1,16 +1,17 @@
 // What a line does, and its log.
-ghost use Rattle.std.specs.Prelude.{◌≡◌, ◌<◌, ◌∷◌, [], length, map as each, IfSome, Ok};
+ghost use Rattle.std.specs.Prelude.{◌≡◌, ◌<◌, ◌∷◌, [], length, map as each, true, IfSome, Ok};
+ghost use Rattle.rl_access.specs.Operation.{HasNumbers, is_single};
 ghost use Rattle.rl_play.specs.Prelude.{HasCause, IsReady, IsSameChip, line_said, plan_of, JobHasNumbers, asked};
-ghost use Rattle.rl_play.specs.Prelude.{job_work, one_op, planned, spot, LogsTallied, RunsOn, SinkStays, StaysReady};
+ghost use Rattle.rl_play.specs.Prelude.{job_work, one_op, planned, single, spot, Logs, LogsTallied, RunsOn, SinkStays};
+ghost use Rattle.rl_play.specs.Prelude.{StaysReady};
 ghost use Rattle.rl_play.specs.Stage.{CanRun, StaysOn, recorded, spot_of};
 ghost use Rattle.rl_script.specs.declared.line.Line.TheVariants as say;
 
 use crate::log::Log;
-use crate::perform::perform;
-use crate::recorder::Writing;
+use crate::recorder::{Writing, record};
 use crate::resolve::{block_asked, map_asked, mem_at, op_of};
 use crate::texts::{put_sequence_begin, put_sequence_end};
-use rl_access::{Model, Tally, burst_read, burst_write};
+use rl_access::{Event, Model, Op, Tally, burst_read, burst_write, perform_into};
 use rl_bus::{Adapter, Adapters, Device};
 use rl_log::{Counts, LineRefusal};
 use rl_report::Failed;
@@ -25,6 +26,9 @@ struct Stage<'a, D, K> {
     out: &'a mut K,
     counts: &'a mut Counts,
 }
+
+// How a line went: none where it was run, or why it is refused.
+type Ran = Result<Option<LineRefusal>, Failed>;
 
 // What a line asks for that is more than one operation.
 #[derive(Clone, Copy)]
@@ -143,7 +147,7 @@ fn write_burst<D: Device, K: Log>(
     first: u64,
     values: &Values,
     name: &Option<IdentRef<'_>>,
-) -> Result<Option<LineRefusal>, Failed>
+) -> Ran
     requires ready { CanRun D.Device (each standing stage.old.adapters.now.items) stage.old }
     ensures run { RunsOn (asked stage.old.model.now (Ok (say.BurstWrite mem.now first values.now name.now)))
         (spot_of D.Device K.Sink (each standing stage.old.adapters.now.items) stage.old)
@@ -168,10 +172,7 @@ fn write_burst<D: Device, K: Log>(
 
 // Runs a line that is a burst of reads.
 #[inline(never)]
-fn read_burst<D: Device, K: Log>(
-    stage: &mut Stage<'_, D, K>,
-    line: &ItemLine<'_>,
-) -> Result<Option<LineRefusal>, Failed>
+fn read_burst<D: Device, K: Log>(stage: &mut Stage<'_, D, K>, line: &ItemLine<'_>) -> Ran
     requires ready { CanRun D.Device (each standing stage.old.adapters.now.items) stage.old }
     ensures run { RunsOn
         (asked stage.old.model.now (Ok (say.BurstRead line.now.path line.now.first line.now.second line.now.map)))
@@ -201,7 +202,7 @@ fn sequence<D: Device, K: Log>(
     stage: &mut Stage<'_, D, K>,
     which: Sequence,
     path: &Option<PathRef<'_>>,
-) -> Result<Option<LineRefusal>, Failed>
+) -> Ran
     requires ready { CanRun D.Device (each standing stage.old.adapters.now.items) stage.old }
     ensures run { RunsOn (asked stage.old.model.now (Ok (say.Seq which path.now)))
         (spot_of D.Device K.Sink (each standing stage.old.adapters.now.items) stage.old)
@@ -217,12 +218,24 @@ fn sequence<D: Device, K: Log>(
     Ok(None)
 }
 
+// Performs an operation that is no burst, and writes its log.
+fn perform<D: Device, K: Log>(stage: &mut Stage<'_, D, K>, op: Op) -> Result<(), Failed>
+    requires ready { CanRun D.Device (each standing stage.old.adapters.now.items) stage.old }
+    requires numbers { HasNumbers stage.old.model.now.chip (length stage.old.model.now.layout.maps) op }
+    requires single { is_single op ≡ true }
+    ensures logs { Logs (single op)
+        (spot_of D.Device K.Sink (each standing stage.old.adapters.now.items) stage.old)
+        (spot_of D.Device K.Sink (each standing stage.new.adapters.now.items) stage.new) result }
+    ensures stays { StaysOn D.Device K.Sink (each standing stage.new.adapters.now.items) stage.old stage.new result }
+{
+    let mut event = Event::blank();
+    perform_into(stage.model, stage.device, stage.adapters, op, &mut event);
+    record(&event, stage.model, stage.out, stage.counts)
+}
+
 // Runs a line that is one operation.
 #[inline(never)]
-fn operation<D: Device, K: Log>(
-    stage: &mut Stage<'_, D, K>,
-    line: &LineRef<'_>,
-) -> Result<Option<LineRefusal>, Failed>
+fn operation<D: Device, K: Log>(stage: &mut Stage<'_, D, K>, line: &LineRef<'_>) -> Ran
     requires ready { CanRun D.Device (each standing stage.old.adapters.now.items) stage.old }
     ensures run { RunsOn (one_op stage.old.model.now (line_said line.now))
         (spot_of D.Device K.Sink (each standing stage.old.adapters.now.items) stage.old)
@@ -232,14 +245,7 @@ fn operation<D: Device, K: Log>(
     let Some(op) = op_of(stage.model, line) else {
         return Ok(Some(LineRefusal::NoSuchName));
     };
-    perform(
-        stage.model,
-        stage.device,
-        stage.adapters,
-        op,
-        stage.out,
-        stage.counts,
-    )?;
+    perform(stage, op)?;
     Ok(None)
 }
 
@@ -251,7 +257,7 @@ pub(crate) fn run_line<D: Device, K: Log>(
     line: &LineRef<'_>,
     out: &mut K,
     counts: &mut Counts,
-) -> Result<Option<LineRefusal>, Failed>
+) -> Ran
     requires ready { IsReady model.old (each standing adapters.old.items) (D.state device.old) }
     ensures ready { StaysReady model.old model.new (each standing adapters.new.items) (D.state device.new) }
     ensures run { RunsOn (asked model.old (Ok (line_said line.now)))
@@ -270,10 +276,7 @@ pub(crate) fn run_line<D: Device, K: Log>(
 }
 
 // The same, on a stage.
-fn run_on<D: Device, K: Log>(
-    stage: &mut Stage<'_, D, K>,
-    line: &LineRef<'_>,
-) -> Result<Option<LineRefusal>, Failed>
+fn run_on<D: Device, K: Log>(stage: &mut Stage<'_, D, K>, line: &LineRef<'_>) -> Ran
     requires ready { CanRun D.Device (each standing stage.old.adapters.now.items) stage.old }
     ensures run { RunsOn (asked stage.old.model.now (Ok (line_said line.now)))
         (spot_of D.Device K.Sink (each standing stage.old.adapters.now.items) stage.old)

@@ -20,6 +20,7 @@ use Rattle.rl_log.specs.Telling.{Tells}
 use Rattle.rl_log.specs.Texts.{end_text}
 use Rattle.rl_play.specs.declared.playing.Turn.TheVariants.{Next, Stop}
 use Rattle.rl_play.specs.Heard.{heard}
+use Rattle.rl_play.specs.Moment.{moment}
 use Rattle.rl_play.specs.Played.{EndsAs, PassesTo}
 use Rattle.rl_log.proofs.KnownLemmas.{front_later, front_none, keeps_then_appends}
 use Rattle.rl_play.proofs.PlayLemmas.{heard_said, hands_some, lines_more}
@@ -37,13 +38,13 @@ use Rattle.rl_script.specs.declared.line_ref.LineRef.{LineRef}
 use Rattle.rl_script.specs.declared.line_ref.LineRef.TheVariants as ref
 use Rattle.rl_script.specs.Commands.{line_of}
 use Rattle.rl_script.specs.Said.{line_said}
-use Rattle.rl_weave.specs.Weave.{WeaveData}
+use Rattle.rl_weave.specs.Weave.{WeaveData, empty}
 use Rattle.rl_woven_log.specs.declared.refusal.WovenRefusal.{WovenRefusal}
 use Rattle.rl_log.specs.Named.{op_named}
 use Rattle.rl_woven_log.specs.Adding.{adding_line, is_named}
 use Rattle.rl_woven_log.specs.Refusals.{refused_woven_text}
 use Rattle.rl_woven_log.specs.Setting.{Setting, IsAtWeaving, IsPart, weaving_at}
-use Rattle.rl_woven_log.specs.Turns.{EndsSo, IsTurn, Stopped, WentOn, coming}
+use Rattle.rl_woven_log.specs.Turns.{EndsSo, IsTurn, Stopped, WeavesLines, WeavesThrough, WentOn, coming}
 use Rattle.rl_woven_log.specs.WeaveLog.{Weaving, Part, comes_of, finished, goes_on, group, is_blank, joins, nothing, stops, taken_in, woven_from}
 use Rattle.rl_woven_log.proofs.Words.{set, weaving, weaving_is}
 
@@ -366,3 +367,15 @@ passes_begun (Some d) w v m a x text old new counts (Some bytes) is h = record {
   whole = refl;
   written = h;
 }
+
+-- from before the first line on
+pub begun_weaves : (n x : ℕ) (w : WeaveData) (m : ModelData) (a : List Standing) (st : Option State) (old : Option (List ℕ))
+    (counts : Counts) (input left : Option (List ℕ)) (after : Setting) (status : Status) → w ≡ empty → x ≡ n
+    → WeavesLines (set w m a st x old counts) input left after status
+    → WeavesThrough n (moment m a st old counts) input left
+    (moment after.model after.adapters after.device after.text after.counts) status
+begun_weaves n x w m a st old counts input left after status none begins h =
+    let first : WeavesLines (set empty m a st n old counts) input left after status =
+    subst (λ w. WeavesLines (set w m a st n old counts) input left after status) none
+    (subst (λ x. WeavesLines (set w m a st x old counts) input left after status) begins h) in
+    record { log = first.log; at_fault = first.at_fault; counted = first.counted }

@@ -1,5 +1,5 @@
 -- What a call meets and leaves, against a part of the log.
-use Rattle.std.specs.Prelude.{◌≡◌, ℕ, List, map, Option, IfSome, Result, OnOk, OnErr}
+use Rattle.std.specs.Prelude.{◌≡◌, ℕ, List, Option, IfSome, Result, OnOk, OnErr}
 use Rattle.std.specs.Io.KnownBytes.{Appends}
 use Rattle.rl_access.specs.Model.{ModelData}
 use Rattle.rl_access.specs.World.{world, IsAt}
@@ -8,7 +8,6 @@ use Rattle.rl_bus.specs.State.{State}
 use Rattle.rl_log.specs.declared.counts.Counts.{Counts}
 use Rattle.rl_report.specs.Pieces.{AppendsFront}
 use Rattle.rl_weave.specs.Weave.{WeaveData}
-use Rattle.rl_woven_log.specs.declared.script.WovenScript.{WovenScript}
 use Rattle.rl_woven_log.specs.WeaveLog.{Weaving, Part}
 
 pub record Setting : Type 0 where
@@ -21,18 +20,6 @@ pub record Setting : Type 0 where
   -- what was written until then, where the sink tells it
   pub text : Option (List ℕ)
   pub counts : Counts
-
-abbrev pub setting_of : {A D K : Type 0} → (A → Standing) → (D → Option State) → (K → Option (List ℕ))
-    → WovenScript → ModelData → List A → D → K → Counts → Setting
-setting_of standing state written script model adapters device sink counts = record {
-  weave = script.weave;
-  model = model;
-  adapters = map standing adapters;
-  device = state device;
-  drawing = script.draws.state;
-  text = written sink;
-  counts = counts;
-}
 
 abbrev pub weaving_at : Setting → State → Weaving
 weaving_at s d = record {

@@ -120,6 +120,12 @@ abbrev pub EndsGroup : (before after : Setting) → Status → Type 0
 EndsGroup before after status = IfSome before.device (λ d.
     EndsSo (finished (group (weaving_at before d))) status before.text after)
 
+-- the lines that are left were taken in, from a setting on, and this is left of the input
+pub record WeavesLines (before : Setting) (input left : Option (List ℕ)) (after : Setting) (status : Status) : Type 0 where
+  pub log : Ends 1 before input after status
+  pub at_fault : status ≡ SourceFault → BreaksFrom 1 before input left after.text
+  pub counted : IsCounted status after.counts
+
 -- no access yet, and the generator begins at n
 abbrev pub first_setting : (n : ℕ) → Moment → Setting
 first_setting n before = record {

@@ -1,12 +1,13 @@
 //! The words of a group.
 ghost use Rattle.std.specs.Prelude.{◌≡◌, ◌<◌, true, map as each, length, IsTrue, OnOk};
-ghost use Rattle.rl_woven_log.specs.Prelude.{EventFits, IsGathering, IsReady, IsWeave, IsWeaveOn, StaysReady};
-ghost use Rattle.rl_woven_log.specs.Prelude.{ItemFits, PutsText, SinkStays, Writes, counted_at_end, event_told};
-ghost use Rattle.rl_woven_log.specs.Prelude.{group, setting_of, step_text, word_drawn, words, words_left};
+ghost use Rattle.rl_woven_log.specs.Prelude.{EventFits, IsGathering, IsWeave, IsWeaveOn, ItemFits, PutsText};
+ghost use Rattle.rl_woven_log.specs.Prelude.{SinkStays, Writes, counted_at_end, event_told, group, step_text};
+ghost use Rattle.rl_woven_log.specs.Prelude.{word_drawn, words, words_left};
+ghost use Rattle.rl_woven_log.specs.Stage.{CanWeave, StaysAt, setting_on};
 
-use crate::script::WovenScript;
+use crate::script::{Stage, WovenScript};
 use rl_access::{Event, Model};
-use rl_bus::{Adapter, Adapters, Device};
+use rl_bus::{Adapter, Device};
 use rl_log::Counts;
 use rl_play::Log;
 use rl_report::{Failed, write_event_line, write_item};
@@ -43,64 +44,52 @@ fn count_end(sent: &Sent, event: &Event, counts: &mut Counts)
 /// over.
 fn run_word<D: Device, L: Log>(
     script: &mut WovenScript,
-    model: &mut Model,
-    device: &mut D,
-    adapters: &mut Adapters,
-    out: &mut L,
-    counts: &mut Counts,
+    stage: &mut Stage<'_, D, L>,
     event: &mut Event,
 ) -> Result<(), Failed>
     requires open { 0 < length script.old.weave.still_open }
-    requires ready { IsReady model.old (each standing adapters.old.items) (D.state device.old) }
-    requires weave { IsWeaveOn model.old script.old.weave }
-    ensures ready { StaysReady model.old model.new (each standing adapters.new.items) (D.state device.new) }
-    ensures weave { IsWeaveOn model.new script.new.weave }
+    requires weaving { CanWeave D.Device (each standing stage.old.adapters.now.items) script.old stage.old }
+    ensures weave { IsWeaveOn stage.new.model.now script.new.weave }
     ensures sound { IsWeave script.new.weave }
     ensures fewer { words_left script.new.weave < words_left script.old.weave }
     ensures writes { Writes word_drawn
-        (setting_of standing D.state L.written script.old model.old adapters.old.items device.old out.old counts.old)
-        (setting_of standing D.state L.written script.new model.new adapters.new.items device.new out.new counts.new)
-        result }
-    ensures stays { SinkStays L.Sink out.old out.new result }
+        (setting_on D.Device L.Sink (each standing stage.old.adapters.now.items) script.old stage.old)
+        (setting_on D.Device L.Sink (each standing stage.new.adapters.now.items) script.new stage.new) result }
+    ensures stays { StaysAt D.Device (each standing stage.new.adapters.now.items) stage.old stage.new }
+    ensures sink { SinkStays L.Sink stage.old.out.now stage.new.out.now result }
 {
     let drawn = script.draws.draw(script.weave.open_count());
     let which = script.weave.nth_open(drawn);
     let sent = script
         .weave
-        .step_into(model, device, adapters, which, event);
-    count_end(&sent, event, counts);
-    put_step(model, &sent, event, out)
+        .step_into(stage.model, stage.device, stage.adapters, which, event);
+    count_end(&sent, event, stage.counts);
+    put_step(stage.model, &sent, event, stage.out)
 }
 
 /// Sends words until no access is open.
 fn run_words<D: Device, L: Log>(
     script: &mut WovenScript,
-    model: &mut Model,
-    device: &mut D,
-    adapters: &mut Adapters,
-    out: &mut L,
-    counts: &mut Counts,
+    stage: &mut Stage<'_, D, L>,
 ) -> Result<(), Failed>
-    requires ready { IsReady model.old (each standing adapters.old.items) (D.state device.old) }
-    requires weave { IsWeaveOn model.old script.old.weave }
-    ensures ready { StaysReady model.old model.new (each standing adapters.new.items) (D.state device.new) }
-    ensures weave { IsWeaveOn model.new script.new.weave }
+    requires weaving { CanWeave D.Device (each standing stage.old.adapters.now.items) script.old stage.old }
+    ensures weave { IsWeaveOn stage.new.model.now script.new.weave }
     // So many words are enough.
     ensures closed { OnOk result (length script.new.weave.still_open ≡ 0) }
     ensures writes { Writes (words 512)
-        (setting_of standing D.state L.written script.old model.old adapters.old.items device.old out.old counts.old)
-        (setting_of standing D.state L.written script.new model.new adapters.new.items device.new out.new counts.new)
-        result }
-    ensures stays { SinkStays L.Sink out.old out.new result }
+        (setting_on D.Device L.Sink (each standing stage.old.adapters.now.items) script.old stage.old)
+        (setting_on D.Device L.Sink (each standing stage.new.adapters.now.items) script.new stage.new) result }
+    ensures stays { StaysAt D.Device (each standing stage.new.adapters.now.items) stage.old stage.new }
+    ensures sink { SinkStays L.Sink stage.old.out.now stage.new.out.now result }
 {
     // The call tells that the model is sound.
-    let _ = model.layout();
+    let _ = stage.model.layout();
     let mut event = Event::blank();
     for k in 0..MOST_WORDS {
         if script.weave.open_count() == 0 {
             return Ok(());
         }
-        run_word(script, model, device, adapters, out, counts, &mut event)?;
+        run_word(script, stage, &mut event)?;
     }
     Ok(())
 }
@@ -108,23 +97,17 @@ fn run_words<D: Device, L: Log>(
 /// Runs a group, and writes its log. The next one is then empty.
 pub(crate) fn run_group<D: Device, L: Log>(
     script: &mut WovenScript,
-    model: &mut Model,
-    device: &mut D,
-    adapters: &mut Adapters,
-    out: &mut L,
-    counts: &mut Counts,
+    stage: &mut Stage<'_, D, L>,
 ) -> Result<(), Failed>
-    requires ready { IsReady model.old (each standing adapters.old.items) (D.state device.old) }
-    requires weave { IsWeaveOn model.old script.old.weave }
-    ensures ready { StaysReady model.old model.new (each standing adapters.new.items) (D.state device.new) }
-    ensures group { OnOk result (IsGathering model.new script.new.weave) }
+    requires weaving { CanWeave D.Device (each standing stage.old.adapters.now.items) script.old stage.old }
+    ensures group { OnOk result (IsGathering stage.new.model.now script.new.weave) }
     ensures writes { Writes group
-        (setting_of standing D.state L.written script.old model.old adapters.old.items device.old out.old counts.old)
-        (setting_of standing D.state L.written script.new model.new adapters.new.items device.new out.new counts.new)
-        result }
-    ensures stays { SinkStays L.Sink out.old out.new result }
+        (setting_on D.Device L.Sink (each standing stage.old.adapters.now.items) script.old stage.old)
+        (setting_on D.Device L.Sink (each standing stage.new.adapters.now.items) script.new stage.new) result }
+    ensures stays { StaysAt D.Device (each standing stage.new.adapters.now.items) stage.old stage.new }
+    ensures sink { SinkStays L.Sink stage.old.out.now stage.new.out.now result }
 {
-    run_words(script, model, device, adapters, out, counts)?;
+    run_words(script, stage)?;
     script.weave.clear();
     Ok(())
 }

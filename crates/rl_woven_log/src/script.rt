@@ -3,6 +3,9 @@ ghost use Rattle.std.specs.Prelude.{◌≡◌, IfOk};
 ghost use Rattle.rl_weave.specs.Weave.{empty};
 
 use crate::draws::Draws;
+use rl_access::Model;
+use rl_bus::Adapters;
+use rl_log::Counts;
 use rl_weave::Weave;
 use std::alloc::{AllocError, Global};
 
@@ -24,4 +27,14 @@ impl WovenScript {
             draws: Draws { state: n },
         })
     }
+}
+
+/// What a script is run on, and where its log goes.
+#[derive(Drop)]
+pub(crate) struct Stage<'a, D, K> {
+    pub(crate) model: &'a mut Model,
+    pub(crate) device: &'a mut D,
+    pub(crate) adapters: &'a mut Adapters,
+    pub(crate) out: &'a mut K,
+    pub(crate) counts: &'a mut Counts,
 }

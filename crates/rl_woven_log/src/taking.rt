@@ -1,16 +1,15 @@
 //! What comes of a line of a woven script that was read.
 ghost use Rattle.std.specs.Prelude.{◌≡◌, ◌≢◌, ◌≤◌, map as each, true, Some, Ok, Err, MatchResult};
-ghost use Rattle.rl_woven_log.specs.Prelude.{EndsGroup, IsCounted, IsGathering, IsReady, IsWeaveOn, StaysReady};
-ghost use Rattle.rl_woven_log.specs.Prelude.{Leaves, NotByCounts, Takes, Tells, heard, is_blank, line_said, read_of};
-ghost use Rattle.rl_woven_log.specs.Prelude.{refused_woven_text, said_by, setting_of, stop_of};
+ghost use Rattle.rl_woven_log.specs.Prelude.{EndsGroup, IsCounted, Leaves, NotByCounts, Takes, Tells, heard, is_blank};
+ghost use Rattle.rl_woven_log.specs.Prelude.{line_said, read_of, refused_woven_text, said_by};
+ghost use Rattle.rl_woven_log.specs.Stage.{CanGather, CanWeave, StaysAt, TurnsOn, setting_on};
 
 use crate::adding::add_line;
 use crate::group::run_group;
 use crate::refusal::{WovenRefusal, put_woven_refused};
-use crate::script::WovenScript;
-use rl_access::Model;
-use rl_bus::{Adapter, Adapters, Device};
-use rl_log::{Counts, LineRefusal, Status};
+use crate::script::{Stage, WovenScript};
+use rl_bus::{Adapter, Device};
+use rl_log::{LineRefusal, Status};
 use rl_play::{Log, Turn, end, is_too_long, refusal_of};
 use rl_report::{Failed, Got};
 use rl_script::{LineFault, LineRef, read_line_ref};
@@ -34,24 +33,18 @@ fn refuse<L: Log>(number: u64, refusal: WovenRefusal, out: &mut L) -> Status
 /// Ends a script: its last group, and the last line.
 pub(crate) fn end_script<D: Device, L: Log>(
     script: &mut WovenScript,
-    model: &mut Model,
-    device: &mut D,
-    adapters: &mut Adapters,
-    out: &mut L,
-    counts: &mut Counts,
+    stage: &mut Stage<'_, D, L>,
 ) -> Status
-    requires ready { IsReady model.old (each standing adapters.old.items) (D.state device.old) }
-    requires weave { IsWeaveOn model.old script.old.weave }
-    ensures ready { StaysReady model.old model.new (each standing adapters.new.items) (D.state device.new) }
+    requires weaving { CanWeave D.Device (each standing stage.old.adapters.now.items) script.old stage.old }
     ensures ends { EndsGroup
-        (setting_of standing D.state L.written script.old model.old adapters.old.items device.old out.old counts.old)
-        (setting_of standing D.state L.written script.new model.new adapters.new.items device.new out.new counts.new)
-        result }
-    ensures counted { IsCounted result counts.new }
-    ensures leaves { Leaves L.Sink 0 0 out.old out.new (Some result) }
+        (setting_on D.Device L.Sink (each standing stage.old.adapters.now.items) script.old stage.old)
+        (setting_on D.Device L.Sink (each standing stage.new.adapters.now.items) script.new stage.new) result }
+    ensures counted { IsCounted result stage.new.counts.now }
+    ensures stays { StaysAt D.Device (each standing stage.new.adapters.now.items) stage.old stage.new }
+    ensures leaves { Leaves L.Sink 0 0 stage.old.out.now stage.new.out.now (Some result) }
 {
-    match run_group(script, model, device, adapters, out, counts) {
-        Ok(()) => end(counts, out),
+    match run_group(script, stage) {
+        Ok(()) => end(stage.counts, stage.out),
         Err(Failed) => Status::SinkFault,
     }
 }
@@ -67,32 +60,24 @@ fn take_in<D: Device, L: Log>(
     number: u64,
     line: &LineRef<'_>,
     script: &mut WovenScript,
-    model: &mut Model,
-    device: &mut D,
-    adapters: &mut Adapters,
-    out: &mut L,
-    counts: &mut Counts,
+    stage: &mut Stage<'_, D, L>,
 ) -> Turn
-    requires ready { IsReady model.old (each standing adapters.old.items) (D.state device.old) }
-    requires group { IsGathering model.old script.old.weave }
-    ensures ready { StaysReady model.old model.new (each standing adapters.new.items) (D.state device.new) }
-    ensures group { result ≡ Turn.Next → IsGathering model.new script.new.weave }
+    requires gathering { CanGather D.Device (each standing stage.old.adapters.now.items) script.old stage.old }
     ensures turn { Takes number (Ok (line_said line.now))
-        (setting_of standing D.state L.written script.old model.old adapters.old.items device.old out.old counts.old)
-        (setting_of standing D.state L.written script.new model.new adapters.new.items device.new out.new counts.new)
-        result }
-    ensures counted { NotByCounts (stop_of result) }
-    ensures leaves { Leaves L.Sink 0 0 out.old out.new (stop_of result) }
+        (setting_on D.Device L.Sink (each standing stage.old.adapters.now.items) script.old stage.old)
+        (setting_on D.Device L.Sink (each standing stage.new.adapters.now.items) script.new stage.new) result }
+    ensures stays { TurnsOn D.Device L.Sink (each standing stage.new.adapters.now.items) script.new
+        stage.old stage.new result }
 {
     if is_blank(line) {
-        return match run_group(script, model, device, adapters, out, counts) {
+        return match run_group(script, stage) {
             Ok(()) => Turn::Next,
             Err(Failed) => Turn::Stop(Status::SinkFault),
         };
     }
-    match add_line(&mut script.weave, model, line) {
+    match add_line(&mut script.weave, stage.model, line) {
         Ok(()) => Turn::Next,
-        Err(refusal) => Turn::Stop(refuse(number, refusal, out)),
+        Err(refusal) => Turn::Stop(refuse(number, refusal, stage.out)),
     }
 }
 
@@ -102,30 +87,22 @@ fn take_in_read<D: Device, L: Log>(
     line: &[u8],
     read: &Result<LineRef<'_>, LineFault>,
     script: &mut WovenScript,
-    model: &mut Model,
-    device: &mut D,
-    adapters: &mut Adapters,
-    out: &mut L,
-    counts: &mut Counts,
+    stage: &mut Stage<'_, D, L>,
 ) -> Turn
-    requires ready { IsReady model.old (each standing adapters.old.items) (D.state device.old) }
-    requires group { IsGathering model.old script.old.weave }
+    requires gathering { CanGather D.Device (each standing stage.old.adapters.now.items) script.old stage.old }
     requires read { MatchResult read.now
         (λ l. read_of line.now ≡ Ok (line_said l))
         (λ fault. fault ≢ LineFault.Memory → read_of line.now ≡ Err fault) }
-    ensures ready { StaysReady model.old model.new (each standing adapters.new.items) (D.state device.new) }
-    ensures group { result ≡ Turn.Next → IsGathering model.new script.new.weave }
     ensures turn { Takes number (said_by (read_of line.now))
-        (setting_of standing D.state L.written script.old model.old adapters.old.items device.old out.old counts.old)
-        (setting_of standing D.state L.written script.new model.new adapters.new.items device.new out.new counts.new)
-        result }
-    ensures counted { NotByCounts (stop_of result) }
-    ensures leaves { Leaves L.Sink 0 0 out.old out.new (stop_of result) }
+        (setting_on D.Device L.Sink (each standing stage.old.adapters.now.items) script.old stage.old)
+        (setting_on D.Device L.Sink (each standing stage.new.adapters.now.items) script.new stage.new) result }
+    ensures stays { TurnsOn D.Device L.Sink (each standing stage.new.adapters.now.items) script.new
+        stage.old stage.new result }
 {
     match read {
-        Ok(line) => take_in(number, line, script, model, device, adapters, out, counts),
+        Ok(line) => take_in(number, line, script, stage),
         Err(fault) => match refusal_of(*fault) {
-            Some(refusal) => Turn::Stop(refuse(number, WovenRefusal::Line(refusal), out)),
+            Some(refusal) => Turn::Stop(refuse(number, WovenRefusal::Line(refusal), stage.out)),
             None => Turn::Stop(Status::Memory),
         },
     }
@@ -138,35 +115,25 @@ pub(crate) fn take_in_handed<D: Device, L: Log>(
     got: Got,
     line: &[u8],
     script: &mut WovenScript,
-    model: &mut Model,
-    device: &mut D,
-    adapters: &mut Adapters,
-    out: &mut L,
-    counts: &mut Counts,
+    stage: &mut Stage<'_, D, L>,
 ) -> Turn
-    requires ready { IsReady model.old (each standing adapters.old.items) (D.state device.old) }
-    requires group { IsGathering model.old script.old.weave }
-    ensures ready { StaysReady model.old model.new (each standing adapters.new.items) (D.state device.new) }
-    ensures group { result ≡ Turn.Next → IsGathering model.new script.new.weave }
+    requires gathering { CanGather D.Device (each standing stage.old.adapters.now.items) script.old stage.old }
     ensures short { result ≡ Turn.Next → got ≢ Got.TooLong }
     ensures last { result ≡ Turn.Next → number ≤ 1000000 }
     ensures turn { Takes number (heard number got line.now)
-        (setting_of standing D.state L.written script.old model.old adapters.old.items device.old out.old counts.old)
-        (setting_of standing D.state L.written script.new model.new adapters.new.items device.new out.new counts.new)
-        result }
-    ensures counted { NotByCounts (stop_of result) }
-    ensures leaves { Leaves L.Sink 0 0 out.old out.new (stop_of result) }
+        (setting_on D.Device L.Sink (each standing stage.old.adapters.now.items) script.old stage.old)
+        (setting_on D.Device L.Sink (each standing stage.new.adapters.now.items) script.new stage.new) result }
+    ensures stays { TurnsOn D.Device L.Sink (each standing stage.new.adapters.now.items) script.new
+        stage.old stage.new result }
 {
     if number > MOST_LINES {
         let refusal = WovenRefusal::Line(LineRefusal::TooManyLines);
-        return Turn::Stop(refuse(number, refusal, out));
+        return Turn::Stop(refuse(number, refusal, stage.out));
     }
     if is_too_long(got) {
         let refusal = WovenRefusal::Line(LineRefusal::TooLong);
-        return Turn::Stop(refuse(number, refusal, out));
+        return Turn::Stop(refuse(number, refusal, stage.out));
     }
     let read = read_line_ref(alloc, line);
-    take_in_read(
-        number, line, &read, script, model, device, adapters, out, counts,
-    )
+    take_in_read(number, line, &read, script, stage)
 }

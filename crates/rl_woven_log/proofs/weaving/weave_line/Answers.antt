@@ -25,7 +25,7 @@ returns-clause-leaves g c =
     let e = c.take_line.ensures in
     let r = c.take_in_handed.ensures in
     leaves_taken g.L.Sink _ _ _ _ _ _ _ _ _ c.take_in_handed.result e.found (λ is. c.in-Ok.ensures.going (r.short is)) e.ended
-    c.in-Ok.ensures.leaves r.leaves
+    c.in-Ok.ensures.leaves r.stays.leaves
 
 pub returns-in-Err-clause-weaves : goal.returns-in-Err-clause-weaves
 returns-in-Err-clause-weaves g c =
@@ -36,7 +36,7 @@ returns-in-Err-clause-weaves g c =
           early_stops _ c.in-Err.status status _ _ _ _ _ _ same c.in-Err.ensures.broken c.in-Err.ensures.told;
       at_fault = λ is. let fault = stopped c.in-Err.status SourceFault is in
           let cut = e.at_fault (c.in-Err.is ∙ ap Err fault) in
-          breaks_here _ _ c.args.script.now.weave c.args.model.now _ _ _ _ _ _ _ c.take_line.new.lines cut.none_lost
+          breaks_here _ _ c.args.script.now.weave c.args.stage.now.model.now _ _ _ _ _ _ _ c.take_line.new.lines cut.none_lost
           (cut.none_whole, cut.still) c.in-Err.ensures.told;
       later_fault = λ is. absurd (stop_is_no_next c.in-Err.status is);
       last = λ is. absurd (stop_is_no_next c.in-Err.status is);
@@ -49,7 +49,7 @@ returns-then-is_end-clause-weaves g c =
     record {
       next = λ is. absurd (stop_is_no_next c.end_script.result is);
       stop = λ status is. let same = stopped c.end_script.result status is in
-          ends_at_end _ _ c.args.script.now.weave c.args.model.now _ _ (g.L.Sink.written c.args.out.now) _ _ _ _ _ _ c.in-Ok.got
+          ends_at_end _ _ c.args.script.now.weave c.args.stage.now.model.now _ _ (g.L.Sink.written c.args.stage.now.out.now) _ _ _ _ _ _ c.in-Ok.got
           c.take_line.new.lines _ c.end_script.result status _ _ _ is_end same c.in-Ok.ensures.handed c.in-Ok.ensures.told
           c.end_script.ensures.ends;
       at_fault = λ is. let fault = stopped c.end_script.result SourceFault is in
@@ -66,14 +66,14 @@ returns-clause-weaves g c =
     let told = c.in-Ok.ensures.told in
     let r = c.take_in_handed.ensures in
     record {
-      next = λ is. next_passes _ _ c.args.script.now.weave _ c.args.model.now _ _ _ _ _ _ (g.L.Sink.written c.args.out.now) _ _ _ _
+      next = λ is. next_passes _ _ c.args.script.now.weave _ c.args.stage.now.model.now _ _ _ _ _ _ (g.L.Sink.written c.args.stage.now.out.now) _ _ _ _
           _ _ c.in-Ok.got _ c.take_line.new.lines _ not_end (r.short is) handed c.line-line.ensures told (rw is at r.turn);
-      stop = λ status is. stop_ends _ _ c.args.script.now.weave _ c.args.model.now _ _ _ _ _ _ (g.L.Sink.written c.args.out.now) _ _
+      stop = λ status is. stop_ends _ _ c.args.script.now.weave _ c.args.stage.now.model.now _ _ _ _ _ _ (g.L.Sink.written c.args.stage.now.out.now) _ _
           _ _ _ _ c.in-Ok.got _ c.take_line.new.lines _ status not_end handed c.line-line.ensures told (rw is at r.turn);
-      at_fault = λ is. absurd (no_source_turn c.take_in_handed.result _ _ r.leaves.cause is);
-      later_fault = λ is going left last f. breaks_later _ _ c.args.script.now.weave _ c.args.model.now _ _ _ _ _ _
-          (g.L.Sink.written c.args.out.now) _ _ _ _ _ c.in-Ok.got _ c.take_line.new.lines _ left last not_end (r.short is) handed
+      at_fault = λ is. absurd (no_source_turn c.take_in_handed.result _ _ r.stays.leaves.cause is);
+      later_fault = λ is going left last f. breaks_later _ _ c.args.script.now.weave _ c.args.stage.now.model.now _ _ _ _ _ _
+          (g.L.Sink.written c.args.stage.now.out.now) _ _ _ _ _ c.in-Ok.got _ c.take_line.new.lines _ left last not_end (r.short is) handed
           c.line-line.ensures told (rw is at r.turn) going f;
       last = r.last;
-      counted = counted_turn c.take_in_handed.result _ r.counted;
+      counted = counted_turn c.take_in_handed.result _ r.stays.counted;
     }
