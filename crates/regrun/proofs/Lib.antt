@@ -2,5 +2,6 @@ pub mod BreakLemmas
 pub mod JudgedLemmas
 pub mod LawLemmas
 pub mod PlainLemmas
+pub mod RunLemmas
 pub mod TaskLemmas
 pub mod WordLemmas

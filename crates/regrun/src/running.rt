@@ -1,7 +1,6 @@
 // A session that is run.
-ghost use Rattle.std.specs.Prelude.{◌≡◌, ◌<◌, ◌^◌, map, length, true, Some, IfSome};
-ghost use Rattle.regrun.specs.Prelude.{BreaksOff, IsPlainLog, Leaves, WritesJudged, is_complete, judged};
-ghost use Rattle.regrun.specs.Prelude.{kinds_of, output_of, taken_text};
+ghost use Rattle.std.specs.Prelude.{◌≡◌, ◌<◌, ◌^◌, map, length, true, IfSome};
+ghost use Rattle.regrun.specs.Prelude.{IsPlainLog, RunsWhole, is_complete, judged, kinds_of, taken_text};
 
 use rl_bus::{Adapter, Adapters};
 use rl_log::Status;
@@ -19,17 +18,11 @@ pub(crate) fn run<S: Source, L: Log>(
     adapters: &mut Adapters,
 ) -> Status
     requires few { length (map standing adapters.old.items) < 2 ^ 32 }
+    ensures runs { RunsWhole S.Source L.Sink L.is_out judged taken_text source.old source.new out.old out.new
+        (map standing adapters.old.items) (map standing adapters.new.items) result }
     ensures kinds { kinds_of (map standing adapters.new.items) ≡ kinds_of (map standing adapters.old.items) }
-    ensures tells { IfSome (S.left source.old) (λ bytes. WritesJudged (judged bytes) result
-        (output_of L.written standing out.old adapters.old.items)
-        (output_of L.written standing out.new adapters.new.items)) }
     ensures plain { is_complete result ≡ true → IfSome (S.left source.old) (λ bytes.
         IsPlainLog bytes (map standing adapters.old.items)) }
-    ensures at_fault { result ≡ Status.SourceFault → IfSome (S.left source.old) (λ bytes.
-        BreaksOff taken_text bytes (map standing adapters.old.items)
-        (S.left source.new) (L.written out.old) (L.written out.new)) }
-    ensures flushed { result ≡ Status.SourceFault → L.is_out out.old → L.is_out out.new }
-    ensures leaves { Leaves L.Sink (S.faults source.old) (S.faults source.new) out.old out.new (Some result) }
 {
     match open_session(alloc, source, out, adapters) {
         Ok((desc, mut lines)) => run_session(alloc, desc, &mut lines, source, out, adapters),

@@ -1,3 +1,4 @@
 pub mod JudgedLemmas
 pub mod LeavesLemmas
+pub mod RunLemmas
 pub mod ScriptLemmas

@@ -1,8 +1,7 @@
 // The script of a session on the device model.
-ghost use Rattle.std.specs.Prelude.{◌≡◌, List, Some, map, true, false, IfSome};
-ghost use Rattle.rl_running.specs.Prelude.{AwaitsScript, IsModel, Leaves, LinesBreak, Standing};
-ghost use Rattle.rl_running.specs.Prelude.{WritesJudged, first_world, input_of, is_complete, kinds_of, output_of};
-ghost use Rattle.rl_running.specs.Prelude.{run_lines, script_judged};
+ghost use Rattle.std.specs.Prelude.{◌≡◌, List, map, true};
+ghost use Rattle.rl_running.specs.Prelude.{AwaitsScript, IsModel, RunsScript, Standing, first_world, is_complete};
+ghost use Rattle.rl_running.specs.Prelude.{kinds_of, run_lines, script_judged};
 
 use rl_bus::{Adapter, Adapters};
 use rl_desc::Desc;
@@ -22,30 +21,17 @@ pub fn run_session<S: Source, L: Log>(
     adapters: &mut Adapters,
 ) -> Status
     requires awaits { AwaitsScript desc lines.old (kinds_of (map standing adapters.old.items)) }
+    ensures runs { RunsScript S.Source L.Sink L.is_out (script_judged desc) (run_lines desc) lines.old
+        source.old source.new log.old log.new
+        (map standing adapters.old.items) (map standing adapters.new.items) result }
     ensures kinds { kinds_of (map standing adapters.new.items) ≡ kinds_of (map standing adapters.old.items) }
-    ensures tells { IfSome (input_of lines.old (S.left source.old)) (λ bytes.
-        WritesJudged (script_judged desc bytes) result
-        (output_of L.written standing log.old adapters.old.items)
-        (output_of L.written standing log.new adapters.new.items)) }
     ensures sound { is_complete result ≡ true → (adapters : List Standing) → IsModel (first_world desc adapters).model }
-    ensures at_fault { result ≡ Status.SourceFault → IfSome (input_of lines.old (S.left source.old)) (λ bytes.
-        LinesBreak (run_lines desc (map standing adapters.old.items)) bytes
-        (S.left source.new) (L.written log.old) (L.written log.new)) }
-    ensures unended { result ≡ Status.SourceFault → (lines.old.ended ≡ false) × L.is_out log.new }
-    ensures leaves { Leaves L.Sink (S.faults source.old) (S.faults source.new) log.old log.new (Some result) }
 {
     let Ok((mut model, mut bench)) = open(alloc, desc) else {
         return Status::Memory;
     };
-    let mut counts = Counts::new();
+    let counts = &mut Counts::new();
     play_lines(
-        alloc,
-        &mut model,
-        &mut bench,
-        adapters,
-        lines,
-        source,
-        log,
-        &mut counts,
+        alloc, &mut model, &mut bench, adapters, lines, source, log, counts,
     )
 }

@@ -1,49 +1,25 @@
-use Rattle.std.proofs.Common.{◌≡◌, None, Err, refl, ap, ◌∙◌}
-use Rattle.rl_log.specs.declared.status.Status.TheVariants.{SourceFault}
+use Rattle.std.proofs.Common.{Err, refl, ap, ◌∙◌}
 use Rattle.rl_plain_log.proofs.PlainLaws.{laws}
 use Rattle.rl_plain_log.proofs.PlainSession.{plain_opened}
-use Rattle.rl_session.specs.Judged.{judged_by, script_judged, taken_text}
-use Rattle.rl_opening.specs.Output.{run_lines}
-use Rattle.regrun.proofs.BreakLemmas.{off_in_head, off_in_script, run_taken}
-use Rattle.rl_opening.proofs.JudgedLemmas.{opened_told, stopped_told}
-use Rattle.rl_opening.proofs.OpeningLemmas.{opens_as, rest_of, head_found}
+use Rattle.rl_session.specs.Judged.{judged_by, script_judged}
+use Rattle.rl_opening.proofs.OpeningLemmas.{opens_as}
+use Rattle.regrun.proofs.BreakLemmas.{run_taken}
 use Rattle.regrun.proofs.PlainLemmas.{plain_stopped}
-use Rattle.rl_play.proofs.LeavesLemmas.{leaves_on}
-use Rattle.rl_running.proofs.LeavesLemmas.{ended_leaves, opened_leaves}
-use Rattle.rl_opening.proofs.StaysLemmas.{keeps_same, still_out}
+use Rattle.regrun.proofs.RunLemmas.{runs_opened, runs_stopped}
 use Rattle.regrun.proofs.running.run.Goals as goal
 
-pub returns-in-Ok-clause-tells : goal.returns-in-Ok-clause-tells
-returns-in-Ok-clause-tells g c =
-    let e = c.in-Ok.ensures in
-    opened_told judged_by script_judged (λ desc bytes adapters. refl) _ _ _ _ _ _ _ _ _ (opens_as _ _ _ _ _ e.opens) (rest_of _ _ _ _ _ e.opens)
-    (keeps_same g.L.Sink.written _ _ e.unwritten) c.run_session.ensures.tells
-
-pub returns-in-Err-clause-tells : goal.returns-in-Err-clause-tells
-returns-in-Err-clause-tells g c =
-    stopped_told judged_by script_judged (λ line bytes adapters. refl) _ _ _ _ _ c.in-Err.ensures.stops
-
-pub returns-in-Ok-clause-at_fault : goal.returns-in-Ok-clause-at_fault
-returns-in-Ok-clause-at_fault g c = λ is.
-    let e = c.in-Ok.ensures in
-    let r = c.run_session.ensures in
-    off_in_script taken_text run_lines run_taken _ _ _ _ _ _ _ _ _ (head_found _ _ _ _ _ e.opens) (r.unended is).0 (opens_as _ _ _ _ _ e.opens) (keeps_same g.L.Sink.written _ _ e.unwritten)
-    (r.at_fault is)
-
-pub returns-in-Err-clause-at_fault : goal.returns-in-Err-clause-at_fault
-returns-in-Err-clause-at_fault g c = λ is.
-    let fault : c.in-Err.status ≡ SourceFault = is in
-    let err = c.in-Err.is ∙ ap Err fault in
+pub returns-in-Ok-clause-runs : goal.returns-in-Ok-clause-runs
+returns-in-Ok-clause-runs g c =
     let e = c.open_session.ensures in
-    off_in_head run_taken _ _ _ _ _ (e.at_fault err) (keeps_same g.L.Sink.written _ _ (e.unwritten_at_fault err))
+    runs_opened g.S.Source g.L.Sink g.L.Log.is_out judged_by script_judged run_taken (λ desc bytes adapters. refl) _ _ _ _ _ _ _ _ _ _ _
+    c.in-Ok.ensures.opens c.in-Ok.ensures.unwritten e.source_later e.stays c.run_session.ensures.runs
 
-pub returns-in-Ok-clause-flushed : goal.returns-in-Ok-clause-flushed
-returns-in-Ok-clause-flushed g c = λ is out. (c.run_session.ensures.unended is).1
-
-pub returns-in-Err-clause-flushed : goal.returns-in-Err-clause-flushed
-returns-in-Err-clause-flushed g c = λ is out.
-    let fault : c.in-Err.status ≡ SourceFault = is in
-    still_out g.L.Log.is_out _ _ (c.open_session.ensures.unwritten_at_fault (c.in-Err.is ∙ ap Err fault)) out
+pub returns-in-Err-clause-runs : goal.returns-in-Err-clause-runs
+returns-in-Err-clause-runs g c =
+    let e = c.open_session.ensures in
+    let r = c.in-Err.ensures in
+    runs_stopped g.S.Source g.L.Sink g.L.Log.is_out judged_by script_judged run_taken (λ line bytes adapters. refl) _ _ _ _ _ _ r.stops
+    (λ is. e.at_fault (c.in-Err.is ∙ ap Err is)) (λ is. e.unwritten_at_fault (c.in-Err.is ∙ ap Err is)) e.source_later r.cause e.stays
 
 pub returns-in-Ok-clause-plain : goal.returns-in-Ok-clause-plain
 returns-in-Ok-clause-plain g c = λ whole.
@@ -51,13 +27,3 @@ returns-in-Ok-clause-plain g c = λ whole.
 
 pub returns-in-Err-clause-plain : goal.returns-in-Err-clause-plain
 returns-in-Err-clause-plain g c = λ whole. plain_stopped _ _ c.in-Err.status _ _ whole c.in-Err.ensures.stops
-
-pub returns-in-Ok-clause-leaves : goal.returns-in-Ok-clause-leaves
-returns-in-Ok-clause-leaves g c =
-    let e = c.open_session.ensures in
-    leaves_on g.L.Sink _ _ _ _ _ _ None _ (opened_leaves g.L.Sink _ _ _ _ e.source_later e.stays) c.run_session.ensures.leaves
-
-pub returns-in-Err-clause-leaves : goal.returns-in-Err-clause-leaves
-returns-in-Err-clause-leaves g c =
-    let e = c.open_session.ensures in
-    ended_leaves g.L.Sink _ _ _ _ _ e.source_later c.in-Err.ensures.cause e.stays

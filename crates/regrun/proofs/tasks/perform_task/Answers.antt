@@ -8,7 +8,7 @@ use Rattle.regrun.proofs.tasks.perform_task.Goals as goal
 
 pub returns-in-Run-clause-does : goal.returns-in-Run-clause-does
 returns-in-Run-clause-does g c =
-    let e = c.run.ensures in task_does _ Run _ _ _ _ _ c.in-Run.is (run_does _ _ _ _ _ e.tells e.plain e.at_fault) e.kinds
+    let e = c.run.ensures in task_does _ Run _ _ _ _ _ c.in-Run.is (run_does _ _ _ _ _ e.runs.tells e.plain e.runs.at_fault) e.kinds
 
 pub returns-in-Map-clause-does : goal.returns-in-Map-clause-does
 returns-in-Map-clause-does g c =
@@ -24,7 +24,7 @@ returns-in-Soak-clause-does g c =
 pub returns-in-Weave-clause-does : goal.returns-in-Weave-clause-does
 returns-in-Weave-clause-does g c =
     let e = c.weave.ensures in
-    task_does _ (Weave _) _ _ _ _ _ c.in-Weave.is (record { weave = e.tells; weave_at_fault = e.at_fault }) e.kinds
+    task_does _ (Weave _) _ _ _ _ _ c.in-Weave.is (record { weave = e.runs.tells; weave_at_fault = e.runs.at_fault }) e.kinds
 
 pub returns-in-Map-clause-flushed : goal.returns-in-Map-clause-flushed
 returns-in-Map-clause-flushed g c = λ is out. still_out g.L.Log.is_out _ _ (c.show_layout.ensures.unwritten is) out
