@@ -40,8 +40,8 @@ use Rattle.rl_plain.proofs.Followed.{FollowsStep}
 use Rattle.rl_plain.proofs.Kept.{IsKept, model_with, raw_built, read_kept}
 use Rattle.rl_seq.proofs.Choosing.{size_most, turned_below}
 use Rattle.rl_seq.specs.Choice.{turned_round}
-use Rattle.rl_finds.proofs.Bashing.{IsStuckSetup, Holding, unmarked_bits, from_own, write_done, check_done}
-use Rattle.rl_finds.proofs.Checks.{read_other}
+use Rattle.rl_finds.proofs.Bashing.{IsStuckSetup, Holding, unmarked_bits, write_done, check_done}
+use Rattle.rl_finds.proofs.Checks.{read_other, from_own}
 
 -- ---- what stands
 
@@ -102,15 +102,14 @@ deposit_stays s new t reg b v q x mirror h kept goes is other =
     let first : ModelData = record s.model { mirror = mirror } in
     let ok : IsModel first = model_with s.model mirror s.model.gathered h.model kept h.model.predictor in
     record {
-      model = subst IsModel (sym is) ok;
-      chip = ap (λ (m : ModelData). m.chip) is;
-      layout = ap (λ (m : ModelData). m.layout) is;
-      device = _;
-      told = goes;
-      setup = h.setup;
-      beats = h.beats;
-      bits = length-set h.device.bits q _ ∙ h.bits;
-      marks = h.marks;
+      device = poked h.device (cell.Reg q) x;
+      scene_is = record {
+        model = subst IsModel (sym is) ok;
+        chip = ap (λ (m : ModelData). m.chip) is;
+        layout = ap (λ (m : ModelData). m.layout) is;
+        told = goes;
+      };
+      set_up = record { setup = h.setup; beats = h.beats; bits = length-set h.device.bits q _ ∙ h.bits; marks = h.marks };
       here = ap (λ n. bit n b) (get_or-set_other h.device.bits q reg _ 0 other) ∙ h.here;
     }
 

@@ -57,7 +57,8 @@ use Rattle.rl_plain.proofs.Followed.{IsPredictedWrite, IsPredictedRead}
 use Rattle.rl_plain.proofs.Granted.{way_found, place_for}
 use Rattle.rl_plain.proofs.Kept.{step_kept}
 use Rattle.rl_plain.proofs.Registers.{bit-ranswer}
-use Rattle.rl_finds.proofs.Checks.{over, some_is, done_over, forgotten_built}
+use Rattle.rl_finds.specs.Devices.{IsSetUp}
+use Rattle.rl_finds.proofs.Checks.{IsSceneOf, over, some_is, done_over, forgotten_built, from_own}
 use Rattle.rl_finds.proofs.ReadsAlike.{IsReadOver, IsReadAlike, read_alike}
 use Rattle.rl_finds.proofs.StuckBit.{unstuck, plain, IsFirm, HoldsStuck, firm_holds, IsStill, all_still}
 use Rattle.rl_finds.proofs.Twins.{AreAlike, items_alike, writes_alike}
@@ -73,22 +74,17 @@ pub record IsStuckSetup (c : ChipData) (l : LayoutData) (t : Setup) (reg b : ℕ
 
 -- a model of this chip and layout, and a device with this setup that holds the bit, with all beats 0
 pub record Holding (c : ChipData) (l : LayoutData) (t : Setup) (reg b : ℕ) (v : Bool) (s : Scene) : Type 0 where
-  pub model : IsModel s.model
-  pub chip : s.model.chip ≡ c
-  pub layout : s.model.layout ≡ l
   pub device : State
-  pub told : s.device ≡ Some device
-  pub setup : device.setup ≡ t
-  pub beats : (port address : ℕ) → device.beats port address ≡ 0
-  pub bits : length device.bits ≡ length c.regs
-  pub marks : length device.marks ≡ length c.regs
+  pub scene_is : IsSceneOf c l s device
+  pub open scene_is use *
+  pub set_up : IsSetUp c t device
+  pub open set_up use *
   pub here : bit (slice_index device.bits reg) b ≡ v
 
-pub holding_first : (t : Setup) (reg b : ℕ) (v : Bool) (s : Scene) (d : State) → IsModel s.model → s.device ≡ Some d → d.setup ≡ t
-    → ((port address : ℕ) → d.beats port address ≡ 0) → length d.bits ≡ length s.model.chip.regs → length d.marks ≡ length s.model.chip.regs
+pub holding_first : (t : Setup) (reg b : ℕ) (v : Bool) (s : Scene) (d : State) → IsModel s.model → s.device ≡ Some d → IsSetUp s.model.chip t d
     → bit (slice_index d.bits reg) b ≡ v → Holding s.model.chip s.model.layout t reg b v s
-holding_first t reg b v s d ok told setup beats bits marks here =
-    record { model = ok; chip = refl; layout = refl; device = d; told = told; setup = setup; beats = beats; bits = bits; marks = marks; here = here }
+holding_first t reg b v s d ok told is here =
+    record { device = d; scene_is = record { model = ok; chip = refl; layout = refl; told = told }; set_up = is; here = here }
 
 -- ---- the operation over the device without it
 
@@ -161,23 +157,27 @@ bashed s new t reg b v o place n e is h access numbers register inside granted d
     let layout : new.model.layout ≡ l = st.follows.layout in
     record {
       stands = record {
-        model = record {
-          chip = subst IsChip (sym chip) h.model.chip;
-          layout = subst IsLayout (sym layout) h.model.layout;
-          built = subst (λ y. IsBuiltWith new.model.layout y) (sym chip) (subst (λ y. IsBuiltWith y c) (sym layout) h.model.built);
-          mirror = subst (λ y. IsMirrorOf y new.model.mirror) (sym chip) kept.built;
-          reach = subst (λ y. IsReachable y new.model.mirror) (sym chip) kept.reach;
-          predictor = subst (λ y. IsPredictorOf y new.model.gathered) (sym layout) (subst (IsPredictorOf l) (sym gathered)
-              (forgotten_built (port_at l (row_at l place).port).explicit l m.gathered place h.model.predictor));
-        };
-        chip = chip;
-        layout = layout;
         device = next;
-        told = done.goes ∙ ap (option_map (device_after m o done.sampled e.trace)) h.told ∙ ap Some (after d done.sampled);
-        setup = setup-state_after_all d e.trace ∙ h.setup;
-        beats = λ p a. ap (λ (f : ℕ → ℕ → ℕ). f p a) (sym beats) ∙ ap (λ (y : State). y.beats p a) came ∙ st.stepped.ready.beats p a;
-        bits = still.bits ∙ h.bits;
-        marks = still.marks ∙ h.marks;
+        scene_is = record {
+          model = record {
+            chip = subst IsChip (sym chip) h.model.chip;
+            layout = subst IsLayout (sym layout) h.model.layout;
+            built = subst (λ y. IsBuiltWith new.model.layout y) (sym chip) (subst (λ y. IsBuiltWith y c) (sym layout) h.model.built);
+            mirror = subst (λ y. IsMirrorOf y new.model.mirror) (sym chip) kept.built;
+            reach = subst (λ y. IsReachable y new.model.mirror) (sym chip) kept.reach;
+            predictor = subst (λ y. IsPredictorOf y new.model.gathered) (sym layout) (subst (IsPredictorOf l) (sym gathered)
+                (forgotten_built (port_at l (row_at l place).port).explicit l m.gathered place h.model.predictor));
+          };
+          chip = chip;
+          layout = layout;
+          told = done.goes ∙ ap (option_map (device_after m o done.sampled e.trace)) h.told ∙ ap Some (after d done.sampled);
+        };
+        set_up = record {
+          setup = setup-state_after_all d e.trace ∙ h.setup;
+          beats = λ p a. ap (λ (f : ℕ → ℕ → ℕ). f p a) (sym beats) ∙ ap (λ (y : State). y.beats p a) came ∙ st.stepped.ready.beats p a;
+          bits = still.bits ∙ h.bits;
+          marks = still.marks ∙ h.marks;
+        };
         here = still.here (subst (λ q. reg < q) (sym h.bits) is.reg_in) h.here;
       };
       stepped = st;
@@ -269,10 +269,6 @@ checked s new t reg b v n map place e is lasts h numbers granted done =
     })
 
 -- ---- of any chip and layout
-
--- what a chip and a layout have, those of the model have
-pub from_own : (c : ChipData) (l : LayoutData) (m : ModelData) (P : ChipData → LayoutData → Type 0) → m.chip ≡ c → m.layout ≡ l → P m.chip m.layout → P c l
-from_own c l m P chip layout h = subst (λ x. P x l) chip (subst (λ y. P m.chip y) layout h)
 
 -- after a write that was granted the value is believed to be written
 pub record IsWritten (c : ChipData) (l : LayoutData) (t : Setup) (reg b : ℕ) (v : Bool) (s new : Scene) (n value : ℕ) : Type 0 where

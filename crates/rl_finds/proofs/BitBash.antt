@@ -11,7 +11,7 @@ use Rattle.rl_bus.specs.declared.table.StuckRow.{StuckRow}
 use Rattle.rl_bus.specs.Setup.{Setup, field_of as row_of_field, stuck_at}
 use Rattle.rl_bus.specs.State.{State}
 use Rattle.rl_model.specs.Rows.{FieldSeen, ChipData}
-use Rattle.rl_model.specs.Fields.{field_of, first_of, count_of, fields_of, field_in, policy_in, size_of, place_at}
+use Rattle.rl_model.specs.Fields.{field_of, first_of, count_of, fields_of, field_in, policy_in, size_of}
 use Rattle.rl_model.specs.Chip.{IsSound as IsChip}
 use Rattle.rl_model.specs.declared.rows.Field.{Field}
 use Rattle.rl_model.specs.declared.rows.Item.TheVariants.{Reg}
@@ -54,8 +54,8 @@ use Rattle.rl_plain.proofs.NothingFound.{covered}
 
 -- it is bit b of the register, and belongs to its k-th field, which is compared
 pub record IsBit (c : ChipData) (field reg k b i : ℕ) : Type 0 where
-  pub low : b < 64
-  pub at : place_at (fields_of c reg) b ≡ Some k
+  pub own : IsBitOf (fields_of c reg) k b
+  pub open own use *
   pub inside : k < length (fields_of c reg)
   pub field_is : field_in (fields_of c reg) k ≡ field_of c field
   pub offset : (field_of c field).shape.lsb + i ≡ b
@@ -362,8 +362,7 @@ the_bit c s sound is =
     subst (λ (f : FieldSeen). s.bit < f.shape.width → IsBitOf (fields_of c reg) k (f.shape.lsb + s.bit)) at.field
     (λ low. own_bit (8 * size_of c reg) (fields_of c reg) k s.bit list at.place low) is.bit_in in
     record {
-      low = own.low;
-      at = own.at;
+      own = own;
       inside = at.place;
       field_is = at.field;
       offset = refl;
@@ -457,7 +456,7 @@ named_by_try s new d block told stuck place j ok is has compared try v run =
       map_in = (ok.layout.each_place place v.place_in).map;
     } in
     walk_finds s.model block t stuck.field reg k b stuck.bit stuck.value place j ok w try v s new told
-    (holding_first t reg b stuck.value s d ok is has.setup has.beats has.bits has.marks has.holds) run
+    (holding_first t reg b stuck.value s d ok is has.set_up has.holds) run
 
 pub stuck_bit_is_named : StuckBitIsNamed
 stuck_bit_is_named s new d block told stuck place ok is has compared shown v run =

@@ -95,14 +95,19 @@ after_check m reg place value differ (Some k) ok inside = record { ok = entered 
 
 -- ---- what stands between checks
 
--- the device without its wrong reset values is one without flaws, and has no mark; this register has these bits, and is
--- believed to have others
-pub record Holding (c : ChipData) (l : LayoutData) (reg bits mirrored : ℕ) (s : Scene) : Type 0 where
+-- a model of this chip and layout, and a device that tells its state
+pub record IsSceneOf (c : ChipData) (l : LayoutData) (s : Scene) (device : State) : Type 0 where
   pub model : IsModel s.model
   pub chip : s.model.chip ≡ c
   pub layout : s.model.layout ≡ l
-  pub device : State
   pub told : s.device ≡ Some device
+
+-- the device without its wrong reset values is one without flaws, and has no mark; this register has these bits, and is
+-- believed to have others
+pub record Holding (c : ChipData) (l : LayoutData) (reg bits mirrored : ℕ) (s : Scene) : Type 0 where
+  pub device : State
+  pub scene_is : IsSceneOf c l s device
+  pub open scene_is use *
   pub ready : IsReady c l (without device)
   pub unmarked : (q : ℕ) → q < length c.regs → slice_index device.marks q ≡ 0
   pub bits_are : slice_index device.bits reg ≡ bits
@@ -148,12 +153,12 @@ unmarked_register d reg = record { bits = slice_index d.bits reg; spent = λ k. 
 -- the check is a step of its register
 record IsCheckStep (s new : Scene) (reg : ℕ) (e : Event) (d : State) : Type 0 where
   after : State
-  told : new.device ≡ Some after
+  scene_is : IsSceneOf s.model.chip s.model.layout new after
   bits : (q : ℕ) → (q ≡ reg → ⊥) → slice_index after.bits q ≡ slice_index d.bits q
   marks : after.marks ≡ d.marks
   ready : IsReady s.model.chip s.model.layout (without after)
   ends : e.end ≡ end.Value (ranswer (fields_of s.model.chip reg) every (unmarked_register d reg))
-  checked : IsChecked s.model new.model reg
+  believed : (q : ℕ) → (q ≡ reg → ⊥) → mirrored_of new.model.mirror q ≡ mirrored_of s.model.mirror q
 
 check_done : (s new : Scene) (reg place : ℕ) (map : Option ℕ) (e : Event) (bits mirrored q : ℕ) → HasNumbers s.model.chip (length s.model.layout.maps) (op.Check reg map)
     → (h : Holding s.model.chip s.model.layout q bits mirrored s) → grant s.model (op.Check reg map) ≡ Ok place → IsDone s new (op.Check reg map) place e
@@ -178,14 +183,20 @@ check_done s new reg place map e bits mirrored q numbers h granted done =
     let st = access_is_step before later (op.Check reg map) e place reg (without d) r tt numbers refl meets granted performs in
     let same : without after ≡ st.after = some_is st.told in
     let stepped : without after ≡ device_after c (without d) reg (read_step every) r (length e.trace) = same ∙ st.step in
+    let checked = subst (λ (x : ModelData). IsChecked m x reg) (sym done.model) (after_check m reg place _ _ (failed_at e.trace) h.model numbers.0) in
     record {
       after = after;
-      told = done.goes ∙ ap (option_map (λ (x : State). state_after_all x e.trace)) h.told;
+      scene_is = record {
+        model = checked.ok;
+        chip = checked.chip;
+        layout = checked.layout;
+        told = done.goes ∙ ap (option_map (λ (x : State). state_after_all x e.trace)) h.told;
+      };
       bits = λ q other. ap (λ (x : State). slice_index x.bits q) stepped ∙ other_bits c (without d) reg q (read_step every) r (length e.trace) other;
       marks = ap (λ (x : State). x.marks) stepped;
       ready = subst (IsReady c m.layout) (sym same) st.ready;
       ends = st.ends;
-      checked = subst (λ (x : ModelData). IsChecked m x reg) (sym done.model) (after_check m reg place _ _ (failed_at e.trace) h.model numbers.0);
+      believed = checked.others;
     }
 
 -- ---- a check of another register
@@ -196,15 +207,12 @@ other_done : (s new : Scene) (reg place : ℕ) (map : Option ℕ) (e : Event) (b
 other_done s new reg place map e bits mirrored q numbers other h granted done =
     let st = check_done s new reg place map e bits mirrored q numbers h granted done in
     record {
-      model = st.checked.ok;
-      chip = st.checked.chip;
-      layout = st.checked.layout;
       device = st.after;
-      told = st.told;
+      scene_is = st.scene_is;
       ready = st.ready;
       unmarked = λ n inside. ap (λ xs. slice_index xs n) st.marks ∙ h.unmarked n inside;
       bits_are = st.bits q other ∙ h.bits_are;
-      believed = st.checked.others q other ∙ h.believed;
+      believed = st.believed q other ∙ h.believed;
     }
 
 other_by : (s new : Scene) (reg : ℕ) (map : Option ℕ) (e : Event) (bits mirrored q : ℕ) (g : Grant) → grant s.model (op.Check reg map) ≡ g

@@ -230,6 +230,6 @@ deaf_register_is_named s new d block told field i place ok is has bad v run =
       turned = subst (λ (f : FieldSeen). IsTurned f.shape.policy bad.value (kept.spent k)) (sym own.field_is) turned;
     } in
     deaf_walk s.model block t field b i bad.value kept place ok w v s new told (record {
-      holding = holding_first t reg b bad.value s d ok is has.setup has.beats has.bits has.marks bad.held;
+      holding = holding_first t reg b bad.value s d ok is has.set_up bad.held;
       as_before = record { bits = refl; marks = λ k inside. refl };
     }) run

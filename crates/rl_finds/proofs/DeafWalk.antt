@@ -45,6 +45,7 @@ use Rattle.rl_plain.proofs.Answered.{answered, none_failed, done_of}
 use Rattle.rl_plain.proofs.Locations.{location_within, apart}
 use Rattle.rl_plain.proofs.MemoryAccesses.{IsGranted, granted_at, write_granted, check_granted, stored_at, loaded_at}
 use Rattle.rl_plain.proofs.Outcomes.{good_is}
+use Rattle.rl_finds.specs.Devices.{IsSetUp}
 use Rattle.rl_finds.specs.Deaf.{deaf_items, DeafMemoryIsFound}
 use Rattle.rl_finds.specs.Visited.{HasEvent, IsVisited}
 use Rattle.rl_finds.proofs.Holding.{HoldsOne, in_first, in_second, in_chosen, in_each}
@@ -59,10 +60,8 @@ record Holding (m : ModelData) (t : Setup) (mem x : ℕ) (s : Scene) : Type 0 wh
   model : s.model ≡ m
   device : State
   told : s.device ≡ Some device
-  setup : device.setup ≡ t
-  beats : (port address : ℕ) → device.beats port address ≡ 0
-  bits : length device.bits ≡ length m.chip.regs
-  marks : length device.marks ≡ length m.chip.regs
+  set_up : IsSetUp m.chip t device
+  open set_up use *
   locations : length device.locations ≡ sum_by (λ m. m.size) m.chip.mems
   here : slice_index device.locations (location t mem 0) ≡ x
 
@@ -72,9 +71,9 @@ record IsDeafSetup (c : ChipData) (l : LayoutData) (t : Setup) (mem : ℕ) : Typ
   guarded : IsGuarded c t mem
 
 -- a twin that hears
-ready_twin : (c : ChipData) (l : LayoutData) (t : Setup) (d : State) (xs : List ℕ) → hearing t ≡ setup_of c l no_flaws → d.setup ≡ t
-    → ((port address : ℕ) → d.beats port address ≡ 0) → length d.bits ≡ length c.regs → length d.marks ≡ length c.regs → IsReady c l (twin d d.bits d.marks xs)
-ready_twin c l t d xs hears is beats bits marks = record { setup = ap hearing is ∙ hears; beats = beats; bits = bits; marks = marks }
+ready_twin : (c : ChipData) (l : LayoutData) (t : Setup) (d : State) (xs : List ℕ) → hearing t ≡ setup_of c l no_flaws → IsSetUp c t d
+    → IsReady c l (twin d d.bits d.marks xs)
+ready_twin c l t d xs hears is = record { setup = ap hearing is.setup ∙ hears; beats = is.beats; bits = is.bits; marks = is.marks }
 
 -- one with 0 in each location
 abbrev blank : State → State
@@ -117,10 +116,12 @@ after_ops s new t mem x place o e ops deaf h done sent model goes fine first =
       model = model;
       device = state_after_all d e.trace;
       told = goes;
-      setup = setup-state_after_all d e.trace ∙ h.setup;
-      beats = λ p a. ap (λ (y : State). y.beats p a) after ∙ sym (ap (λ (b : ℕ → ℕ → ℕ). b p a) (all_alike d (blank d) port ops alike).beats) ∙ first p a;
-      bits = kept.bits ∙ h.bits;
-      marks = kept.marks ∙ h.marks;
+      set_up = record {
+        setup = setup-state_after_all d e.trace ∙ h.setup;
+        beats = λ p a. ap (λ (y : State). y.beats p a) after ∙ sym (ap (λ (b : ℕ → ℕ → ℕ). b p a) (all_alike d (blank d) port ops alike).beats) ∙ first p a;
+        bits = kept.bits ∙ h.bits;
+        marks = kept.marks ∙ h.marks;
+      };
       locations = kept.locations ∙ h.locations;
       here = kept.here ∙ h.here;
     }
@@ -144,7 +145,7 @@ load_done s new t mem x place n index o e ok deaf inside h by sent model goes do
     let m = s.model in
     let d = h.device in
     let has = has_blank m.chip m.layout t d n index deaf.hears h.setup h.locations inside by.index_in in
-    let load = loaded_at m n index place (blank d) ok (ready_twin m.chip m.layout t d _ deaf.hears h.setup h.beats h.bits h.marks) has by in
+    let load = loaded_at m n index place (blank d) ok (ready_twin m.chip m.layout t d _ deaf.hears h.set_up) has by in
     after_ops s new t mem x place o e (ops_of m.layout place index (location_bytes m n) 0 false) deaf h done sent model goes load.answers load.ready.beats
 
 memory_done : (s new : Scene) (t : Setup) (mem x place : ℕ) (o : Op) (e : Event) → IsModel s.model → IsDeafSetup s.model.chip s.model.layout t mem
@@ -155,7 +156,7 @@ memory_done s new t mem x place (op.MemWrite n map index value) e ok deaf is num
     let d = h.device in
     let by = write_granted m n index value map place granted in
     let has = has_blank m.chip m.layout t d n index deaf.hears h.setup h.locations numbers.0 by.granted.index_in in
-    let store = stored_at m n index value place (blank d) ok (ready_twin m.chip m.layout t d _ deaf.hears h.setup h.beats h.bits h.marks) numbers.0 has by in
+    let store = stored_at m n index value place (blank d) ok (ready_twin m.chip m.layout t d _ deaf.hears h.set_up) numbers.0 has by in
     let ops = ops_of m.layout place index (location_bytes m n) value true in
     after_ops s new t mem x place (op.MemWrite n map index value) e ops deaf h done refl (done.model ∙ model_stays m (op.MemWrite n map index value) place done.sampled e.trace tt)
     (done.goes ∙ ap (option_map (λ (y : State). state_after_all y e.trace)) h.told) (all_written (answers_of (blank d) (port_for m.layout place) ops) ops store.answers) store.ready.beats
@@ -215,7 +216,7 @@ check_done s new t mem x value place over e ok deaf inside fits other h granted 
     subst (λ (u : Setup). location u mem 0 < length d.locations) (sym setup)
     (subst (λ n. location (setup_of c l no_flaws) mem 0 < n) (sym h.locations) (location_within c l mem 0 inside by.index_in)) in
     let has : HasLocation (heard d) mem 0 (location_size c mem) = record { inside = room; fits = subst (λ n. n < 256 ^ location_size c mem) (sym held) fits } in
-    let load = loaded_at m mem 0 place (heard d) ok (ready_twin c l t d d.locations deaf.hears h.setup h.beats h.bits h.marks) has by in
+    let load = loaded_at m mem 0 place (heard d) ok (ready_twin c l t d d.locations deaf.hears h.set_up) has by in
     let reads : answers_of (heard d) port ops ≡ answers_of d port ops = reads_heard d port ops (all_reads l place 0 chosen) in
     let ans = answered adapter d port ops (subst (All (λ (a : Answer). a.failed ≡ false)) reads load.answers) in
     let trace : e.trace ≡ items_of adapter d port ops = done.answers d h.told in
@@ -382,10 +383,7 @@ deaf_memory_is_found s new d block told mem place ok is has deaf v run =
       model = refl;
       device = d;
       told = is;
-      setup = has.setup;
-      beats = has.beats;
-      bits = has.bits;
-      marks = has.marks;
+      set_up = has.set_up;
       locations = has.locations;
       here = ap (λ (u : Setup). slice_index d.locations (location u mem 0)) (sym has.setup);
     }) run

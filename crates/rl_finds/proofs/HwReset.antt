@@ -41,7 +41,7 @@ use Rattle.rl_plain.proofs.Kept.{model_with}
 use Rattle.rl_plain.proofs.Answered.{done_of}
 use Rattle.rl_finds.specs.Resets.{wrong_resets, HasWrongResets, IsResetOtherwise, IsNamedBy, WrongResetIsNamed}
 use Rattle.rl_finds.specs.Visited.{IsVisited}
-use Rattle.rl_finds.proofs.Checks.{Holding, other_check, own_check}
+use Rattle.rl_finds.proofs.Checks.{IsSceneOf, Holding, other_check, own_check}
 use Rattle.rl_finds.proofs.Comes.{ComesTo, Either, either_if, comes_if, either_each, comes_each, come_found}
 use Rattle.rl_finds.proofs.Forgetting.{setup_without, without}
 use Rattle.rl_finds.proofs.Reaching.{is_place, check_is}
@@ -165,13 +165,8 @@ model_again m ok =
     (record { built = reset_built m.chip 0 m.mirror ok.chip ok.mirror; reach = reset_reach m.chip 0 m.mirror ok.chip ok.mirror ok.reach }) ok.predictor
 
 -- model and device after it
-pub record IsResetTo (s new : Scene) (d : State) : Type 0 where
-  pub model : IsModel new.model
-  pub chip : new.model.chip ≡ s.model.chip
-  pub layout : new.model.layout ≡ s.model.layout
-  pub told : new.device ≡ Some (reset_by d 0)
-
-pub reset_to : (s new : Scene) (e : Event) (d : State) → IsModel s.model → s.device ≡ Some d → IsDone s new (op.Reset 0) 0 e → IsResetTo s new d
+pub reset_to : (s new : Scene) (e : Event) (d : State) → IsModel s.model → s.device ≡ Some d → IsDone s new (op.Reset 0) 0 e
+    → IsSceneOf s.model.chip s.model.layout new (reset_by d 0)
 reset_to s new e d ok told done = record {
   model = subst IsModel (sym done.model) (model_again s.model ok);
   chip = ap (λ (x : ModelData). x.chip) done.model;
@@ -185,13 +180,9 @@ reset_leaves : (s new : Scene) (e : Event) (d : State) (reg : ℕ) → IsModel s
     → Holding s.model.chip s.model.layout reg (reg_reset d 0 reg) (after_reset (fields_of s.model.chip reg) 0 (mirrored_of s.model.mirror reg)) new
 reset_leaves s new e d reg ok told w inside done =
     let m = s.model in
-    let scene_is = reset_to s new e d ok told done in
     record {
-      model = scene_is.model;
-      chip = scene_is.chip;
-      layout = scene_is.layout;
       device = reset_by d 0;
-      told = scene_is.told;
+      scene_is = reset_to s new e d ok told done;
       ready = ready_again m.chip m.layout d w;
       unmarked = λ q low. no_marks m.chip m.layout d q w low;
       bits_are = bits_again m.chip m.layout d reg w inside;

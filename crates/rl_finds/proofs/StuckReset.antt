@@ -25,6 +25,7 @@ use Rattle.rl_access.specs.Operation.{reg_of}
 use Rattle.rl_seq.specs.declared.sequence.Sequence.TheVariants.{HwReset}
 use Rattle.rl_seq.specs.Sequences.{walk}
 use Rattle.rl_plain.specs.Agree.{believed}
+use Rattle.rl_finds.specs.Devices.{IsSetUp}
 use Rattle.rl_finds.specs.Resets.{IsNamedBy}
 use Rattle.rl_finds.specs.Stuck.{stuck_bit, bit_of, HasStuckBit, StuckResetIsNamed}
 use Rattle.rl_finds.proofs.AccessTest.{Agreeing, check_agrees}
@@ -46,14 +47,14 @@ held_again t d reg b v at stuck low inside =
     ap (λ x. bit x b) (get_or-map-range_with_len (reg_reset d 0) 0 (length d.bits) reg reg 0 inside (omega arith)) ∙ held_bit d.setup reg b f low
     ∙ ap (λ o. or_else o (f b)) (ap (λ (u : Setup). stuck_at u reg b) at ∙ stuck)
 
-record IsReset (d : State) : Type 0 where
-  beats : (port address : ℕ) → (reset_by d 0).beats port address ≡ 0
-  bits : length (reset_by d 0).bits ≡ length d.bits
-  marks : length (reset_by d 0).marks ≡ length d.marks
-
-is_reset : (d : State) → IsReset d
+set_up_again : (c : ChipData) (t : Setup) (d : State) → IsSetUp c t d → IsSetUp c t (reset_by d 0)
 unfolding reset_by
-is_reset d = record { beats = λ p a. refl; bits = length-map-range_with_len (reg_reset d 0) 0 (length d.bits); marks = length-replicate (length d.marks) 0 }
+set_up_again c t d is = record {
+  setup = reset_setup d ∙ is.setup;
+  beats = λ p a. refl;
+  bits = length-map-range_with_len (reg_reset d 0) 0 (length d.bits) ∙ is.bits;
+  marks = length-replicate (length d.marks) 0 ∙ is.marks;
+}
 
 reset_leaves : (s new : Scene) (e : Event) (d : State) (stuck : StuckRow) → IsModel s.model → s.device ≡ Some d → HasStuckBit s.model.chip s.model.layout d stuck
     → stuck.field < length s.model.chip.fields → bit_of s.model.chip stuck < 64 → reg_of s.model.chip stuck.field < length s.model.chip.regs → IsDone s new (op.Reset 0) 0 e
@@ -61,19 +62,12 @@ reset_leaves : (s new : Scene) (e : Event) (d : State) (stuck : StuckRow) → Is
 reset_leaves s new e d stuck ok told has inside low reg_in done =
     let m = s.model in
     let reg = reg_of m.chip stuck.field in
-    let after = is_reset d in
-    let scene_is = reset_to s new e d ok told done in
+    let t = setup_of m.chip m.layout (stuck_bit stuck) in
     record {
-      model = scene_is.model;
-      chip = scene_is.chip;
-      layout = scene_is.layout;
       device = reset_by d 0;
-      told = scene_is.told;
-      setup = reset_setup d ∙ has.setup;
-      beats = after.beats;
-      bits = after.bits ∙ has.bits;
-      marks = after.marks ∙ has.marks;
-      here = held_again (setup_of m.chip m.layout (stuck_bit stuck)) d reg (bit_of m.chip stuck) stuck.value has.setup (stuck_there m.chip m.layout stuck inside) low
+      scene_is = reset_to s new e d ok told done;
+      set_up = set_up_again m.chip t d has.set_up;
+      here = held_again t d reg (bit_of m.chip stuck) stuck.value has.setup (stuck_there m.chip m.layout stuck inside) low
           (subst (λ n. reg < n) (sym has.bits) reg_in);
     }
 

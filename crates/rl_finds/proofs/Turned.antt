@@ -19,6 +19,7 @@ use Rattle.rl_map.specs.Layout.{LayoutData}
 use Rattle.rl_map.specs.Tables.{setup_of}
 use Rattle.rl_mirror.proofs.FieldLemmas.{seated}
 use Rattle.rl_access.specs.Operation.{reg_of}
+use Rattle.rl_finds.specs.Devices.{IsSetUp}
 use Rattle.rl_finds.specs.Deaf.{IsTurned, turned_from_0, turned_from_1, PoliciesTurn}
 use Rattle.rl_finds.specs.Stuck.{stuck_bit, bit_of, turned_at_0, turned_at_1, beside_at_0, beside_at_1, PoliciesShowTurned, PoliciesShowBeside, NewOneHasStuckBit}
 use Rattle.rl_finds.proofs.BitBash.{stuck_there}
@@ -82,24 +83,24 @@ held_stuck : (t : Setup) (r k : ℕ) (v : Bool) (f : ℕ → Bool) → k < 64 �
 unfolding held
 held_stuck t r k v f low stuck = bit-from_bits 64 (λ b. or_else (stuck_at t r b) (f b)) k low ∙ ap (λ o. or_else o (f k)) stuck
 
-record IsNewDevice (t : Setup) (n reg b : ℕ) (v : Bool) (d : State) : Type 0 where
-  setup : d.setup ≡ t
-  beats : (port address : ℕ) → d.beats port address ≡ 0
-  bits : length d.bits ≡ n
-  marks : length d.marks ≡ n
+record IsNewDevice (c : ChipData) (t : Setup) (reg b : ℕ) (v : Bool) (d : State) : Type 0 where
+  set_up : IsSetUp c t d
   here : bit (slice_index d.bits reg) b ≡ v
 
-fresh_ones : (t : Setup) (n count reg b : ℕ) (v : Bool) → length t.regs ≡ n → reg < n → b < 64 → stuck_at t reg b ≡ Some v → IsNewDevice t n reg b v (first_state t count)
+fresh_ones : (c : ChipData) (t : Setup) (count reg b : ℕ) (v : Bool) → length t.regs ≡ length c.regs → reg < length c.regs → b < 64 → stuck_at t reg b ≡ Some v
+    → IsNewDevice c t reg b v (first_state t count)
 unfolding first_state reset_by
-fresh_ones t n count reg b v many inside low stuck =
+fresh_ones c t count reg b v many inside low stuck =
     let zeros = replicate (length t.regs) 0 in
     let blank : State = record { setup = t; bits = zeros; marks = zeros; locations = replicate count 0; beats = λ p a. 0; items = 0 } in
-    let long : length zeros ≡ n = length-replicate (length t.regs) 0 ∙ many in
+    let long : length zeros ≡ length c.regs = length-replicate (length t.regs) 0 ∙ many in
     record {
-      setup = refl;
-      beats = λ p a. refl;
-      bits = length-map-range_with_len (reg_reset blank 0) 0 (length zeros) ∙ long;
-      marks = length-replicate (length zeros) 0 ∙ long;
+      set_up = record {
+        setup = refl;
+        beats = λ p a. refl;
+        bits = length-map-range_with_len (reg_reset blank 0) 0 (length zeros) ∙ long;
+        marks = length-replicate (length zeros) 0 ∙ long;
+      };
       here = ap (λ x. bit x b) (get_or-map-range_with_len (reg_reset blank 0) 0 (length zeros) reg reg 0 (subst (λ m. reg < m) (sym long) inside) (omega arith))
           ∙ held_stuck t reg b v _ low stuck;
     }
@@ -110,5 +111,5 @@ new_one_has_stuck_bit c l s count sound inside within =
     let reg = reg_of c s.field in
     let b = bit_of c s in
     let seat = seated c s.field sound inside in
-    let new = fresh_ones t (length c.regs) count reg b s.value (regs_of c l s) seat.reg (omega (arith, seat.inside, seat.bytes, within)) (stuck_there c l s inside) in
-    record { setup = new.setup; beats = new.beats; bits = new.bits; marks = new.marks; holds = new.here }
+    let new = fresh_ones c t count reg b s.value (regs_of c l s) seat.reg (omega (arith, seat.inside, seat.bytes, within)) (stuck_there c l s inside) in
+    record { set_up = new.set_up; holds = new.here }

@@ -25,6 +25,7 @@ use Rattle.rl_access.specs.Operation.{location_size, reg_of}
 use Rattle.rl_seq.specs.declared.sequence.Sequence.TheVariants.{Access, MemWalk}
 use Rattle.rl_seq.specs.Choice.{turned_round}
 use Rattle.rl_plain.specs.Agree.{HasNoVolatile}
+use Rattle.rl_finds.specs.Devices.{IsSetUp}
 use Rattle.rl_finds.specs.Resets.{IsNamedBy}
 use Rattle.rl_finds.specs.Visited.{RunsAll, HasEvent, IsVisited}
 
@@ -34,10 +35,8 @@ deaf_items deaf = record no_flaws { deaf = deaf }
 -- a device of this chip and this layout, whose only flaws are deaf registers and memories, with all beats 0
 pub record HasDeafItems (c : ChipData) (l : LayoutData) (d : State) : Type 0 where
   pub deaf : List ItemRow
-  pub setup : d.setup ≡ setup_of c l (deaf_items deaf)
-  pub beats : (port address : ℕ) → d.beats port address ≡ 0
-  pub bits : length d.bits ≡ length c.regs
-  pub marks : length d.marks ≡ length c.regs
+  pub set_up : IsSetUp c (setup_of c l (deaf_items deaf)) d
+  pub open set_up use *
   pub locations : length d.locations ≡ sum_by (λ m. m.size) c.mems
 
 -- the memory is deaf, and its first location doesn't hold what the walk writes there: 1 in each bit

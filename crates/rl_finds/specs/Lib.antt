@@ -1,4 +1,5 @@
 pub mod Visited
+pub mod Devices
 pub mod Named
 pub mod Errors
 pub mod Resets

@@ -20,6 +20,7 @@ use Rattle.rl_access.specs.Model.{IsModel}
 use Rattle.rl_access.specs.Operation.{reg_of}
 use Rattle.rl_seq.specs.declared.sequence.Sequence.TheVariants.{HwReset, BitBash}
 use Rattle.rl_seq.specs.Choice.{is_bit_compared}
+use Rattle.rl_finds.specs.Devices.{IsSetUp}
 use Rattle.rl_finds.specs.Resets.{IsNamedBy}
 use Rattle.rl_finds.specs.Visited.{RunsAll, HasEvent, IsVisited}
 
@@ -32,10 +33,8 @@ bit_of c s = (field_of c s.field).shape.lsb + s.bit
 
 -- a device of this chip and this layout, whose only flaw is this stuck bit, with all beats 0; it holds the bit as it is stuck
 pub record HasStuckBit (c : ChipData) (l : LayoutData) (d : State) (s : StuckRow) : Type 0 where
-  pub setup : d.setup ≡ setup_of c l (stuck_bit s)
-  pub beats : (port address : ℕ) → d.beats port address ≡ 0
-  pub bits : length d.bits ≡ length c.regs
-  pub marks : length d.marks ≡ length c.regs
+  pub set_up : IsSetUp c (setup_of c l (stuck_bit s)) d
+  pub open set_up use *
   pub holds : bit (slice_index d.bits (reg_of c s.field)) (bit_of c s) ≡ s.value
 
 -- the bit belongs to a compared field

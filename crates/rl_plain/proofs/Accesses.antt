@@ -1,5 +1,5 @@
 -- A whole access is one step of its register.
-use Rattle.std.proofs.Common.{◌≡◌, ◌<◌, ◌∙◌, List, map, ap, All, false, subst, sym, refl, ℕ, None, Bool, length, true}
+use Rattle.std.proofs.Common.{◌≡◌, ◌<◌, ◌∙◌, List, map, ap, All, false, subst, sym, refl, ℕ, None, Some, Bool, length, true}
 use Rattle.std.specs.Prelude.{if◌then◌else◌}
 use Rattle.std.proofs.lemmas.List.Elements.{All-map}
 use Rattle.rl_bus.specs.State.{State}
@@ -18,14 +18,15 @@ use Rattle.rl_mirror.specs.Mirror.{MirrorData}
 use Rattle.rl_access.specs.Call.{Scene, IsDone}
 use Rattle.rl_access.specs.Items.{failed_at, words_answered, port_for}
 use Rattle.rl_access.specs.Model.{ModelData, IsModel}
-use Rattle.rl_access.specs.Rules.{Outcome, register_event, named, whole, access_ops, write_outcome, forgetting, every_field, read_outcome}
+use Rattle.rl_access.specs.Operation.{register_of}
+use Rattle.rl_access.specs.Rules.{Outcome, register_event, named, sends, outcome, whole, access_ops, write_outcome, forgetting, every_field, read_outcome}
 use Rattle.rl_access.specs.Tally.{is_bus_error}
 use Rattle.rl_access.specs.declared.event.End.{End}
 use Rattle.rl_access.specs.declared.event.Event.{Event}
 use Rattle.rl_access.specs.declared.event.Op.{Op}
 use Rattle.rl_access.specs.declared.trace.TraceItem.{TraceItem}
 use Rattle.rl_access.proofs.Places.{place_size}
-use Rattle.rl_plain.specs.OneStep.{IsOneStep, step_of, Meets, write_step, end_of, device_after, register_after, read_step}
+use Rattle.rl_plain.specs.OneStep.{IsOneStep, IsAccess, step_of, Meets, write_step, end_of, device_after, register_after, read_step}
 use Rattle.rl_plain.proofs.Answered.{IsOverBus, has_run}
 use Rattle.rl_plain.proofs.Followed.{Followed, write_follows, whole_entry, all_chosen, read_follows}
 use Rattle.rl_plain.proofs.Granted.{IsWay, place_for}
@@ -39,6 +40,19 @@ use Rattle.rl_model.specs.declared.rows.Item.TheVariants as item
 -- no written operation failed
 pub all_written : (answers : List Answer) (ops : List BusOp) → answers ≡ map written_answer ops → All (λ a. a.failed ≡ false) answers
 all_written answers ops e = subst (All (λ a. a.failed ≡ false)) (sym e) (All-map (λ a. a.failed ≡ false) written_answer ops (λ k d low. refl))
+
+-- what an access sends, and what becomes of it
+pub over_bus : (m : ModelData) (op : Op) (place reg : ℕ) → IsAccess op → register_of m.chip op ≡ Some reg → IsOverBus m op place reg (sends m op place) (outcome m op place 0)
+over_bus m (op.Write n map value) place reg is register = record { sends_are = refl; outcome_is = λ sampled items. refl; register = register; goes = λ sampled items d. refl }
+over_bus m (op.Read n map) place reg is register = record { sends_are = refl; outcome_is = λ sampled items. refl; register = register; goes = λ sampled items d. refl }
+over_bus m (op.Mirror n map) place reg is register = record { sends_are = refl; outcome_is = λ sampled items. refl; register = register; goes = λ sampled items d. refl }
+over_bus m (op.Check n map) place reg is register = record { sends_are = refl; outcome_is = λ sampled items. refl; register = register; goes = λ sampled items d. refl }
+over_bus m (op.FieldWrite field map value) place reg is register = record { sends_are = refl; outcome_is = λ sampled items. refl; register = register; goes = λ sampled items d. refl }
+over_bus m (op.FieldRead field map) place reg is register = record { sends_are = refl; outcome_is = λ sampled items. refl; register = register; goes = λ sampled items d. refl }
+over_bus m (op.Update n map) place reg is register = record { sends_are = refl; outcome_is = λ sampled items. refl; register = register; goes = λ sampled items d. refl }
+over_bus m (op.OtherWrite n map value) place reg is register = record { sends_are = refl; outcome_is = λ sampled items. refl; register = register; goes = λ sampled items d. refl }
+over_bus m (op.OtherRead n map) place reg is register = record { sends_are = refl; outcome_is = λ sampled items. refl; register = register; goes = λ sampled items d. refl }
+over_bus m _ place reg is register = absurd is
 
 -- what a done operation sends, how it ends where no item failed, and the model that it then leaves
 pub record IsAccessBy (s : Scene) (op : Op) (place reg : ℕ) (ops : List BusOp) (o : List TraceItem → Outcome) (e : List ℕ → End) (x : List ℕ → ModelData) (f : List ℕ → ℕ) : Type 0 where

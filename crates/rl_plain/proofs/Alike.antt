@@ -1,17 +1,15 @@
 -- Layouts that the plain machine can't tell apart.
-use Rattle.std.proofs.Common.{◌≡◌, ℕ, Bool, true, false, cond, Option, None, Some, Result, Ok, Err, refl, ap, ◌∙◌}
+use Rattle.std.proofs.Common.{◌≡◌, ℕ, Bool, true, false, cond, Option, None, Some, Ok, Err, refl, ap, ◌∙◌}
 use Rattle.rl_policy.specs.Bits.{bit, from_bits, put_bit}
 use Rattle.rl_model.specs.declared.rows.Item.{Item}
 use Rattle.rl_model.specs.declared.rows.Item.TheVariants as item
 use Rattle.rl_model.specs.declared.sets.Rights.{Rights}
 use Rattle.rl_model.specs.Fields.{field_of, fields_of}
 use Rattle.rl_model.specs.Rows.{ChipData}
-use Rattle.rl_map.specs.Layout.{LayoutData, place_at, place_of, port_at, has_right}
-use Rattle.rl_split.specs.Narrow.{is_narrow}
+use Rattle.rl_map.specs.Layout.{LayoutData, place_of, has_right}
 use Rattle.rl_split.specs.Step.{every, ranswer}
 use Rattle.rl_mirror.specs.Fields.{part_of}
 use Rattle.rl_mirror.specs.Prediction.{neutral_around}
-use Rattle.rl_access.specs.declared.event.End.{End}
 use Rattle.rl_access.specs.declared.event.End.TheVariants as end
 use Rattle.rl_access.specs.declared.event.Op.{Op}
 use Rattle.rl_access.specs.declared.event.Op.TheVariants as op

@@ -4,8 +4,7 @@ use Rattle.std.specs.Prelude.{slice_index}
 use Rattle.std.proofs.lemmas.List.{get_or-replicate, length-replicate, length-map}
 use Rattle.rl_policy.specs.Bits.{bit}
 use Rattle.rl_policy.proofs.BitLemmas.{bit-zero}
-use Rattle.rl_bus.specs.Setup.{Setup}
-use Rattle.rl_bus.specs.State.{State, first_state, empty_state}
+use Rattle.rl_bus.specs.State.{first_state, empty_state}
 use Rattle.rl_model.specs.declared.rows.RegRow.{RegRow}
 use Rattle.rl_model.specs.Rows.{ChipData}
 use Rattle.rl_model.specs.Chip.{IsSound}

@@ -1,6 +1,6 @@
 -- What is believed of each register after an access, and after a deposit that the model takes over.
-use Rattle.std.proofs.Common.{◌≡◌, ◌⊎◌, ℕ, ◌+◌, ◌^◌, ◌<◌, ◌≤◌, Bool, true, false, ◌&&◌, ltb, le-ltb, lt-ltb, List, length, Option}
-use Rattle.std.proofs.Common.{None, Some, option_map, Result, Ok, Err, MatchResult, refl, sym, ap, ◌∙◌, subst, inl, inr, arith}
+use Rattle.std.proofs.Common.{◌≡◌, ◌⊎◌, ℕ, ◌+◌, ◌^◌, ◌<◌, ◌≤◌, true, false, ◌&&◌, List, length, Option}
+use Rattle.std.proofs.Common.{None, Some, option_map, Ok, Err, MatchResult, refl, sym, ap, ◌∙◌, subst, inl, inr, arith}
 use Rattle.std.specs.Prelude.{slice_index, nat_le, nat_lt}
 use Rattle.std.specs.Option.{option_map_or}
 use Rattle.std.proofs.Math.Pow.{pow_mono}
@@ -13,27 +13,24 @@ use Rattle.rl_policy.specs.declared.policy.Policy.TheVariants.{Rw}
 use Rattle.rl_policy.proofs.BitLemmas.{bit-above, is_from_bits}
 use Rattle.rl_bus.specs.State.{State, poked}
 use Rattle.rl_bus.specs.declared.table.Cell.TheVariants as cell
-use Rattle.rl_model.specs.Fields.{fields_of, field_in, policy_in, place_at, covers}
+use Rattle.rl_model.specs.Fields.{fields_of, field_in, policy_in, place_at}
 use Rattle.rl_model.specs.Rows.{FieldSeen, ChipData}
-use Rattle.rl_split.specs.Law.{Holds}
 use Rattle.rl_split.specs.Step.{Register, every, wstep, written_bit}
 use Rattle.rl_mirror.specs.Fields.{owned}
 use Rattle.rl_mirror.specs.Mirror.{mirrored_of}
 use Rattle.rl_mirror.proofs.FieldLemmas.{field_list}
 use Rattle.rl_mirror.proofs.PlaceLemmas.{place_is, no_place}
 use Rattle.rl_mirror.proofs.WordLemmas.{owned_bit}
-use Rattle.rl_access.specs.declared.event.End.{End}
 use Rattle.rl_access.specs.declared.event.End.TheVariants as end
 use Rattle.rl_access.specs.declared.event.Event.{Event}
-use Rattle.rl_access.specs.declared.event.Op.{Op}
 use Rattle.rl_access.specs.declared.event.Op.TheVariants as op
 use Rattle.rl_access.specs.Call.{Scene, IsDone, IsRefused, Performs}
-use Rattle.rl_access.specs.Model.{ModelData, IsModel, IsSameChip}
+use Rattle.rl_access.specs.Model.{ModelData, IsModel}
 use Rattle.rl_access.specs.Operation.{IsMapIn}
-use Rattle.rl_access.specs.Rules.{Grant, grant, taking_raw}
+use Rattle.rl_access.specs.Rules.{Grant, grant}
 use Rattle.rl_plain.specs.Agree.{Agree, believed}
-use Rattle.rl_plain.specs.OneStep.{step_of, device_after, register_after}
-use Rattle.rl_plain.specs.Believed.{AccessIsBelieved, WriteIsStored, DepositIsBelieved, IsBelievedStep, IsStored, IsTakenOver}
+use Rattle.rl_plain.specs.OneStep.{step_of}
+use Rattle.rl_plain.specs.Believed.{AccessIsBelieved, WriteIsStored, DepositIsBelieved, IsStored}
 use Rattle.rl_plain.proofs.Answered.{done_of}
 use Rattle.rl_plain.proofs.EachAccess.{one_step}
 use Rattle.rl_plain.proofs.Agreement.{register_in, agree_after, other_bits}

@@ -1,17 +1,15 @@
 -- Operations one after another up to one at which the recorder failed are the plain machine's.
-use Rattle.std.proofs.Common.{◌≡◌, ℕ, zero, suc, List, [], ◌∷◌, length, map, take, All, refl, sym, ap, ◌∙◌, subst}
+use Rattle.std.proofs.Common.{◌≡◌, ℕ, suc, List, [], ◌∷◌, length, take, All, refl, sym, subst}
 use Rattle.std.proofs.lemmas.List.Elements.{All-head, All-tail}
 use Rattle.rl_model.specs.Rows.{ChipData}
 use Rattle.rl_map.specs.Layout.{LayoutData}
 use Rattle.rl_access.specs.declared.event.Op.{Op}
-use Rattle.rl_access.specs.Call.{Scene}
-use Rattle.rl_access.specs.HandsOver.{Told}
-use Rattle.rl_access.specs.Model.{ModelData, IsModel}
+use Rattle.rl_access.specs.Model.{ModelData}
 use Rattle.rl_access.specs.Operation.{HasNumbers}
 use Rattle.rl_seq.specs.Plan.{Plan, stop, step, look}
 use Rattle.rl_plain.specs.Machine.{Machine, seen, machine_step}
-use Rattle.rl_plain.specs.Courses.{Course, then_on, through, first_along}
-use Rattle.rl_plain.specs.Calls.{IsMachineOf, IsPlainCourse, BrokenRunIsPlain, BrokenPlanIsPlain, PlanHasNumbers}
+use Rattle.rl_plain.specs.Courses.{then_on, through, first_along}
+use Rattle.rl_plain.specs.Calls.{IsPlainCourse, BrokenRunIsPlain, BrokenPlanIsPlain, PlanHasNumbers}
 use Rattle.rl_plain.proofs.Machines.{plain_after}
 use Rattle.rl_plain.proofs.PlainCourses.{nothing_more, one_more, through_nil, through_cons}
 

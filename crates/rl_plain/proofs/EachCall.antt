@@ -10,7 +10,7 @@ use Rattle.rl_mirror.specs.Mirror.{MirrorData}
 use Rattle.rl_access.specs.declared.event.End.TheVariants as end
 use Rattle.rl_access.specs.declared.event.Event.{Event}
 use Rattle.rl_access.specs.declared.event.Op.TheVariants as op
-use Rattle.rl_access.specs.Call.{Scene, scene, IsDone, Performs}
+use Rattle.rl_access.specs.Call.{Scene, scene, Performs}
 use Rattle.rl_access.specs.Model.{ModelData, IsModel}
 use Rattle.rl_plain.specs.Agree.{Agree}
 use Rattle.rl_plain.specs.Machine.{Machine, seen, with_reset, machine_step}

@@ -9,7 +9,7 @@ use Rattle.rl_access.specs.declared.event.Event.{Event}
 use Rattle.rl_access.specs.declared.event.Op.{Op}
 use Rattle.rl_access.specs.declared.event.Tally.{Tally}
 use Rattle.rl_access.specs.Call.{Scene}
-use Rattle.rl_access.specs.HandsOver.{Told}
+use Rattle.rl_access.specs.HandsOver.{HandsOver, Told}
 use Rattle.rl_access.specs.Model.{ModelData, IsModel}
 use Rattle.rl_seq.specs.Plan.{Plan, stop, step, look, IsSequence}
 use Rattle.rl_seq.specs.Sequences.{plan_of}
@@ -59,23 +59,33 @@ on_err : {T E : Type 0} (r : Result T E) {P : Type 0} → P → OnErr r P
 on_err (Ok x) h = tt
 on_err (Err e) h = h
 
--- ---- a burst
+-- ---- what was handed over
 
 module _ {R : Type 0} (takes breaks : R → ModelData → Event → R → Type 0) where
+  -- all of them
+  front_of_all : {first : (count : ℕ) → Course} (old rec : R) (s new : Scene) (told : List Told) (whole : Course) (tally : Tally) → let r : Result Tally Failed = Ok tally in
+      HandsOver takes breaks old told rec r → IsPlainCourse s new told whole → HandsOverFront takes breaks old rec s new whole first r
+  front_of_all old rec s new told whole tally handed course =
+      record { told = told; handed = handed; events = all_first s new told whole course; all = course; part = tt }
+
+  -- those before the recorder failed
+  front_of_some : (old rec : R) (s new : Scene) (told : List Told) (whole : Course) (first : (count : ℕ) → Course) (failed : Failed) → let r : Result Tally Failed = Err failed in
+      HandsOver takes breaks old told rec r → IsPlainCourse s new told (first (length told)) → (first (length told)).events ≡ take (length told) whole.events →
+      HandsOverFront takes breaks old rec s new whole first r
+  front_of_some old rec s new told whole first failed handed course same =
+      record { told = told; handed = handed; events = course.events ∙ same; all = tt; part = course }
+
+  -- ---- a burst
+
   pub burst_hands_over_front : BurstHandsOverFront takes breaks
   burst_hands_over_front old rec s new (Ok place) op ops (Ok tally) p numbers ok is run =
-      let whole = burst s.model.chip s.model.layout p (Ok place) op ops in
-      let course : IsPlainCourse s new run.told whole = burst_is_plain s new (Ok place) op ops run.told p numbers ok is run.run.0 in
-      record { told = run.told; handed = run.handed; events = all_first s new run.told whole course; all = course; part = tt }
+      front_of_all old rec s new run.told (burst s.model.chip s.model.layout p (Ok place) op ops) tally run.handed
+      (burst_is_plain s new (Ok place) op ops run.told p numbers ok is run.run.0)
   burst_hands_over_front old rec s new (Ok place) op ops (Err failed) p numbers ok is run =
-      let course = broken_run_is_plain s new ops run.told p numbers ok is run.run in
-      record {
-        told = run.told;
-        handed = run.handed;
-        events = course.events ∙ first_through s.model.chip s.model.layout p (length run.told) ops;
-        all = tt;
-        part = course;
-      }
+      let c = s.model.chip in
+      let l = s.model.layout in
+      front_of_some old rec s new run.told (burst c l p (Ok place) op ops) (λ count. burst c l p (Ok place) op (take count ops)) failed run.handed
+      (broken_run_is_plain s new ops run.told p numbers ok is run.run) (first_through c l p (length run.told) ops)
   burst_hands_over_front old rec s new (Err why) op ops r p numbers ok is run =
       let told : List Told = record { model = s.model; event = run.event } ∷ [] in
       let whole = burst s.model.chip s.model.layout p (Err why) op ops in
@@ -88,18 +98,12 @@ module _ {R : Type 0} (takes breaks : R → ModelData → Event → R → Type 0
       → IsSequence takes breaks old rec s new plan r
       → HandsOverFront takes breaks old rec s new (along s.model.chip s.model.layout p plan) (λ count. first_along s.model.chip s.model.layout p count plan) r
   plan_hands_over_front old rec s new plan (Ok tally) p numbers ok is run =
-      let whole = along s.model.chip s.model.layout p plan in
-      let course : IsPlainCourse s new run.told whole = plan_is_plain s new plan run.told p numbers ok is run.run in
-      record { told = run.told; handed = run.handed; events = all_first s new run.told whole course; all = course; part = tt }
+      front_of_all old rec s new run.told (along s.model.chip s.model.layout p plan) tally run.handed (plan_is_plain s new plan run.told p numbers ok is run.run)
   plan_hands_over_front old rec s new plan (Err failed) p numbers ok is run =
-      let course = broken_plan_is_plain s new plan run.told p numbers ok is run.run in
-      record {
-        told = run.told;
-        handed = run.handed;
-        events = course.events ∙ first_steps s.model.chip s.model.layout p (length run.told) plan;
-        all = tt;
-        part = course;
-      }
+      let c = s.model.chip in
+      let l = s.model.layout in
+      front_of_some old rec s new run.told (along c l p plan) (λ count. first_along c l p count plan) failed run.handed
+      (broken_plan_is_plain s new plan run.told p numbers ok is run.run) (first_steps c l p (length run.told) plan)
 
   -- ---- a sequence
 

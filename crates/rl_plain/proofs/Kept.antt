@@ -24,6 +24,9 @@ pub record IsKept (c : ChipData) (m : MirrorData) : Type 0 where
   pub built : IsMirrorOf c m
   pub reach : IsReachable c m
 
+pub model_kept : (m : ModelData) → IsModel m → IsKept m.chip m.mirror
+model_kept m ok = record { built = ok.mirror; reach = ok.reach }
+
 -- a model stays one with other values and other gathered words
 pub model_with : (m : ModelData) (mirror : MirrorData) (gathered : List Gathered) → IsModel m → IsKept m.chip mirror → IsPredictorOf m.layout gathered
     → IsModel (record m { mirror = mirror; gathered = gathered })

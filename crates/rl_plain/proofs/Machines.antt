@@ -28,16 +28,13 @@ use Rattle.rl_plain.specs.Sorts.{Sort, sort_of, IsSort, IsOf, LeavesMemories}
 use Rattle.rl_plain.specs.Calls.{without_items, IsMachineOf, CallIsPlain, CallKeepsModel, IsOffMemory, RegisterCallIsPlain}
 use Rattle.rl_plain.proofs.AccessSteps.{access_step}
 use Rattle.rl_plain.proofs.Hardware.{volatile_where}
-use Rattle.rl_plain.proofs.Kept.{IsKept, model_with}
+use Rattle.rl_plain.proofs.Kept.{IsKept, model_kept, model_with}
 use Rattle.rl_plain.proofs.MachineSteps.{HasContents, nowhere, everywhere, contents_stay, contents_stored, IsMachineStep}
 use Rattle.rl_plain.proofs.MemoryAccesses.{IsMemoryStep, stored, loaded, write_place, read_place, check_place, write_step_is, read_step_is, check_step_is, memory_agrees}
 use Rattle.rl_plain.proofs.QuietSteps.{quiet_step, back_step, wish_step, reset_step, memory_step, burst_step}
 use Rattle.rl_plain.proofs.Told.{done_told, refused_told}
 
 -- ---- accesses to a memory over the bus
-
-access_kept : (c : ChipData) (l : LayoutData) (p : Machine) → IsModel (seen c l p) → IsKept c (mirror_of p)
-access_kept c l p ok = record { built = ok.mirror; reach = ok.reach }
 
 loads : (c : ChipData) (l : LayoutData) (p : Machine) (adapters : List Standing) (errors : ℕ) (told : Option State) (new : Scene) (op : Op) (event : Event) (place count : ℕ) (e : End) (found : ℕ) →
     let s = scene (seen c l p) adapters errors told in
@@ -47,8 +44,8 @@ loads : (c : ChipData) (l : LayoutData) (p : Machine) (adapters : List Standing)
 loads c l p adapters errors told new op event place count e found ok a has st same ended differs =
     let s = scene (seen c l p) adapters errors told in
     let after = loaded a.device count in
-    quiet_step c l p new op place event after (mirror_of p) e found (memory_agrees s new event after e found a st refl refl) st.model st.told st.ends st.finds (access_kept c l p ok) (ap mirror_of
-    (sym same)) ended differs
+    quiet_step c l p new op place event after (mirror_of p) e found (memory_agrees s new event after e found a st refl refl) st.model st.told st.ends st.finds (model_kept s.model ok)
+    (ap mirror_of (sym same)) ended differs
     (subst (HasContents everywhere c after) (sym same) (contents_stay c a.device after p p has refl refl refl))
 
 memory_access_step : (c : ChipData) (l : LayoutData) (p : Machine) (adapters : List Standing) (errors : ℕ) (told : Option State) (new : Scene) (op : Op) (event : Event) (place : ℕ) →
@@ -63,7 +60,7 @@ memory_access_step c l p adapters errors told new (op.MemWrite mem map index val
     let after = stored d mem index value count in
     let st = write_step_is s new mem index value map event place ok a numbers.0 (has.at mem index tt numbers.0 at.0).has granted done in
     quiet_step c l p new (op.MemWrite mem map index value) place event after (mirror_of p) end.Done 0 (memory_agrees s new event after end.Done 0 a st refl refl) st.model st.told st.ends st.finds
-    (access_kept c l p ok) refl refl refl
+    (model_kept (seen c l p) ok) refl refl refl
     (contents_stored c l d after p mem index value has a.believed_is.ready.setup numbers.0 at.0 at.1 refl refl)
 memory_access_step c l p adapters errors told new (op.MemRead mem map index) event place is numbers ok a has granted done =
     let s = scene (seen c l p) adapters errors told in

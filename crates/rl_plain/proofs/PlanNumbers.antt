@@ -9,7 +9,7 @@ use Rattle.rl_seq.specs.declared.sequence.Sequence.{Sequence}
 use Rattle.rl_seq.specs.declared.sequence.Sequence.TheVariants.{HwReset, BitBash, Access, Shared, MemWalk}
 use Rattle.rl_seq.specs.Choice.{is_bit_compared}
 use Rattle.rl_seq.specs.Plan.{Plan, stop, step, look, followed_by, only_if, each_below}
-use Rattle.rl_seq.specs.Sequences.{map_at, check_at, bash_once, bash_bit, check_other, fill, check_filled, write_number}
+use Rattle.rl_seq.specs.Sequences.{map_at, check_at, bash_once, bash_bit, check_other, fill, check_filled}
 use Rattle.rl_seq.specs.Sequences.{settle_before, check_last, walk_location, items_of, at_place, visit, visit_all, walk, beginning_of}
 use Rattle.rl_plain.specs.Calls.{PlanHasNumbers, PlansHaveNumbers}
 

@@ -36,17 +36,19 @@ use Rattle.rl_access.specs.Call.{Scene, scene, IsDone}
 use Rattle.rl_access.specs.Gathering.{no_words}
 use Rattle.rl_access.specs.Items.{items_of, port_for}
 use Rattle.rl_access.specs.Model.{ModelData, IsModel}
-use Rattle.rl_access.specs.Operation.{location_size, HasNumbers}
-use Rattle.rl_access.specs.Rules.{grant, at_location, by_backdoor, memory_size, item_size, sends, named, outcome, event_of, every_field, back_written, back_value, back_left, low_bytes}
+use Rattle.rl_access.specs.Operation.{location_size, register_of, HasNumbers}
+use Rattle.rl_access.specs.Rules.{grant, at_location, by_backdoor, memory_size, item_size, sends, named, outcome, event_of, device_after, every_field, back_written, back_value, back_left, low_bytes}
+use Rattle.rl_access.proofs.Beliefs.{event_tells}
 use Rattle.rl_plain.specs.Sorts as sort
 use Rattle.rl_plain.specs.Sorts.{IsOf}
 use Rattle.rl_plain.specs.Agree.{Agree, IsBackdoor, IsWish, IsMemoryBackdoor}
-use Rattle.rl_plain.specs.Machine.{Machine, register_at, mirror_of, seen, with_both, with_wish, with_reset, machine_after, machine_end, machine_differ}
+use Rattle.rl_plain.specs.OneStep.{read_step}
+use Rattle.rl_plain.specs.Machine.{Machine, register_at, mirror_of, stepped, seen, with_both, with_wish, with_reset, machine_after, machine_end, machine_differ}
 use Rattle.rl_plain.proofs.AccessSteps.{check_finds}
 use Rattle.rl_plain.proofs.Backdoor.{IsHeld, held_by, peeked_is, alone_by, back_done}
 use Rattle.rl_plain.proofs.Followed.{all_chosen}
 use Rattle.rl_plain.proofs.Granted.{only_ok}
-use Rattle.rl_plain.proofs.Kept.{IsKept, raw_built, read_kept}
+use Rattle.rl_plain.proofs.Kept.{IsKept, model_kept, raw_built, read_kept}
 use Rattle.rl_plain.proofs.Locations.{memory_row}
 use Rattle.rl_plain.proofs.MachineSteps.{HasContents, everywhere, contents_stay, contents_stored, IsMachineStep}
 use Rattle.rl_plain.proofs.Memories.{memory_done}
@@ -161,213 +163,159 @@ record IsFoundIn (c : ChipData) (l : LayoutData) (p : Machine) (reg sampled : �
   sample : owned (fields_of c reg) sampled ≡ get_or p.bits reg 0
   value : back_value (seen c l p) reg sampled ≡ ranswer (fields_of c reg) every (register_at c p reg)
 
-found_in : (c : ChipData) (l : LayoutData) (p : Machine) (adapters : List Standing) (errors : ℕ) (told : Option State) (reg sampled : ℕ) (d : State) → IsHeld (scene (seen c l p) adapters errors told)
-    d reg → sampled ≡ slice_index d.bits reg → IsFoundIn c l p reg sampled
-found_in c l p adapters errors told reg sampled d h found =
-    let fs = fields_of c reg in
-    let sample : owned fs sampled ≡ get_or p.bits reg 0 = ap (owned fs) found ∙ sym h.own ∙ h.bits in
-    record { sample = sample; value = ap (shown fs) sample ∙ shown_is fs (register_at c p reg) }
+module _ (c : ChipData) (l : LayoutData) (p : Machine) (adapters : List Standing) (errors : ℕ) (told : Option State) (new : Scene) where
+  abbrev s : Scene
+  s = scene (seen c l p) adapters errors told
 
--- ---- each operation of the backdoor on registers
+  found_in : (reg sampled : ℕ) (d : State) → IsHeld s d reg → sampled ≡ slice_index d.bits reg → IsFoundIn c l p reg sampled
+  found_in reg sampled d h found =
+      let fs = fields_of c reg in
+      let sample : owned fs sampled ≡ get_or p.bits reg 0 = ap (owned fs) found ∙ sym h.own ∙ h.bits in
+      record { sample = sample; value = ap (shown fs) sample ∙ shown_is fs (register_at c p reg) }
 
-pub back_step : {which : ℕ → ℕ → Type 0} (c : ChipData) (l : LayoutData) (p : Machine) (adapters : List Standing) (errors : ℕ) (told : Option State) (new : Scene) (op : Op) (event : Event)
-    (place : ℕ) →
-    let s = scene (seen c l p) adapters errors told in
-    IsBackdoor op → HasNumbers c (length l.maps) op → IsModel s.model → (a : Agree s) → HasContents which c a.device p → IsDone s new op place event → IsMachineStep which c l p new op place event
-back_step c l p adapters errors told new (op.BackWrite n value) event place is numbers ok a has done =
-    let s = scene (seen c l p) adapters errors told in
-    let fs = fields_of c n in
-    let d = a.device in
-    let by = alone_by s new (op.BackWrite n value) event place d done a.told refl in
-    let tells = told_alone s new (op.BackWrite n value) event place d done a.told refl in
-    let found = found_in c l p adapters errors told n done.sampled d (held_by s n ok a numbers) (done.found d a.told ∙ peeked_is d n) in
-    let v = back_written s.model n value done.sampled in
-    let marks = marks_in c p.spent n in
-    let keeps = poked_keeps d n v in
-    quiet_step c l p new (op.BackWrite n value) place event (poked d (cell.Reg n) v) (predict_raw c n v (mirror_of p)) end.Done 0 (back_done s new (op.BackWrite n value) event place is numbers ok a
-    done)
-    by.model by.told (ap (λ (e : Event). e.end) tells.event_is) (ap (λ (e : Event). e.differ) tells.event_is) (raw_kept c n v (mirror_of p) ok.chip numbers (record {
-      built = ok.mirror;
-      reach =
-          ok.reach;
-    }))
-    (raw_is c n v p ∙ ap (λ x. mirror_of (with_both n x p)) (owned-written fs marks (owned fs done.sampled) value ∙ ap (λ x. written fs marks x value) found.sample)) refl refl
-    (contents_stay c d (poked d (cell.Reg n) v) p _ has keeps.setup keeps.locations refl)
-back_step c l p adapters errors told new (op.Poke n value) event place is numbers ok a has done =
-    let s = scene (seen c l p) adapters errors told in
-    let d = a.device in
-    let by = alone_by s new (op.Poke n value) event place d done a.told refl in
-    let tells = told_alone s new (op.Poke n value) event place d done a.told refl in
-    let keeps = poked_keeps d n value in
-    quiet_step c l p new (op.Poke n value) place event (poked d (cell.Reg n) value) (predict_raw c n value (mirror_of p)) end.Done 0 (back_done s new (op.Poke n value) event place is numbers ok a
-    done)
-    by.model by.told (ap (λ (e : Event). e.end) tells.event_is) (ap (λ (e : Event). e.differ) tells.event_is) (raw_kept c n value (mirror_of p) ok.chip numbers (record {
-      built = ok.mirror;
-      reach =
-          ok.reach;
-    }))
-    (raw_is c n value p) refl refl
-    (contents_stay c d (poked d (cell.Reg n) value) p _ has keeps.setup keeps.locations refl)
-back_step c l p adapters errors told new (op.Peek n) event place is numbers ok a has done =
-    let s = scene (seen c l p) adapters errors told in
-    let fs = fields_of c n in
-    let d = a.device in
-    let by = alone_by s new (op.Peek n) event place d done a.told refl in
-    let tells = told_alone s new (op.Peek n) event place d done a.told refl in
-    let found = found_in c l p adapters errors told n done.sampled d (held_by s n ok a numbers) (done.found d a.told ∙ peeked_is d n) in
-    let v = owned fs done.sampled in
-    quiet_step c l p new (op.Peek n) place event d (predict_raw c n v (mirror_of p)) (end.Value v) 0 (back_done s new (op.Peek n) event place is numbers ok a done)
-    by.model by.told (ap (λ (e : Event). e.end) tells.event_is) (ap (λ (e : Event). e.differ) tells.event_is) (raw_kept c n v (mirror_of p) ok.chip numbers (record {
-      built = ok.mirror;
-      reach =
-          ok.reach;
-    }))
-    (raw_is c n v p ∙ ap (λ x. mirror_of (with_both n x p)) (owned-word_by_field fs (λ k b. bit done.sampled b) ∙ found.sample)) (ap end.Value found.sample) refl
-    (contents_stay c d d p _ has refl refl refl)
-back_step c l p adapters errors told new (op.BackRead n) event place is numbers ok a has done =
-    let s = scene (seen c l p) adapters errors told in
-    let d = a.device in
-    let by = alone_by s new (op.BackRead n) event place d done a.told refl in
-    let tells = told_alone s new (op.BackRead n) event place d done a.told refl in
-    let found = found_in c l p adapters errors told n done.sampled d (held_by s n ok a numbers) (done.found d a.told ∙ peeked_is d n) in
-    let v = back_value s.model n done.sampled in
-    let left = back_left s.model n done.sampled in
-    let keeps = poked_keeps d n left in
-    quiet_step c l p new (op.BackRead n) place event (poked d (cell.Reg n) left) (predict_read c n v every_field (mirror_of p)) (end.Value v) 0 (back_done s new (op.BackRead n) event place is numbers
-    ok a done)
-    by.model by.told (ap (λ (e : Event). e.end) tells.event_is) (ap (λ (e : Event). e.differ) tells.event_is) (read_kept c n v every_field (mirror_of p) ok.chip numbers (record {
-      built = ok.mirror;
-      reach = ok.reach;
-    }))
-    (ap (λ x. predict_read c n x every_field (mirror_of p)) found.value ∙ read_stepped c n every_field every p ok.chip numbers ok.mirror (all_chosen c n ok.chip numbers)) (ap end.Value found.value)
-    refl
-    (contents_stay c d (poked d (cell.Reg n) left) p _ has keeps.setup keeps.locations refl)
-back_step c l p adapters errors told new (op.BackCheck n) event place is numbers ok a has done =
-    let s = scene (seen c l p) adapters errors told in
-    let d = a.device in
-    let by = alone_by s new (op.BackCheck n) event place d done a.told refl in
-    let tells = told_alone s new (op.BackCheck n) event place d done a.told refl in
-    let found = found_in c l p adapters errors told n done.sampled d (held_by s n ok a numbers) (done.found d a.told ∙ peeked_is d n) in
-    let v = back_value s.model n done.sampled in
-    let left = back_left s.model n done.sampled in
-    let keeps = poked_keeps d n left in
-    quiet_step c l p new (op.BackCheck n) place event (poked d (cell.Reg n) left) (predict_read c n v every_field (mirror_of p)) (end.Value v) (differ c n v (mirror_of p)) (back_done s new
-    (op.BackCheck n) event place is numbers ok a done)
-    by.model by.told (ap (λ (e : Event). e.end) tells.event_is) (ap (λ (e : Event). e.differ) tells.event_is) (read_kept c n v every_field (mirror_of p) ok.chip numbers (record {
-      built = ok.mirror;
-      reach = ok.reach;
-    }))
-    (ap (λ x. predict_read c n x every_field (mirror_of p)) found.value ∙ read_stepped c n every_field every p ok.chip numbers ok.mirror (all_chosen c n ok.chip numbers)) (ap end.Value found.value)
-    (ap (λ x. differ c n x (mirror_of p)) found.value ∙ check_finds c n p ok.chip numbers)
-    (contents_stay c d (poked d (cell.Reg n) left) p _ has keeps.setup keeps.locations refl)
-back_step c l p adapters errors told new _ event place is numbers ok a has done = absurd is
+  -- a read of the register, or a check
+  record IsReadBack (which : ℕ → ℕ → Type 0) (reg sampled : ℕ) (d : State) : Type 0 where
+    value : back_value s.model reg sampled ≡ ranswer (fields_of c reg) every (register_at c p reg)
+    kept : IsKept c (predict_read c reg (back_value s.model reg sampled) every_field (mirror_of p))
+    state : predict_read c reg (back_value s.model reg sampled) every_field (mirror_of p) ≡ mirror_of (stepped c reg (read_step every) p)
+    contents : HasContents which c (poked d (cell.Reg reg) (back_left s.model reg sampled)) (stepped c reg (read_step every) p)
 
--- ---- desired values
+  read_back : {which : ℕ → ℕ → Type 0} (reg sampled : ℕ) → reg < length c.regs → IsModel s.model → (a : Agree s) → HasContents which c a.device p → sampled ≡ slice_index a.device.bits reg →
+      IsReadBack which reg sampled a.device
+  read_back reg sampled inside ok a has found =
+      let d = a.device in
+      let at = found_in reg sampled d (held_by s reg ok a inside) found in
+      let left = back_left s.model reg sampled in
+      let keeps = poked_keeps d reg left in
+      record {
+        value = at.value;
+        kept = read_kept c reg (back_value s.model reg sampled) every_field (mirror_of p) ok.chip inside (model_kept s.model ok);
+        state = ap (λ x. predict_read c reg x every_field (mirror_of p)) at.value ∙ read_stepped c reg every_field every p ok.chip inside ok.mirror (all_chosen c reg ok.chip inside);
+        contents = contents_stay c d (poked d (cell.Reg reg) left) p _ has keeps.setup keeps.locations refl;
+      }
 
-pub wish_step : {which : ℕ → ℕ → Type 0} (c : ChipData) (l : LayoutData) (p : Machine) (adapters : List Standing) (errors : ℕ) (told : Option State) (new : Scene) (op : Op) (event : Event)
-    (place : ℕ) →
-    let s = scene (seen c l p) adapters errors told in
-    IsWish op → HasNumbers c (length l.maps) op → IsModel s.model → (a : Agree s) → HasContents which c a.device p → IsDone s new op place event → IsMachineStep which c l p new op place event
-wish_step c l p adapters errors told new (op.Set field value) event place is numbers ok a has done =
-    let s = scene (seen c l p) adapters errors told in
-    let d = a.device in
-    let by = alone_by s new (op.Set field value) event place d done a.told refl in
-    let tells = told_alone s new (op.Set field value) event place d done a.told refl in
-    quiet_step c l p new (op.Set field value) place event d (set c field value (mirror_of p)) end.Done 0 (wish_done s new (op.Set field value) event place is a done)
-    by.model by.told (ap (λ (e : Event). e.end) tells.event_is) (ap (λ (e : Event). e.differ) tells.event_is)
-    (record { built = set_built c field value (mirror_of p) ok.chip numbers ok.mirror; reach = set_reach c field value (mirror_of p) ok.chip numbers ok.mirror ok.reach })
-    (set_is c field value p) refl refl (contents_stay c d d p _ has refl refl refl)
-wish_step c l p adapters errors told new (op.Show n) event place is numbers ok a has done =
-    let s = scene (seen c l p) adapters errors told in
-    let d = a.device in
-    let by = alone_by s new (op.Show n) event place d done a.told refl in
-    let tells = told_alone s new (op.Show n) event place d done a.told refl in
-    quiet_step c l p new (op.Show n) place event d (mirror_of p) end.Done 0 (wish_done s new (op.Show n) event place is a done)
-    by.model by.told (ap (λ (e : Event). e.end) tells.event_is) (ap (λ (e : Event). e.differ) tells.event_is) (record { built = ok.mirror; reach = ok.reach }) refl refl refl has
-wish_step c l p adapters errors told new _ event place is numbers ok a has done = absurd is
+  -- ---- an operation that sends nothing, by what it leaves
 
--- ---- a reset
+  alone_step : {which : ℕ → ℕ → Type 0} (op : Op) (event : Event) (place : ℕ) (after : State) (mirror : MirrorData) → (a : Agree s) → (done : IsDone s new op place event) →
+      let o = outcome s.model op place done.sampled [] in
+      sends s.model op place ≡ [] → device_after s.model op done.sampled [] a.device ≡ after → o.model ≡ record (seen c l p) { mirror = mirror } → Agree new → IsKept c mirror →
+      mirror ≡ mirror_of (machine_after c l op place p) → o.end ≡ machine_end c l op place p → o.differ ≡ machine_differ op p → HasContents which c after (machine_after c l op place p) →
+      IsMachineStep which c l p new op place event
+  alone_step op event place after mirror a done none device model agree kept state ended differs contents =
+      let o = outcome s.model op place done.sampled [] in
+      let by = alone_by s new op event place a.device done a.told none in
+      let tells = told_alone s new op event place a.device done a.told none in
+      let says = event_tells (register_of s.model.chip (named s.model op)) (named s.model op) [] o in
+      quiet_step c l p new op place event after mirror o.end o.differ agree (by.model ∙ model) (by.told ∙ ap Some device)
+      (ap (λ (e : Event). e.end) tells.event_is ∙ says.end_is) (ap (λ (e : Event). e.differ) tells.event_is ∙ says.differ_is) kept state ended differs contents
 
-pub reset_step : {which : ℕ → ℕ → Type 0} (c : ChipData) (l : LayoutData) (p : Machine) (adapters : List Standing) (errors : ℕ) (told : Option State) (new : Scene) (kind : ℕ) (event : Event)
-    (place : ℕ) →
-    let s = scene (seen c l p) adapters errors told in
-    IsModel s.model → (a : Agree s) → HasContents which c a.device p → IsDone s new (op.Reset kind) place event → IsMachineStep which c l p new (op.Reset kind) place event
-reset_step c l p adapters errors told new kind event place ok a has done =
-    let s = scene (seen c l p) adapters errors told in
-    let d = a.device in
-    let by = alone_by s new (op.Reset kind) event place d done a.told refl in
-    let tells = told_alone s new (op.Reset kind) event place d done a.told refl in
-    let keeps = reset_keeps d kind in
-    quiet_step c l p new (op.Reset kind) place event (reset_by d kind) (reset c kind (mirror_of p)) end.Done 0 (reset_done s new (op.Reset kind) event place tt ok a done)
-    by.model by.told (ap (λ (e : Event). e.end) tells.event_is) (ap (λ (e : Event). e.differ) tells.event_is)
-    (record { built = reset_built c kind (mirror_of p) ok.chip ok.mirror; reach = reset_reach c kind (mirror_of p) ok.chip ok.mirror ok.reach })
-    (reset_is c kind p) refl refl (contents_stay c d (reset_by d kind) p _ has keeps.setup keeps.locations refl)
+  -- the device and the model stay
+  stays_step : {which : ℕ → ℕ → Type 0} (op : Op) (event : Event) (place : ℕ) → IsModel s.model → (a : Agree s) → HasContents which c a.device p → (done : IsDone s new op place event) →
+      let o = outcome s.model op place done.sampled [] in
+      sends s.model op place ≡ [] → device_after s.model op done.sampled [] a.device ≡ a.device → o.model ≡ s.model → machine_after c l op place p ≡ p →
+      o.end ≡ machine_end c l op place p → o.differ ≡ machine_differ op p → IsMachineStep which c l p new op place event
+  stays_step {which} op event place ok a has done none device model same ended differs =
+      let by = alone_by s new op event place a.device done a.told none in
+      alone_step op event place a.device (mirror_of p) a done none device model (stays_agreed s new (mirror_of p) a (by.told ∙ ap Some device) (by.model ∙ model) (λ reg. refl))
+      (model_kept s.model ok) (ap mirror_of (sym same)) ended differs (subst (HasContents which c a.device) (sym same) has)
 
--- ---- the backdoor of a memory, and a burst by its name alone
+  -- ---- each operation of the backdoor on registers
 
--- the device and the model stay
-pub stays_step : {which : ℕ → ℕ → Type 0} (c : ChipData) (l : LayoutData) (p : Machine) (adapters : List Standing) (errors : ℕ) (told : Option State) (new : Scene) (op : Op) (event : Event)
-    (place : ℕ) (e : End) →
-    let s = scene (seen c l p) adapters errors told in
-    IsModel s.model → (a : Agree s) → HasContents which c a.device p → new.model ≡ s.model → new.device ≡ Some a.device → event.end ≡ e → event.differ ≡ 0 →
-    machine_after c l op place p ≡ p → e ≡ machine_end c l op place p → 0 ≡ machine_differ op p → IsMachineStep which c l p new op place event
-stays_step {which} c l p adapters errors told new op event place e ok a has model device ends finds same ended differs =
-    let s = scene (seen c l p) adapters errors told in
-    quiet_step c l p new op place event a.device (mirror_of p) e 0 (stays_agreed s new (mirror_of p) a device model (λ reg. refl)) model device ends finds (record {
-      built = ok.mirror;
-      reach =
-          ok.reach;
-    })
-    (ap mirror_of (sym same)) ended differs (subst (HasContents which c a.device) (sym same) has)
+  pub back_step : {which : ℕ → ℕ → Type 0} (op : Op) (event : Event) (place : ℕ) → IsBackdoor op → HasNumbers c (length l.maps) op → IsModel s.model → (a : Agree s) →
+      HasContents which c a.device p → IsDone s new op place event → IsMachineStep which c l p new op place event
+  back_step (op.BackWrite n value) event place is numbers ok a has done =
+      let fs = fields_of c n in
+      let d = a.device in
+      let found = found_in n done.sampled d (held_by s n ok a numbers) (done.found d a.told ∙ peeked_is d n) in
+      let v = back_written s.model n value done.sampled in
+      let marks = marks_in c p.spent n in
+      let keeps = poked_keeps d n v in
+      alone_step (op.BackWrite n value) event place (poked d (cell.Reg n) v) (predict_raw c n v (mirror_of p)) a done refl refl refl
+      (back_done s new (op.BackWrite n value) event place is numbers ok a done) (raw_kept c n v (mirror_of p) ok.chip numbers (model_kept s.model ok))
+      (raw_is c n v p ∙ ap (λ x. mirror_of (with_both n x p)) (owned-written fs marks (owned fs done.sampled) value ∙ ap (λ x. written fs marks x value) found.sample)) refl refl
+      (contents_stay c d (poked d (cell.Reg n) v) p _ has keeps.setup keeps.locations refl)
+  back_step (op.Poke n value) event place is numbers ok a has done =
+      let d = a.device in
+      let keeps = poked_keeps d n value in
+      alone_step (op.Poke n value) event place (poked d (cell.Reg n) value) (predict_raw c n value (mirror_of p)) a done refl refl refl
+      (back_done s new (op.Poke n value) event place is numbers ok a done) (raw_kept c n value (mirror_of p) ok.chip numbers (model_kept s.model ok)) (raw_is c n value p) refl refl
+      (contents_stay c d (poked d (cell.Reg n) value) p _ has keeps.setup keeps.locations refl)
+  back_step (op.Peek n) event place is numbers ok a has done =
+      let fs = fields_of c n in
+      let d = a.device in
+      let found = found_in n done.sampled d (held_by s n ok a numbers) (done.found d a.told ∙ peeked_is d n) in
+      let v = owned fs done.sampled in
+      alone_step (op.Peek n) event place d (predict_raw c n v (mirror_of p)) a done refl refl refl (back_done s new (op.Peek n) event place is numbers ok a done)
+      (raw_kept c n v (mirror_of p) ok.chip numbers (model_kept s.model ok))
+      (raw_is c n v p ∙ ap (λ x. mirror_of (with_both n x p)) (owned-word_by_field fs (λ k b. bit done.sampled b) ∙ found.sample)) (ap end.Value found.sample) refl
+      (contents_stay c d d p _ has refl refl refl)
+  back_step (op.BackRead n) event place is numbers ok a has done =
+      let v = back_value s.model n done.sampled in
+      let read = read_back n done.sampled numbers ok a has (done.found a.device a.told ∙ peeked_is a.device n) in
+      alone_step (op.BackRead n) event place (poked a.device (cell.Reg n) (back_left s.model n done.sampled)) (predict_read c n v every_field (mirror_of p)) a done refl refl refl
+      (back_done s new (op.BackRead n) event place is numbers ok a done) read.kept read.state (ap end.Value read.value) refl read.contents
+  back_step (op.BackCheck n) event place is numbers ok a has done =
+      let v = back_value s.model n done.sampled in
+      let read = read_back n done.sampled numbers ok a has (done.found a.device a.told ∙ peeked_is a.device n) in
+      alone_step (op.BackCheck n) event place (poked a.device (cell.Reg n) (back_left s.model n done.sampled)) (predict_read c n v every_field (mirror_of p)) a done refl refl refl
+      (back_done s new (op.BackCheck n) event place is numbers ok a done) read.kept read.state (ap end.Value read.value)
+      (ap (λ x. differ c n x (mirror_of p)) read.value ∙ check_finds c n p ok.chip numbers) read.contents
+  back_step _ event place is numbers ok a has done = absurd is
 
-pub memory_step : (c : ChipData) (l : LayoutData) (p : Machine) (adapters : List Standing) (errors : ℕ) (told : Option State) (new : Scene) (op : Op) (event : Event) (place : ℕ) →
-    let s = scene (seen c l p) adapters errors told in
-    IsMemoryBackdoor op → HasNumbers c (length l.maps) op → IsModel s.model → (a : Agree s) → HasContents everywhere c a.device p → grant s.model op ≡ Ok place → IsDone s new op place event →
-    IsMachineStep everywhere c l p new op place event
-memory_step c l p adapters errors told new (op.MemPeek mem index) event place is numbers ok a has granted done =
-    let s = scene (seen c l p) adapters errors told in
-    let d = a.device in
-    let by = alone_by s new (op.MemPeek mem index) event place d done a.told refl in
-    let tells = told_alone s new (op.MemPeek mem index) event place d done a.told refl in
-    let low : index < memory_size c mem = ltb-true index (memory_size c mem) (only_ok (by_backdoor s.model (item.Mem mem)) (nat_lt index (memory_size c mem)) OutOfRange place granted).1 in
-    let h = has.at mem index tt numbers low in
-    let found : done.sampled ≡ slice_index d.locations (location d.setup mem index) = done.found d a.told ∙ peeked_at d mem index in
-    let value : low_bytes (location_size c mem) done.sampled ≡ p.locations mem index = ap (low_bytes (location_size c mem)) found ∙ low_is (location_size c mem) (slice_index d.locations
-    (location d.setup mem index)) h.has.fits ∙ h.holds in
-    stays_step c l p adapters errors told new (op.MemPeek mem index) event place (end.Value (low_bytes (location_size c mem) done.sampled)) ok a has by.model by.told
-    (ap (λ (e : Event). e.end) tells.event_is) (ap (λ (e : Event). e.differ) tells.event_is) refl (ap end.Value value) refl
-memory_step c l p adapters errors told new (op.MemPoke mem index value) event place is numbers ok a has granted done =
-    let s = scene (seen c l p) adapters errors told in
-    let d = a.device in
-    let ready = a.believed_is.ready in
-    let by = alone_by s new (op.MemPoke mem index value) event place d done a.told refl in
-    let tells = told_alone s new (op.MemPoke mem index value) event place d done a.told refl in
-    let first = only_ok (at_location s.model mem index (by_backdoor s.model (item.Mem mem))) (nat_lt value (256 ^ item_size c (item.Mem mem))) TooWide place granted in
-    let low : index < memory_size c mem = ltb-true index (memory_size c mem) (only_ok (by_backdoor s.model (item.Mem mem)) (nat_lt index (memory_size c mem)) OutOfRange place first.0).1 in
-    let small : value < 256 ^ location_size c mem = ltb-true value (256 ^ location_size c mem) first.1 in
-    let bytes : (mem_of d.setup mem).bytes ≡ location_size c mem = ap (λ (t : Setup). (mem_of t mem).bytes) ready.setup ∙ (memory_row c l mem numbers).bytes in
-    let whole : value % 256 ^ (mem_of d.setup mem).bytes ≡ value = mod-eq_of_lt (subst (λ n. value < 256 ^ n) (sym bytes) small) in
-    let after = poked d (cell.Loc mem index) value in
-    let poke = poked_at d mem index value in
-    quiet_step c l p new (op.MemPoke mem index value) place event after (mirror_of p) end.Done 0 (memory_done s new (op.MemPoke mem index value) event place is a done)
-    by.model by.told (ap (λ (e : Event). e.end) tells.event_is) (ap (λ (e : Event). e.differ) tells.event_is) (record { built = ok.mirror; reach = ok.reach }) refl refl refl
-    (contents_stored c l d after p mem index value has ready.setup numbers low small poke.setup (poke.locations ∙ ap (slice_set d.locations (location d.setup mem index)) whole))
-memory_step c l p adapters errors told new _ event place is numbers ok a has granted done = absurd is
+  -- ---- desired values
 
-pub burst_step : {which : ℕ → ℕ → Type 0} (c : ChipData) (l : LayoutData) (p : Machine) (adapters : List Standing) (errors : ℕ) (told : Option State) (new : Scene) (op : Op) (event : Event)
-    (place : ℕ) →
-    let s = scene (seen c l p) adapters errors told in
-    IsBurstName op → IsModel s.model → (a : Agree s) → HasContents which c a.device p → IsDone s new op place event → IsMachineStep which c l p new op place event
-burst_step c l p adapters errors told new (op.BurstWrite mem map first count) event place is ok a has done =
-    let s = scene (seen c l p) adapters errors told in
-    let by = alone_by s new (op.BurstWrite mem map first count) event place a.device done a.told refl in
-    let tells = told_alone s new (op.BurstWrite mem map first count) event place a.device done a.told refl in
-    stays_step c l p adapters errors told new (op.BurstWrite mem map first count) event place end.Done ok a has by.model by.told (ap (λ (e : Event). e.end) tells.event_is)
-    (ap (λ (e : Event). e.differ) tells.event_is) refl refl refl
-burst_step c l p adapters errors told new (op.BurstRead mem map first count) event place is ok a has done =
-    let s = scene (seen c l p) adapters errors told in
-    let by = alone_by s new (op.BurstRead mem map first count) event place a.device done a.told refl in
-    let tells = told_alone s new (op.BurstRead mem map first count) event place a.device done a.told refl in
-    stays_step c l p adapters errors told new (op.BurstRead mem map first count) event place end.Done ok a has by.model by.told (ap (λ (e : Event). e.end) tells.event_is)
-    (ap (λ (e : Event). e.differ) tells.event_is) refl refl refl
-burst_step c l p adapters errors told new _ event place is ok a has done = absurd is
+  pub wish_step : {which : ℕ → ℕ → Type 0} (op : Op) (event : Event) (place : ℕ) → IsWish op → HasNumbers c (length l.maps) op → IsModel s.model → (a : Agree s) →
+      HasContents which c a.device p → IsDone s new op place event → IsMachineStep which c l p new op place event
+  wish_step (op.Set field value) event place is numbers ok a has done =
+      alone_step (op.Set field value) event place a.device (set c field value (mirror_of p)) a done refl refl refl (wish_done s new (op.Set field value) event place is a done)
+      (record { built = set_built c field value (mirror_of p) ok.chip numbers ok.mirror; reach = set_reach c field value (mirror_of p) ok.chip numbers ok.mirror ok.reach })
+      (set_is c field value p) refl refl (contents_stay c a.device a.device p _ has refl refl refl)
+  wish_step (op.Show n) event place is numbers ok a has done =
+      alone_step (op.Show n) event place a.device (mirror_of p) a done refl refl refl (wish_done s new (op.Show n) event place is a done) (model_kept s.model ok) refl refl refl has
+  wish_step _ event place is numbers ok a has done = absurd is
+
+  -- ---- a reset
+
+  pub reset_step : {which : ℕ → ℕ → Type 0} (kind : ℕ) (event : Event) (place : ℕ) → IsModel s.model → (a : Agree s) → HasContents which c a.device p →
+      IsDone s new (op.Reset kind) place event → IsMachineStep which c l p new (op.Reset kind) place event
+  reset_step kind event place ok a has done =
+      let d = a.device in
+      let keeps = reset_keeps d kind in
+      alone_step (op.Reset kind) event place (reset_by d kind) (reset c kind (mirror_of p)) a done refl refl refl (reset_done s new (op.Reset kind) event place tt ok a done)
+      (record { built = reset_built c kind (mirror_of p) ok.chip ok.mirror; reach = reset_reach c kind (mirror_of p) ok.chip ok.mirror ok.reach })
+      (reset_is c kind p) refl refl (contents_stay c d (reset_by d kind) p _ has keeps.setup keeps.locations refl)
+
+  -- ---- the backdoor of a memory, and a burst by its name alone
+
+  pub memory_step : (op : Op) (event : Event) (place : ℕ) → IsMemoryBackdoor op → HasNumbers c (length l.maps) op → IsModel s.model → (a : Agree s) →
+      HasContents everywhere c a.device p → grant s.model op ≡ Ok place → IsDone s new op place event → IsMachineStep everywhere c l p new op place event
+  memory_step (op.MemPeek mem index) event place is numbers ok a has granted done =
+      let d = a.device in
+      let low : index < memory_size c mem = ltb-true index (memory_size c mem) (only_ok (by_backdoor s.model (item.Mem mem)) (nat_lt index (memory_size c mem)) OutOfRange place granted).1 in
+      let h = has.at mem index tt numbers low in
+      let found : done.sampled ≡ slice_index d.locations (location d.setup mem index) = done.found d a.told ∙ peeked_at d mem index in
+      let value : low_bytes (location_size c mem) done.sampled ≡ p.locations mem index = ap (low_bytes (location_size c mem)) found ∙ low_is (location_size c mem) (slice_index d.locations
+      (location d.setup mem index)) h.has.fits ∙ h.holds in
+      stays_step (op.MemPeek mem index) event place ok a has done refl refl refl refl (ap end.Value value) refl
+  memory_step (op.MemPoke mem index value) event place is numbers ok a has granted done =
+      let d = a.device in
+      let ready = a.believed_is.ready in
+      let first = only_ok (at_location s.model mem index (by_backdoor s.model (item.Mem mem))) (nat_lt value (256 ^ item_size c (item.Mem mem))) TooWide place granted in
+      let low : index < memory_size c mem = ltb-true index (memory_size c mem) (only_ok (by_backdoor s.model (item.Mem mem)) (nat_lt index (memory_size c mem)) OutOfRange place first.0).1 in
+      let small : value < 256 ^ location_size c mem = ltb-true value (256 ^ location_size c mem) first.1 in
+      let bytes : (mem_of d.setup mem).bytes ≡ location_size c mem = ap (λ (t : Setup). (mem_of t mem).bytes) ready.setup ∙ (memory_row c l mem numbers).bytes in
+      let whole : value % 256 ^ (mem_of d.setup mem).bytes ≡ value = mod-eq_of_lt (subst (λ n. value < 256 ^ n) (sym bytes) small) in
+      let after = poked d (cell.Loc mem index) value in
+      let poke = poked_at d mem index value in
+      alone_step (op.MemPoke mem index value) event place after (mirror_of p) a done refl refl refl (memory_done s new (op.MemPoke mem index value) event place is a done)
+      (model_kept s.model ok) refl refl refl
+      (contents_stored c l d after p mem index value has ready.setup numbers low small poke.setup (poke.locations ∙ ap (slice_set d.locations (location d.setup mem index)) whole))
+  memory_step _ event place is numbers ok a has granted done = absurd is
+
+  pub burst_step : {which : ℕ → ℕ → Type 0} (op : Op) (event : Event) (place : ℕ) → IsBurstName op → IsModel s.model → (a : Agree s) → HasContents which c a.device p →
+      IsDone s new op place event → IsMachineStep which c l p new op place event
+  burst_step (op.BurstWrite mem map first count) event place is ok a has done =
+      stays_step (op.BurstWrite mem map first count) event place ok a has done refl refl refl refl refl refl
+  burst_step (op.BurstRead mem map first count) event place is ok a has done =
+      stays_step (op.BurstRead mem map first count) event place ok a has done refl refl refl refl refl refl
+  burst_step _ event place is ok a has done = absurd is

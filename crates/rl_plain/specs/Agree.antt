@@ -75,10 +75,6 @@ IsMemoryBackdoor op = IsOf sort.memory_backdoor op
 abbrev pub IsReset : Op → Type 0
 IsReset op = IsOf sort.reset op
 
--- a change by the hardware, which is refused where no field is volatile
-abbrev pub IsHardware : Op → Type 0
-IsHardware op = IsOf sort.hardware op
-
 -- ---- accesses to a memory over the bus
 
 -- on memories over the bus

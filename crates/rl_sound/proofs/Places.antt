@@ -25,7 +25,7 @@ use Rattle.rl_map.specs.Building.{AreTables, IsPlacedIn, IsPlaceRow, IsSeated, A
 use Rattle.rl_map.specs.Faults.{row_at, is_mem, is_placed, word_count, some_byte, is_above, is_unaligned}
 use Rattle.rl_map.specs.Layout.{no_map}
 use Rattle.rl_map.specs.Level.{has_fifo}
-use Rattle.rl_map.specs.Maps.{map_number, map_with, item_at, item_bytes, item_size, place_row}
+use Rattle.rl_map.specs.Maps.{IsPlaceIn, map_number, map_with, item_at, item_bytes, item_size, place_row}
 use Rattle.rl_map.specs.Steps.{own_checks, own_fault, own_faults, place_of_part}
 use Rattle.rl_map.proofs.Bools.{ge_from}
 use Rattle.rl_map.proofs.Placing.{places_more, length-rows_of}
@@ -52,44 +52,44 @@ row_with chip maps part number found = record {
   fifo = has_fifo (map_with maps number).path;
 }
 
--- an item that is there has numbers within the limits, and so has a place of it
+-- one of an item whose numbers are within the limits
+placed_by : (chip : ChipData) (maps : List MapRow) (part : PlacePart) (map : ℕ) (i : Item) → map < length maps
+    → (1 ≤ item_bytes chip i) × (item_bytes chip i ≤ 8) → (1 ≤ item_size chip i) × (item_size chip i ≤ 65536)
+    → ((r : ℕ) → i ≡ item.Reg r → item_size chip i ≡ 1) → IsPlaceIn chip (row_with chip maps part (Some map) (Some i))
+    → IsPlacedIn chip maps (row_with chip maps part (Some map) (Some i))
+placed_by chip maps part map i in_maps bytes size reg known = record {
+  map = in_maps;
+  port = refl;
+  some = bytes.0;
+  most = bytes.1;
+  size = size.0;
+  sizes = size.1;
+  reg = reg;
+  fifo = refl;
+  known = known;
+}
+
+-- an item that is there has them, and so has a place of it
 item_placed : (chip : ChipData) (maps : List MapRow) (part : PlacePart) (map : ℕ) (i : Item) → IsSound chip → map < length maps → HasItem chip i
     → IsPlacedIn chip maps (row_with chip maps part (Some map) (Some i))
 item_placed chip maps part map (item.Reg n) ok in_maps low =
     let (r, at) = there chip.regs n low in
     let fits = ok.each_reg n r at in
     let is : item_bytes chip (item.Reg n) ≡ r.bytes = ap (λ (o : Option RegRow). unwrap_or (option_map (λ r. r.bytes) o) 0) at in
-    record {
-      map = in_maps;
-      port = refl;
-      some = omega (arith, is, fits.0);
-      most = omega (arith, is, fits.1);
-      size = omega arith;
-      sizes = omega arith;
-      reg = λ r is. refl;
-      fifo = refl;
-      known = (ap (option_map (λ (r : RegRow). r.bytes)) at ∙ ap Some (sym is), λ m is. absurd (cc));
-    }
+    placed_by chip maps part map (item.Reg n) in_maps (omega (arith, is, fits.0), omega (arith, is, fits.1)) (omega arith, omega arith) (λ r is. refl)
+    (ap (option_map (λ (r : RegRow). r.bytes)) at ∙ ap Some (sym is), λ m is. absurd (cc))
 item_placed chip maps part map (item.Mem n) ok in_maps low =
     let (m, at) = there chip.mems n low in
     let fits = ok.each_mem n m at in
     let is : item_bytes chip (item.Mem n) ≡ m.bytes = ap (λ (o : Option MemRow). unwrap_or (option_map (λ m. m.bytes) o) 0) at in
     let size : item_size chip (item.Mem n) ≡ m.size = ap (λ (o : Option MemRow). unwrap_or (option_map (λ m. m.size) o) 0) at in
-    record {
-      map = in_maps;
-      port = refl;
-      some = omega (arith, is, fits.0);
-      most = omega (arith, is, fits.1);
-      size = omega (arith, size, fits.2);
-      sizes = omega (arith, size, size_low chip.mems n m at, ok.locations);
-      reg = λ r is. absurd (cc);
-      fifo = refl;
-      known = (
-        ap (option_map (λ (m : MemRow). m.bytes)) at ∙ ap Some (sym is),
-        λ k same. let e : n ≡ k = cc in subst (λ k. option_map (λ (m : MemRow). m.size) (slice_get chip.mems k) ≡ Some (item_size chip (item.Mem n))) e
-            (ap (option_map (λ (m : MemRow). m.size)) at ∙ ap Some (sym size)),
-      );
-    }
+    placed_by chip maps part map (item.Mem n) in_maps (omega (arith, is, fits.0), omega (arith, is, fits.1))
+    (omega (arith, size, fits.2), omega (arith, size, size_low chip.mems n m at, ok.locations)) (λ r is. absurd (cc)) (
+      ap (option_map (λ (m : MemRow). m.bytes)) at ∙ ap Some (sym is),
+      λ k same.
+          let e : n ≡ k = cc in subst (λ k. option_map (λ (m : MemRow). m.size) (slice_get chip.mems k) ≡ Some (item_size chip (item.Mem n))) e
+          (ap (option_map (λ (m : MemRow). m.size)) at ∙ ap Some (sym size)),
+    )
 
 -- what a look-up finds is there
 item_found : (chip : ChipData) (path : List ℕ) (i : Item) → item_at chip path ≡ Some i → HasItem chip i

@@ -109,76 +109,6 @@ pub filter_from : (p : ℕ → Bool) (i : ℕ) (xs : List ℕ) → Contains (fil
 filter_from p i [] h = let low = h.1 in absurd (omega (arith, low))
 filter_from p i (x ∷ xs) h = filter_step x i xs (filter p xs) (p x) (λ more. filter_from p i xs more) h
 
--- ---- the word of a step
-
-pub record IsWord (begun : State) (p : Machine) (s new : Scene) (d : State) (w : WeaveData) (which : ℕ) (item : TraceItem) : Type 0 where
-  pub at : IsGranted s.model (woven_at w.accesses which).access.reg (woven_at w.accesses which).access.map (woven_at w.accesses which).access.value (woven_at w.accesses which).place
-  pub place : IsPlaceOf s.model.chip s.model.layout (woven_at w.accesses which).place (woven_at w.accesses which).access.reg (writes (woven_at w.accesses which).access)
-  pub low : length (woven_at w.accesses which).items < length (whole_ops s.model.layout (woven_at w.accesses which).place (carried (woven_at w.accesses which).access) (writes (woven_at w.accesses
-      which).access))
-  pub op_is : item.op ≡ whole_op s.model.layout (woven_at w.accesses which).place (carried (woven_at w.accesses which).access) (writes (woven_at w.accesses which).access) (length (woven_at w.accesses
-      which).items)
-  pub told : IsTold d (place_at s.model.layout (woven_at w.accesses which).place).port item new.device
-  pub next : IsNextWord s.model.layout begun d (woven_at w.accesses which).place (woven_at w.accesses which).access.reg (carried (woven_at w.accesses which).access) (writes (woven_at w.accesses
-      which).access) (length (woven_at w.accesses which).items) item.op
-  pub quiet : item.answer.failed ≡ false
-  -- the words so far, with this one
-  pub ops : map (λ (i : TraceItem). i.op) ((woven_at w.accesses which).items ++ item ∷ []) ≡ take (length (woven_at w.accesses which).items + 1) (whole_ops s.model.layout (woven_at w.accesses
-      which).place (carried (woven_at w.accesses which).access) (writes (woven_at w.accesses which).access))
-  pub answers : map (λ (i : TraceItem). i.answer) ((woven_at w.accesses which).items ++ item ∷ []) ≡ answers_of begun (place_at s.model.layout (woven_at w.accesses which).place).port
-      (map (λ (i : TraceItem). i.op) ((woven_at w.accesses which).items ++ item ∷ []))
-  -- what the predictor makes of it
-  pub model : new.model ≡ (let x = taken_in s.model.chip s.model.layout (woven_at w.accesses which).place (gathered_of (writes (woven_at w.accesses which).access) ((woven_at w.accesses which).items
-      ++ item ∷ [])) s.model.gathered s.model.mirror in
-      let y : ModelData = record s.model { gathered = x.gathered; mirror = x.mirror } in y)
-
-pub is_word : (begun : State) (p : Machine) (s new : Scene) (d : State) (w : WeaveData) (which : ℕ) (step : Step) → IsModel s.model → s.device ≡ Some d →
-    IsOpen w which → IsHalf begun p s.model d w → IsStepOf s new (woven_at w.accesses which) step → IsWord begun p s new d w which step.item
-is_word begun p s new d w which step model told here half is =
-    let m = s.model in
-    let c = m.chip in
-    let l = m.layout in
-    let v = woven_at w.accesses which in
-    let item = step.item in
-    let value = carried v.access in
-    let write = writes v.access in
-    let port = (place_at l v.place).port in
-    let k = length v.items in
-    let ops = whole_ops l v.place value write in
-    let mine = half.open_ones which here in
-    let at = half_granted m v mine.granted in
-    let place : IsPlaceOf c l v.place v.access.reg write = place_granted m v.access.reg v.access.map v.access.value v.place write model at refl in
-    let here_is = here_of c l v.place v.access.reg write place in
-    let low : k < length ops = slice_get_within ops k item.op is.sent.op in
-    let op_is : item.op ≡ whole_op l v.place value write k = sym (get_or_from_slice_get ops k item.op no_op is.sent.op) in
-    let t = told_word s new v.place k v.access.value item d told is.sent in
-    let next : IsNextWord l begun d v.place v.access.reg value write k item.op =
-    subst (IsNextWord l begun d v.place v.access.reg value write k) (sym op_is) (next_word_goes_on c l begun d v.place v.access.reg value write k place half.begun_ready half.device low
-    mine.under_way) in
-    let quiet : item.answer.failed ≡ false = ap (λ (a : Answer). a.failed) t.answer ∙ next.quiet in
-    let all : map (λ (i : TraceItem). i.op) (v.items ++ item ∷ []) ≡ take k ops ++ item.op ∷ [] = map-append (λ (i : TraceItem). i.op) v.items (item ∷ []) ∙ ap (λ xs. xs ++ item.op ∷ []) mine.ops in
-    record {
-      at = at;
-      place = place;
-      low = low;
-      op_is = op_is;
-      told = t;
-      next = next;
-      quiet = quiet;
-      ops = all ∙ ap (λ o. take k ops ++ o ∷ []) op_is ∙ sym (take_more ops k no_op low);
-      answers =
-          map-append (λ (i : TraceItem). i.answer) v.items (item ∷ [])
-          ∙ ap (λ xs. xs ++ item.answer ∷ []) (mine.answers ∙ ap (answers_of begun port) mine.ops)
-          ∙ ap (λ a. answers_of begun port (take k ops) ++ a ∷ []) (t.answer ∙ next.answer)
-          ∙ sym (answers_append begun port (take k ops) item.op)
-          ∙ ap (answers_of begun port) (sym all);
-      model =
-          is.sent.model
-          ∙ ap (λ (x : Seen). let y : ModelData = record m { gathered = x.gathered; mirror = x.mirror } in y)
-          (seen_word c l v.place value write v.items item m.gathered m.mirror here_is (register_place l v.access.reg v.place at.there) at.explicit at.right t.port_is op_is (subst (λ n. k < n)
-          (ops_count l v.place value write here_is) low) quiet mine.gathered);
-    }
-
 -- ---- whether it is the last one
 
 pub over_is : (v : Woven) (item : TraceItem) (t : Bool) → item.answer.failed ≡ false → eqb (length v.items + 1) v.words ≡ t → is_over v item ≡ t
@@ -192,99 +122,7 @@ whole_is l v item write t words e =
     ∙ ap (λ n. (length v.items + 1) == n) (sym words)
     ∙ e
 
--- ---- the other accesses
-
-others_stay : (begun : State) (p : Machine) (s new : Scene) (d : State) (w : WeaveData) (which : ℕ) (step : Step) → IsModel s.model → IsWeave w →
-    IsOpen w which → IsHalf begun p s.model d w → IsWord begun p s new d w which step.item → (i : ℕ) → IsOpen w i → (i ≡ which → ⊥) →
-    IsUnderWay s.model.layout begun (state_after d (place_at s.model.layout (woven_at w.accesses which).place).port step.item.op) (woven_at w.accesses i).place (woven_at w.accesses i).access.reg
-    (carried (woven_at w.accesses i).access) (writes (woven_at w.accesses i).access) (length (woven_at w.accesses i).items)
-others_stay begun p s new d w which step model ok here half word i there apart_is =
-    let m = s.model in
-    let l = m.layout in
-    let v = woven_at w.accesses which in
-    let x = woven_at w.accesses i in
-    let mine = half.open_ones which here in
-    let its = half.open_ones i there in
-    let apart : x.access.reg ≡ v.access.reg → ⊥ = regs_differ w.accesses i which ok.apart (at_open w i ok there).inside (at_open w which ok here).inside apart_is in
-    let other : IsPlaceOf m.chip l x.place x.access.reg (writes x.access) = place_granted m x.access.reg x.access.map x.access.value x.place (writes x.access) model (half_granted m x its.granted)
-    refl in
-    subst (λ o. IsUnderWay l begun (state_after d (place_at l v.place).port o) x.place x.access.reg (carried x.access) (writes x.access) (length x.items)) (sym word.op_is)
-    (others_stay_under_way m.chip l begun d v.place v.access.reg (carried v.access) (writes v.access) (length v.items) word.place half.begun_ready half.device word.low mine.under_way begun x.place
-    x.access.reg (carried x.access) (writes x.access) (length x.items) other apart its.under_way)
-
--- ---- a middle word
-
-middle : (begun : State) (p : Machine) (s new : Scene) (d : State) (w : WeaveData) (which : ℕ) (step : Step) → IsModel s.model → IsWeave w →
-    IsOpen w which → IsHalf begun p s.model d w → IsStepOf s new (woven_at w.accesses which) step → IsWord begun p s new d w which step.item →
-    eqb (length (woven_at w.accesses which).items + 1) (woven_at w.accesses which).words ≡ false → IsHalfAfter begun p s new w which step
-middle begun p s new d w which step model ok here half is word e =
-    let m = s.model in
-    let c = m.chip in
-    let l = m.layout in
-    let v = woven_at w.accesses which in
-    let item = step.item in
-    let value = carried v.access in
-    let write = writes v.access in
-    let port = (place_at l v.place).port in
-    let k = length v.items in
-    let mine = half.open_ones which here in
-    let next = state_after d port item.op in
-    let items = v.items ++ item ∷ [] in
-    let u : Woven = record v { items = items } in
-    let g = gathered_of write items in
-    let going : is_over v item ≡ false = over_is v item false word.quiet e in
-    let long : length items ≡ k + 1 = length_push v.items item in
-    let after : new.model ≡ model_with m v.place g (mirror_of p) =
-    word.model
-    ∙ ap (λ t. let x : Seen = cond t (seen_of (set m.gathered v.place no_words) (predicted c l v.place g m.mirror)) (seen_of (set m.gathered v.place g) m.mirror) in let y : ModelData = record m
-    { gathered = x.gathered; mirror = x.mirror } in y) (whole_is l v item write false mine.words e)
-    ∙ ap (model_with m v.place g) half.mirror
-    in
-    let moved : IsMoved m p p begun d next w which item.op.address u w.still_open g = record {
-      reg = refl;
-      place = refl;
-      at = word.next.at;
-      touched = word.next.touched;
-      fewer = λ i there. there;
-      kept = λ i there apart_is. there;
-      same = λ reg low apart_is. record { bits = refl; marks = λ j inside. refl };
-      others = λ i there apart_is. others_stay begun p s new d w which step model ok here half word i there apart_is;
-      own = inl (
-        here,
-        record {
-          numbers = mine.numbers;
-          granted = grant_with m (set m.gathered v.place g) (mirror_of p) v.access.reg v.access.map v.access.value v.place mine.granted;
-          words = mine.words;
-          holds = mine.holds;
-          marked = mine.marked;
-          under_way = subst (IsUnderWay l begun next v.place v.access.reg value write) (sym long) word.next.under_way;
-          ops = word.ops ∙ ap (λ n. take n (whole_ops l v.place value write)) (sym long);
-          answers = word.answers;
-          gathered = get_or-set_same m.gathered v.place g no_words (subst (λ n. v.place < n) (sym model.predictor.count) word.place.place_in);
-        },
-      );
-    } in
-    record {
-      device = next;
-      told = word.told.goes;
-      quiet = word.quiet;
-      half =
-          subst (λ q. IsHalf begun q new.model next (stepped w which item)) (ap (λ t. cond t (machine_step c l p (op_of v.access)).machine p) (sym going))
-          (subst (λ x. IsHalf begun p x next (stepped w which item)) (sym after)
-          (subst (IsHalf begun p (model_with m v.place g (mirror_of p)) next) (stepped_going w which item going) (half_moved m p p begun d next w which item.op.address u w.still_open g model ok half
-          here moved)));
-      event = subst (λ o. IfSome o (λ x. without_items x ≡ (machine_step c l p (op_of v.access)).event)) (sym (is.end ∙ ap (λ t. cond t (Some (event_with new.model v item)) None) going)) tt;
-      own =
-          subst (λ q. IsAlike c v.access.reg (register_after_word c p v item) (register_at c q v.access.reg)) (ap (λ t. cond t (machine_step c l p (op_of v.access)).machine p) (sym going))
-          (subst (λ x. IsAlike c v.access.reg x (register_at c p v.access.reg)) (ap (λ t. cond t (register_after (fields_of c v.access.reg) (step_of v.access.value) (register_at c p v.access.reg))
-          (register_at c p v.access.reg)) (sym going)) (alike_as_is c v.access.reg (register_at c p v.access.reg)));
-      others = λ reg low other. subst (λ q. IsAlike c reg (register_at c p reg) (register_at c q reg)) (ap (λ t. cond t (machine_step c l p (op_of v.access)).machine p) (sym going))
-          (alike_as_is c reg (register_at c p reg));
-      answers = subst (λ o. IfSome o (λ x. x.end ≡ answered c v.access.reg v.access.value (register_at c p v.access.reg))) (sym (is.end ∙ ap (λ t. cond t (Some (event_with new.model v item)) None)
-          going)) tt;
-    }
-
--- ---- the last word
+-- ---- all words
 
 -- the register took its step
 all_sent : (c : ChipData) (l : LayoutData) (begun next : State) (place reg : ℕ) (value : Option ℕ) (r : Register) →
@@ -322,96 +160,262 @@ brought m new begun p reg map None place items model chip layout at there ready 
     ∙ value_brought m.chip m.layout begun p place reg items there ready holds ops answers
 brought m new begun p reg map (Some value) place items model chip layout at there ready holds ops answers none = absurd cc
 
-last : (begun : State) (p : Machine) (s new : Scene) (d : State) (w : WeaveData) (which : ℕ) (step : Step) → IsModel s.model → IsWeave w →
-    IsOpen w which → IsHalf begun p s.model d w → IsStepOf s new (woven_at w.accesses which) step → IsWord begun p s new d w which step.item →
-    eqb (length (woven_at w.accesses which).items + 1) (woven_at w.accesses which).words ≡ true → IsHalfAfter begun p s new w which step
-last begun p s new d w which step model ok here half is word e =
-    let m = s.model in
-    let c = m.chip in
-    let l = m.layout in
-    let v = woven_at w.accesses which in
-    let item = step.item in
-    let reg = v.access.reg in
-    let value = carried v.access in
-    let write = writes v.access in
-    let port = (place_at l v.place).port in
-    let k = length v.items in
-    let ops = whole_ops l v.place value write in
-    let mine = half.open_ones which here in
-    let next = state_after d port item.op in
-    let items = v.items ++ item ∷ [] in
-    let u : Woven = record v { items = [] } in
-    let g = gathered_of write items in
-    let r = register_at c p reg in
-    let st = step_of v.access.value in
-    let q = machine_stepped c reg st p in
-    let here_is = here_of c l v.place reg write word.place in
-    let inside : reg < length c.regs = reg_in m reg v.access.map v.access.value mine.numbers in
-    let over : is_over v item ≡ true = over_is v item true word.quiet e in
-    let count : k + 1 ≡ length ops = eqb-true (k + 1) v.words e ∙ mine.words ∙ sym (ops_count l v.place value write here_is) in
-    let all_ops : map (λ (i : TraceItem). i.op) items ≡ ops = word.ops ∙ take_all (k + 1) ops (omega (arith, count)) in
-    let follow = follows c l begun p v.place reg v.access.value v.items item m.mirror model.chip inside here_is (granted_value m reg v.access.map v.access.value v.place model word.at) word.place
-    half.begun_ready mine.holds half.mirror all_ops word.answers in
-    let believed : predicted c l v.place g m.mirror ≡ mirror_of q = believed_is m p reg v.access.value (predicted c l v.place g m.mirror) model.chip inside model.mirror half.mirror follow in
-    let machine_follow : FollowsStep c reg (mirror_of p) (mirror_of q) r st = subst (λ x. FollowsStep c reg (mirror_of p) x r st) believed follow in
-    let built : IsMirrorOf c (mirror_of p) = subst (IsMirrorOf c) half.mirror model.mirror in
-    let after : new.model ≡ model_with m v.place no_words (mirror_of q) =
-    word.model
-    ∙ ap (λ t. let x : Seen = cond t (seen_of (set m.gathered v.place no_words) (predicted c l v.place g m.mirror)) (seen_of (set m.gathered v.place g) m.mirror) in let y : ModelData = record m
-    { gathered = x.gathered; mirror = x.mirror } in y) (whole_is l v item write true mine.words e)
-    ∙ ap (model_with m v.place no_words) believed
-    in
-    let under = subst (IsUnderWay l begun next v.place reg value write) count word.next.under_way in
-    let done = all_sent c l begun next v.place reg v.access.value r word.place half.begun_ready mine.holds under in
-    let moved : IsMoved m p q begun d next w which item.op.address u (without which w.still_open) no_words = record {
-      reg = refl;
-      place = refl;
-      at = word.next.at;
-      touched = word.next.touched;
-      fewer = λ i there. filter_from (λ j. not (j == which)) i w.still_open there;
-      kept = λ i there apart_is. filter_has (λ j. not (j == which)) i w.still_open there (not_at i which apart_is);
-      same = λ n low apart_is. other_same c reg n (mirror_of p) (mirror_of q) r st model.chip low apart_is built machine_follow;
-      others = λ i there apart_is. others_stay begun p s new d w which step model ok here half word i there apart_is;
-      own = inr (record {
-        gone = λ t. apart_from which w.still_open t.0 which t.1 t.2;
-        holds = holds_as c next reg (register_after (fields_of c reg) st r) (register_at c q reg) (here_same c reg (mirror_of p) (mirror_of q) st model.chip inside built machine_follow) done.holds;
-        marked = λ b low alone_is.
-            ap (λ n. bit n b) (under.marks ∙ alone_marks c l begun v.place reg v.access.value r word.place half.begun_ready mine.holds)
-            ∙ here_alone c l begun reg st r (length ops) half.begun_ready inside mine.holds mine.marked b low alone_is;
-        beats = done.beats;
-        gathered = refl;
-      });
-    } in
-    let told_value = brought m new.model begun p reg v.access.map v.access.value v.place items model (ap (λ (x : ModelData). x.chip) after) (ap (λ (x : ModelData). x.layout) after) word.at word.place
-    half.begun_ready mine.holds all_ops word.answers in
-    let same_machine : (machine_step c l p (op_of v.access)).machine ≡ q = machine_is m p reg v.access.map v.access.value v.place mine.granted in
-    let chip : new.model.chip ≡ c = ap (λ (x : ModelData). x.chip) after in
-    let layout : new.model.layout ≡ l = ap (λ (x : ModelData). x.layout) after in
-    record {
-      device = next;
-      told = word.told.goes;
-      quiet = word.quiet;
-      half =
-          subst (λ x. IsHalf begun x new.model next (stepped w which item)) (sym (ap (λ t. cond t (machine_step c l p (op_of v.access)).machine p) over ∙ same_machine))
-          (subst (λ x. IsHalf begun q x next (stepped w which item)) (sym after)
-          (subst (IsHalf begun q (model_with m v.place no_words (mirror_of q)) next) (stepped_over w which v u item (without which w.still_open) refl over refl refl)
-          (half_moved m p q begun d next w which item.op.address u (without which w.still_open) no_words model ok half here moved)));
-      event =
-          subst (λ o. IfSome o (λ x. without_items x ≡ (machine_step c l p (op_of v.access)).event)) (sym (is.end ∙ ap (λ t. cond t (Some (event_with new.model v item)) None) over))
-          (event_is m new.model p reg v.access.map v.access.value v.place items (end_with new.model v item) chip layout mine.granted (ap (λ (x : ModelData). x.mirror) after)
-          (ap (λ t. cond t (BusError k) (good_end new.model reg v.place v.access.value items)) word.quiet)
-          told_value);
-      own =
-          subst (λ x. IsAlike c reg (register_after_word c p v item) (register_at c x reg)) (sym (ap (λ t. cond t (machine_step c l p (op_of v.access)).machine p) over ∙ same_machine))
-          (subst (λ x. IsAlike c reg x (register_at c q reg)) (ap (λ t. cond t (register_after (fields_of c reg) st r) r) (sym over))
-          (alike c reg (register_after (fields_of c reg) st r) (register_at c q reg) (here_same c reg (mirror_of p) (mirror_of q) st model.chip inside built machine_follow)));
-      others = λ n low other.
-          subst (λ x. IsAlike c n (register_at c p n) (register_at c x n)) (sym (ap (λ t. cond t (machine_step c l p (op_of v.access)).machine p) over ∙ same_machine))
-          (alike c n (register_at c p n) (register_at c q n) (other_same c reg n (mirror_of p) (mirror_of q) r st model.chip low other built machine_follow));
-      answers =
-          subst (λ o. IfSome o (λ x. x.end ≡ answered c reg v.access.value r)) (sym (is.end ∙ ap (λ t. cond t (Some (event_with new.model v item)) None) over))
-          (ap (λ t. cond t (BusError k) (good_end new.model reg v.place v.access.value items)) word.quiet ∙ good_is new.model c reg v.place v.access.value items r told_value);
-    }
+-- ---- a step
+
+module _ (begun : State) (p : Machine) (s new : Scene) (d : State) (w : WeaveData) (which : ℕ) (step : Step) where
+  abbrev m : ModelData
+  m = s.model
+
+  abbrev c : ChipData
+  c = m.chip
+
+  abbrev l : LayoutData
+  l = m.layout
+
+  -- the access, as it was before
+  abbrev v : Woven
+  v = woven_at w.accesses which
+
+  abbrev value : ℕ
+  value = carried v.access
+
+  abbrev write : Bool
+  write = writes v.access
+
+  abbrev port : ℕ
+  port = (place_at l v.place).port
+
+  -- its words, and how many of them were sent
+  abbrev ops : List BusOp
+  ops = whole_ops l v.place value write
+
+  abbrev k : ℕ
+  k = length v.items
+
+  -- the word of the step, and those so far with it
+  abbrev item : TraceItem
+  item = step.item
+
+  abbrev items : List TraceItem
+  items = v.items ++ item ∷ []
+
+  abbrev g : Gathered
+  g = gathered_of write items
+
+  -- ---- its word
+
+  -- the next word is due
+  pub record IsDue : Type 0 where
+    pub at : IsGranted m v.access.reg v.access.map v.access.value v.place
+    pub place : IsPlaceOf c l v.place v.access.reg write
+    pub low : k < length ops
+    pub op_is : item.op ≡ whole_op l v.place value write k
+
+  is_due : IsModel m → IsOpen w which → IsHalf begun p m d w → IsStepOf s new v step → IsDue
+  is_due model here half is =
+      let at = half_granted m v (half.open_ones which here).granted in
+      record {
+        at = at;
+        place = place_granted m v.access.reg v.access.map v.access.value v.place write model at refl;
+        low = slice_get_within ops k item.op is.sent.op;
+        op_is = sym (get_or_from_slice_get ops k item.op no_op is.sent.op);
+      }
+
+  pub record IsWord : Type 0 where
+    pub due : IsDue
+    pub open due use *
+    pub told : IsTold d port item new.device
+    pub next : IsNextWord l begun d v.place v.access.reg value write k item.op
+    pub quiet : item.answer.failed ≡ false
+    -- the words so far, with this one
+    pub ops_are : all_of items ≡ take (k + 1) ops
+    pub answers : answers_in items ≡ answers_of begun port (all_of items)
+    -- what the predictor makes of it
+    pub model : new.model ≡ (let x = taken_in c l v.place g m.gathered m.mirror in
+        let y : ModelData = record m { gathered = x.gathered; mirror = x.mirror } in y)
+
+  pub is_word : IsModel m → s.device ≡ Some d → IsOpen w which → IsHalf begun p m d w → IsStepOf s new v step → IsWord
+  is_word model told here half is =
+      let mine = half.open_ones which here in
+      let due = is_due model here half is in
+      let here_is = here_of c l v.place v.access.reg write due.place in
+      let t = told_word s new v.place k v.access.value item d told is.sent in
+      let next : IsNextWord l begun d v.place v.access.reg value write k item.op =
+      subst (IsNextWord l begun d v.place v.access.reg value write k) (sym due.op_is) (next_word_goes_on c l begun d v.place v.access.reg value write k due.place half.begun_ready half.device due.low
+      mine.under_way) in
+      let quiet : item.answer.failed ≡ false = ap (λ (a : Answer). a.failed) t.answer ∙ next.quiet in
+      let all : all_of items ≡ take k ops ++ item.op ∷ [] = map-append (λ (i : TraceItem). i.op) v.items (item ∷ []) ∙ ap (λ xs. xs ++ item.op ∷ []) mine.ops in
+      record {
+        due = due;
+        told = t;
+        next = next;
+        quiet = quiet;
+        ops_are = all ∙ ap (λ o. take k ops ++ o ∷ []) due.op_is ∙ sym (take_more ops k no_op due.low);
+        answers =
+            map-append (λ (i : TraceItem). i.answer) v.items (item ∷ [])
+            ∙ ap (λ xs. xs ++ item.answer ∷ []) (mine.answers ∙ ap (answers_of begun port) mine.ops)
+            ∙ ap (λ a. answers_of begun port (take k ops) ++ a ∷ []) (t.answer ∙ next.answer)
+            ∙ sym (answers_append begun port (take k ops) item.op)
+            ∙ ap (answers_of begun port) (sym all);
+        model =
+            is.sent.model
+            ∙ ap (λ (x : Seen). let y : ModelData = record m { gathered = x.gathered; mirror = x.mirror } in y)
+            (seen_word c l v.place value write v.items item m.gathered m.mirror here_is (register_place l v.access.reg v.place due.at.there) due.at.explicit due.at.right t.port_is due.op_is
+            (subst (λ n. k < n) (ops_count l v.place value write here_is) due.low) quiet mine.gathered);
+      }
+
+  -- ---- the other accesses
+
+  others_stay : IsModel m → IsWeave w → IsOpen w which → IsHalf begun p m d w → IsWord → (i : ℕ) → IsOpen w i → (i ≡ which → ⊥) →
+      let x = woven_at w.accesses i in
+      IsUnderWay l begun (state_after d port item.op) x.place x.access.reg (carried x.access) (writes x.access) (length x.items)
+  others_stay model ok here half word i there apart_is =
+      let x = woven_at w.accesses i in
+      let mine = half.open_ones which here in
+      let its = half.open_ones i there in
+      let apart : x.access.reg ≡ v.access.reg → ⊥ = regs_differ w.accesses i which ok.apart (at_open w i ok there).inside (at_open w which ok here).inside apart_is in
+      let other : IsPlaceOf c l x.place x.access.reg (writes x.access) = place_granted m x.access.reg x.access.map x.access.value x.place (writes x.access) model (half_granted m x its.granted) refl in
+      subst (λ o. IsUnderWay l begun (state_after d port o) x.place x.access.reg (carried x.access) (writes x.access) (length x.items)) (sym word.op_is)
+      (others_stay_under_way c l begun d v.place v.access.reg value write k word.place half.begun_ready half.device word.low mine.under_way begun x.place x.access.reg (carried x.access)
+      (writes x.access) (length x.items) other apart its.under_way)
+
+  -- ---- a middle word
+
+  middle : IsModel m → IsWeave w → IsOpen w which → IsHalf begun p m d w → IsStepOf s new v step → IsWord → eqb (k + 1) v.words ≡ false → IsHalfAfter begun p s new w which step
+  middle model ok here half is word e =
+      let mine = half.open_ones which here in
+      let next = state_after d port item.op in
+      let u : Woven = record v { items = items } in
+      let going : is_over v item ≡ false = over_is v item false word.quiet e in
+      let long : length items ≡ k + 1 = length_push v.items item in
+      let after : new.model ≡ model_with m v.place g (mirror_of p) =
+      word.model
+      ∙ ap (λ t. let x : Seen = cond t (seen_of (set m.gathered v.place no_words) (predicted c l v.place g m.mirror)) (seen_of (set m.gathered v.place g) m.mirror) in let y : ModelData = record m
+      { gathered = x.gathered; mirror = x.mirror } in y) (whole_is l v item write false mine.words e)
+      ∙ ap (model_with m v.place g) half.mirror
+      in
+      let moved : IsMoved m p p begun d next w which item.op.address u w.still_open g = record {
+        reg = refl;
+        place = refl;
+        at = word.next.at;
+        touched = word.next.touched;
+        fewer = λ i there. there;
+        kept = λ i there apart_is. there;
+        same = λ reg low apart_is. record { bits = refl; marks = λ j inside. refl };
+        others = λ i there apart_is. others_stay model ok here half word i there apart_is;
+        own = inl (
+          here,
+          record {
+            numbers = mine.numbers;
+            granted = grant_with m (set m.gathered v.place g) (mirror_of p) v.access.reg v.access.map v.access.value v.place mine.granted;
+            words = mine.words;
+            holds = mine.holds;
+            marked = mine.marked;
+            under_way = subst (IsUnderWay l begun next v.place v.access.reg value write) (sym long) word.next.under_way;
+            ops = word.ops_are ∙ ap (λ n. take n (whole_ops l v.place value write)) (sym long);
+            answers = word.answers;
+            gathered = get_or-set_same m.gathered v.place g no_words (subst (λ n. v.place < n) (sym model.predictor.count) word.place.place_in);
+          },
+        );
+      } in
+      record {
+        device = next;
+        told = word.told.goes;
+        quiet = word.quiet;
+        half =
+            subst (λ q. IsHalf begun q new.model next (stepped w which item)) (ap (λ t. cond t (machine_step c l p (op_of v.access)).machine p) (sym going))
+            (subst (λ x. IsHalf begun p x next (stepped w which item)) (sym after)
+            (subst (IsHalf begun p (model_with m v.place g (mirror_of p)) next) (stepped_going w which item going) (half_moved m p p begun d next w which item.op.address u w.still_open g model ok half
+            here moved)));
+        event = subst (λ o. IfSome o (λ x. without_items x ≡ (machine_step c l p (op_of v.access)).event)) (sym (is.end ∙ ap (λ t. cond t (Some (event_with new.model v item)) None) going)) tt;
+        own =
+            subst (λ q. IsAlike c v.access.reg (register_after_word c p v item) (register_at c q v.access.reg)) (ap (λ t. cond t (machine_step c l p (op_of v.access)).machine p) (sym going))
+            (subst (λ x. IsAlike c v.access.reg x (register_at c p v.access.reg)) (ap (λ t. cond t (register_after (fields_of c v.access.reg) (step_of v.access.value) (register_at c p v.access.reg))
+            (register_at c p v.access.reg)) (sym going)) (alike_as_is c v.access.reg (register_at c p v.access.reg)));
+        others = λ reg low other. subst (λ q. IsAlike c reg (register_at c p reg) (register_at c q reg)) (ap (λ t. cond t (machine_step c l p (op_of v.access)).machine p) (sym going))
+            (alike_as_is c reg (register_at c p reg));
+        answers = subst (λ o. IfSome o (λ x. x.end ≡ answered c v.access.reg v.access.value (register_at c p v.access.reg))) (sym (is.end ∙ ap (λ t. cond t (Some (event_with new.model v item)) None)
+            going)) tt;
+      }
+
+  -- ---- the last word
+
+  last : IsModel m → IsWeave w → IsOpen w which → IsHalf begun p m d w → IsStepOf s new v step → IsWord → eqb (k + 1) v.words ≡ true → IsHalfAfter begun p s new w which step
+  last model ok here half is word e =
+      let reg = v.access.reg in
+      let mine = half.open_ones which here in
+      let next = state_after d port item.op in
+      let u : Woven = record v { items = [] } in
+      let r = register_at c p reg in
+      let st = step_of v.access.value in
+      let q = machine_stepped c reg st p in
+      let here_is = here_of c l v.place reg write word.place in
+      let inside : reg < length c.regs = reg_in m reg v.access.map v.access.value mine.numbers in
+      let over : is_over v item ≡ true = over_is v item true word.quiet e in
+      let count : k + 1 ≡ length ops = eqb-true (k + 1) v.words e ∙ mine.words ∙ sym (ops_count l v.place value write here_is) in
+      let all_ops : map (λ (i : TraceItem). i.op) items ≡ ops = word.ops_are ∙ take_all (k + 1) ops (omega (arith, count)) in
+      let follow = follows c l begun p v.place reg v.access.value v.items item m.mirror model.chip inside here_is (granted_value m reg v.access.map v.access.value v.place model word.at) word.place
+      half.begun_ready mine.holds half.mirror all_ops word.answers in
+      let believed : predicted c l v.place g m.mirror ≡ mirror_of q = believed_is m p reg v.access.value (predicted c l v.place g m.mirror) model.chip inside model.mirror half.mirror follow in
+      let machine_follow : FollowsStep c reg (mirror_of p) (mirror_of q) r st = subst (λ x. FollowsStep c reg (mirror_of p) x r st) believed follow in
+      let built : IsMirrorOf c (mirror_of p) = subst (IsMirrorOf c) half.mirror model.mirror in
+      let after : new.model ≡ model_with m v.place no_words (mirror_of q) =
+      word.model
+      ∙ ap (λ t. let x : Seen = cond t (seen_of (set m.gathered v.place no_words) (predicted c l v.place g m.mirror)) (seen_of (set m.gathered v.place g) m.mirror) in let y : ModelData = record m
+      { gathered = x.gathered; mirror = x.mirror } in y) (whole_is l v item write true mine.words e)
+      ∙ ap (model_with m v.place no_words) believed
+      in
+      let under = subst (IsUnderWay l begun next v.place reg value write) count word.next.under_way in
+      let done = all_sent c l begun next v.place reg v.access.value r word.place half.begun_ready mine.holds under in
+      let moved : IsMoved m p q begun d next w which item.op.address u (without which w.still_open) no_words = record {
+        reg = refl;
+        place = refl;
+        at = word.next.at;
+        touched = word.next.touched;
+        fewer = λ i there. filter_from (λ j. not (j == which)) i w.still_open there;
+        kept = λ i there apart_is. filter_has (λ j. not (j == which)) i w.still_open there (not_at i which apart_is);
+        same = λ n low apart_is. other_same c reg n (mirror_of p) (mirror_of q) r st model.chip low apart_is built machine_follow;
+        others = λ i there apart_is. others_stay model ok here half word i there apart_is;
+        own = inr (record {
+          gone = λ t. apart_from which w.still_open t.0 which t.1 t.2;
+          holds = holds_as c next reg (register_after (fields_of c reg) st r) (register_at c q reg) (here_same c reg (mirror_of p) (mirror_of q) st model.chip inside built machine_follow) done.holds;
+          marked = λ b low alone_is.
+              ap (λ n. bit n b) (under.marks ∙ alone_marks c l begun v.place reg v.access.value r word.place half.begun_ready mine.holds)
+              ∙ here_alone c l begun reg st r (length ops) half.begun_ready inside mine.holds mine.marked b low alone_is;
+          beats = done.beats;
+          gathered = refl;
+        });
+      } in
+      let told_value = brought m new.model begun p reg v.access.map v.access.value v.place items model (ap (λ (x : ModelData). x.chip) after) (ap (λ (x : ModelData). x.layout) after) word.at
+      word.place half.begun_ready mine.holds all_ops word.answers in
+      let same_machine : (machine_step c l p (op_of v.access)).machine ≡ q = machine_is m p reg v.access.map v.access.value v.place mine.granted in
+      let chip : new.model.chip ≡ c = ap (λ (x : ModelData). x.chip) after in
+      let layout : new.model.layout ≡ l = ap (λ (x : ModelData). x.layout) after in
+      record {
+        device = next;
+        told = word.told.goes;
+        quiet = word.quiet;
+        half =
+            subst (λ x. IsHalf begun x new.model next (stepped w which item)) (sym (ap (λ t. cond t (machine_step c l p (op_of v.access)).machine p) over ∙ same_machine))
+            (subst (λ x. IsHalf begun q x next (stepped w which item)) (sym after)
+            (subst (IsHalf begun q (model_with m v.place no_words (mirror_of q)) next) (stepped_over w which v u item (without which w.still_open) refl over refl refl)
+            (half_moved m p q begun d next w which item.op.address u (without which w.still_open) no_words model ok half here moved)));
+        event =
+            subst (λ o. IfSome o (λ x. without_items x ≡ (machine_step c l p (op_of v.access)).event)) (sym (is.end ∙ ap (λ t. cond t (Some (event_with new.model v item)) None) over))
+            (event_is m new.model p reg v.access.map v.access.value v.place items (end_with new.model v item) chip layout mine.granted (ap (λ (x : ModelData). x.mirror) after)
+            (ap (λ t. cond t (BusError k) (good_end new.model reg v.place v.access.value items)) word.quiet)
+            told_value);
+        own =
+            subst (λ x. IsAlike c reg (register_after_word c p v item) (register_at c x reg)) (sym (ap (λ t. cond t (machine_step c l p (op_of v.access)).machine p) over ∙ same_machine))
+            (subst (λ x. IsAlike c reg x (register_at c q reg)) (ap (λ t. cond t (register_after (fields_of c reg) st r) r) (sym over))
+            (alike c reg (register_after (fields_of c reg) st r) (register_at c q reg) (here_same c reg (mirror_of p) (mirror_of q) st model.chip inside built machine_follow)));
+        others = λ n low other.
+            subst (λ x. IsAlike c n (register_at c p n) (register_at c x n)) (sym (ap (λ t. cond t (machine_step c l p (op_of v.access)).machine p) over ∙ same_machine))
+            (alike c n (register_at c p n) (register_at c q n) (other_same c reg n (mirror_of p) (mirror_of q) r st model.chip low other built machine_follow));
+        answers =
+            subst (λ o. IfSome o (λ x. x.end ≡ answered c reg v.access.value r)) (sym (is.end ∙ ap (λ t. cond t (Some (event_with new.model v item)) None) over))
+            (ap (λ t. cond t (BusError k) (good_end new.model reg v.place v.access.value items)) word.quiet ∙ good_is new.model c reg v.place v.access.value items r told_value);
+      }
 
 pub step_keeps_half : StepKeepsHalf
 step_keeps_half s new begun d p w which step model told ok here half is =
@@ -420,7 +424,7 @@ step_keeps_half s new begun d p w which step model told ok here half is =
     by (eqb (length v.items + 1) v.words) refl word
   where
     by : (t : Bool) → eqb (length (woven_at w.accesses which).items + 1) (woven_at w.accesses which).words ≡ t →
-        IsWord begun p s new d w which step.item → IsHalfAfter begun p s new w which step
+        IsWord begun p s new d w which step → IsHalfAfter begun p s new w which step
     by true e word = last begun p s new d w which step model ok here half is word e
     by false e word = middle begun p s new d w which step model ok here half is word e
 

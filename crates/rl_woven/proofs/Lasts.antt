@@ -1,5 +1,5 @@
 -- The last word of an access: what is then believed is the machine after one step, and the event is the machine's.
-use Rattle.std.proofs.Common.{◌≡◌, ℕ, ◌^◌, ◌<◌, get_or, ◌∷◌, ◌++◌, ◌&&◌, ◌||◌, [], true, false, List, length, map, Option, None, Some, is_some, Ok, refl, sym, ap, ◌∙◌, subst}
+use Rattle.std.proofs.Common.{◌≡◌, ℕ, ◌^◌, ◌<◌, get_or, ◌∷◌, ◌++◌, ◌&&◌, ◌||◌, [], false, List, length, map, Option, None, Some, is_some, Ok, refl, sym, ap, ◌∙◌, subst}
 use Rattle.std.specs.Prelude.{unwrap_or}
 use Rattle.std.proofs.lemmas.Simd.{map-map}
 use Rattle.rl_bus.specs.declared.op.Answer.{Answer}
@@ -31,7 +31,7 @@ use Rattle.rl_access.specs.declared.event.Op.TheVariants as op
 use Rattle.rl_access.specs.declared.trace.TraceItem.{TraceItem}
 use Rattle.rl_access.specs.Items.{words_answered}
 use Rattle.rl_access.specs.Model.{ModelData, IsModel}
-use Rattle.rl_access.specs.Observed.{predicted, reg_in}
+use Rattle.rl_access.specs.Observed.{implied, predicted, reg_in}
 use Rattle.rl_access.specs.Rules.{every_field, grant, map_of_place, named, register_event, quiet, value_of, whole}
 use Rattle.rl_access.proofs.WholeGathered.{op_in, told_of, list_of, implied_is}
 use Rattle.rl_plain.specs.Calls.{without_items}
@@ -69,33 +69,37 @@ value_brought c l begun p place reg items at ready holds ops answers =
 reg_of_item : (i : Item) (reg : ℕ) → i ≡ item.Reg reg → reg_in i ≡ reg
 reg_of_item i reg e = ap reg_in e
 
+-- the predictor takes the words for what they imply
+predicted_is : (c : ChipData) (l : LayoutData) (place : ℕ) (value : Option ℕ) (items : List TraceItem) (last : TraceItem) (m : MirrorData) →
+    IsHere l place 0 → unwrap_or value 0 < 256 ^ (place_at l place).bytes → map op_in (items ++ last ∷ []) ≡ whole_ops l place (unwrap_or value 0) (is_some value) →
+    predicted c l place (gathered_of (is_some value) (items ++ last ∷ [])) m ≡ implied c l place value (items ++ last ∷ []) m
+unfolding told_of list_of
+predicted_is c l place value items last m here fits ops =
+    ap (λ g. predicted c l place g m) (gathered_whole (is_some value) items last) ∙ implied_is c l place value (items ++ last ∷ []) m here fits ops
+
 pub follows : (c : ChipData) (l : LayoutData) (begun : State) (p : Machine) (place reg : ℕ) (value : Option ℕ) (items : List TraceItem) (last : TraceItem) (m : MirrorData) →
     IsSound c → reg < length c.regs → IsHere l place 0 → unwrap_or value 0 < 256 ^ (place_at l place).bytes →
     IsPlaceOf c l place reg (is_some value) → IsReady c l begun → Holds c begun reg (register_at c p reg) → m ≡ mirror_of p →
     map op_in (items ++ last ∷ []) ≡ whole_ops l place (unwrap_or value 0) (is_some value) → map answer_in_item (items ++ last ∷ []) ≡ answers_of begun (place_at l place).port
     (map op_in (items ++ last ∷ [])) →
     FollowsStep c reg (mirror_of p) (predicted c l place (gathered_of (is_some value) (items ++ last ∷ [])) m) (register_at c p reg) (step_of value)
-unfolding told_of list_of
 follows c l begun p place reg None items last m sound inside here fits at ready holds mirror ops answers =
     let all = items ++ last ∷ [] in
     record {
       fields = every_field;
       are = all_chosen c reg sound inside;
       is =
-          ap (λ g. predicted c l place g m) (gathered_whole false items last)
-          ∙ implied_is c l place None all m here fits ops
+          predicted_is c l place None items last m here fits ops
           ∙ ap (λ r. predict_read c r (joined l place 0 (all_bytes (place_at l place).bytes) (words_answered all)) every_field m) (reg_of_item (place_at l place).item reg at.item)
           ∙ ap (λ v. predict_read c reg v every_field m) (value_brought c l begun p place reg all at ready holds ops answers)
           ∙ ap (predict_read c reg (ranswer (fields_of c reg) every (register_at c p reg)) every_field) mirror;
     }
 follows c l begun p place reg (Some value) items last m sound inside here fits at ready holds mirror ops answers =
-    let all = items ++ last ∷ [] in
     record {
       fields = every_field;
       are = all_chosen c reg sound inside;
       is =
-          ap (λ g. predicted c l place g m) (gathered_whole true items last)
-          ∙ implied_is c l place (Some value) all m here fits ops
+          predicted_is c l place (Some value) items last m here fits ops
           ∙ ap (λ r. predict_write c r value every_field m) (reg_of_item (place_at l place).item reg at.item)
           ∙ ap (predict_write c reg value every_field) mirror;
     }
