@@ -5,5 +5,6 @@ mod indexed;
 mod quiet;
 mod regions;
 mod registers;
+mod stand;
 mod words;
 mod woven;

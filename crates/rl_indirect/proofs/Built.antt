@@ -5,7 +5,7 @@ use Rattle.rl_bus.specs.State.{State, peeked}
 use Rattle.rl_bus.specs.declared.table.Cell.TheVariants as cell
 use Rattle.rl_model.specs.Fields.{size_of}
 use Rattle.rl_model.specs.Rules.{or_else}
-use Rattle.rl_mirror.specs.Mirror.{mirrored_of}
+use Rattle.rl_mirror.specs.Mirror.{MirrorData, mirrored_of}
 use Rattle.rl_access.specs.Model.{ModelData}
 use Rattle.rl_indirect.specs.declared.window.Window.{Window}
 use Rattle.rl_indirect.specs.declared.window.WindowFault.{WindowFault}
@@ -72,6 +72,14 @@ no_memory m told w size index held (Err why) index_found held_found window insid
 
 abbrev pub bank_by : Window → (size bytes : ℕ) → (there believed : EntryData) → BankData
 bank_by w size bytes there believed = record { window = w; size = size; bytes = bytes; device = there; model = believed }
+
+-- the entries of the model, by what its mirror holds of the two registers
+pub believed_are : (m : ModelData) (w : Window) (size index held : ℕ) (p q : MirrorData) (believed : EntryData) → index ≡ mirrored_of p w.index_reg → p ≡ m.mirror
+    → held ≡ mirrored_of q w.data_reg → q ≡ m.mirror → believed ≡ all_entries held size index
+    → believed ≡ all_entries (mirrored_of m.mirror w.data_reg) size (mirrored_of m.mirror w.index_reg)
+believed_are m w size index held p q believed index_is p_is held_is q_is are =
+    are ∙ ap (λ x. all_entries x size index) (held_is ∙ ap (λ (x : MirrorData). mirrored_of x w.data_reg) q_is)
+    ∙ ap (all_entries (mirrored_of m.mirror w.data_reg) size) (index_is ∙ ap (λ (x : MirrorData). mirrored_of x w.index_reg) p_is)
 
 pub built_as : (m : ModelData) (w : Window) (size index held bytes : ℕ) (there believed : EntryData) → bytes ≡ size_of m.chip w.data_reg → there ≡ all_entries held size index
     → believed ≡ all_entries (mirrored_of m.mirror w.data_reg) size (mirrored_of m.mirror w.index_reg)

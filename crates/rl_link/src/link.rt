@@ -2,7 +2,7 @@
 ghost use Rattle.std.specs.Prelude.{◌≡◌, ◌+◌, ◌-◌, ◌^◌, ◌<◌, ◌≤◌, ◌↔◌, min, [], None, Some, Err, IsSome};
 ghost use Rattle.std.specs.Prelude.{IsNone, is_some, IsOk, IfOk, OnOk, IfSome, if◌then◌else◌, option_map};
 ghost use Rattle.rl_link.specs.Answers.{failure};
-ghost use Rattle.rl_link.specs.Peer.{CountsLines, TakesAnswer, TakesDone, BrokeBehind};
+ghost use Rattle.rl_link.specs.Peer.{CountsLines, TakesAnswer, TakesDone, BrokeBehind, KeepsOn, OnlyTalks};
 ghost use Rattle.rl_link.specs.Prelude.{Appends, AnswerHasCause, IsStep, IsPortOf, IsCellOf, IsFieldOf, IsWidth, poked};
 ghost use Rattle.rl_link.specs.Prelude.{reset_by, hw_set, carried_by, tag_of, IsWellFormed, IsReplyTo, answered_by};
 ghost use Rattle.rl_link.specs.Prelude.{AppendsFront, Puts};
@@ -158,12 +158,8 @@ impl<S: Source, K: Sink> Link<S, K> {
             (transfer_line (name_at self.old.names.ports port) op.now tag) result }
         ensures answer { IfOk result (TakesAnswer S.left self.old.talk self.new.talk op.now) }
         ensures small { IfOk result (λ answer. answer.word < 256 ^ op.now.bytes) }
-        ensures silent { IsSome self.old.broken → self.new.talk ≡ self.old.talk }
         ensures out_first { result ≡ Err Cause.Unsent → self.new.talk.source ≡ self.old.talk.source }
-        ensures lines { CountsLines S.left self.old.talk self.new.talk }
-        ensures names { self.new.names ≡ self.old.names }
-        ensures errors { self.new.errors ≡ self.old.errors }
-        ensures broken { self.new.broken ≡ self.old.broken }
+        ensures only { OnlyTalks S.left self.old self.new }
     {
         self.going()?;
         put_transfer(&mut self.request, self.names.port(port), op, tag)?;
@@ -176,11 +172,7 @@ impl<S: Source, K: Sink> Link<S, K> {
         ensures sent { Puts (K.written self.old.talk.sink) (K.written self.new.talk.sink)
             (reset_line (name_at self.old.names.kinds kind)) result }
         ensures done { OnOk result (TakesDone S.left self.old.talk self.new.talk) }
-        ensures silent { IsSome self.old.broken → self.new.talk ≡ self.old.talk }
-        ensures lines { CountsLines S.left self.old.talk self.new.talk }
-        ensures names { self.new.names ≡ self.old.names }
-        ensures errors { self.new.errors ≡ self.old.errors }
-        ensures broken { self.new.broken ≡ self.old.broken }
+        ensures only { OnlyTalks S.left self.old self.new }
     {
         self.going()?;
         put_reset(&mut self.request, self.names.kind(kind))?;
@@ -193,11 +185,7 @@ impl<S: Source, K: Sink> Link<S, K> {
         ensures sent { Puts (K.written self.old.talk.sink) (K.written self.new.talk.sink)
             (hw_line (name_at self.old.names.fields field) value) result }
         ensures done { OnOk result (TakesDone S.left self.old.talk self.new.talk) }
-        ensures silent { IsSome self.old.broken → self.new.talk ≡ self.old.talk }
-        ensures lines { CountsLines S.left self.old.talk self.new.talk }
-        ensures names { self.new.names ≡ self.old.names }
-        ensures errors { self.new.errors ≡ self.old.errors }
-        ensures broken { self.new.broken ≡ self.old.broken }
+        ensures only { OnlyTalks S.left self.old self.new }
     {
         self.going()?;
         put_hw(&mut self.request, self.names.field(field), value)?;
@@ -231,13 +219,9 @@ impl<S: Source, K: Sink> Device for Link<S, K> {
             (transfer_line (name_at self.old.names.ports port) (carried_by transfer.now) (tag_of transfer.now)) }
         ensures failed { IsSome self.new.broken → answered_by result ≡ failure }
 
-        // Once it is broken, nothing is sent or read, and it stays broken as it was.
-        ensures silent { IsSome self.old.broken
-            → (self.new.talk ≡ self.old.talk) × (self.new.broken ≡ self.old.broken) }
-        ensures names { self.new.names ≡ self.old.names }
-        // Each line of the peer that is taken counts one, and the number of a break is that of the line behind them.
-        ensures lines { CountsLines S.left self.old.talk self.new.talk }
-        ensures line { IsNone self.old.broken → BrokeBehind self.new.talk.lines self.new.broken }
+        // Once it is broken, nothing is sent or read, and it stays broken as it was. Each line of the peer that is
+        // taken counts one, and the number of a break is that of the line behind them.
+        ensures keeps { KeepsOn S.left self.old self.new }
     {
         let op = carried(transfer);
         let answer = match self.try_transfer(port, &op, transfer.tag()) {
@@ -274,12 +258,7 @@ impl<S: Source, K: Sink> Device for Link<S, K> {
         ensures sent { IsNone self.new.broken → Appends (K.written self.old.talk.sink) (K.written self.new.talk.sink)
             (reset_line (name_at self.old.names.kinds kind)) }
         ensures done { IsNone self.new.broken → TakesDone S.left self.old.talk self.new.talk }
-        ensures silent { IsSome self.old.broken
-            → (self.new.talk ≡ self.old.talk) × (self.new.broken ≡ self.old.broken) }
-        ensures names { self.new.names ≡ self.old.names }
-        // Each line of the peer that is taken counts one, and the number of a break is that of the line behind them.
-        ensures lines { CountsLines S.left self.old.talk self.new.talk }
-        ensures line { IsNone self.old.broken → BrokeBehind self.new.talk.lines self.new.broken }
+        ensures keeps { KeepsOn S.left self.old self.new }
     {
         if let Err(cause) = self.try_reset(kind) {
             self.break_off(cause);
@@ -293,12 +272,7 @@ impl<S: Source, K: Sink> Device for Link<S, K> {
         ensures sent { IsNone self.new.broken → Appends (K.written self.old.talk.sink) (K.written self.new.talk.sink)
             (hw_line (name_at self.old.names.fields field) value) }
         ensures done { IsNone self.new.broken → TakesDone S.left self.old.talk self.new.talk }
-        ensures silent { IsSome self.old.broken
-            → (self.new.talk ≡ self.old.talk) × (self.new.broken ≡ self.old.broken) }
-        ensures names { self.new.names ≡ self.old.names }
-        // Each line of the peer that is taken counts one, and the number of a break is that of the line behind them.
-        ensures lines { CountsLines S.left self.old.talk self.new.talk }
-        ensures line { IsNone self.old.broken → BrokeBehind self.new.talk.lines self.new.broken }
+        ensures keeps { KeepsOn S.left self.old self.new }
     {
         if let Err(cause) = self.try_hw(field, value) {
             self.break_off(cause);

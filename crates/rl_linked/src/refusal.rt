@@ -21,6 +21,7 @@ pub enum Refusal {
 }
 
 // The first register with a backdoor.
+#[tactic(auto, using(crate::proofs::BackdoorLemmas::first_at, crate::proofs::BackdoorLemmas::first_later))]
 fn backdoor_reg(chip: &Chip) -> Option<u32>
     ensures { result ≡ backdoor_reg chip.now }
 {
@@ -33,6 +34,7 @@ fn backdoor_reg(chip: &Chip) -> Option<u32>
 }
 
 // The first memory with a backdoor.
+#[tactic(auto, using(crate::proofs::BackdoorLemmas::first_at, crate::proofs::BackdoorLemmas::first_later))]
 fn backdoor_mem(chip: &Chip) -> Option<u32>
     ensures { result ≡ backdoor_mem chip.now }
 {

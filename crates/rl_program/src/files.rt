@@ -2,29 +2,23 @@
 use std::fs::Files;
 use std::{fs, io};
 
-// Says on standard error why a file can't be had.
-fn tell(rt: &impl Eprint, program: &str, path: &str, error: &io::Error) {
-    let _ = eprintln!(rt; "{program}: {path}: {error}");
+// A file, where it could be had. Else one line on standard error says why not.
+fn had<F>(rt: &impl Eprint, program: &str, path: &str, file: io::Result<F>) -> Option<F> {
+    match file {
+        Ok(file) => Some(file),
+        Err(error) => {
+            let _ = eprintln!(rt; "{program}: {path}: {error}");
+            None
+        }
+    }
 }
 
 /// A file to read. Where it can't be opened, one line on standard error says so, behind the program's name.
 pub fn open_file<R: Files + Eprint>(rt: &R, program: &str, path: &str) -> Option<R::File> {
-    match fs::open(rt, path) {
-        Ok(file) => Some(file),
-        Err(error) => {
-            tell(rt, program, path, &error);
-            None
-        }
-    }
+    had(rt, program, path, fs::open(rt, path))
 }
 
 /// The same of a file to write: one that is there is emptied.
 pub fn create_file<R: Files + Eprint>(rt: &R, program: &str, path: &str) -> Option<R::File> {
-    match fs::create(rt, path) {
-        Ok(file) => Some(file),
-        Err(error) => {
-            tell(rt, program, path, &error);
-            None
-        }
-    }
+    had(rt, program, path, fs::create(rt, path))
 }

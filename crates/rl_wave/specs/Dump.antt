@@ -8,13 +8,17 @@ use Rattle.rl_wave.specs.Pins.{idle, pins_at, changes}
 
 -- ---- cycles
 
+-- a time from 10 n on, whose last digit is the first of `rest`, and what is written behind it
+abbrev pub time_text : (n : ℕ) (rest : List ℕ) → List ℕ
+time_text n rest = joined (codes "#" ∷ decimal n ∷ rest ∷ [])
+
 -- PCLK rises at 10 n, and the pins change at 10 n + 1
 abbrev pub opening_text : ℕ → List ℕ
-opening_text n = joined (codes "#" ∷ decimal n ∷ codes "0\n1c\n#" ∷ decimal n ∷ codes "1\n" ∷ [])
+opening_text n = joined (time_text n (codes "0\n1c\n") ∷ time_text n (codes "1\n") ∷ [])
 
 -- PCLK falls at 10 n + 5
 abbrev pub closing_text : ℕ → List ℕ
-closing_text n = joined (codes "#" ∷ decimal n ∷ codes "5\n0c\n" ∷ [])
+closing_text n = time_text n (codes "5\n0c\n")
 
 -- clock cycle `n` with what changes in it
 abbrev pub cycle_text : (n : ℕ) (changed : List ℕ) → List ℕ

@@ -3,7 +3,8 @@ ghost use Rattle.std.specs.Prelude.{◌≡◌, ◌≤◌, ◌<◌, ◌+◌, ◌-
 ghost use Rattle.std.specs.Prelude.{IfOk, OnOk, OnErr, All, flat_map};
 ghost use Rattle.rl_wave.specs.Signals.{binary, joined};
 ghost use Rattle.rl_wave.specs.Pins.{idle, pins_at, changes};
-ghost use Rattle.rl_wave.specs.Dump.{opening_text, closing_text, cycle_text, label_text, access_text, transfer_text};
+ghost use Rattle.rl_wave.specs.Dump.{time_text, opening_text, closing_text, cycle_text, label_text, access_text};
+ghost use Rattle.rl_wave.specs.Dump.{transfer_text};
 
 use crate::header::{NamedBus, push_header};
 use crate::pins::{Bus, IDLE, pins_at, push_changes};
@@ -35,28 +36,32 @@ impl From<AllocError> for Fault {
     }
 }
 
+// Appends a time in a clock cycle, whose last digit is the first of `rest`, and what is written behind it.
+#[tactic(auto, using(crate::proofs::TextLemmas::more, crate::proofs::TextLemmas::last))]
+fn push_time(text: &mut Vec<u8>, n: u64, rest: &[u8]) -> Result<(), AllocError>
+    ensures { OnOk result (text.new.items ≡ text.old.items ++ time_text n rest.now) }
+{
+    push(text, b"#")?;
+    push_decimal(text, n)?;
+    push(text, rest)?;
+    Ok(())
+}
+
 // Appends a clock cycle before its changes.
 #[tactic(auto, using(crate::proofs::TextLemmas::more, crate::proofs::TextLemmas::last))]
 fn open_cycle(text: &mut Vec<u8>, n: u64) -> Result<(), AllocError>
     ensures { OnOk result (text.new.items ≡ text.old.items ++ opening_text n) }
 {
-    push(text, b"#")?;
-    push_decimal(text, n)?;
-    push(text, b"0\n1c\n#")?;
-    push_decimal(text, n)?;
-    push(text, b"1\n")?;
+    push_time(text, n, b"0\n1c\n")?;
+    push_time(text, n, b"1\n")?;
     Ok(())
 }
 
 // Appends the end of a clock cycle.
-#[tactic(auto, using(crate::proofs::TextLemmas::more, crate::proofs::TextLemmas::last))]
 fn close_cycle(text: &mut Vec<u8>, n: u64) -> Result<(), AllocError>
     ensures { OnOk result (text.new.items ≡ text.old.items ++ closing_text n) }
 {
-    push(text, b"#")?;
-    push_decimal(text, n)?;
-    push(text, b"5\n0c\n")?;
-    Ok(())
+    push_time(text, n, b"5\n0c\n")
 }
 
 // Appends a clock cycle in which the pins change so.

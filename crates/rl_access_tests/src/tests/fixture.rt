@@ -6,6 +6,7 @@ ghost use Rattle.rl_bench.specs.State.{bench_state};
 use crate::tests::indexed::{Case, banks_built, run};
 use crate::tests::quiet::{Failing, Quiet};
 use crate::tests::regions::regions_accessed;
+use crate::tests::stand::Stand;
 use crate::tests::words::{Row, all_sent, bits_adopted};
 use crate::tests::woven::{Group, all_woven, rows_added};
 use rl_access::Model;
@@ -67,29 +68,36 @@ pub(crate) enum Task {
 fn perform(
     rt: &(impl Abort + AllocGlobal),
     task: &Task,
-    model: &mut Model,
-    device: &mut Bench,
-    adapters: &mut Adapters,
+    on: &mut Stand<'_, Bench>,
 ) -> Result<(), Fail>
-    requires bench { IsReady model.old (map standing adapters.old.items) (Some (bench_state device.old)) }
-    requires quiet { IsReady model.old (map standing adapters.old.items) None }
+    requires bench { IsReady on.old.model.now (map standing on.old.adapters.now.items)
+        (Some (bench_state on.old.device.now)) }
+    requires quiet { IsReady on.old.model.now (map standing on.old.adapters.now.items) None }
 {
     match task {
-        Task::Index(case) => run(rt, model, device, adapters, case),
+        Task::Index(case) => run(rt, on, case),
         Task::IndexQuietly(failing, case) => {
-            let mut quiet = Quiet::failing(Failing::Nth(*failing));
-            run(rt, model, &mut quiet, adapters, case)
+            let mut quietly = Stand {
+                model: on.model,
+                device: &mut Quiet::failing(Failing::Nth(*failing)),
+                adapters: on.adapters,
+            };
+            run(rt, &mut quietly, case)
         }
-        Task::Banks => banks_built(rt, model, device),
-        Task::Send(rows) => all_sent(rt, model, device, adapters, rows),
+        Task::Banks => banks_built(rt, on.model, on.device),
+        Task::Send(rows) => all_sent(rt, on, rows),
         Task::SendQuietly(rows) => {
-            let mut quiet = Quiet::failing(Failing::EachThird);
-            all_sent(rt, model, &mut quiet, adapters, rows)
+            let mut quietly = Stand {
+                model: on.model,
+                device: &mut Quiet::failing(Failing::EachThird),
+                adapters: on.adapters,
+            };
+            all_sent(rt, &mut quietly, rows)
         }
-        Task::Adopt => bits_adopted(rt, model),
-        Task::Regions => regions_accessed(rt, model, device, adapters),
-        Task::Weave(groups) => all_woven(rt, model, device, adapters, groups),
-        Task::Add => rows_added(rt, model),
+        Task::Adopt => bits_adopted(rt, on.model),
+        Task::Regions => regions_accessed(rt, on),
+        Task::Weave(groups) => all_woven(rt, on, groups),
+        Task::Add => rows_added(rt, on.model),
     }
 }
 
@@ -102,7 +110,12 @@ fn performed_with(
     requires { length (map standing adapters.old.items) < 2 ^ 32 }
 {
     let (mut model, mut device) = opened(rt.alloc(), adapters, text)?;
-    perform(rt, task, &mut model, &mut device, adapters)
+    let mut on = Stand {
+        model: &mut model,
+        device: &mut device,
+        adapters,
+    };
+    perform(rt, task, &mut on)
 }
 
 /// Does a task over the chip of a description and a plain adapter.

@@ -6,8 +6,9 @@ ghost use Rattle.rl_mam.specs.Mam.{IsManagerOf};
 use self::Made::{Ended, Steps};
 use crate::tests::fixture::{Task, performed};
 use crate::tests::registers::registers;
+use crate::tests::stand::Stand;
 use rl_access::{End, Event, Model, Recorder, Refused};
-use rl_bus::{Adapter, Adapters, Device, Failed};
+use rl_bus::{Adapter, Device, Failed};
 use rl_mam::{Mam, MamFault, Region, RegionFault};
 use std::alloc::AllocGlobal;
 use std::process::Abort;
@@ -136,25 +137,19 @@ impl Recorder for Room {
     }
 }
 
-fn accessed<D: Device>(
-    mam: &Mam,
-    model: &mut Model,
-    device: &mut D,
-    adapters: &mut Adapters,
-    access: &Access,
-) -> Seen
-    requires ready { IsReady model.old (map standing adapters.old.items) (D.state device.old) }
-    requires manager { IsManagerOf model.old.chip mam.now }
-    ensures ready { IsReady model.new (map standing adapters.new.items) (D.state device.new) }
-    ensures same { model.new ≡ model.old }
+fn accessed<D: Device>(mam: &Mam, on: &mut Stand<'_, D>, access: &Access) -> Seen
+    requires ready { IsReady on.old.model.now (map standing on.old.adapters.now.items) (D.state on.old.device.now) }
+    requires manager { IsManagerOf on.old.model.now.chip mam.now }
+    ensures ready { IsReady on.new.model.now (map standing on.new.adapters.now.items) (D.state on.new.device.now) }
+    ensures same { on.new.model.now ≡ on.old.model.now }
 {
     match access {
         Access::Write(first, k, value) => {
-            let event = mam.write(model, device, adapters, None, *first, *k, *value)?;
+            let event = mam.write(on.model, on.device, on.adapters, None, *first, *k, *value)?;
             Ok(Ended(event.end))
         }
         Access::Read(first, k) => {
-            let event = mam.read(model, device, adapters, None, *first, *k)?;
+            let event = mam.read(on.model, on.device, on.adapters, None, *first, *k)?;
             Ok(Ended(event.end))
         }
         Access::Burst(first, k, values, room) => {
@@ -163,58 +158,51 @@ fn accessed<D: Device>(
                 faults: 0,
             };
             let tally = mam.burst_write(
-                model, device, adapters, None, *first, *k, values, &mut rec,
+                on.model,
+                on.device,
+                on.adapters,
+                None,
+                *first,
+                *k,
+                values,
+                &mut rec,
             )?;
             Ok(Steps(tally.steps))
         }
     }
 }
 
-fn all_accessed<D: Device>(
-    rt: &impl Abort,
-    mam: &Mam,
-    model: &mut Model,
-    device: &mut D,
-    adapters: &mut Adapters,
-)
-    requires ready { IsReady model.old (map standing adapters.old.items) (D.state device.old) }
-    requires manager { IsManagerOf model.old.chip mam.now }
+fn all_accessed<D: Device>(rt: &impl Abort, mam: &Mam, on: &mut Stand<'_, D>)
+    requires ready { IsReady on.old.model.now (map standing on.old.adapters.now.items) (D.state on.old.device.now) }
+    requires manager { IsManagerOf on.old.model.now.chip mam.now }
 {
     for (access, want) in accesses() {
-        let seen = accessed(mam, model, device, adapters, access);
+        let seen = accessed(mam, on, access);
         assert_eq!(rt; seen, *want);
     }
 }
 
-fn called_and_accessed<D: Device>(
-    rt: &impl Abort,
-    mam: &mut Mam,
-    model: &mut Model,
-    device: &mut D,
-    adapters: &mut Adapters,
-)
-    requires ready { IsReady model.old (map standing adapters.old.items) (D.state device.old) }
-    requires manager { IsManagerOf model.old.chip mam.old }
+fn called_and_accessed<D: Device>(rt: &impl Abort, mam: &mut Mam, on: &mut Stand<'_, D>)
+    requires ready { IsReady on.old.model.now (map standing on.old.adapters.now.items) (D.state on.old.device.now) }
+    requires manager { IsManagerOf on.old.model.now.chip mam.old }
 {
     all_called(rt, mam);
     assert_eq!(rt; mam.regions().len(), 3);
-    all_accessed(rt, mam, model, device, adapters);
+    all_accessed(rt, mam, on);
 }
 
 /// Gives out regions of the first memory, and accesses them.
 pub(crate) fn regions_accessed<D: Device>(
     rt: &(impl Abort + AllocGlobal),
-    model: &mut Model,
-    device: &mut D,
-    adapters: &mut Adapters,
+    on: &mut Stand<'_, D>,
 ) -> Result<(), Fail>
-    requires ready { IsReady model.old (map standing adapters.old.items) (D.state device.old) }
+    requires ready { IsReady on.old.model.now (map standing on.old.adapters.now.items) (D.state on.old.device.now) }
 {
-    if model.chip().mems() == 0 {
+    if on.model.chip().mems() == 0 {
         return Err("no memory".into());
     }
-    let mut mam = Mam::build(rt.alloc(), model.chip(), 0);
-    called_and_accessed(rt, &mut mam, model, device, adapters);
+    let mut mam = Mam::build(rt.alloc(), on.model.chip(), 0);
+    called_and_accessed(rt, &mut mam, on);
     Ok(())
 }
 

@@ -7,8 +7,9 @@ ghost use Rattle.rl_access.specs.Model.{IsReady};
 
 use crate::tests::fixture::{Task, performed};
 use crate::tests::registers::registers;
+use crate::tests::stand::Stand;
 use rl_access::{Model, adopt, send_word};
-use rl_bus::{Adapter, Adapters, Device};
+use rl_bus::{Adapter, Device};
 use rl_model::Item;
 use std::process::Abort;
 use std::test::Fail;
@@ -127,36 +128,28 @@ fn register_at_first(model: &Model, k: u32) -> Result<(u32, u64), Fail>
 }
 
 // Sends a word: what is answered, and what is mirrored then.
-fn sent<D: Device>(
-    model: &mut Model,
-    device: &mut D,
-    adapters: &mut Adapters,
-    k: u32,
-    value: Option<u64>,
-) -> Result<(u64, u64), Fail>
-    requires ready { IsReady model.old (map standing adapters.old.items) (D.state device.old) }
-    ensures ready { IsReady model.new (map standing adapters.new.items) (D.state device.new) }
+fn sent<D: Device>(on: &mut Stand<'_, D>, k: u32, value: Option<u64>) -> Result<(u64, u64), Fail>
+    requires ready { IsReady on.old.model.now (map standing on.old.adapters.now.items) (D.state on.old.device.now) }
+    ensures ready { IsReady on.new.model.now (map standing on.new.adapters.now.items) (D.state on.new.device.now) }
 {
-    let (reg, most) = register_at_first(model, k)?;
+    let (reg, most) = register_at_first(on.model, k)?;
     if value.unwrap_or(0) > most {
         return Err("too wide".into());
     }
-    let item = send_word(model, device, adapters, 0, k, value);
-    Ok((item.answer.word, model.mirror().mirrored(reg)))
+    let item = send_word(on.model, on.device, on.adapters, 0, k, value);
+    Ok((item.answer.word, on.model.mirror().mirrored(reg)))
 }
 
 /// Sends words alone, each of which is to come to what stands beside it.
 pub(crate) fn all_sent<D: Device>(
     rt: &impl Abort,
-    model: &mut Model,
-    device: &mut D,
-    adapters: &mut Adapters,
+    on: &mut Stand<'_, D>,
     rows: &[Row],
 ) -> Result<(), Fail>
-    requires ready { IsReady model.old (map standing adapters.old.items) (D.state device.old) }
+    requires ready { IsReady on.old.model.now (map standing on.old.adapters.now.items) (D.state on.old.device.now) }
 {
     for ((k, value), want) in rows {
-        let got = sent(model, device, adapters, *k, *value)?;
+        let got = sent(on, *k, *value)?;
         assert_eq!(rt; got, *want, "word {k}");
     }
     Ok(())

@@ -5,8 +5,9 @@ ghost use Rattle.rl_weave.specs.Weave.{IsWeaveOn};
 
 use crate::tests::fixture::{Task, performed};
 use crate::tests::registers::{READ_ONLY, UNPLACED, UNWATCHED, registers};
+use crate::tests::stand::Stand;
 use rl_access::{End, Model};
-use rl_bus::{Adapter, Adapters, Device};
+use rl_bus::{Adapter, Device};
 use rl_weave::{Access, Step, Weave, WeaveFault};
 use std::alloc::AllocGlobal;
 use std::process::Abort;
@@ -142,23 +143,17 @@ fn seen(step: &Step) -> Seen {
 }
 
 // The next word of one of the open accesses.
-fn stepped<D: Device>(
-    weave: &mut Weave,
-    model: &mut Model,
-    device: &mut D,
-    adapters: &mut Adapters,
-    i: u32,
-) -> Result<Seen, Fail>
-    requires ready { IsReady model.old (map standing adapters.old.items) (D.state device.old) }
-    requires on { IsWeaveOn model.old weave.old }
-    ensures ready { IsReady model.new (map standing adapters.new.items) (D.state device.new) }
-    ensures on { IsWeaveOn model.new weave.new }
+fn stepped<D: Device>(weave: &mut Weave, on: &mut Stand<'_, D>, i: u32) -> Result<Seen, Fail>
+    requires ready { IsReady on.old.model.now (map standing on.old.adapters.now.items) (D.state on.old.device.now) }
+    requires on { IsWeaveOn on.old.model.now weave.old }
+    ensures ready { IsReady on.new.model.now (map standing on.new.adapters.now.items) (D.state on.new.device.now) }
+    ensures on { IsWeaveOn on.new.model.now weave.new }
 {
     if i >= weave.open_count() {
         return Err("not open".into());
     }
     let which = weave.nth_open(i);
-    Ok(seen(&weave.step(model, device, adapters, which)))
+    Ok(seen(&weave.step(on.model, on.device, on.adapters, which)))
 }
 
 fn all_added(rt: &impl Abort, weave: &mut Weave, model: &Model, rows: &[Added]) -> Result<(), Fail>
@@ -175,17 +170,15 @@ fn all_added(rt: &impl Abort, weave: &mut Weave, model: &Model, rows: &[Added]) 
 fn all_stepped<D: Device>(
     rt: &impl Abort,
     weave: &mut Weave,
-    model: &mut Model,
-    device: &mut D,
-    adapters: &mut Adapters,
+    on: &mut Stand<'_, D>,
     steps: &[(u32, Seen)],
 ) -> Result<(), Fail>
-    requires ready { IsReady model.old (map standing adapters.old.items) (D.state device.old) }
-    requires on { IsWeaveOn model.old weave.old }
-    ensures ready { IsReady model.new (map standing adapters.new.items) (D.state device.new) }
+    requires ready { IsReady on.old.model.now (map standing on.old.adapters.now.items) (D.state on.old.device.now) }
+    requires on { IsWeaveOn on.old.model.now weave.old }
+    ensures ready { IsReady on.new.model.now (map standing on.new.adapters.now.items) (D.state on.new.device.now) }
 {
     for (i, want) in steps {
-        let seen = stepped(weave, model, device, adapters, *i)?;
+        let seen = stepped(weave, on, *i)?;
         assert_eq!(rt; seen, *want);
     }
     Ok(())
@@ -196,18 +189,16 @@ fn all_stepped<D: Device>(
 fn group_woven<D: Device>(
     rt: &impl Abort,
     weave: &mut Weave,
-    model: &mut Model,
-    device: &mut D,
-    adapters: &mut Adapters,
+    on: &mut Stand<'_, D>,
     group: &Group,
 ) -> Result<(), Fail>
-    requires ready { IsReady model.old (map standing adapters.old.items) (D.state device.old) }
-    ensures ready { IsReady model.new (map standing adapters.new.items) (D.state device.new) }
+    requires ready { IsReady on.old.model.now (map standing on.old.adapters.now.items) (D.state on.old.device.now) }
+    ensures ready { IsReady on.new.model.now (map standing on.new.adapters.now.items) (D.state on.new.device.now) }
 {
     let (accesses, steps) = group;
     weave.clear();
-    all_added(rt, weave, model, accesses)?;
-    all_stepped(rt, weave, model, device, adapters, steps)?;
+    all_added(rt, weave, on.model, accesses)?;
+    all_stepped(rt, weave, on, steps)?;
     assert_eq!(rt; weave.open_count(), 0);
     Ok(())
 }
@@ -216,15 +207,13 @@ fn group_woven<D: Device>(
 fn groups_woven<D: Device>(
     rt: &impl Abort,
     weave: &mut Weave,
-    model: &mut Model,
-    device: &mut D,
-    adapters: &mut Adapters,
+    on: &mut Stand<'_, D>,
     groups: &[Group],
 ) -> Result<(), Fail>
-    requires ready { IsReady model.old (map standing adapters.old.items) (D.state device.old) }
+    requires ready { IsReady on.old.model.now (map standing on.old.adapters.now.items) (D.state on.old.device.now) }
 {
     for group in groups {
-        group_woven(rt, weave, model, device, adapters, group)?;
+        group_woven(rt, weave, on, group)?;
     }
     Ok(())
 }
@@ -232,15 +221,13 @@ fn groups_woven<D: Device>(
 /// Weaves each group to its end, with one weave.
 pub(crate) fn all_woven<D: Device>(
     rt: &(impl Abort + AllocGlobal),
-    model: &mut Model,
-    device: &mut D,
-    adapters: &mut Adapters,
+    on: &mut Stand<'_, D>,
     groups: &[Group],
 ) -> Result<(), Fail>
-    requires ready { IsReady model.old (map standing adapters.old.items) (D.state device.old) }
+    requires ready { IsReady on.old.model.now (map standing on.old.adapters.now.items) (D.state on.old.device.now) }
 {
     let mut weave = Weave::build(rt.alloc())?;
-    groups_woven(rt, &mut weave, model, device, adapters, groups)
+    groups_woven(rt, &mut weave, on, groups)
 }
 
 // Over the device with these flaws.

@@ -4,8 +4,9 @@ ghost use Rattle.rl_access.specs.Model.{IsReady};
 ghost use Rattle.rl_indirect.specs.Bank.{IsBankOf, IsOverData, IsSameBank};
 
 use super::chip::window;
+use crate::tests::stand::Stand;
 use rl_access::{End, Model};
-use rl_bus::{Adapter, Adapters, Device};
+use rl_bus::{Adapter, Device};
 use rl_indirect::{Bank, Indexed, indexed_read, indexed_write};
 use std::alloc::AllocGlobal;
 use std::process::Abort;
@@ -40,24 +41,26 @@ fn outcome(indexed: &Indexed) -> Seen {
 }
 
 // Makes an access.
-fn make<D: Device>(
-    bank: &mut Bank,
-    model: &mut Model,
-    device: &mut D,
-    adapters: &mut Adapters,
-    call: &Call,
-) -> Seen
-    requires ready { IsReady model.old (map standing adapters.old.items) (D.state device.old) }
-    requires bank { IsBankOf model.old.chip bank.old }
-    ensures ready { IsReady model.new (map standing adapters.new.items) (D.state device.new) }
-    ensures bank { IsBankOf model.new.chip bank.new }
-    ensures data { IsOverData (D.state device.new) bank.new }
+fn make<D: Device>(bank: &mut Bank, on: &mut Stand<'_, D>, call: &Call) -> Seen
+    requires ready { IsReady on.old.model.now (map standing on.old.adapters.now.items) (D.state on.old.device.now) }
+    requires bank { IsBankOf on.old.model.now.chip bank.old }
+    ensures ready { IsReady on.new.model.now (map standing on.new.adapters.now.items) (D.state on.new.device.now) }
+    ensures bank { IsBankOf on.new.model.now.chip bank.new }
+    ensures data { IsOverData (D.state on.new.device.now) bank.new }
     ensures same { IsSameBank bank.old bank.new }
 {
     let indexed = match call {
-        Call::Write(k, value) => indexed_write(bank, model, device, adapters, None, *k, *value),
-        Call::Read(k) => indexed_read(bank, model, device, adapters, None, *k, false),
-        Call::Check(k) => indexed_read(bank, model, device, adapters, None, *k, true),
+        Call::Write(k, value) => indexed_write(
+            bank,
+            on.model,
+            on.device,
+            on.adapters,
+            None,
+            *k,
+            *value,
+        ),
+        Call::Read(k) => indexed_read(bank, on.model, on.device, on.adapters, None, *k, false),
+        Call::Check(k) => indexed_read(bank, on.model, on.device, on.adapters, None, *k, true),
     };
     outcome(&indexed)
 }
@@ -66,20 +69,18 @@ fn make<D: Device>(
 fn make_all<D: Device>(
     rt: &impl Abort,
     bank: &mut Bank,
-    model: &mut Model,
-    device: &mut D,
-    adapters: &mut Adapters,
+    on: &mut Stand<'_, D>,
     rows: &[(Call, Seen)],
 )
-    requires ready { IsReady model.old (map standing adapters.old.items) (D.state device.old) }
-    requires bank { IsBankOf model.old.chip bank.old }
-    requires data { IsOverData (D.state device.old) bank.old }
-    ensures bank { IsBankOf model.new.chip bank.new }
-    ensures data { IsOverData (D.state device.new) bank.new }
+    requires ready { IsReady on.old.model.now (map standing on.old.adapters.now.items) (D.state on.old.device.now) }
+    requires bank { IsBankOf on.old.model.now.chip bank.old }
+    requires data { IsOverData (D.state on.old.device.now) bank.old }
+    ensures bank { IsBankOf on.new.model.now.chip bank.new }
+    ensures data { IsOverData (D.state on.new.device.now) bank.new }
     ensures same { IsSameBank bank.old bank.new }
 {
     for (call, want) in rows {
-        let seen = make(bank, model, device, adapters, call);
+        let seen = make(bank, on, call);
         assert_eq!(rt; seen, *want, "{call:?}");
     }
 }
@@ -111,37 +112,28 @@ pub(crate) struct Case {
     pub entries: Entries,
 }
 
-fn run_bank<D: Device>(
-    rt: &impl Abort,
-    bank: &mut Bank,
-    model: &mut Model,
-    device: &mut D,
-    adapters: &mut Adapters,
-    case: &Case,
-)
-    requires ready { IsReady model.old (map standing adapters.old.items) (D.state device.old) }
+fn run_bank<D: Device>(rt: &impl Abort, bank: &mut Bank, on: &mut Stand<'_, D>, case: &Case)
+    requires ready { IsReady on.old.model.now (map standing on.old.adapters.now.items) (D.state on.old.device.now) }
     requires size { bank.old.size ≡ 4 }
-    requires bank { IsBankOf model.old.chip bank.old }
-    requires data { IsOverData (D.state device.old) bank.old }
+    requires bank { IsBankOf on.old.model.now.chip bank.old }
+    requires data { IsOverData (D.state on.old.device.now) bank.old }
 {
-    make_all(rt, bank, model, device, adapters, case.rows);
-    assert_eq!(rt; entries(bank, model, device), case.entries);
+    make_all(rt, bank, on, case.rows);
+    assert_eq!(rt; entries(bank, on.model, on.device), case.entries);
 }
 
 /// Runs a case over four entries.
 pub(crate) fn run<D: Device>(
     rt: &(impl Abort + AllocGlobal),
-    model: &mut Model,
-    device: &mut D,
-    adapters: &mut Adapters,
+    on: &mut Stand<'_, D>,
     case: &Case,
 ) -> Result<(), Fail>
-    requires ready { IsReady model.old (map standing adapters.old.items) (D.state device.old) }
+    requires ready { IsReady on.old.model.now (map standing on.old.adapters.now.items) (D.state on.old.device.now) }
 {
-    let window = window(model.chip(), case.index, case.data)?;
-    let Ok(mut bank) = Bank::build(rt.alloc(), model, device, window, 4) else {
+    let window = window(on.model.chip(), case.index, case.data)?;
+    let Ok(mut bank) = Bank::build(rt.alloc(), on.model, on.device, window, 4) else {
         return Err("no bank".into());
     };
-    run_bank(rt, &mut bank, model, device, adapters, case);
+    run_bank(rt, &mut bank, on, case);
     Ok(())
 }

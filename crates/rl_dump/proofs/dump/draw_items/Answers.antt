@@ -20,11 +20,7 @@ loop-k-preserved c =
 
 pub returns-clause-drawn : goal.returns-clause-drawn
 returns-clause-drawn c =
-    let l = c.args.layout.now in
-    let xs = c.args.event.now.trace in
-    let old = c.args.wave.now in
-    let at = c.loop-k.wave in
-    all_drawn l c.args.label.now (old.text.items ++ items_text l c.args.label.now xs old.cycle) at.text.items xs c.loop-k.k at.cycle (omega (arith, c.len-k-end.ensures.len))
+    all_drawn c.args.layout.now c.args.label.now _ _ c.args.event.now.trace c.loop-k.k c.loop-k.wave.cycle (omega (arith, c.len-k-end.ensures.len))
     c.loop-k.invariant.drawn
 
 pub returns-clause-cycle : goal.returns-clause-cycle

@@ -6,5 +6,5 @@ use Rattle.rl_access_tests.proofs.tests.regions.all_accessed.Given as goal
 
 abbrev pub invariant-loop-access : goal.invariant-loop-access
 invariant-loop-access g l =
-    IsReady l.model (map (λ b. (goal.Adapter-dyn g (b.vtable, b.value)).standing b.value) l.adapters.items) (g.D.Device.state l.device)
-    × IsManagerOf l.model.chip l.mam
+    IsReady l.on.model.now (map (λ b. (goal.Adapter-dyn g (b.vtable, b.value)).standing b.value) l.on.adapters.now.items) (g.D.Device.state l.on.device.now)
+    × IsManagerOf l.on.model.now.chip l.mam

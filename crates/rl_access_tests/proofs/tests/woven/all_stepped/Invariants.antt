@@ -6,5 +6,5 @@ use Rattle.rl_access_tests.proofs.tests.woven.all_stepped.Given as goal
 
 abbrev pub invariant-loop-i : goal.invariant-loop-i
 invariant-loop-i g l =
-    IsReady l.model (map (λ b. (goal.Adapter-dyn g (b.vtable, b.value)).standing b.value) l.adapters.items) (g.D.Device.state l.device)
-    × IsWeaveOn l.model l.weave
+    IsReady l.on.model.now (map (λ b. (goal.Adapter-dyn g (b.vtable, b.value)).standing b.value) l.on.adapters.now.items) (g.D.Device.state l.on.device.now)
+    × IsWeaveOn l.on.model.now l.weave

@@ -7,9 +7,9 @@ use Rattle.rl_mirror.specs.Mirror.{MirrorData, mirrored_of}
 use Rattle.rl_mirror.proofs.FieldLemmas.{row_answer}
 use Rattle.rl_access.specs.Call.{scene}
 use Rattle.rl_indirect.specs.Agree.{BankAgree}
-use Rattle.rl_indirect.specs.Bank.{BankData, all_entries}
+use Rattle.rl_indirect.specs.Bank.{BankData}
 use Rattle.rl_indirect.specs.Window.{window_fault, outside_fault}
-use Rattle.rl_indirect.proofs.Built.{refused_window, refused_outside, no_memory, built, built_as}
+use Rattle.rl_indirect.proofs.Built.{refused_window, refused_outside, no_memory, believed_are, built, built_as}
 use Rattle.rl_indirect.proofs.Data.{over_data}
 use Rattle.rl_indirect.proofs.NewBanks.{new_banks_agree}
 use Rattle.rl_indirect.proofs.bank.Bank.build.Goals as goal
@@ -57,14 +57,13 @@ returns-clause-built g c =
     let m = c.args.model.now in
     let w = c.args.window in
     let size = c.args.size in
-    let believed = c.mirrored-believed.ensures ∙ ap (λ (x : MirrorData). mirrored_of x w.index_reg) c.mirror.ensures.mirror in
-    let mirrored = c.mirrored-mirrored.ensures ∙ ap (λ (x : MirrorData). mirrored_of x w.data_reg) c.mirror-2.ensures.mirror in
     built m _ w size c.bits_of-index.result c.bits_of-held.result c.bytes.result c.in_ok-new.field-0 c.in_ok-new-2.field-0 c.bits_of-index.ensures c.bits_of-held.ensures
     (sym (c.in_default.ensures ∙ ap (λ (h : ChipData). window_fault h w size) c.chip.ensures.chip))
-    (sym (c.in_default-outside_fault.ensures.fault ∙ ap (outside_fault size c.bits_of-index.result) believed))
+    (sym (c.in_default-outside_fault.ensures.fault
+    ∙ ap (outside_fault size c.bits_of-index.result) (c.mirrored-believed.ensures ∙ ap (λ (x : MirrorData). mirrored_of x w.index_reg) c.mirror.ensures.mirror)))
     (sym (row_answer c.chip-2.result.now w.data_reg c.bytes.result (λ r. r.bytes) c.bytes.ensures.value) ∙ ap (λ (h : ChipData). size_of h w.data_reg) c.chip-2.ensures.chip)
     c.in_ok-new.ensures
-    (c.in_ok-new-2.ensures ∙ ap (λ x. all_entries x size c.mirrored-believed.result) mirrored ∙ ap (all_entries (mirrored_of m.mirror w.data_reg) size) believed)
+    (believed_are m w size _ _ _ _ _ c.mirrored-believed.ensures c.mirror.ensures.mirror c.mirrored-mirrored.ensures c.mirror-2.ensures.mirror c.in_ok-new-2.ensures)
 
 pub returns-clause-data : goal.returns-clause-data
 returns-clause-data g c =
@@ -82,13 +81,11 @@ returns-clause-agree g c =
     let m = c.args.model.now in
     let w = c.args.window in
     let size = c.args.size in
-    let believed = c.mirrored-believed.ensures ∙ ap (λ (x : MirrorData). mirrored_of x w.index_reg) c.mirror.ensures.mirror in
-    let mirrored = c.mirrored-mirrored.ensures ∙ ap (λ (x : MirrorData). mirrored_of x w.data_reg) c.mirror-2.ensures.mirror in
     λ adapters errors a.
     subst (λ (b : BankData). BankAgree (scene m adapters errors (g.D.Device.state c.args.device.now)) b)
     (sym (built_as m w size c.bits_of-index.result c.bits_of-held.result c.bytes.result c.in_ok-new.field-0 c.in_ok-new-2.field-0
     (sym (row_answer c.chip-2.result.now w.data_reg c.bytes.result (λ r. r.bytes) c.bytes.ensures.value) ∙ ap (λ (h : ChipData). size_of h w.data_reg) c.chip-2.ensures.chip)
     c.in_ok-new.ensures
-    (c.in_ok-new-2.ensures ∙ ap (λ x. all_entries x size c.mirrored-believed.result) mirrored ∙ ap (all_entries (mirrored_of m.mirror w.data_reg) size) believed)))
+    (believed_are m w size _ _ _ _ _ c.mirrored-believed.ensures c.mirror.ensures.mirror c.mirrored-mirrored.ensures c.mirror-2.ensures.mirror c.in_ok-new-2.ensures)))
     (new_banks_agree (scene m adapters errors (g.D.Device.state c.args.device.now)) w size c.bits_of-index.result c.bits_of-held.result a c.chip.ensures.sound c.requires.index_reg c.requires.data_reg
     c.bits_of-index.ensures c.bits_of-held.ensures)

@@ -6,7 +6,7 @@ use Rattle.rl_access_tests.proofs.tests.indexed.calls.make_all.Given as goal
 
 abbrev pub invariant-loop-call : goal.invariant-loop-call
 invariant-loop-call g l =
-    IsReady l.model (map (λ b. (goal.Adapter-dyn g (b.vtable, b.value)).standing b.value) l.adapters.items) (g.D.Device.state l.device)
-    × IsBankOf l.model.chip l.bank
-    × IsOverData (g.D.Device.state l.device) l.bank
+    IsReady l.on.model.now (map (λ b. (goal.Adapter-dyn g (b.vtable, b.value)).standing b.value) l.on.adapters.now.items) (g.D.Device.state l.on.device.now)
+    × IsBankOf l.on.model.now.chip l.bank
+    × IsOverData (g.D.Device.state l.on.device.now) l.bank
     × IsSameBank l.fn.bank l.bank
