@@ -1,20 +1,19 @@
 -- A chip of parts that no condition refuses is sound.
-use Rattle.std.proofs.Common.{◌≡◌, ℕ, ◌+◌, ◌≤◌, ◌<◌, false, not, nat_lt, nat_le, List, [], ◌∷◌, ◌++◌, length, map, take, Option, None, refl, ap, ◌∙◌, subst, arith, length-append}
+use Rattle.std.proofs.Common.{◌≡◌, ℕ, ◌+◌, ◌≤◌, ◌<◌, false, nat_lt, nat_le, List, [], ◌∷◌, ◌++◌, length, map, take, Option, None, refl, ap, ◌∙◌, subst, arith, length-append}
 use Rattle.std.proofs.lemmas.Bool.Decides.{nat_tests}
 use Rattle.std.proofs.lemmas.List.{length-map}
 use Rattle.rl_model.specs.declared.fault.Array.{Array}
 use Rattle.rl_model.specs.declared.fault.Array.TheVariants as array
-use Rattle.rl_model.specs.declared.fault.ModelCause.TheVariants.{TooMany, NoSuchParent, BadName, DuplicateName, TooDeep}
+use Rattle.rl_model.specs.declared.fault.ModelCause.TheVariants.{TooMany}
 use Rattle.rl_model.specs.declared.fault.Spot.{Spot}
 use Rattle.rl_model.specs.declared.parts.ScopePart.{ScopePart}
 use Rattle.rl_model.specs.declared.parts.MemPart.{MemPart}
 use Rattle.rl_model.specs.Data.{FieldData, RegData, PartsData}
 use Rattle.rl_model.specs.Rows.{ChipData}
-use Rattle.rl_model.specs.Rules.{Check, first_of, field_of, field_checks, scope_path, reg_path, mem_path, row_of, path_fault, kinds_with, kinds_fault, kinds_after, all_kinds, scopes_fault}
-use Rattle.rl_model.specs.Rules.{fields_fault, regs_fault, mems_fault, has_parent, is_name, names_in, path_of}
+use Rattle.rl_model.specs.Rules.{row_checks, path_checks, first_of, field_of, field_checks, scope_path, reg_path, mem_path, row_of, path_fault, kinds_with, kinds_fault, kinds_after, all_kinds, scopes_fault}
+use Rattle.rl_model.specs.Rules.{fields_fault, regs_fault, mems_fault, path_of}
 use Rattle.rl_model.specs.Build.{first_kinds, mem_seen, chip_of, chip_fault}
 use Rattle.rl_model.specs.Chip.{IsSound}
-use Rattle.rl_model.specs.Paths.{is_among}
 use Rattle.rl_model.proofs.BuildLemmas.{length-regs_seen}
 use Rattle.rl_model.proofs.Numbering.{known_first, two_first}
 use Rattle.rl_model.proofs.Sound.{IsBuilt, each_reg, each_field, owned, apart, each_mem, locations}
@@ -25,18 +24,12 @@ use Rattle.rl_model.proofs.SoundMore.{parents, deep, few_fields, firsts, counts,
 
 -- ---- rows are few
 
--- the conditions of a row's path
-abbrev path_checks : Spot → ℕ → ℕ → List (List ℕ) → Option (List ℕ) → List ℕ → List Check
-path_checks spot limit parents paths of name =
-    (nat_le limit spot.row, TooMany) ∷ (not (is_name name), BadName) ∷ (not (has_parent parents paths of), NoSuchParent)
-    ∷ (nat_lt 8 (names_in (path_of of name)), TooDeep) ∷ (is_among (path_of of name) paths, DuplicateName) ∷ []
-
 -- a row that isn't refused is below the limit
 low_row : (spot : Spot) (limit parents : ℕ) (paths : List (List ℕ)) (of : Option (List ℕ)) (name : List ℕ)
     → path_fault spot limit parents paths of name ≡ None → spot.row < limit
 low_row spot limit parents paths of name h =
     let low : nat_le limit spot.row ≡ false =
-    passed spot (path_checks spot limit parents paths of name) h 0 (nat_le limit spot.row, TooMany) refl in grind (arith, nat_tests)
+    passed spot (row_checks spot limit parents paths of name ++ path_checks paths (path_of of name)) h 0 (nat_le limit spot.row, TooMany) refl in grind (arith, nat_tests)
 
 few_scopes : (a : Array) (i : ℕ) (paths : List (List ℕ)) (ps : List ScopePart) → scopes_fault a i paths ps ≡ None → i ≤ 256 → i + length ps ≤ 256
 few_scopes a i paths [] h few = omega (arith, few)

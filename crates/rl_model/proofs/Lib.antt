@@ -1,4 +1,5 @@
 pub mod PathLemmas
+pub mod Checks
 pub mod LookUps
 pub mod BuildLemmas
 pub mod Numbering

@@ -6,11 +6,7 @@ use Rattle.std.proofs.lemmas.List.Folds.{list_any-append}
 use Rattle.std.specs.List.{list_any}
 use Rattle.rl_model.specs.declared.parts.ResetPart.{ResetPart}
 use Rattle.rl_model.specs.Paths.{is_among}
-use Rattle.rl_model.specs.Rules.{same_kind, repeats}
-
--- one of these is a kind that was seen, or they repeat one
-abbrev pub clashes : List (List ℕ) → List ResetPart → Bool
-clashes seen rs = list_any (λ r. is_among r.kind seen) rs || repeats rs
+use Rattle.rl_model.specs.Rules.{same_kind, repeats, clashes}
 
 none_seen : (rs : List ResetPart) → list_any (λ r. is_among r.kind []) rs ≡ false
 none_seen [] = refl

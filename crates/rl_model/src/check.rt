@@ -3,7 +3,9 @@ ghost use Rattle.std.specs.Prelude.{◌≡◌, ◌+◌, ◌*◌, ◌<◌, ◌≤
 ghost use Rattle.std.specs.Prelude.{◌^◌, bytes_eq, false, true, nat_lt, nat_le};
 ghost use Rattle.std.specs.List.{list_any, list_all};
 ghost use Rattle.rl_model.specs.Rules.{is_letter, is_name_byte, is_name, path_of, names_in, has_parent, first_of};
-ghost use Rattle.rl_model.specs.Rules.{path_fault, overlaps, same_kind, repeats, field_checks, is_bad_width, Passes};
+ghost use Rattle.rl_model.specs.Rules.{row_checks, path_checks, path_fault, overlaps, same_kind, repeats, clashes};
+ghost use Rattle.rl_model.specs.Rules.{name_checks, bit_checks, field_checks, is_bad_width, Passes};
+ghost use Rattle.rl_model.specs.Paths.{is_among};
 ghost use Rattle.rl_model.specs.Stages.{TakesOwnBits};
 
 use crate::fault::{ModelCause, ModelFault, Spot};
@@ -75,6 +77,44 @@ fn has_parent(paths: &Paths, parents: usize, of: &Option<Name>) -> bool
     }
 }
 
+/// Tests a row's number, its name and its parent.
+fn check_row(
+    paths: &Paths,
+    spot: Spot,
+    limit: u32,
+    parents: usize,
+    of: &Option<Name>,
+    name: &Name,
+) -> Result<(), ModelFault>
+    ensures exact { Passes result (first_of spot (row_checks spot limit parents paths.now of.now name.now)) (λ _. ⊤) }
+    ensures row { OnOk result (spot.row < limit) }
+{
+    if spot.row >= limit {
+        return Err(spot.refuses(ModelCause::TooMany));
+    }
+    if !is_name(name.text()) {
+        return Err(spot.refuses(ModelCause::BadName));
+    }
+    if !has_parent(paths, parents, of) {
+        return Err(spot.refuses(ModelCause::NoSuchParent));
+    }
+    Ok(())
+}
+
+/// Tests a path that is to follow these.
+fn check_path(paths: &Paths, path: &[u8], spot: Spot) -> Result<(), ModelFault>
+    ensures exact { Passes result (first_of spot (path_checks paths.now path.now)) (λ _. ⊤) }
+    ensures new { OnOk result (is_among path.now paths.now ≡ false) }
+{
+    if dots_in(path) >= MOST_NAMES {
+        return Err(spot.refuses(ModelCause::TooDeep));
+    }
+    if paths.has(path) {
+        return Err(spot.refuses(ModelCause::DuplicateName));
+    }
+    Ok(())
+}
+
 /// Adds the path of a row, if the row may have it.
 pub(crate) fn add_path(
     alloc: Global,
@@ -89,22 +129,9 @@ pub(crate) fn add_path(
         (λ _. paths.new ≡ paths.old ++ path_of of.now name.now ∷ []) }
     ensures row { OnOk result (spot.row < limit) }
 {
-    if spot.row >= limit {
-        return Err(spot.refuses(ModelCause::TooMany));
-    }
-    if !is_name(name.text()) {
-        return Err(spot.refuses(ModelCause::BadName));
-    }
-    if !has_parent(paths, parents, of) {
-        return Err(spot.refuses(ModelCause::NoSuchParent));
-    }
+    check_row(paths, spot, limit, parents, of, name)?;
     let path = path_of(alloc, of, name)?;
-    if dots_in(&path) >= MOST_NAMES {
-        return Err(spot.refuses(ModelCause::TooDeep));
-    }
-    if paths.has(&path) {
-        return Err(spot.refuses(ModelCause::DuplicateName));
-    }
+    check_path(paths, &path, spot)?;
     paths.add(path)?;
     Ok(())
 }
@@ -179,18 +206,25 @@ fn repeats(resets: &[ResetPart]) -> bool
     false
 }
 
+/// Whether a kind is among these or comes twice. The kinds before it are added to them.
+fn is_one_known(alloc: Global, kinds: &mut Paths, resets: &[ResetPart]) -> Result<bool, AllocError>
+    ensures { IfOk result (λ b. b ≡ clashes kinds.old resets.now) }
+{
+    for reset in resets {
+        let known = kinds.len();
+        if kinds.find_or_add(alloc, reset.kind.text())? < known {
+            return Ok(true);
+        }
+    }
+    Ok(false)
+}
+
 /// Whether a kind comes twice, in time that grows with their number.
 fn repeats_among_many(alloc: Global, resets: &[ResetPart]) -> Result<bool, AllocError>
     ensures { IfOk result (λ b. b ≡ repeats resets.now) }
 {
     let mut kinds = Paths::new(alloc);
-    for reset in resets {
-        if kinds.has(reset.kind.text()) {
-            return Ok(true);
-        }
-        kinds.add(Vec::from_slice(alloc, reset.kind.text())?)?;
-    }
-    Ok(false)
+    is_one_known(alloc, &mut kinds, resets)
 }
 
 fn have_repeated_kind(alloc: Global, resets: &[ResetPart]) -> Result<bool, AllocError>
@@ -222,18 +256,14 @@ fn have_too_wide(resets: &[ResetPart], width: u64) -> bool
     false
 }
 
-/// Tests a field of a register, after the earlier ones.
-pub(crate) fn check_field(
+/// Tests the name of a field and those of its kinds.
+fn check_names(
     alloc: Global,
     earlier: &[FieldPart],
     field: &FieldPart,
-    bytes: u64,
     spot: Spot,
 ) -> Result<(), ModelFault>
-    requires { bytes ≤ 8 }
-    ensures exact { Passes result (first_of spot (field_checks bytes earlier.now field.now)) (λ _. ⊤) }
-    ensures fits { OnOk result (field.now.width ≤ 64) }
-    ensures own { OnOk result (TakesOwnBits (8 * bytes) earlier.now field.now) }
+    ensures { Passes result (first_of spot (name_checks earlier.now field.now)) (λ _. ⊤) }
 {
     if !is_name(field.name.text()) || !are_named(&field.resets) {
         return Err(spot.refuses(ModelCause::BadName));
@@ -241,6 +271,21 @@ pub(crate) fn check_field(
     if has_name(earlier, &field.name) || have_repeated_kind(alloc, &field.resets)? {
         return Err(spot.refuses(ModelCause::DuplicateName));
     }
+    Ok(())
+}
+
+/// Tests where the bits of a field lie, and its values in them.
+fn check_bits(
+    earlier: &[FieldPart],
+    field: &FieldPart,
+    bytes: u64,
+    spot: Spot,
+) -> Result<(), ModelFault>
+    requires { bytes ≤ 8 }
+    ensures exact { Passes result (first_of spot (bit_checks bytes earlier.now field.now)) (λ _. ⊤) }
+    ensures fits { OnOk result (field.now.width ≤ 64) }
+    ensures own { OnOk result (TakesOwnBits (8 * bytes) earlier.now field.now) }
+{
     if field.width < 1 || field.width > MOST_BITS {
         return Err(spot.refuses(ModelCause::BadWidth));
     }
@@ -254,4 +299,21 @@ pub(crate) fn check_field(
         return Err(spot.refuses(ModelCause::ResetTooWide));
     }
     Ok(())
+}
+
+/// Tests a field of a register, after the earlier ones.
+pub(crate) fn check_field(
+    alloc: Global,
+    earlier: &[FieldPart],
+    field: &FieldPart,
+    bytes: u64,
+    spot: Spot,
+) -> Result<(), ModelFault>
+    requires { bytes ≤ 8 }
+    ensures exact { Passes result (first_of spot (field_checks bytes earlier.now field.now)) (λ _. ⊤) }
+    ensures fits { OnOk result (field.now.width ≤ 64) }
+    ensures own { OnOk result (TakesOwnBits (8 * bytes) earlier.now field.now) }
+{
+    check_names(alloc, earlier, field, spot)?;
+    check_bits(earlier, field, bytes, spot)
 }

@@ -11,7 +11,6 @@ use std::marker::Model;
 
 /// The registers, fields, memories, blocks and reset kinds of a description. Look-ups by text are by
 /// hash, and all other calls but `reset_of` and `within` read one row.
-#[derive(Drop)]
 pub struct Chip {
     pub(crate) blocks: u32,
     pub(crate) scopes: usize,
@@ -20,6 +19,21 @@ pub struct Chip {
     pub(crate) mems: Vec<MemRow>,
     pub(crate) fields: Vec<FieldRow>,
     pub(crate) kinds: Paths,
+}
+
+// Written out, so that whoever owns a chip lets it go by one call, and not field by field.
+impl Drop for Chip {
+    fn drop(self) {
+        let Chip {
+            blocks: _,
+            scopes: _,
+            paths: _,
+            regs: _,
+            mems: _,
+            fields: _,
+            kinds: _,
+        } = self;
+    }
 }
 
 impl Model for Chip {

@@ -42,7 +42,7 @@ pub struct Reset {
 }
 
 /// A register, with the number of its first field and of its fields.
-#[derive(Clone, Copy, Debug)]
+#[derive(Clone, Copy)]
 pub(crate) struct RegRow {
     pub(crate) bytes: u32,
     pub(crate) backdoor: bool,
@@ -52,7 +52,7 @@ pub(crate) struct RegRow {
 }
 
 /// A memory of `size` locations.
-#[derive(Clone, Copy, Debug)]
+#[derive(Clone, Copy)]
 pub(crate) struct MemRow {
     pub(crate) bytes: u32,
     pub(crate) size: u32,
@@ -62,7 +62,7 @@ pub(crate) struct MemRow {
 }
 
 /// A field with its name and reset values.
-#[derive(Debug, Drop)]
+#[derive(Drop)]
 pub(crate) struct FieldRow {
     pub(crate) shape: Field,
     pub(crate) name: Name,
