@@ -150,11 +150,24 @@ module _ (chip : ChipData) (maps : List MapRow) (ports : List PortRow) (earlier 
   own_some : length earlier < 4096 → first_cause own ≡ first_cause (there_checks chip maps part ++ later (place_row chip maps part) (place_of_part chip maps ports part))
   own_some h = ap (λ t. cond t (Some TooMany) (first_cause (there_checks chip maps part ++ later (place_row chip maps part) (place_of_part chip maps ports part)))) (le_false 4096 (length earlier) h)
 
+  pub own_many : 4096 ≤ length earlier → first_cause own ≡ Some TooMany
+  own_many h =
+      let many : nat_le 4096 (length earlier) ≡ true = grind (arith, nat_tests) in
+      ap (λ t. cond t (Some TooMany) (first_cause (there_checks chip maps part ++ later (place_row chip maps part) (place_of_part chip maps ports part)))) many
+
+  pub own_absent : (e : MapCause) → length earlier < 4096 → first_cause (there_checks chip maps part) ≡ Some e → first_cause own ≡ Some e
+  own_absent e few h = own_some few ∙ cause_met (there_checks chip maps part) (later (place_row chip maps part) (place_of_part chip maps ports part)) e h
+
   own_there : (row : PlaceRow) → length earlier < 4096 → first_cause (there_checks chip maps part) ≡ None → row ≡ place_row chip maps part
       → first_cause own ≡ first_cause (later row (placed_in maps ports row))
   own_there row few h same =
       own_some few ∙ cause_later (there_checks chip maps part) (later (place_row chip maps part) (place_of_part chip maps ports part)) h
       ∙ ap (λ r. first_cause (later r (placed_in maps ports r))) (sym same)
+
+  pub own_twice : (row : PlaceRow) → length earlier < 4096 → first_cause (there_checks chip maps part) ≡ None → row ≡ place_row chip maps part
+      → is_placed earlier row ≡ true → first_cause own ≡ Some PlacedTwice
+  own_twice row few h same twice =
+      own_there row few h same ∙ ap (λ t. cond t (Some PlacedTwice) (first_cause (fifo_checks row ++ word_checks words (placed_in maps ports row)))) twice
 
   own_once : (row : PlaceRow) → length earlier < 4096 → first_cause (there_checks chip maps part) ≡ None → row ≡ place_row chip maps part
       → is_placed earlier row ≡ false → first_cause own ≡ first_cause (fifo_checks row ++ word_checks words (placed_in maps ports row))

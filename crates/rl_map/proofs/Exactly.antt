@@ -15,6 +15,7 @@ use Rattle.rl_map.specs.declared.parts.PlacePart.{PlacePart}
 use Rattle.rl_map.specs.declared.rows.MapRow.{MapRow}
 use Rattle.rl_map.specs.declared.rows.PortRow.{PortRow}
 use Rattle.rl_map.specs.declared.rows.PlaceRow.{PlaceRow}
+use Rattle.rl_map.specs.declared.places.Placing.{Placing}
 use Rattle.rl_map.specs.declared.shared.Shared.{Shared}
 use Rattle.rl_map.specs.Layout.{LayoutData, key_of, IsAscending, IsRowOf}
 use Rattle.rl_map.specs.Maps.{no_tables, tables_of, place_row, all_rows, by_address, layout_of}
@@ -22,6 +23,7 @@ use Rattle.rl_map.specs.Faults.{maps_fault, places_fault, layout_fault, Fails, P
 use Rattle.rl_map.specs.Steps.{own_faults, accepted, shared_faults}
 use Rattle.rl_map.specs.Building.{rows_of_all, AreTables, ArePlaces}
 use Rattle.rl_map.specs.Clashes.{IsLeast, IsMade, clash_fault, first_fault}
+use Rattle.rl_map.specs.Ordered.{AreOrdered}
 use Rattle.rl_map.proofs.Closing.{built, rows_same, tested}
 use Rattle.rl_map.proofs.Sound.{all_rows_are}
 use Rattle.rl_map.proofs.Stable.{sorted_is}
@@ -116,45 +118,40 @@ whole_is chip maps places kinds map_rows ports rows first words best refused kin
     layout_is chip maps places kinds map_rows ports rows kinds' words h.accepted (sym h.refused_is ∙ neither (option_map clash_fault best) refused none) same
     (sorted_is first words h.ascending h.stable ∙ ap by_address h.placed.words_are)
 
+-- ---- where no place was before
+
+pub accepted_by : (chip : ChipData) (parts : List PlacePart) (maps : List MapRow) (ports : List PortRow) (old rows : List PlaceRow) (words : List WordRow)
+    → old ≡ [] → words ≡ [] → rows ≡ old ++ accepted chip maps ports old (length words) parts → rows ≡ accepted chip maps ports [] 0 parts
+accepted_by chip parts maps ports old rows words e f h =
+    h ∙ ap (λ o. o ++ accepted chip maps ports o (length words) parts) e ∙ ap (λ (w : List WordRow). accepted chip maps ports [] (length w) parts) f
+
+pub refused_by : (chip : ChipData) (parts : List PlacePart) (maps : List MapRow) (ports : List PortRow) (old : List PlaceRow) (refused : Option MapFault) (words : List WordRow)
+    → old ≡ [] → words ≡ [] → refused ≡ own_faults chip maps ports old (length words) parts → refused ≡ own_faults chip maps ports [] 0 parts
+refused_by chip parts maps ports old refused words e f h =
+    h ∙ ap (λ o. own_faults chip maps ports o (length words) parts) e ∙ ap (λ (w : List WordRow). own_faults chip maps ports [] (length w) parts) f
+
 -- ---- what was seen through references
 
-pub accepted_by : (chip : ChipData) (parts : List PlacePart) (maps maps' : List MapRow) (ports ports' : List PortRow) (old rows : List PlaceRow) (words : List WordRow)
-    → maps ≡ maps' → ports ≡ ports' → old ≡ [] → words ≡ [] → rows ≡ old ++ accepted chip maps ports old (length words) parts → rows ≡ accepted chip maps' ports' [] 0 parts
-accepted_by chip parts maps maps' ports ports' old rows words a b e f h =
-    h ∙ ap (λ m. old ++ accepted chip m ports old (length words) parts) a ∙ ap (λ p. old ++ accepted chip maps' p old (length words) parts) b
-    ∙ ap (λ o. o ++ accepted chip maps' ports' o (length words) parts) e ∙ ap (λ (w : List WordRow). accepted chip maps' ports' [] (length w) parts) f
+pub seen : (chip : ChipData) (parts : List PlacePart) (maps maps' : List MapRow) (ports ports' : List PortRow) (p : Placing) (fault : Option MapFault)
+    → maps ≡ maps' → ports ≡ ports' → AreOrdered chip maps ports parts p fault → AreOrdered chip maps' ports' parts p fault
+seen chip parts maps maps' ports ports' p fault a b o =
+    subst (λ m. AreOrdered chip m ports' parts p fault) a (subst (λ q. AreOrdered chip maps q parts p fault) b o)
 
-pub refused_by : (chip : ChipData) (parts : List PlacePart) (maps maps' : List MapRow) (ports ports' : List PortRow) (old : List PlaceRow) (refused : Option MapFault) (words : List WordRow)
-    → maps ≡ maps' → ports ≡ ports' → old ≡ [] → words ≡ [] → refused ≡ own_faults chip maps ports old (length words) parts → refused ≡ own_faults chip maps' ports' [] 0 parts
-refused_by chip parts maps maps' ports ports' old refused words a b e f h =
-    h ∙ ap (λ m. own_faults chip m ports old (length words) parts) a ∙ ap (λ p. own_faults chip maps' p old (length words) parts) b
-    ∙ ap (λ o. own_faults chip maps' ports' o (length words) parts) e ∙ ap (λ (w : List WordRow). own_faults chip maps' ports' [] (length w) parts) f
-
-pub placed_for : (chip : ChipData) (maps maps' : List MapRow) (ports ports' : List PortRow) (rows : List PlaceRow) (first : List WordRow)
-    → maps ≡ maps' → ports ≡ ports' → ArePlaces chip maps ports rows first → ArePlaces chip maps' ports' rows first
-placed_for chip maps maps' ports ports' rows first a b p = subst (λ m. ArePlaces chip m ports' rows first) a (subst (λ q. ArePlaces chip maps q rows first) b p)
-
-pub made_of : (chip : ChipData) (nodes : List MapNode) (parts : List PlacePart) (kinds : List AdapterKind) (maps maps' : List MapRow) (ports ports' : List PortRow)
-    (old rows rows' : List PlaceRow) (none first words words' : List WordRow) (best : Option Shared) (refused : Option MapFault)
-    → maps_fault kinds no_tables nodes ≡ None → maps' ≡ (tables_of kinds nodes).maps → ports' ≡ (tables_of kinds nodes).ports → AreTables kinds maps' ports' → length kinds < 2 ^ 32
-    → maps ≡ maps' → ports ≡ ports' → old ≡ [] → none ≡ []
-    → rows ≡ old ++ accepted chip maps ports old (length none) parts → refused ≡ own_faults chip maps ports old (length none) parts → ArePlaces chip maps ports rows first
-    → IsPermutation first words → IsAscending words → IsStableByKey key_of nat_cmp first words
-    → rows' ≡ rows → words' ≡ words → IsLeast rows' words' best → ((s : Shared) → best ≡ Some s → IsMade rows' words' s)
-    → AreMade chip nodes parts kinds maps' ports' rows first words best refused
-made_of chip nodes parts kinds maps maps' ports ports' old rows rows' none first words words' best refused fine maps_are ports_are tables few a b e f rows_are
-    fault placed moved ascending stable r w least made = record {
-      accepted = record { fine = fine; maps_are = maps_are; ports_are = ports_are; rows_are = accepted_by chip parts maps maps' ports ports' old rows none a b e f rows_are };
-      tables = tables;
-      few = few;
-      placed = placed_for chip maps maps' ports ports' rows first a b placed;
-      refused_is = refused_by chip parts maps maps' ports ports' old refused none a b e f fault;
-      moved = moved;
-      ascending = ascending;
-      stable = stable;
-      least = subst (λ x. IsLeast x words best) r (subst (λ y. IsLeast rows' y best) w least);
-      made = λ s is. subst (λ x. IsMade x words s) r (subst (λ y. IsMade rows' y s) w (made s is));
-    }
+pub made_of : (chip : ChipData) (nodes : List MapNode) (parts : List PlacePart) (kinds : List AdapterKind) (maps : List MapRow) (ports : List PortRow) (p : Placing) (fault : Option MapFault)
+    → maps_fault kinds no_tables nodes ≡ None → maps ≡ (tables_of kinds nodes).maps → ports ≡ (tables_of kinds nodes).ports → AreTables kinds maps ports → length kinds < 2 ^ 32
+    → (o : AreOrdered chip maps ports parts p fault) → AreMade chip nodes parts kinds maps ports p.places.items o.first p.rows.items o.best o.refused
+made_of chip nodes parts kinds maps ports p fault fine maps_are ports_are tables few o = record {
+  accepted = record { fine = fine; maps_are = maps_are; ports_are = ports_are; rows_are = o.rows_are };
+  tables = tables;
+  few = few;
+  placed = o.placed;
+  refused_is = o.refused_is;
+  moved = o.moved;
+  ascending = o.ascending;
+  stable = o.stable;
+  least = o.least;
+  made = o.made;
+}
 
 pub failed : (chip : ChipData) (maps : List MapNode) (places : List PlacePart) (kinds : List AdapterKind) (r : Result LayoutData MapFault) (e y : MapFault) → r ≡ Err y → y ≡ e
     → Fails e (layout_fault chip maps places kinds) → Passes r (layout_fault chip maps places kinds) (λ l. l ≡ layout_of chip maps places kinds)

@@ -104,6 +104,15 @@ pub map_by_row : (kinds : List AdapterKind) (spot : Spot) (maps : List MapRow) (
     → Fails e (first_of spot (map_checks kinds maps m))
 map_by_row kinds spot maps m e h other = first_met spot (row_checks maps m) (port_checks kinds m) e (h other)
 
+-- a map whose row passes
+pub map_by_port : (kinds : List AdapterKind) (maps maps' : List MapRow) (m : MapNode) (number : ℕ) → maps' ≡ maps → number ≡ length maps
+    → first_of (row_at array.Map (length maps')) (row_checks maps' m) ≡ None
+    → first_of (row_at array.Map (length maps)) (map_checks kinds maps m) ≡ first_of (row_at array.Map number) (port_checks kinds m)
+map_by_port kinds maps maps' m number same count fine =
+    first_later (row_at array.Map (length maps)) (row_checks maps m) (port_checks kinds m)
+    (subst (λ x. first_of (row_at array.Map (length x)) (row_checks x m) ≡ None) same fine)
+    ∙ ap (λ n. first_of (row_at array.Map n) (port_checks kinds m)) (sym count)
+
 -- ---- all maps
 
 abbrev tables : List MapRow → List PortRow → MapTables

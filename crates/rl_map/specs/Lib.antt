@@ -16,3 +16,4 @@ pub mod Laws
 pub mod Steps
 pub mod Clashes
 pub mod Prelude
+pub mod Ordered

@@ -1,15 +1,18 @@
 //! Building a layout of its parts.
-ghost use Rattle.std.specs.Prelude.{◌≡◌, ◌<◌, ◌^◌, length, IfOk};
+ghost use Rattle.std.specs.Prelude.{◌≡◌, ◌≢◌, ◌<◌, ◌^◌, [], Some, None, length, IfOk, IfErr, OnOk};
 ghost use Rattle.rl_map.specs.Layout.{IsSound};
 ghost use Rattle.rl_map.specs.Maps.{IsBuiltWith, layout_of};
 ghost use Rattle.rl_map.specs.Faults.{Passes, layout_fault};
 ghost use Rattle.rl_map.specs.Clashes.{first_fault};
+ghost use Rattle.rl_map.specs.Prelude.{HasTables, ArePlaced};
+ghost use Rattle.rl_map.specs.Ordered.{AreOrdered};
 
 use crate::fault::{MapCause, MapFault, refusal, row_at};
 use crate::layout::Layout;
 use crate::maps::add_maps;
 use crate::parts::{MapNode, PlacePart};
 use crate::places::{Placing, add_places};
+use crate::rows::{MapRow, PortRow};
 use crate::shared::{Shared, first_shared, sort_rows};
 use rl_bus::AdapterKind;
 use rl_model::{Array, Chip};
@@ -29,6 +32,31 @@ fn first_fault(shared: Option<Shared>, refused: Option<MapFault>) -> Option<MapF
             },
         )),
         None => refused,
+    }
+}
+
+/// Adds all places with their rows in order, or tells the first that is refused.
+fn place_all(
+    chip: &Chip,
+    maps: &[MapRow],
+    ports: &[PortRow],
+    placing: &mut Placing,
+    parts: &[PlacePart],
+) -> Result<(), MapFault>
+    requires tables { HasTables maps.now ports.now }
+    requires placed { ArePlaced chip.now maps.now ports.now placing.old }
+    requires places { placing.old.places.items ≡ [] }
+    requires rows { placing.old.rows.items ≡ [] }
+    ensures ordered { OnOk result (AreOrdered chip.now maps.now ports.now parts.now placing.new None) }
+    ensures refused { IfErr result
+        (λ e. e ≢ MapFault.Memory → AreOrdered chip.now maps.now ports.now parts.now placing.new (Some e)) }
+{
+    let refused = add_places(chip, maps, ports, placing, parts)?;
+    sort_rows(&mut placing.rows)?;
+    let shared = first_shared(&placing.places, &placing.rows);
+    match first_fault(shared, refused) {
+        Some(fault) => Err(fault),
+        None => Ok(()),
     }
 }
 
@@ -56,26 +84,21 @@ impl Layout {
         ensures kinds { IfOk result (λ l. l.kinds ≡ kinds.now) }
         ensures built_with { IfOk result (λ l. IsBuiltWith l chip.now) }
     {
-        let tables = add_maps(alloc, maps, kinds)?;
-        let (map_rows, ports) = tables;
+        let (map_rows, ports) = add_maps(alloc, maps, kinds)?;
         let mut placing = Placing::new(alloc);
-        let refused = add_places(chip, &map_rows, &ports, &mut placing, places)?;
+        place_all(chip, &map_rows, &ports, &mut placing, places)?;
+        let kept_kinds = Vec::from_slice(alloc, kinds)?;
         let Placing {
             places: place_rows,
             links,
-            mut rows,
+            rows,
             words,
         } = placing;
-        sort_rows(&mut rows)?;
-        let shared = first_shared(&place_rows, &rows);
-        if let Some(fault) = first_fault(shared, refused) {
-            return Err(fault);
-        }
         Ok(Layout {
             maps: map_rows,
             places: place_rows,
             ports,
-            kinds: Vec::from_slice(alloc, kinds)?,
+            kinds: kept_kinds,
             rows: Rc::new(alloc, rows)?,
             words,
             links,

@@ -21,7 +21,6 @@ use std::rc::Rc;
 ///
 /// Maps, places and ports are numbered in description order. A port is a root map. A layout keeps the
 /// kinds of adapters that it was built with, and the bytes and sizes of its items.
-#[derive(Drop)]
 pub struct Layout {
     pub(crate) maps: Vec<MapRow>,
     pub(crate) places: Vec<PlaceRow>,
@@ -32,6 +31,21 @@ pub struct Layout {
     /// The words of each place.
     pub(crate) words: Vec<PlaceWords>,
     pub(crate) links: ItemLinks,
+}
+
+// Written out, so that whoever owns a layout lets it go by one call, and not field by field.
+impl Drop for Layout {
+    fn drop(self) {
+        let Layout {
+            maps: _,
+            places: _,
+            ports: _,
+            kinds: _,
+            rows: _,
+            words: _,
+            links: _,
+        } = self;
+    }
 }
 
 impl Model for Layout {

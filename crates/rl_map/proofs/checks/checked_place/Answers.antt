@@ -2,7 +2,7 @@ use Rattle.std.proofs.Common.{◌<◌, length, sym, ◌∙◌, subst, arith}
 use Rattle.rl_map.specs.Layout.{no_map}
 use Rattle.rl_map.proofs.Placing.{room_is}
 use Rattle.std.proofs.lemmas.Result.{err_from_is_err_and}
-use Rattle.rl_map.proofs.Accepting.{own_lined, own_words, row_seat, told}
+use Rattle.rl_map.proofs.Accepting.{own_many, own_absent, own_twice, own_lined, own_words, row_seat, told}
 use Rattle.rl_map.proofs.checks.checked_place.Goals as goal
 
 pub returns-clause-room : goal.returns-clause-room
@@ -40,3 +40,28 @@ returns-clause-fault c =
     c.in_ok-row.ensures.placed c.index-maps-row.is c.index-ports-row.is c.levels.ensures.levels in
     own_words c.args.chip.now c.args.maps.now c.args.ports.now c.args.places.now c.args.words c.args.part.now row _ (omega arith) c.in_ok-row.ensures.fault c.in_ok-row.ensures.row
     (sym c.is_placed.ensures ∙ c.if-is_placed.false) c.in_ok-check_fifo.ensures.fault at ∙ c.in_ok-check_words.ensures.fault
+
+pub returns-then-places-ge-MOST_PLACES-clause-fault : goal.returns-then-places-ge-MOST_PLACES-clause-fault
+returns-then-places-ge-MOST_PLACES-clause-fault c =
+    own_many c.args.chip.now c.args.maps.now c.args.ports.now c.args.places.now c.args.words c.args.part.now c.if-places-ge-MOST_PLACES.true
+
+pub returns-in_err-row-clause-fault : goal.returns-in_err-row-clause-fault
+returns-in_err-row-clause-fault c =
+    let p = err_from_is_err_and c.from_residual.result c.from_residual.ensures.1 in
+    told c.from_residual.result _ c.in_err-row.field-0.0 p.0 p.1 p.2
+    (own_absent c.args.chip.now c.args.maps.now c.args.ports.now c.args.places.now c.args.words c.args.part.now _ (omega arith) c.in_err-row.ensures.fault)
+
+pub returns-then-is_placed-clause-fault : goal.returns-then-is_placed-clause-fault
+returns-then-is_placed-clause-fault c =
+    own_twice c.args.chip.now c.args.maps.now c.args.ports.now c.args.places.now c.args.words c.args.part.now c.in_ok-row.row (omega arith) c.in_ok-row.ensures.fault c.in_ok-row.ensures.row
+    (sym c.is_placed.ensures ∙ c.if-is_placed.true)
+
+pub returns-clause-row : goal.returns-clause-row
+returns-clause-row c =
+    let row = c.in_ok-row.row in
+    let placed = c.in_ok-row.ensures.placed in
+    record {
+      placed = placed;
+      port_in = subst (λ n. n < length c.args.ports.now) (sym placed.port) (c.requires.tables.1.each_map row.map no_map placed.map).port;
+      mem = c.in_ok-check_fifo.ensures.mem;
+    }
