@@ -6,7 +6,7 @@ use rl_policy::policy::{Policy, write_only};
 use rl_policy::word::repeated;
 
 /// What becomes of the bits of a field, by whole words of its register.
-#[derive(Debug, Clone, Copy)]
+#[derive(Clone, Copy)]
 pub(crate) enum Effect {
     /// The bits `stored`, after a write of `word`.
     Written { stored: u64, word: u64 },

@@ -20,11 +20,22 @@ use std::marker::Model;
 /// spent mark for each field.
 ///
 /// A call that takes a chip is for the chip with which the mirror was built.
-#[derive(Debug, Drop)]
+#[derive(Debug)]
 pub struct Mirror {
     mirrored: Vec<u64>,
     desired: Vec<u64>,
     spent: Vec<bool>,
+}
+
+// Written out, so that whoever owns a mirror lets it go by one call, and not field by field.
+impl Drop for Mirror {
+    fn drop(self) {
+        let Mirror {
+            mirrored: _,
+            desired: _,
+            spent: _,
+        } = self;
+    }
 }
 
 impl Model for Mirror {
