@@ -2,6 +2,7 @@ pub mod Beats
 pub mod Board
 pub mod Cells
 pub mod Flaws
+pub mod FlawTables
 pub mod Found
 pub mod Masks
 pub mod Prelude

@@ -13,7 +13,7 @@ use std::alloc::{AllocError, Global};
 /// An address where words queue, by its first word, and a place that has a word there.
 ///
 /// Words queue at an address where more than one has the same direction.
-#[derive(Debug, Clone, Copy)]
+#[derive(Clone, Copy)]
 pub struct Queue {
     /// The number of the first word at the address.
     pub first: u32,

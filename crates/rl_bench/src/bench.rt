@@ -1,6 +1,7 @@
 //! The device.
-ghost use Rattle.std.specs.Prelude.{◌≡◌, ◌+◌, ◌-◌, ◌<◌, ◌≤◌, ◌^◌, length, if◌then◌else◌, nat_lt, IfOk, replicate};
-ghost use Rattle.std.specs.Prelude.{slice_get, option_copied, option_map, Some, min, true, All};
+ghost use Rattle.std.specs.Prelude.{◌≡◌, ◌+◌, ◌-◌, ◌<◌, ◌≤◌, ◌^◌, length, if◌then◌else◌, nat_lt, IfOk};
+ghost use Rattle.std.specs.Prelude.{slice_get, option_copied, option_map, Some, min, true, All, List, replicate, ◌==◌};
+ghost use Rattle.rl_bus.specs.declared.table.WordRow.{WordRow as Words};
 ghost use Rattle.rl_bench.specs.Prelude.{AnswerHasCause, IsStep, IsPortOf, IsCellOf, IsFieldOf, IsWidth, stands_at};
 ghost use Rattle.rl_bench.specs.Prelude.{state_after, answer_of, first_state, poked, reset_by, hw_set};
 ghost use Rattle.rl_bench.specs.Prelude.{carried_by, IsWellFormed, IsReplyTo, IsAtOnce, answered_by, IsBuiltWith};
@@ -10,10 +11,9 @@ ghost use Rattle.rl_bench.specs.Prelude.{item_is_faulty, setup_held};
 
 use crate::access::touch;
 use crate::backdoor::{peek_cell, poke_cell, set_field};
-use crate::beats::{beat_at, clear_beats, first_beats, queues_of, send_back, set_beat};
-use crate::board::Board;
-use crate::build::shapes_of;
-use crate::cells::Cells;
+use crate::beats::{beat_at, clear_beats, first_beats, send_back, set_beat};
+use crate::board::{Board, board_of};
+use crate::cells::{Cells, empty_cells};
 use crate::find::{Stretch, find_word, words_at};
 use crate::flaw::Flaw;
 use crate::hints::Hints;
@@ -26,7 +26,6 @@ use rl_model::Chip;
 use std::alloc::{AllocError, Global};
 
 /// A device that does what its tables say, with each register in two words.
-#[derive(Drop)]
 pub struct Bench {
     board: Board,
     cells: Cells,
@@ -45,8 +44,23 @@ pub struct Bench {
     ghost hinted: { All (IsHint (setup_held board.tables).words) hints.slots.items },
 }
 
+// Written out, so that whoever owns a device lets it go by one call, and not field by field.
+impl Drop for Bench {
+    fn drop(self) {
+        let Bench {
+            board: _,
+            cells: _,
+            beats: _,
+            near: _,
+            hints: _,
+            items: _,
+            failures: _,
+        } = self;
+    }
+}
+
 // The words at an address, its beat, the word of a direction at the beat, and how many there are.
-#[derive(Debug, Clone, Copy)]
+#[derive(Clone, Copy)]
 struct Found<'a> {
     at: Stretch,
     beat: u32,
@@ -125,10 +139,28 @@ fn failed_answer(failures: &mut u64) -> Answer
     }
 }
 
-fn zeros(alloc: Global, count: usize) -> Result<Vec<u64>, AllocError>
-    ensures { IfOk result (λ v. v.items ≡ replicate count 0) }
+/// What a device keeps beside its tables.
+#[derive(Drop)]
+struct Memory {
+    cells: Cells,
+    beats: Vec<u32>,
+    hints: Hints,
+}
+
+/// A memory in which nothing was written and no address was found.
+fn empty_memory(alloc: Global, board: &Board, locations: usize) -> Result<Memory, AllocError>
+    ensures bits { IfOk result (λ m. m.cells.bits.items ≡ replicate (length (setup_held board.now.tables).regs) 0) }
+    ensures marks { IfOk result (λ m. m.cells.marks.items ≡ replicate (length (setup_held board.now.tables).regs) 0) }
+    ensures locations { IfOk result (λ m. m.cells.locations.items ≡ replicate locations 0) }
+    ensures beats { IfOk result (λ m. m.beats.items
+        ≡ replicate (if length board.now.queues.items == 0 then 0 else length (setup_held board.now.tables).words) 0) }
+    ensures hints { IfOk result (λ m. (words : List Words) → All (IsHint words) m.hints.slots.items) }
 {
-    vec![in alloc; 0; count]
+    Ok(Memory {
+        cells: empty_cells(alloc, board.tables.regs.len(), locations)?,
+        beats: first_beats(alloc, board.tables.words().len(), &board.queues)?,
+        hints: Hints::new(alloc)?,
+    })
 }
 
 impl Bench {
@@ -162,28 +194,15 @@ impl Bench {
         ensures state { IfOk result (λ b. bench_state b ≡ first_state (setup_held tables) locations) }
         ensures failures { IfOk result (λ b. failures_of b ≡ 0) }
     {
-        let regs = tables.regs.len();
-        let shapes = shapes_of(alloc, &tables)?;
-        let mut cells = Cells {
-            bits: zeros(alloc, regs)?,
-            marks: zeros(alloc, regs)?,
-            locations: zeros(alloc, locations)?,
-        };
-        let words = tables.words();
-        let queues = queues_of(alloc, words)?;
-        let beats = first_beats(alloc, words.len(), &queues)?;
-        let board = Board {
-            tables,
-            shapes,
-            queues,
-        };
-        reset_cells(&board, &mut cells, 0);
+        let board = board_of(alloc, tables)?;
+        let mut memory = empty_memory(alloc, &board, locations)?;
+        reset_cells(&board, &mut memory.cells, 0);
         Ok(Bench {
             board,
-            cells,
-            beats,
+            cells: memory.cells,
+            beats: memory.beats,
             near: Stretch { first: 0, end: 0 },
-            hints: Hints::new(alloc)?,
+            hints: memory.hints,
             items: 0,
             failures: 0,
         })

@@ -6,7 +6,7 @@ use rl_policy::word::{repeated, replaced};
 use rl_policy::{Policy, spends};
 
 /// Masks of the bits on which an access has one effect.
-#[derive(Debug, Clone, Copy)]
+#[derive(Clone, Copy)]
 pub struct Effects {
     /// The bits that belong to a field.
     pub owned: u64,

@@ -10,7 +10,7 @@ ghost use Rattle.rl_bench.specs.Stretch.{IsStretch, AllBefore, NoneBefore, AreOr
 use rl_bus::{FieldRow, ResetRow, WordRow};
 
 /// The rows from `first` to before `end`.
-#[derive(Debug, Clone, Copy)]
+#[derive(Clone, Copy)]
 pub struct Stretch {
     /// The number of the first row.
     pub first: usize,
@@ -19,7 +19,7 @@ pub struct Stretch {
 }
 
 /// A word at an address, and how many words of its direction stand there.
-#[derive(Debug, Clone, Copy)]
+#[derive(Clone, Copy)]
 pub struct Here<'a> {
     /// The word, where there is one.
     pub word: Option<&'a WordRow>,

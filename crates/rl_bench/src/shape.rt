@@ -9,7 +9,7 @@ use rl_bus::Lanes;
 use rl_policy::word::replaced;
 
 /// What accesses do to the bits of a register, and which bits are stuck at which values.
-#[derive(Debug, Clone, Copy)]
+#[derive(Clone, Copy)]
 pub struct Shape {
     /// The bits by what accesses do to them.
     pub effects: Effects,

@@ -1,7 +1,10 @@
 //! The tables of a device, and what they say of a field, a cell and an address.
-ghost use Rattle.std.specs.Prelude.{◌≡◌, ◌<◌, length, ◌&&◌, ◌==◌, nat_le, find};
+ghost use Rattle.std.specs.Prelude.{◌≡◌, ◌<◌, length, ◌&&◌, ◌==◌, nat_le, find, map, IfOk};
 ghost use Rattle.std.specs.List.{list_any};
 ghost use Rattle.rl_bus.specs.Setup.{policy_of, is_deaf, is_named, reset_of, is_of};
+ghost use Rattle.rl_map.specs.Tables.{field_row, reset_rows, mem_rows};
+ghost use Rattle.rl_bench.specs.Flaws.{flaws_of};
+ghost use Rattle.rl_bench.specs.FlawTables.{flaws_held};
 
 use crate::find::resets_of;
 use crate::flaw::Flaw;
@@ -45,6 +48,53 @@ pub struct Tables {
     pub deaf: Vec<ItemRow>,
 }
 
+/// The tables that are made of a chip.
+#[derive(Drop)]
+struct ChipTables {
+    regs: Vec<u32>,
+    fields: Vec<FieldRow>,
+    resets: Vec<ResetRow>,
+    mems: Vec<MemRow>,
+}
+
+fn chip_tables(alloc: Global, chip: &Chip) -> Result<ChipTables, AllocError>
+    ensures regs { IfOk result (λ t. t.regs.items ≡ map (λ r. r.bytes) chip.now.regs) }
+    ensures fields { IfOk result (λ t. t.fields.items ≡ map field_row chip.now.fields) }
+    ensures resets { IfOk result (λ t. t.resets.items ≡ reset_rows 0 chip.now.fields) }
+    ensures mems { IfOk result (λ t. t.mems.items ≡ mem_rows 0 chip.now.mems) }
+{
+    Ok(ChipTables {
+        regs: reg_bytes(alloc, chip)?,
+        fields: field_rows(alloc, chip)?,
+        resets: reset_rows(alloc, chip)?,
+        mems: mem_rows(alloc, chip)?,
+    })
+}
+
+/// The tables that are made of flaws.
+#[derive(Drop)]
+struct FlawTables {
+    policies: Vec<PolicyRow>,
+    resets: Vec<ResetRow>,
+    stuck: Vec<StuckRow>,
+    ranges: Vec<RangeRow>,
+    nths: Vec<u64>,
+    deaf: Vec<ItemRow>,
+}
+
+fn flaw_tables(alloc: Global, flaws: &[Flaw]) -> Result<FlawTables, AllocError>
+    ensures { IfOk result (λ t. flaws_held t ≡ flaws_of flaws.now) }
+{
+    Ok(FlawTables {
+        policies: policy_rows(alloc, flaws)?,
+        resets: other_resets(alloc, flaws)?,
+        stuck: stuck_rows(alloc, flaws)?,
+        ranges: range_rows(alloc, flaws)?,
+        nths: failing_items(alloc, flaws)?,
+        deaf: deaf_rows(alloc, flaws)?,
+    })
+}
+
 fn other_policy(rows: &[PolicyRow], field: u32) -> Option<PolicyRow>
     ensures { result ≡ find (λ f. f.field == field) rows.now }
 {
@@ -60,11 +110,9 @@ fn reset_in(rows: &[ResetRow], field: u32, kind: u32) -> Option<ResetRow>
 }
 
 impl Tables {
-    ghost use Rattle.std.specs.Prelude.{IfOk};
     ghost use Rattle.std.specs.List.Sorted.{IsNonDecreasingBy};
     ghost use Rattle.rl_map.specs.Layout.{IsSound};
     ghost use Rattle.rl_map.specs.Tables.{setup_of};
-    ghost use Rattle.rl_bench.specs.Flaws.{flaws_of};
     ghost use Rattle.rl_bench.specs.Tables.{setup_held};
 
     /// The tables of a chip and a layout, with these flaws.
@@ -78,19 +126,23 @@ impl Tables {
         ensures held { IfOk result (λ t. setup_held t ≡ setup_of chip.now layout.now (flaws_of flaws.now)) }
         ensures layout { IfOk result (λ _. IsSound layout.now) }
     {
+        let of_chip = chip_tables(alloc, chip)?;
+        let ports = port_bytes(alloc, layout)?;
+        let words = layout.shared_rows()?;
+        let of_flaws = flaw_tables(alloc, flaws)?;
         Ok(Tables {
-            regs: reg_bytes(alloc, chip)?,
-            fields: field_rows(alloc, chip)?,
-            resets: reset_rows(alloc, chip)?,
-            mems: mem_rows(alloc, chip)?,
-            ports: port_bytes(alloc, layout)?,
-            words: layout.shared_rows()?,
-            other_policies: policy_rows(alloc, flaws)?,
-            other_resets: other_resets(alloc, flaws)?,
-            stuck: stuck_rows(alloc, flaws)?,
-            ranges: range_rows(alloc, flaws)?,
-            nths: failing_items(alloc, flaws)?,
-            deaf: deaf_rows(alloc, flaws)?,
+            regs: of_chip.regs,
+            fields: of_chip.fields,
+            resets: of_chip.resets,
+            mems: of_chip.mems,
+            ports,
+            words,
+            other_policies: of_flaws.policies,
+            other_resets: of_flaws.resets,
+            stuck: of_flaws.stuck,
+            ranges: of_flaws.ranges,
+            nths: of_flaws.nths,
+            deaf: of_flaws.deaf,
         })
     }
 
