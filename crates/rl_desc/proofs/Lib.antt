@@ -1,3 +1,4 @@
+mod ArrayLemmas
 mod DocumentLemmas
 mod FirstLemmas
 mod FlawLemmas

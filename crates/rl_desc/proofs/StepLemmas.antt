@@ -124,6 +124,25 @@ flaws_stop e rows kinds chip layout sound chip_is placed layout_is h =
     flaws_err e rows kinds sound none (λ other.
     sym (ap (λ (x : ChipData). flaws_fault x layout 0 rows.flaws) chip_is ∙ ap (λ (x : LayoutData). flaws_fault the_chip x 0 rows.flaws) l) ∙ h other)
 
+-- a description of a chip and a layout that were built, with flaws that were read or refused
+pub described_by : (r : Result DescData DescFault) (rows : DocumentData) (kinds : List AdapterKind) (chip : ChipData) (layout : LayoutData)
+    → chip_fault rows.parts ≡ None → chip ≡ chip_of rows.parts
+    → layout_fault chip rows.maps rows.places kinds ≡ None → layout ≡ layout_of chip rows.maps rows.places kinds
+    → IfOk r (λ d. d.chip ≡ chip) → IfOk r (λ d. d.layout ≡ layout)
+    → Reads (λ d. d.flaws) r (flaws_fault chip layout 0 rows.flaws) (flaws_of chip layout rows.flaws)
+    → Reads (λ d. d) r (rows_fault rows kinds) (described rows kinds)
+described_by (Ok d) rows kinds chip layout sound chip_is placed layout_is of_chip of_layout flaws =
+    let (none, same) = built rows kinds chip layout d.flaws sound chip_is placed layout_is flaws.0 flaws.1 in
+    (none, ap (λ (x : ChipData). desc x d.layout d.flaws) of_chip ∙ (ap (λ (x : LayoutData). desc chip x d.flaws) of_layout ∙ same))
+described_by (Err e) rows kinds chip layout sound chip_is placed layout_is of_chip of_layout flaws =
+    flaws_stop e rows kinds chip layout sound chip_is placed layout_is flaws
+
+-- what holds of a chip and its layout holds of a description that has them
+pub has_both : (P : ChipData → LayoutData → Type 0) (r : Result DescData DescFault) (chip : ChipData) (layout : LayoutData)
+    → IfOk r (λ d. d.chip ≡ chip) → IfOk r (λ d. d.layout ≡ layout) → P chip layout → IfOk r (λ d. P d.chip d.layout)
+has_both P (Ok d) chip layout of_chip of_layout holds = rw (of_chip, of_layout) holds
+has_both P (Err e) chip layout of_chip of_layout holds = tt
+
 -- ---- what a `?` hands on
 
 pub stops : {X Y : Type 0} (view : X → Y) (r : Result X DescFault) (e : DescFault) (fault : Option DescFault) (y : Y)

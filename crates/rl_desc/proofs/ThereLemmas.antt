@@ -1,6 +1,6 @@
 -- What a flaw names is there.
-use Rattle.std.proofs.Common.{◌≡◌, ℕ, ◌+◌, ◌^◌, ◌<◌, Bool, true, false, List, [], ◌∷◌, length, take, drop, Option, Some, None, option_map, option_and_then, refl, sym, inl, inr, arith}
-use Rattle.std.specs.Prelude.{nat_lt, nat_le, ◌==◌, ◌&&◌, position, bytes_eq, IfSome, is_some}
+use Rattle.std.proofs.Common.{◌≡◌, ℕ, ◌+◌, ◌^◌, ◌<◌, Bool, true, false, List, [], ◌∷◌, length, take, drop, Option, Some, None, option_map, option_and_then, Result, Ok, Err, refl, sym, inl, inr, arith}
+use Rattle.std.specs.Prelude.{nat_lt, nat_le, ◌==◌, ◌&&◌, position, bytes_eq, IfSome, IfOk, is_some}
 use Rattle.std.specs.List.{position_or_len, cons_option}
 use Rattle.std.specs.Option.{option_or}
 use Rattle.std.proofs.lemmas.Bool.{cases_Bool}
@@ -15,8 +15,11 @@ use Rattle.rl_map.specs.Layout.{LayoutData, map_named}
 use Rattle.rl_bench.specs.declared.flaw.Flaw.{Flaw}
 use Rattle.rl_bench.specs.declared.flaw.Flaw.TheVariants as flaw
 use Rattle.rl_bench.specs.Flaws.{width_of, IsFlawOf, AreFlawsOf}
+use Rattle.rl_desc.specs.Data.{DescData}
+use Rattle.rl_desc.specs.declared.fault.DescFault.{DescFault}
 use Rattle.rl_desc.specs.declared.flaw.FlawPart.{FlawPart}
 use Rattle.rl_desc.specs.declared.flaw.FlawPart.TheVariants.{OtherPolicy, OtherReset, Stuck, ErrorRange, ErrorNth, Deaf}
+use Rattle.rl_desc.specs.Refusals.{Reads}
 use Rattle.rl_desc.specs.Flaws.{field_at, text_at, kind_at, reg_paths, mem_paths, item_at, port_of_map, root_at, reset_value, flaw_if, reset_flaw, stuck_flaw, flaw_of, flaws_of}
 
 if_found : {A B : Type 0} (f : A → Option B) (P : B → Type 0) (o : Option A) → ((a : A) → o ≡ Some a → IfSome (f a) P) → IfSome (option_and_then f o) P
@@ -129,6 +132,11 @@ pub kind_some : (chip : ChipData) (name : List ℕ) (r : Option ℕ) → r ≡ k
 kind_some chip name None e = tt
 kind_some chip name (Some k) e = kind_there chip name k (sym e)
 
-pub made_there : (chip : ChipData) (layout : LayoutData) (parts : List FlawPart) (flaws : List Flaw) → flaws ≡ flaws_of chip layout parts
-    → AreFlawsOf chip layout flaws
-made_there chip layout parts flaws is = All-same (IsFlawOf chip layout) flaws (flaws_of chip layout parts) is (flaws_there chip layout parts)
+-- each flaw that was read with a chip and a layout names what is there
+pub read_there : (r : Result DescData DescFault) (chip : ChipData) (layout : LayoutData) (parts : List FlawPart) (fault : Option DescFault)
+    → IfOk r (λ d. d.chip ≡ chip) → IfOk r (λ d. d.layout ≡ layout) → Reads (λ d. d.flaws) r fault (flaws_of chip layout parts)
+    → IfOk r (λ d. AreFlawsOf d.chip d.layout d.flaws)
+read_there (Ok d) chip layout parts fault of_chip of_layout read =
+    let there = All-same (IsFlawOf chip layout) d.flaws (flaws_of chip layout parts) read.1 (flaws_there chip layout parts) in
+    rw (of_chip, of_layout) there
+read_there (Err e) chip layout parts fault of_chip of_layout read = tt

@@ -92,27 +92,42 @@ top_columns =
 abbrev pub scope_columns : List Column
 scope_columns = (key.Name, required text) ∷ (key.Of, optional text) ∷ []
 
+-- what follows the names of a register
+abbrev pub reg_body_columns : List Column
+reg_body_columns =
+    (key.Bytes, required number) ∷ (key.Backdoor, optional truth) ∷ (key.Skip, optional exclusions) ∷ (key.Field, optional tables) ∷ []
+
 abbrev pub reg_columns : List Column
-reg_columns =
-    (key.Name, required text) ∷ (key.Of, optional text) ∷ (key.Bytes, required number) ∷ (key.Backdoor, optional truth)
-    ∷ (key.Skip, optional exclusions) ∷ (key.Field, optional tables) ∷ []
+reg_columns = (key.Name, required text) ∷ (key.Of, optional text) ∷ reg_body_columns
+
+-- whether and how a check compares a field
+abbrev pub field_check_columns : List Column
+field_check_columns =
+    (key.Volatile, optional truth) ∷ (key.Compare, optional truth) ∷ (key.Alone, optional truth) ∷ (key.Reset, optional resets) ∷ []
 
 abbrev pub field_columns : List Column
 field_columns =
     (key.Name, required text) ∷ (key.Lsb, required number) ∷ (key.Width, required number)
-    ∷ (key.Policy, required (word policy_named)) ∷ (key.Volatile, optional truth) ∷ (key.Compare, optional truth)
-    ∷ (key.Alone, optional truth) ∷ (key.Reset, optional resets) ∷ []
+    ∷ (key.Policy, required (word policy_named)) ∷ field_check_columns
+
+-- what follows the names of a memory
+abbrev pub mem_body_columns : List Column
+mem_body_columns =
+    (key.Bytes, required number) ∷ (key.Size, required number) ∷ (key.Access, optional (word access_named))
+    ∷ (key.Backdoor, optional truth) ∷ (key.Skip, optional exclusions) ∷ []
 
 abbrev pub mem_columns : List Column
-mem_columns =
-    (key.Name, required text) ∷ (key.Of, optional text) ∷ (key.Bytes, required number) ∷ (key.Size, required number)
-    ∷ (key.Access, optional (word access_named)) ∷ (key.Backdoor, optional truth) ∷ (key.Skip, optional exclusions) ∷ []
+mem_columns = (key.Name, required text) ∷ (key.Of, optional text) ∷ mem_body_columns
+
+-- how a map is reached: in its parent, or as a root by an adapter
+abbrev pub map_way_columns : List Column
+map_way_columns =
+    (key.Parent, optional text) ∷ (key.Offset, optional number) ∷ (key.Adapter, optional text) ∷ (key.Predict, optional (word predict_named)) ∷ []
 
 abbrev pub map_columns : List Column
 map_columns =
     (key.Name, required text) ∷ (key.Bytes, required number) ∷ (key.Endian, optional (word kind_named))
-    ∷ (key.Addressing, optional (word addressing_named)) ∷ (key.Base, optional number) ∷ (key.Parent, optional text) ∷ (key.Offset, optional number)
-    ∷ (key.Adapter, optional text) ∷ (key.Predict, optional (word predict_named)) ∷ []
+    ∷ (key.Addressing, optional (word addressing_named)) ∷ (key.Base, optional number) ∷ map_way_columns
 
 abbrev pub place_columns : List Column
 place_columns =

@@ -7,6 +7,7 @@ pub mod Shapes
 pub mod Refusals
 pub mod Columns
 pub mod Reading
+pub mod Arrays
 pub mod Flaws
 pub mod Described
 pub mod Prelude

@@ -4,11 +4,12 @@ ghost use Rattle.toml.specs.View.{table_view};
 ghost use Rattle.rl_map.specs.Maps.{IsBuiltWith};
 ghost use Rattle.rl_bench.specs.Flaws.{AreFlawsOf};
 ghost use Rattle.rl_desc.specs.Refusals.{Reads};
+ghost use Rattle.rl_desc.specs.Flaws.{flaws_fault, flaws_of};
 ghost use Rattle.rl_desc.specs.Described.{first_fault, description_of, described, rows_fault};
 
 use crate::document::Document;
 use crate::fault::{DescCause, DescFault};
-use crate::flaw::number_flaws;
+use crate::flaw::{FlawPart, number_flaws};
 use crate::read::read_document;
 use rl_bench::Flaw;
 use rl_bus::AdapterKind;
@@ -81,7 +82,21 @@ fn build(alloc: Global, document: &Document, kinds: &[AdapterKind]) -> Result<De
 {
     let chip = Chip::build(alloc, &document.parts)?;
     let layout = Layout::build(alloc, &chip, &document.maps, &document.places, kinds)?;
-    let flaws = number_flaws(alloc, &chip, &layout, &document.flaws)?;
+    with_flaws(alloc, chip, layout, &document.flaws)
+}
+
+/// The chip and its layout, with the flaws that the rows say.
+fn with_flaws(
+    alloc: Global,
+    chip: Chip,
+    layout: Layout,
+    rows: &[FlawPart],
+) -> Result<Desc, DescFault>
+    ensures flaws { Reads (λ desc. desc.flaws) result (flaws_fault chip layout 0 rows.now) (flaws_of chip layout rows.now) }
+    ensures chip { IfOk result (λ desc. desc.chip ≡ chip) }
+    ensures layout { IfOk result (λ desc. desc.layout ≡ layout) }
+{
+    let flaws = number_flaws(alloc, &chip, &layout, rows)?;
     Ok(Desc {
         chip,
         layout,

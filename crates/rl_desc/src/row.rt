@@ -3,7 +3,7 @@ ghost use Rattle.std.specs.Prelude.{◌≡◌, None, Some, option_map};
 ghost use Rattle.toml.specs.View.{view, items_view, table_view};
 ghost use Rattle.rl_desc.specs.Shapes.{tables_of, word, tables};
 ghost use Rattle.rl_desc.specs.Refusals.{Reads, at_spot};
-ghost use Rattle.rl_desc.specs.Columns.{value_at, is_one_of, only, optional, required, held, rows_at};
+ghost use Rattle.rl_desc.specs.Columns.{value_at, is_one_of, only, optional, required, held, held_or, rows_at};
 
 use crate::fault::{DescCause, DescFault};
 use crate::key::Key;
@@ -64,16 +64,27 @@ impl<'a> Row<'a> {
         }
     }
 
-    /// The word under a key, if the row has it.
-    pub(crate) fn optional_word<W: Word>(&self, key: Key) -> Result<Option<W>, DescFault>
+    /// What a key holds, or another value if the row doesn't have it.
+    pub(crate) fn held_or<V: Held<'a> + Drop>(&self, key: Key, other: V) -> Result<V, DescFault>
+        ensures { Reads V.seen result
+            (at_spot self.now.spot (optional V.shape key (table_view self.now.table.now)))
+            (held_or (V.seen other) V.shape key (table_view self.now.table.now)) }
+    {
+        match self.optional(key)? {
+            Some(found) => Ok(found),
+            None => Ok(other),
+        }
+    }
+
+    /// The word under a key, or another one if the row doesn't have it.
+    pub(crate) fn word_or<W: Word>(&self, key: Key, other: W) -> Result<W, DescFault>
         ensures { Reads (λ w. w) result
             (at_spot self.now.spot (optional (word W.named) key (table_view self.now.table.now)))
-            (held (word W.named) key (table_view self.now.table.now)) }
+            (held_or other (word W.named) key (table_view self.now.table.now)) }
     {
-        match self.optional::<Listed<W>>(key) {
-            Ok(Some(Listed(word))) => Ok(Some(word)),
-            Ok(None) => Ok(None),
-            Err(fault) => Err(fault),
+        match self.optional::<Listed<W>>(key)? {
+            Some(Listed(word)) => Ok(word),
+            None => Ok(other),
         }
     }
 

@@ -1,6 +1,8 @@
+use Rattle.std.proofs.Common.{◌≡◌}
+use Rattle.rl_map.specs.Maps.{IsBuiltWith}
 use Rattle.rl_desc.specs.Faults.{of_model, of_map}
-use Rattle.rl_desc.proofs.StepLemmas.{stops, model_err, map_stops, flaws_stop, built}
-use Rattle.rl_desc.proofs.ThereLemmas.{made_there}
+use Rattle.rl_desc.proofs.StepLemmas.{stops, model_err, map_stops, described_by, has_both}
+use Rattle.rl_desc.proofs.ThereLemmas.{read_there}
 use Rattle.rl_desc.proofs.desc.build.Goals as goal
 
 pub returns-in_err-chip-clause-exact : goal.returns-in_err-chip-clause-exact
@@ -19,26 +21,27 @@ returns-in_err-layout-clause-exact c =
     map_stops e _ c.args.kinds.now c.in_ok-chip.chip sound chip_is (rw (c.deref.ensures.value, c.deref-2.ensures.value) at c.in_err-layout.ensures.exact)
     ))
 
-pub returns-in_err-flaws-clause-exact : goal.returns-in_err-flaws-clause-exact
-returns-in_err-flaws-clause-exact c =
-    let (sound, chip_is) = c.in_ok-chip.ensures in
-    let (placed, layout_is) = rw (c.deref.ensures.value, c.deref-2.ensures.value) at c.in_ok-layout.ensures.exact in
-    rw (← c.document.view_is) (
-    stops (λ d. d) c.from_residual-in_err-flaws.result c.in_err-flaws.field-0.0 _ _ c.from_residual-in_err-flaws.ensures (
-    flaws_stop c.in_err-flaws.field-0.0 _ c.args.kinds.now c.in_ok-chip.chip c.in_ok-layout.layout sound chip_is placed layout_is
-    (rw c.deref-3.ensures.value at c.in_err-flaws.ensures)
-    ))
-
 pub returns-clause-exact : goal.returns-clause-exact
 returns-clause-exact c =
     let (sound, chip_is) = c.in_ok-chip.ensures in
     let (placed, layout_is) = rw (c.deref.ensures.value, c.deref-2.ensures.value) at c.in_ok-layout.ensures.exact in
-    let (clean, flaws_is) = rw c.deref-3.ensures.value at c.in_ok-flaws.ensures in
+    let flaws = rw c.deref-3.ensures.value at c.with_flaws.ensures.flaws in
     rw (← c.document.view_is) (
-    built _ c.args.kinds.now c.in_ok-chip.chip c.in_ok-layout.layout c.in_ok-flaws.flaws.items sound chip_is placed layout_is clean flaws_is
+    described_by c.with_flaws.result _ c.args.kinds.now c.in_ok-chip.chip c.in_ok-layout.layout sound chip_is placed layout_is
+    c.with_flaws.ensures.chip c.with_flaws.ensures.layout flaws
     )
+
+pub returns-clause-built_with : goal.returns-clause-built_with
+returns-clause-built_with c =
+    has_both (λ chip layout. IsBuiltWith layout chip) c.with_flaws.result c.in_ok-chip.chip c.in_ok-layout.layout
+    c.with_flaws.ensures.chip c.with_flaws.ensures.layout c.in_ok-layout.ensures.built_with
+
+pub returns-clause-kinds : goal.returns-clause-kinds
+returns-clause-kinds c =
+    has_both (λ chip layout. layout.kinds ≡ c.args.kinds.now) c.with_flaws.result c.in_ok-chip.chip c.in_ok-layout.layout
+    c.with_flaws.ensures.chip c.with_flaws.ensures.layout c.in_ok-layout.ensures.kinds
 
 pub returns-clause-flaws : goal.returns-clause-flaws
 returns-clause-flaws c =
-    let (clean, flaws_is) = c.in_ok-flaws.ensures in
-    made_there c.in_ok-chip.chip c.in_ok-layout.layout _ c.in_ok-flaws.flaws.items flaws_is
+    read_there c.with_flaws.result c.in_ok-chip.chip c.in_ok-layout.layout _ _
+    c.with_flaws.ensures.chip c.with_flaws.ensures.layout c.with_flaws.ensures.flaws
