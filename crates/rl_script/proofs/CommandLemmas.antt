@@ -1,5 +1,5 @@
 -- A command is looked for group by group.
-use Rattle.std.proofs.Common.{◌≡◌, ℕ, Bool, List, [], ◌∷◌, ◌++◌, map, Some, None, refl, ap, ◌∙◌, inl, inr}
+use Rattle.std.proofs.Common.{◌≡◌, ℕ, Bool, List, [], ◌∷◌, ◌++◌, map, Option, Some, None, refl, sym, ap, ◌∙◌, inl, inr}
 use Rattle.std.specs.Prelude.{find, option_map}
 use Rattle.std.specs.Str.{bytes_eq}
 use Rattle.std.proofs.lemmas.Bool.{cases_Bool}
@@ -14,6 +14,13 @@ found_first p xs ys x e = rw (find-append p xs ys, e) refl
 
 pub found_later : {A : Type 0} (p : A → Bool) (xs ys : List A) → find p xs ≡ None → find p (xs ++ ys) ≡ find p ys
 found_later p xs ys e = rw (find-append p xs ys, e) refl
+
+-- the same of an answer that is known
+pub in_first : {A : Type 0} (p : A → Bool) (xs ys : List A) (x : A) (found : Option A) → found ≡ find p xs → found ≡ Some x → Some x ≡ find p (xs ++ ys)
+in_first p xs ys x found is some = sym (found_first p xs ys x (sym is ∙ some))
+
+pub in_later : {A : Type 0} (p : A → Bool) (xs ys : List A) (found later : Option A) → found ≡ find p xs → found ≡ None → later ≡ find p ys → later ≡ find p (xs ++ ys)
+in_later p xs ys found later is none rest = rest ∙ sym (found_later p xs ys (sym is ∙ none))
 
 on_items : (w : List ℕ) (some : List Item) → find (λ c. bytes_eq (command_name c) w) (map command.OnItem some) ≡ option_map command.OnItem (find (λ item. bytes_eq (item_name item) w) some)
 on_items w [] = refl
