@@ -8,7 +8,7 @@ use rl_split::Outgoing;
 /// value to write, which is 0 in a read.
 ///
 /// Bit `j` of `chosen` stands for byte `j`, bit `i` of `fields` for the register's `i`-th field.
-#[derive(Clone, Copy, Debug)]
+#[derive(Clone, Copy)]
 pub(crate) struct Access {
     pub(crate) reg: u32,
     pub(crate) place: u32,

@@ -20,12 +20,23 @@ use rl_split::narrow;
 use std::alloc::{AllocError, Global};
 
 /// A chip with its layout, what is believed of its registers, and a predictor.
-#[derive(Drop)]
 pub struct Model {
     chip: Chip,
     layout: Layout,
     mirror: Mirror,
     predictor: Predictor,
+}
+
+// Written out, so that whoever owns a model lets it go by one call, and not field by field.
+impl Drop for Model {
+    fn drop(self) {
+        let Model {
+            chip: _,
+            layout: _,
+            mirror: _,
+            predictor: _,
+        } = self;
+    }
 }
 
 impl std::marker::Model for Model {
