@@ -2,7 +2,7 @@
 use Rattle.std.proofs.Common.{◌≡◌, ℕ, zero, suc, ◌+◌, ◌<◌, ◌≤◌, Bool, true, false, cond, eqb, List, [], ◌∷◌, ◌++◌, Some, None}
 use Rattle.std.proofs.Common.{IfSome, length, slice_range, take, drop, ◌-◌, unwrap_or, refl, sym, ap, ◌∙◌, append_assoc, length-append, arith}
 use Rattle.std.specs.declared.option.Option.{Option}
-use Rattle.std.specs.Io.KnownBytes.{prepend_known}
+use Rattle.std.specs.Io.KnownBytes.{Keeps, prepend_known}
 use Rattle.std.specs.Io.BufRead.{strip_last}
 use Rattle.std.proofs.lemmas.List.{drop_all}
 use Rattle.std.proofs.lemmas.Bool.{true≢false}
@@ -200,3 +200,15 @@ sizes_held bytes start end size pending held line ordered within = record {
   line = line ∙ ap (λ l. length (first_line l)) held;
   all = sym (ap length held) ∙ length_part bytes start end within ordered;
 }
+
+-- ---- a read
+
+-- what a read left between two places of a buffer is what the reader gives from then on
+pub input_kept : (old : Reading) (left left' : Option (List ℕ)) (held bytes whole : List ℕ) (start end : ℕ) (ended : Bool) → held ≡ old.pending → old.ended ≡ false → whole ≡ bytes
+    → Keeps (prepend_known held left) (cond ended (Some (slice_range bytes start end)) (prepend_known (slice_range bytes start end) left'))
+    → Keeps (input_of old left) (cond ended (Some (slice_range whole start end)) (prepend_known (slice_range whole start end) left'))
+input_kept old left left' held bytes whole start end ended is going same kept = rw (going, same, ← is) kept
+
+-- a line that was copied stays
+pub line_kept : (copied : Bool) (n : ℕ) (bytes whole other held line : List ℕ) → copied ≡ true → whole ≡ bytes → take n bytes ≡ held → held ≡ line → cond copied (take n whole) other ≡ line
+line_kept copied n bytes whole other held line done same is was = rw (done, same) (is ∙ was)

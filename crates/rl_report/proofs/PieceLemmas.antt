@@ -5,7 +5,7 @@ use Rattle.std.specs.declared.option.Option.{Option}
 use Rattle.std.specs.Io.KnownBytes.{Appends}
 use Rattle.std.proofs.KnownBytes.{Appends-trans}
 use Rattle.std.proofs.lemmas.Bool.{true≢false}
-use Rattle.rl_bus.specs.Causes.{Rose}
+use Rattle.rl_bus.specs.Causes.{HasCause, Rose}
 use Rattle.rl_report.specs.declared.sink.Sink.{Ghosts as Sink}
 use Rattle.rl_report.specs.Pieces.{AppendsFront, Puts, PutsText, SinkStays, joined}
 
@@ -72,6 +72,14 @@ no_piece text pieces i h = ap (λ l. joined (map text l)) (drop_all i pieces h)
 risen : {T E : Type 0} (r : Result T E) (a b c : ℕ) → a ≤ b → OnErr r (Rose b c) → OnErr r (Rose a c)
 risen (Ok x) a b c later h = tt
 risen (Err e) a b c later h = omega (arith, later, h)
+
+-- a call has its cause in one that it made
+pub cause_stopped : {T U E F : Type 0} (r : Result T E) (a b : ℕ) (e : F) → IsErr r → HasCause {T = U} {E = F} a b (Err e) → HasCause a b r
+cause_stopped (Ok x) a b e is h = absurd (true≢false (sym is))
+cause_stopped (Err y) a b e is h = record { later = h.later; failed = h.failed }
+
+pub cause_kept : {T U E F : Type 0} (a b : ℕ) (u : U) (v : T) → HasCause {T = U} {E = F} a b (Ok u) → HasCause {T = T} {E = E} a b (Ok v)
+cause_kept a b u v h = record { later = h.later; failed = tt }
 
 -- ---- what calls leave of the sink, and the text that they put, one after another
 

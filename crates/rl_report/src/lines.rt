@@ -2,6 +2,7 @@
 ghost use Rattle.std.specs.Prelude.{◌≡◌, ◌≢◌, ℕ, ◌+◌, ◌-◌, ◌<◌, ◌≤◌, List, [], true, false, length, take, drop};
 ghost use Rattle.std.specs.Prelude.{slice_range, Option, Some, IfSome, IfNone, IfOk, OnOk, OnErr, Ok, Err, IsTrue, ◌↔◌};
 ghost use Rattle.std.specs.Prelude.{if◌then◌else◌};
+ghost use Rattle.std.specs.Io.KnownBytes.{prepend_known};
 ghost use Rattle.rl_report.specs.Prelude.{first_line, strip_last, input_of, HoldsLine, IsLaterPhase, SamePhase};
 ghost use Rattle.rl_report.specs.Prelude.{Keeps, HasCause, Rose, Hands, HeadIs, TakesNoHead, Takes};
 
@@ -136,6 +137,38 @@ fn keep_line(line: &mut [u8], copied: &mut bool, buffer: &[u8], start: usize, le
         line[..len].copy_from_slice(&buffer[start..start + len]);
         *copied = true;
     }
+}
+
+// Reads once, behind what stands between the two places. That grows, or the end is met. Measures its first line.
+fn fill<S: Source>(
+    buffer: &mut [u8],
+    start: &mut usize,
+    end: &mut usize,
+    size: &mut usize,
+    ended: &mut bool,
+    source: &mut S,
+) -> Result<(), Failed>
+    requires room { length buffer.old ≡ 8192 }
+    requires ordered { start.old ≤ end.old }
+    requires within { end.old ≤ length buffer.old }
+    requires short { end.old - start.old ≤ 4096 }
+    requires size { size.old ≡ length (first_line (slice_range buffer.old start.old end.old)) }
+    requires going { ended.old ≡ false }
+    ensures ordered { start.new ≤ end.new }
+    ensures within { end.new ≤ length buffer.new }
+    ensures size { size.new ≡ length (first_line (slice_range buffer.new start.new end.new)) }
+    ensures input { Keeps (prepend_known (slice_range buffer.old start.old end.old) (S.left source.old))
+        (if ended.new then Some (slice_range buffer.new start.new end.new)
+        else prepend_known (slice_range buffer.new start.new end.new) (S.left source.new)) }
+    ensures grows { OnOk result (ended.new ≡ false → end.old - start.old < end.new - start.new) }
+    ensures kept { OnErr result ((slice_range buffer.new start.new end.new ≡ slice_range buffer.old start.old end.old)
+        × (ended.new ≡ false)) }
+    ensures cause { HasCause (S.faults source.old) (S.faults source.new) result }
+{
+    let count = refill(buffer, start, end, source)?;
+    *size = line_len(&buffer[*start..*end]);
+    *ended = count == 0;
+    Ok(())
 }
 
 impl LineReader {
@@ -404,10 +437,14 @@ impl LineReader {
             self.line_start,
             self.line_len,
         );
-        let count = refill(&mut self.buffer, &mut self.start, &mut self.end, source)?;
-        self.size = line_len(&self.buffer[self.start..self.end]);
-        self.ended = count == 0;
-        Ok(())
+        fill(
+            &mut self.buffer,
+            &mut self.start,
+            &mut self.end,
+            &mut self.size,
+            &mut self.ended,
+            source,
+        )
     }
 
     /// The last line that was handed out, without its line end. It is empty before the first.

@@ -1,5 +1,5 @@
 // The text of an operation, in canonical spelling.
-ghost use Rattle.std.specs.Prelude.{◌≡◌, ◌+◌, ◌<◌, ◌≤◌, ◌++◌, length, true, Some, None, IfSome, OnOk};
+ghost use Rattle.std.specs.Prelude.{◌≡◌, ◌+◌, ◌<◌, ◌≤◌, ◌++◌, length, true, Some, None, OnOk};
 ghost use Rattle.rl_model.specs.Chip.{HasItem, path_of_item, field_path};
 ghost use Rattle.rl_model.specs.Fields.{field_of};
 ghost use Rattle.rl_access.specs.Operation.{HasNumbers, IsMapIn, reg_of};
@@ -148,10 +148,8 @@ impl Spoken {
 
 // What an operation is on: none for a reset.
 #[inline(always)]
-pub(crate) fn subject_of(model: &Model, op: Op) -> Option<Subject>
-    requires { HasNumbers model.now.chip (length model.now.layout.maps) op }
-    ensures value { result ≡ subject_of op }
-    ensures in_range { IfSome result (IsSubjectIn model.now.chip) }
+pub(crate) fn subject_of(op: Op) -> Option<Subject>
+    ensures { result ≡ subject_of op }
 {
     Some(match op {
         Op::Write { reg, .. }

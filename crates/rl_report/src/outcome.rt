@@ -41,7 +41,7 @@ fn register_of(model: &Model, op: Op) -> Option<u32>
     ensures value { result ≡ register_of model.now.chip op }
     ensures in_range { IfSome result (λ reg. reg < length model.now.chip.regs) }
 {
-    match subject_of(model, op)? {
+    match subject_of(op)? {
         Subject::Reg(reg) => Some(reg),
         Subject::Field(field) => Some(register_with(model, field)),
         Subject::Mem(_) => None,
@@ -80,7 +80,7 @@ fn digits_of(model: &Model, op: Op) -> u32
     if let Op::FieldRead { field, .. } = op {
         return field_digits(model, field);
     }
-    match subject_of(model, op) {
+    match subject_of(op) {
         Some(Subject::Reg(reg)) => item_digits(model, Item::Reg(reg)),
         Some(Subject::Field(field)) => item_digits(model, Item::Reg(register_with(model, field))),
         Some(Subject::Mem(mem)) => item_digits(model, Item::Mem(mem)),

@@ -1,5 +1,6 @@
 use Rattle.rl_report.proofs.GatherLemmas.{gathers_more, gathers_failed, gathered_more, pushed}
 use Rattle.rl_report.specs.Item.{item_line}
+use Rattle.rl_report.proofs.PieceLemmas.{stays_then, stays_stopped}
 use Rattle.rl_report.proofs.item.put_item.Goals as goal
 
 pub returns-in_err-gather-clause-bytes : goal.returns-in_err-gather-clause-bytes
@@ -21,3 +22,9 @@ returns-clause-bytes g c = record {
       (pushed _ _ _ _ c.push_transfer.ensures));
   part = tt;
 }
+
+pub returns-in_err-gather-clause-stays : goal.returns-in_err-gather-clause-stays
+returns-in_err-gather-clause-stays g c = stays_stopped _ _ _ _ _ c.from_residual.ensures.0 c.in_err-gather.ensures.stays
+
+pub returns-in_err-gather-2-clause-stays : goal.returns-in_err-gather-2-clause-stays
+returns-in_err-gather-2-clause-stays g c = stays_stopped _ _ _ _ _ c.from_residual-in_err-gather-2.ensures.0 (stays_then _ _ _ _ _ _ c.in_ok-gather.ensures.stays c.in_err-gather-2.ensures.stays)

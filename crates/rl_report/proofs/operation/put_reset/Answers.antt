@@ -1,6 +1,7 @@
 use Rattle.rl_report.specs.Operation.{kind_text}
 use Rattle.rl_report.proofs.GatherLemmas.{gathers_more, gathers_last, gathers_failed, pushed}
 use Rattle.rl_report.proofs.OperationLemmas.{same_text, reset_pieces}
+use Rattle.rl_report.proofs.PieceLemmas.{stays_then, stays_stopped}
 use Rattle.rl_report.proofs.operation.put_reset.Goals as goal
 
 pub returns-in_err-gather-clause-bytes : goal.returns-in_err-gather-clause-bytes
@@ -13,3 +14,9 @@ returns-clause-bytes g c =
     same_text _ _ _ _ _ _ _ (reset_pieces (kind_text c.args.model.now.chip c.args.kind))
     (gathers_more _ _ _ _ _ _ _ _ _ (rw (c.name.ensures) at c.in_ok-gather.ensures.bytes.whole) (gathers_more _ _ _ _ _ _ _ _ _ (pushed _ _ _ _ c.push.ensures.text)
     (gathers_last _ _ _ _ _ _ (rw (c.kind_name.ensures) at c.gather-2.ensures.bytes))))
+
+pub returns-in_err-gather-clause-stays : goal.returns-in_err-gather-clause-stays
+returns-in_err-gather-clause-stays g c = stays_stopped _ _ _ _ _ c.from_residual.ensures.0 c.in_err-gather.ensures.stays
+
+pub returns-clause-stays : goal.returns-clause-stays
+returns-clause-stays g c = stays_then _ _ _ _ _ _ c.in_ok-gather.ensures.stays c.gather-2.ensures.stays

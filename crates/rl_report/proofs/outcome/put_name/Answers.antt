@@ -4,6 +4,7 @@ use Rattle.rl_model.specs.Rows.{FieldSeen}
 use Rattle.rl_model.specs.Fields.{field_of, field_in, fields_of, first_of}
 use Rattle.rl_mirror.proofs.FieldLemmas.{length-fields_of, field_in-fields_of}
 use Rattle.rl_report.proofs.GatherLemmas.{gathers_if, gathers_more, gathers_last, gathers_failed}
+use Rattle.rl_report.proofs.PieceLemmas.{stays_then, stays_stopped}
 use Rattle.rl_report.proofs.outcome.put_name.Goals as goal
 
 pub overflow_add-first : goal.overflow_add-first
@@ -23,3 +24,9 @@ returns-clause-bytes g c =
     let name = c.name_of.ensures ∙ ap (λ n. (field_of chip (n + c.args.place)).name) e.first ∙ ap (λ (f : FieldSeen). f.name) is in
     gathers_if (bit c.args.differ c.args.place) (sym c.has_mark.ensures ∙ c.if-not-has_mark.false)
     (gathers_more _ _ _ _ _ _ _ _ _ c.in_ok-gather.ensures.bytes.whole (gathers_last _ _ _ _ _ _ (rw name at c.gather-2.ensures.bytes)))
+
+pub returns-in_err-gather-clause-stays : goal.returns-in_err-gather-clause-stays
+returns-in_err-gather-clause-stays g c = stays_stopped _ _ _ _ _ c.from_residual.ensures.0 c.in_err-gather.ensures.stays
+
+pub returns-clause-stays : goal.returns-clause-stays
+returns-clause-stays g c = stays_then _ _ _ _ _ _ c.in_ok-gather.ensures.stays c.gather-2.ensures.stays

@@ -2,7 +2,7 @@ use Rattle.std.proofs.Common.{arith}
 use Rattle.rl_model.specs.Fields.{count_of}
 use Rattle.rl_report.specs.Outcome.{name_text}
 use Rattle.rl_report.proofs.ListingLemmas.{next_number, no_number}
-use Rattle.rl_report.proofs.PieceLemmas.{keeps_more}
+use Rattle.rl_report.proofs.PieceLemmas.{keeps_more, keeps_stopped, keeps_all}
 use Rattle.rl_report.proofs.GatherLemmas.{less_over, over_stopped, none_over}
 use Rattle.rl_report.proofs.outcome.put_names.Goals as goal
 
@@ -26,3 +26,9 @@ pub returns-clause-bytes : goal.returns-clause-bytes
 returns-clause-bytes g c =
     let chip = c.args.model.now.chip in
     record { whole = none_over _ _ _ _ _ _ c.loop-place.invariant.put (no_number (name_text chip c.args.reg c.args.differ) c.loop-place.place (count_of chip c.args.reg) (omega arith)); part = tt }
+
+pub returns-in_err-put_name-clause-stays : goal.returns-in_err-put_name-clause-stays
+returns-in_err-put_name-clause-stays g c = keeps_stopped _ _ _ _ _ _ c.from_residual.ensures.0 c.loop-place.invariant.kept c.in_err-put_name.ensures.stays
+
+pub returns-clause-stays : goal.returns-clause-stays
+returns-clause-stays g c = keeps_all _ _ _ _ c.loop-place.invariant.kept

@@ -1,5 +1,5 @@
 use Rattle.std.proofs.Common.{arith}
-use Rattle.rl_report.proofs.PieceLemmas.{keeps_more, next_piece, no_piece}
+use Rattle.rl_report.proofs.PieceLemmas.{keeps_more, next_piece, no_piece, keeps_stopped, keeps_all}
 use Rattle.rl_report.proofs.GatherLemmas.{less_over, over_stopped, none_over}
 use Rattle.rl_report.proofs.pieces.gather_pieces.Goals as goal
 
@@ -21,3 +21,9 @@ returns-in_err-gather-clause-bytes g c =
 pub returns-clause-bytes : goal.returns-clause-bytes
 returns-clause-bytes g c =
     record { whole = none_over _ _ _ _ _ _ c.loop-piece.invariant.put (no_piece (λ piece. piece.now) c.args.pieces.now c.loop-piece.piece-index (omega arith)); part = tt }
+
+pub returns-in_err-gather-clause-stays : goal.returns-in_err-gather-clause-stays
+returns-in_err-gather-clause-stays g c = keeps_stopped _ _ _ _ _ _ c.from_residual.ensures.0 c.loop-piece.invariant.kept c.in_err-gather.ensures.stays
+
+pub returns-clause-stays : goal.returns-clause-stays
+returns-clause-stays g c = keeps_all _ _ _ _ c.loop-piece.invariant.kept

@@ -40,3 +40,25 @@ returns-clause-got c =
     let at_end : old.ended ≡ true = ap (λ r. r.ended) (sym c.self.view_is) ∙ c.if-not-self.false in
     λ left. subst (λ n. IfSome (input_of old left) (λ bytes. HandsLine bytes n left)) (sym c.hand_out-2.ensures)
     (hands_last old left i.size at_end h.line (omega (arith, h.all)) (omega (arith, h.all)) (omega (arith, h.all)))
+
+pub returns-then-size-held-clause-still : goal.returns-then-size-held-clause-still
+returns-then-size-held-clause-still c = λ other. ap (λ r. r.closed) c.hand_out.ensures
+
+pub returns-then-size-held-clause-phase : goal.returns-then-size-held-clause-phase
+returns-then-size-held-clause-phase c = record {
+  asked = ap (λ r. r.asked) c.hand_out.ensures;
+  found = ap (λ r. r.found) c.hand_out.ensures;
+  ended = λ at_end. ap (λ r. r.ended) c.hand_out.ensures ∙ at_end;
+  closed = λ told. ap (λ r. r.closed) c.hand_out.ensures ∙ told;
+}
+
+pub returns-clause-still : goal.returns-clause-still
+returns-clause-still c = λ other. ap (λ r. r.closed) c.hand_out-2.ensures
+
+pub returns-clause-phase : goal.returns-clause-phase
+returns-clause-phase c = record {
+  asked = ap (λ r. r.asked) c.hand_out-2.ensures;
+  found = ap (λ r. r.found) c.hand_out-2.ensures;
+  ended = λ at_end. ap (λ r. r.ended) c.hand_out-2.ensures ∙ at_end;
+  closed = λ told. ap (λ r. r.closed) c.hand_out-2.ensures ∙ told;
+}

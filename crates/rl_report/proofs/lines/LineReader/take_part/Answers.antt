@@ -1,4 +1,4 @@
-use Rattle.std.proofs.Common.{◌++◌, length, take, ap, ◌∙◌, arith}
+use Rattle.std.proofs.Common.{◌++◌, length, take, ap, ◌∙◌, arith, refl}
 use Rattle.rl_report.proofs.TakenLemmas.{takes_separator, takes_last, takes_too_much, same_text}
 use Rattle.rl_report.proofs.lines.LineReader.take_part.Goals as goal
 
@@ -26,3 +26,40 @@ returns-in_ok-extend_from_slice-in-Text-2-clause-took c =
     same_text c.args.self.now c.args.head.now.items c.args.starts c.in-Text.ends c.in-Text.size c.pass.new.self c.extend_from_slice.new.self.items
     (rw c.pending.ensures.bytes at c.in-Text.ensures) (omega arith) c.pass.ensures
     (c.in_ok-extend_from_slice-in-Text-2.ensures.items ∙ ap (λ l. c.args.head.now.items ++ take c.in-Text.size l) c.pending-in-Text-2.ensures.bytes)
+
+pub returns-in-Separator-clause-phase : goal.returns-in-Separator-clause-phase
+returns-in-Separator-clause-phase c = record {
+  asked = ap (λ r. r.asked) c.pass_separator.ensures;
+  refused = ap (λ r. r.refused) c.pass_separator.ensures;
+  closed = ap (λ r. r.closed) c.pass_separator.ensures;
+  ended = λ at_end. ap (λ r. r.ended) c.pass_separator.ensures ∙ at_end;
+}
+
+pub returns-in-Separator-clause-found : goal.returns-in-Separator-clause-found
+returns-in-Separator-clause-found c = (λ is. ap (λ r. r.found) c.pass_separator.ensures, λ other. absurd (other refl))
+
+pub returns-in-Separator-clause-line : goal.returns-in-Separator-clause-line
+returns-in-Separator-clause-line c = ap (λ r. r.line) c.pass_separator.ensures
+
+pub returns-in_ok-extend_from_slice-in-Text-2-clause-phase : goal.returns-in_ok-extend_from_slice-in-Text-2-clause-phase
+returns-in_ok-extend_from_slice-in-Text-2-clause-phase c = record {
+  asked = ap (λ r. r.asked) c.pass.ensures;
+  refused = ap (λ r. r.refused) c.pass.ensures;
+  closed = ap (λ r. r.closed) c.pass.ensures;
+  ended = λ at_end. ap (λ r. r.ended) c.pass.ensures ∙ at_end;
+}
+
+pub returns-in_ok-extend_from_slice-in-Text-2-clause-line : goal.returns-in_ok-extend_from_slice-in-Text-2-clause-line
+returns-in_ok-extend_from_slice-in-Text-2-clause-line c = ap (λ r. r.line) c.pass.ensures
+
+pub returns-in-End-clause-held : goal.returns-in-End-clause-held
+returns-in-End-clause-held c = c.pending.ensures.held
+
+pub returns-in-Unclear-clause-held : goal.returns-in-Unclear-clause-held
+returns-in-Unclear-clause-held c = c.pending.ensures.held
+
+pub returns-in-Text-clause-held : goal.returns-in-Text-clause-held
+returns-in-Text-clause-held c = c.pending.ensures.held
+
+pub returns-in_err-extend_from_slice-in-Text-2-clause-held : goal.returns-in_err-extend_from_slice-in-Text-2-clause-held
+returns-in_err-extend_from_slice-in-Text-2-clause-held c = c.pending.ensures.held

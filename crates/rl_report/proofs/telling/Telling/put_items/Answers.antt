@@ -1,7 +1,7 @@
 use Rattle.std.proofs.Common.{arith}
 use Rattle.rl_report.specs.Item.{item_line}
 use Rattle.rl_report.proofs.ListingLemmas.{next_item, no_item}
-use Rattle.rl_report.proofs.PieceLemmas.{keeps_more}
+use Rattle.rl_report.proofs.PieceLemmas.{keeps_more, keeps_stopped, keeps_all}
 use Rattle.rl_report.proofs.GatherLemmas.{less_over, over_stopped, none_over}
 use Rattle.rl_report.proofs.telling.Telling.put_items.Goals as goal
 
@@ -22,3 +22,9 @@ returns-in_err-put_item-clause-bytes g c =
 pub returns-clause-bytes : goal.returns-clause-bytes
 returns-clause-bytes g c =
     record { whole = none_over _ _ _ _ _ _ c.loop-k.invariant.put (no_item (item_line c.args.self.now.model.now.layout) c.args.self.now.event.now.trace c.loop-k.k (omega arith)); part = tt }
+
+pub returns-in_err-put_item-clause-stays : goal.returns-in_err-put_item-clause-stays
+returns-in_err-put_item-clause-stays g c = keeps_stopped _ _ _ _ _ _ c.from_residual.ensures.0 c.loop-k.invariant.kept c.in_err-put_item.ensures.stays
+
+pub returns-clause-stays : goal.returns-clause-stays
+returns-clause-stays g c = keeps_all _ _ _ _ c.loop-k.invariant.kept

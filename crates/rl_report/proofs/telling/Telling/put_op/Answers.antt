@@ -13,3 +13,9 @@ pub returns-in-Some-clause-bytes : goal.returns-in-Some-clause-bytes
 returns-in-Some-clause-bytes g c =
     let told = text_is_spoken c.args.self.now.model.now c.args.self.now.event.now.op c.in-Some.spoken (sym c.of.ensures ∙ c.in-Some.is) in
     same_text _ _ _ _ _ _ _ (sym told) c.put.ensures.bytes
+
+pub returns-in-Some-clause-stays : goal.returns-in-Some-clause-stays
+returns-in-Some-clause-stays g c = c.put.ensures.stays
+
+pub returns-in-None-clause-stays : goal.returns-in-None-clause-stays
+returns-in-None-clause-stays g c = c.put_other.ensures.stays
