@@ -1,6 +1,6 @@
 -- The operation of a line has its numbers in range, and is no burst.
 use Rattle.std.proofs.Common.{◌≡◌, ℕ, ◌+◌, ◌<◌, List, [], length, take, drop, map, Option, Some, None, refl, subst, arith, length-take}
-use Rattle.std.specs.Prelude.{◌≢◌, Bool, true, false, if◌then◌else◌, IfSome, option_map, option_and_then, bytes_eq}
+use Rattle.std.specs.Prelude.{Bool, true, false, if◌then◌else◌, IfSome, option_map, option_and_then, bytes_eq}
 use Rattle.std.proofs.lemmas.List.{length-map}
 use Rattle.std.proofs.lemmas.List.Quantifiers.{position-Some}
 use Rattle.rl_map.specs.declared.rows.MapRow.{MapRow}
@@ -88,8 +88,13 @@ with_numbers : (c : ChipData) (maps : ℕ) (i : Item) (n : ℕ) (t : Option ℕ)
 with_numbers c maps item.Write n t first second h k = both true h k
 with_numbers c maps i n t first second h k = both (row_of i).map h k
 
-single_with : (i : Item) (n : ℕ) (t : Option ℕ) (first second : ℕ) → i ≢ item.BurstRead → is_single (op_with i n t first second) ≡ true
-single_with item.BurstRead n t first second other = absurd (other refl)
+-- it reads no burst
+abbrev is_no_burst : Item → Bool
+is_no_burst item.BurstRead = false
+is_no_burst _ = true
+
+single_with : (i : Item) (n : ℕ) (t : Option ℕ) (first second : ℕ) → is_no_burst i ≡ true → is_single (op_with i n t first second) ≡ true
+single_with item.BurstRead n t first second other = absurd (cc)
 single_with _ n t first second other = refl
 
 module _ (m : ModelData) where
@@ -112,7 +117,7 @@ module _ (m : ModelData) where
   said_numbers None o is = absurd (cc)
   said_numbers (Some s) o is = by_item (HasNumbers m.chip maps) s (row_of s.item).map o (λ n t. with_numbers m.chip maps s.item n t s.first s.second) is
 
-  said_single : (s : Option ItemLine) (o : Op) → IfSome s (λ x. x.item ≢ item.BurstRead) → option_and_then (item_op m) s ≡ Some o → is_single o ≡ true
+  said_single : (s : Option ItemLine) (o : Op) → IfSome s (λ x. is_no_burst x.item ≡ true) → option_and_then (item_op m) s ≡ Some o → is_single o ≡ true
   said_single None o other is = absurd (cc)
   said_single (Some s) o other is = by_item (λ op. is_single op ≡ true) s (row_of s.item).map o (λ n t a b. single_with s.item n t s.first s.second other) is
 
@@ -127,4 +132,4 @@ module _ (m : ModelData) where
   op_single (line.BurstRead mem first count map) o is = absurd (cc)
   op_single (line.BurstWrite mem first values map) o is = absurd (cc)
   op_single (line.Seq which block) o is = absurd (cc)
-  op_single l o is = said_single (said l) o (λ e. absurd (cc)) is
+  op_single l o is = said_single (said l) o refl is
