@@ -13,4 +13,5 @@ pub mod PlayLemmas
 pub mod ReadyLemmas
 pub mod Recorded
 pub mod Traces
+pub mod TurnLemmas
 pub mod WrittenLemmas

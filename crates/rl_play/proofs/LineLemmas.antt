@@ -1,7 +1,8 @@
 -- A line, as its events were written and counted.
-use Rattle.std.proofs.Common.{◌≡◌, ℕ, false, List, [], ◌∷◌, ◌++◌, Option, Some, None, Result, Ok, Err, IfOk, IsErr, option_map, refl, sym, ap, subst, ◌∙◌, append-nil, inl, inr}
+use Rattle.std.proofs.Common.{◌≡◌, ℕ, false, List, [], ◌∷◌, ◌++◌, Option, Some, None, Result, Ok, Err, IsErr, option_map, refl, sym, ap, subst, ◌∙◌, append-nil, inl, inr}
 use Rattle.std.specs.Io.KnownBytes.{Appends}
 use Rattle.std.specs.Option.{ok_or}
+use Rattle.std.specs.Prelude.{MatchResult}
 use Rattle.std.proofs.KnownBytes.{Appends-nil, Appends-trans}
 use Rattle.std.proofs.lemmas.Bool.{true≢false}
 use Rattle.rl_access.specs.declared.event.Tally.{Tally}
@@ -9,7 +10,7 @@ use Rattle.rl_access.specs.HandsOver.{Told}
 use Rattle.rl_access.specs.Model.{ModelData}
 use Rattle.rl_access.specs.Runs.{no_tally, counted_all}
 use Rattle.rl_bus.specs.declared.device.Failed.{Failed}
-use Rattle.rl_report.specs.Pieces.{AppendsFront, joined}
+use Rattle.rl_report.specs.Pieces.{AppendsFront, Puts, joined}
 use Rattle.rl_report.proofs.PieceLemmas.{front_after, front_before}
 use Rattle.rl_script.specs.Commands.{line_of}
 use Rattle.rl_script.specs.declared.command.Item.{Item}
@@ -56,25 +57,26 @@ broken_at number given work before after T F failed is l part = record {
   part = part;
 }
 
-pub plain_failed : (T : Type 0) {F : Type 0} (given : Result Work LineRefusal) (work : Work) (before after : Point) (failed : F)
-    (r : Result (Option LineRefusal) Failed) → IsErr r → given ≡ Ok work
-    → ((told : List Told) → begun_text work told ≡ events_text told) → Logs {T = T} work before after (Err failed)
-    → RunsOn given before after r
-plain_failed T {F} given work before after failed r e is text l =
-    failed_line given before after r e (λ number. broken_at number given work before after T F failed is l
-    (subst (AppendsFront before.text after.text) (sym (text l.told)) l.part))
+-- a line goes as its work went
+abbrev GoesAs : {T : Type 0} → Result T Failed → Result (Option LineRefusal) Failed → Type 0
+GoesAs work r = MatchResult work (λ done. r ≡ Ok None) (λ failed. r ≡ Err failed)
 
-pub plain_done : {T : Type 0} (F : Type 0) (given : Result Work LineRefusal) (work : Work) (before after : Point) (x : T)
-    → given ≡ Ok work → ((told : List Told) → text_of work told ≡ events_text told)
-    → Logs {E = F} work before after (Ok x) → RanWhole given before after
-plain_done F given work before after x is text l = record {
+-- it writes the text of its events alone
+pub plain_ran : {T : Type 0} (given : Result Work LineRefusal) (work : Work) (before after : Point) (went : Result T Failed)
+    (r : Result (Option LineRefusal) Failed) → given ≡ Ok work → ((told : List Told) → text_of work told ≡ events_text told)
+    → ((told : List Told) → begun_text work told ≡ events_text told) → GoesAs went r → Logs work before after went
+    → RunsOn given before after r
+plain_ran given work before after (Ok x) r is text begun so l = subst (RunsOn given before after) (sym so) (record {
   work = work;
   told = l.told;
   is = is;
   does = l.run;
   text = subst (Appends before.text after.text) (sym (text l.told)) l.whole;
   counted = l.counted;
-}
+})
+plain_ran {T} given work before after (Err failed) r is text begun so l = subst (RunsOn given before after) (sym so)
+    (λ number. broken_at number given work before after T Failed failed is l
+    (subst (AppendsFront before.text after.text) (sym (begun l.told)) l.part))
 
 -- ---- names
 
@@ -87,18 +89,6 @@ both_are number map i t make first second =
 pub one_is : {A : Type 0} (o : Option A) (x : A) (make : A → Work) → o ≡ Some x
     → ok_or (option_map make o) NoSuchName ≡ Ok (make x)
 one_is o x make is = ap (λ o. ok_or (option_map make o) NoSuchName) is
-
-pub none_is : {A : Type 0} (o : Option A) (make : A → Work) → o ≡ None → ok_or (option_map make o) NoSuchName ≡ Err NoSuchName
-none_is o make is = ap (λ o. ok_or (option_map make o) NoSuchName) is
-
-pub first_none : (number : Option ℕ) (map : Option (Option ℕ)) (make : ℕ → Option ℕ → Work) → number ≡ None
-    → ok_or (with_both number map make) NoSuchName ≡ Err NoSuchName
-first_none number map make is = ap (λ o. ok_or (with_both o map make) NoSuchName) is
-
-pub second_none : (number : Option ℕ) (map : Option (Option ℕ)) (i : ℕ) (make : ℕ → Option ℕ → Work) → number ≡ Some i
-    → map ≡ None → ok_or (with_both number map make) NoSuchName ≡ Err NoSuchName
-second_none number map i make first second =
-    ap (λ o. ok_or (with_both o map make) NoSuchName) first ∙ ap (λ o. ok_or (option_map (make i) o) NoSuchName) second
 
 -- ---- a sequence
 
@@ -150,7 +140,7 @@ events_failed given which over p before mid after failed r e is first l =
       part = front_after before.text mid after.text (begin_text which over) (events_text l.logs.told) first l.logs.part;
     })
 
-pub closing_failed : (F : Type 0) (given : Result Work LineRefusal) (which : Sequence) (over : Option (List ℕ)) (p : Plan)
+closing_failed : (F : Type 0) (given : Result Work LineRefusal) (which : Sequence) (over : Option (List ℕ)) (p : Plan)
     (before : Point) (mid : Option (List ℕ)) (later : Point) (new : Option (List ℕ)) (line : Counts) (tally : Tally)
     (r : Result (Option LineRefusal) Failed) → IsErr r → given ≡ Ok (sequence which over p)
     → Appends before.text mid (begin_text which over)
@@ -171,7 +161,7 @@ closing_failed F given which over p before mid later new line tally r e is first
           (subst (AppendsFront later.text new) (closing_is which over (counted_all no_tally told) tally line of l.tally) last);
     })
 
-pub sequence_done : (F : Type 0) (given : Result Work LineRefusal) (which : Sequence) (over : Option (List ℕ)) (p : Plan)
+sequence_done : (F : Type 0) (given : Result Work LineRefusal) (which : Sequence) (over : Option (List ℕ)) (p : Plan)
     (before : Point) (mid : Option (List ℕ)) (later : Point) (new : Option (List ℕ)) (line : Counts) (tally : Tally)
     → given ≡ Ok (sequence which over p) → Appends before.text mid (begin_text which over)
     → LogsTallied {E = F} (planned p) (record before { text = mid }) later (Ok tally)
@@ -191,6 +181,22 @@ sequence_done F given which over p before mid later new line tally is first l of
       counted = l.logs.counted;
     }
 
+-- its last line was put, or a front of it
+pub closing_ran : {T : Type 0} (F : Type 0) (given : Result Work LineRefusal) (which : Sequence) (over : Option (List ℕ)) (p : Plan)
+    (before : Point) (mid : Option (List ℕ)) (later : Point) (new : Option (List ℕ)) (line : Counts) (tally : Tally)
+    (went : Result T Failed) (r : Result (Option LineRefusal) Failed) → given ≡ Ok (sequence which over p)
+    → Appends before.text mid (begin_text which over)
+    → LogsTallied {E = F} (planned p) (record before { text = mid }) later (Ok tally)
+    → line ≡ record { events = tally.steps; differences = tally.differences; errors = tally.errors } → GoesAs went r
+    → Puts later.text new (closing_text which over line.events line.differences line.errors) went
+    → RunsOn given before (record later { text = new }) r
+closing_ran F given which over p before mid later new line tally (Ok x) r is first l of so put =
+    subst (RunsOn given before (record later { text = new })) (sym so)
+    (sequence_done F given which over p before mid later new line tally is first l of put.whole)
+closing_ran F given which over p before mid later new line tally (Err e) r is first l of so put =
+    subst (RunsOn given before (record later { text = new })) (sym so)
+    (closing_failed F given which over p before mid later new line tally (Err e) refl is first l of put.part)
+
 -- ---- lines on an item
 
 pub item_asks : (m : ModelData) (i : Item) (path : List ℕ) (first second : ℕ) (map : Option (List ℕ)) → (i ≡ item.BurstRead → ⊥)
@@ -206,10 +212,6 @@ runs_as given other before after r same h = subst (λ given. RunsOn given before
 pub turns_as : (number : ℕ) (given other : Result Work LineRefusal) (before after : Point) (turn : Turn)
     → given ≡ other → Turns number given before after turn → Turns number other before after turn
 turns_as number given other before after turn same h = subst (λ given. Turns number given before after turn) same h
-
-pub turns_at : (number : ℕ) (given : Result Work LineRefusal) (before after : Point) (turn last : Turn) → turn ≡ last
-    → Turns number given before after turn → Turns number given before after last
-turns_at number given before after turn last is h = subst (Turns number given before after) is h
 
 -- ---- a line that is refused, or on which nothing was done
 

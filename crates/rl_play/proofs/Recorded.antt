@@ -7,18 +7,21 @@ use Rattle.rl_access.specs.declared.event.Op.{Op}
 use Rattle.rl_access.specs.declared.event.Tally.{Tally}
 use Rattle.rl_access.specs.Call.{Scene, Performs}
 use Rattle.rl_access.specs.HandsOver.{Told, TakesAll, BreaksAtLast}
-use Rattle.rl_access.specs.Model.{ModelData}
+use Rattle.rl_access.specs.Model.{ModelData, IsReady, IsSameChip}
 use Rattle.rl_access.specs.Rules.{Grant}
 use Rattle.rl_access.specs.Runs.{IsBurst, no_tally, counted_all}
 use Rattle.rl_seq.specs.Plan.{Plan, IsSequence}
+use Rattle.rl_report.specs.declared.sink.Sink.{Ghosts as Sink}
 use Rattle.rl_report.specs.Event.{event_text}
 use Rattle.rl_report.specs.Pieces.{AppendsFront}
 use Rattle.rl_report.proofs.PieceLemmas.{front_after, front_before}
 use Rattle.rl_log.specs.declared.counts.Counts.{Counts}
 use Rattle.rl_log.specs.Recording.{with_events, told_text, events_text}
+use Rattle.rl_bus.specs.Causes.{HasCause}
 use Rattle.rl_play.specs.AnyDevice.{Logs, LogsTallied, Point}
 use Rattle.rl_play.specs.Work.{Work, Does, BreaksOff, planned, burst, single}
 use Rattle.rl_play.specs.Recording.{IsWritten, IsBegun}
+use Rattle.rl_play.specs.Stage.{IsRecorded}
 use Rattle.rl_play.specs.declared.recorder.Writing.{Writing}
 
 pub events_append : (told more : List Told) → events_text (told ++ more) ≡ events_text told ++ events_text more
@@ -151,19 +154,38 @@ module _ {R : Type 0} (written : R → Option (List ℕ)) (counts : R → Counts
 
 -- ---- by one that counts the events, and writes them to a sink
 
-module _ {K : Type 0} (written : K → Option (List ℕ)) where
+module _ {K : Type 0} (k : Sink K) where
   abbrev told_by : Writing K → Option (List ℕ)
-  told_by rec = written rec.sink.now
+  told_by rec = k.written rec.sink.now
 
   abbrev counted_by : Writing K → Counts
   counted_by rec = rec.counts
 
+  abbrev steady : Writing K → List ℕ
+  steady rec = rec.sink.ghost_name ∷ k.ends rec.sink.now ∷ k.target rec.sink.now ∷ []
+
   pub sequence_recorded : {E : Type 0} (p : Plan) (s new : Scene) (old rec : Writing K) (r : Result Tally E)
       → IsSequence (Takes told_by counted_by) (Breaks told_by counted_by) old rec s new p r
-      → LogsTallied (planned p) (at told_by counted_by s old) (at told_by counted_by new rec) r
-  sequence_recorded p s new old rec r q = sequence_logged told_by counted_by p s new old rec r q
+      → IsReady new.model new.adapters new.device → IsSameChip s.model new.model
+      → HasCause (k.faults old.sink.now) (k.faults rec.sink.now) r → steady rec ≡ steady old
+      → IsRecorded k (planned p) (at told_by counted_by s old) (at told_by counted_by new rec) old rec r
+  sequence_recorded p s new old rec r q ready parts cause same = record {
+    logs = sequence_logged told_by counted_by p s new old rec r q;
+    ready = ready;
+    parts = parts;
+    cause = cause;
+    steady = same;
+  }
 
   pub burst_recorded : {E : Type 0} (granted : Grant) (op : Op) (ops : List Op) (s new : Scene) (old rec : Writing K)
       (r : Result Tally E) → IsBurst (Takes told_by counted_by) (Breaks told_by counted_by) old rec s new granted op ops r
-      → LogsTallied (burst granted op ops) (at told_by counted_by s old) (at told_by counted_by new rec) r
-  burst_recorded granted op ops s new old rec r q = burst_logged told_by counted_by granted op ops s new old rec r q
+      → IsReady new.model new.adapters new.device → new.model ≡ s.model
+      → HasCause (k.faults old.sink.now) (k.faults rec.sink.now) r → steady rec ≡ steady old
+      → IsRecorded k (burst granted op ops) (at told_by counted_by s old) (at told_by counted_by new rec) old rec r
+  burst_recorded granted op ops s new old rec r q ready model cause same = record {
+    logs = burst_logged told_by counted_by granted op ops s new old rec r q;
+    ready = ready;
+    parts = record { chip = ap (λ m. m.chip) model; layout = ap (λ m. m.layout) model };
+    cause = cause;
+    steady = same;
+  }

@@ -1,12 +1,15 @@
 -- What a line is run on, and what stays. `X` and `V` are the adapters behind `dyn`.
-use Rattle.std.specs.Prelude.{◌≡◌, ℕ, List, Option, Result}
+use Rattle.std.specs.Prelude.{◌≡◌, ℕ, List, [], ◌∷◌, Option, Result}
+use Rattle.rl_access.specs.declared.event.Tally.{Tally}
 use Rattle.rl_access.specs.Call.{scene}
-use Rattle.rl_access.specs.Model.{ModelData, IsReady}
+use Rattle.rl_access.specs.Model.{ModelData, IsReady, IsSameChip}
+use Rattle.rl_bus.specs.Causes.{HasCause}
 use Rattle.rl_bus.specs.Standing.{Standing}
 use Rattle.rl_bus.specs.State.{State}
 use Rattle.rl_bus.specs.declared.device.Device.{Ghosts as Device}
-use Rattle.rl_play.specs.AnyDevice.{Point, spot}
+use Rattle.rl_play.specs.AnyDevice.{Point, spot, LogsTallied}
 use Rattle.rl_play.specs.Leaves.{StaysReady}
+use Rattle.rl_play.specs.Work.{Work}
 use Rattle.rl_play.specs.declared.line.Stage.{Stage}
 use Rattle.rl_play.specs.declared.recorder.Writing.{Writing}
 use Rattle.rl_report.specs.Pieces.{SinkStays}
@@ -25,6 +28,17 @@ abbrev pub recorded : {A D K : Type 0} → (A → Standing) → (D → ℕ) → 
     → ModelData → List A → D → Writing K → Point
 recorded standing errors state written model adapters device rec =
     spot standing errors state written model adapters device rec.sink.now rec.counts
+
+-- A recorder was told of the events of some work: each was written and counted, and the next call may follow. It failed only where the
+-- sink has failed once more. The sink is the same, was ended as often, and its bytes go where they went.
+pub record IsRecorded {K E : Type 0} (k : Sink K) (work : Work) (before after : Point) (old new : Writing K)
+    (result : Result Tally E) : Type 0 where
+  pub logs : LogsTallied work before after result
+  pub ready : IsReady after.scene.model after.scene.adapters after.scene.device
+  pub parts : IsSameChip before.scene.model after.scene.model
+  pub cause : HasCause (k.faults old.sink.now) (k.faults new.sink.now) result
+  pub steady : new.sink.ghost_name ∷ k.ends new.sink.now ∷ k.target new.sink.now ∷ []
+      ≡ old.sink.ghost_name ∷ k.ends old.sink.now ∷ k.target old.sink.now ∷ []
 
 -- adapters and device belong to the model
 abbrev pub CanRun : {D K X : Type 0} {V : X → Type 0} → Device D → List Standing → Stage D K X V → Type 0

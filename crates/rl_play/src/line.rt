@@ -1,10 +1,9 @@
 // What a line does, and its log.
-ghost use Rattle.std.specs.Prelude.{◌≡◌, ◌<◌, ◌∷◌, [], length, map as each, true, IfSome, Ok};
-ghost use Rattle.rl_access.specs.Operation.{HasNumbers, is_single};
-ghost use Rattle.rl_play.specs.Prelude.{HasCause, IsReady, IsSameChip, line_said, plan_of, JobHasNumbers, asked};
-ghost use Rattle.rl_play.specs.Prelude.{job_work, one_op, planned, single, spot, Logs, LogsTallied, RunsOn, SinkStays};
+ghost use Rattle.std.specs.Prelude.{◌≡◌, ◌<◌, length, map as each, IfSome, MatchResult, None, Ok, Err};
+ghost use Rattle.rl_play.specs.Prelude.{IsReady, line_said, plan_of, JobHasNumbers, asked};
+ghost use Rattle.rl_play.specs.Prelude.{job_work, one_op, planned, spot, LogsTallied, RunsOn, SinkStays};
 ghost use Rattle.rl_play.specs.Prelude.{StaysReady};
-ghost use Rattle.rl_play.specs.Stage.{CanRun, StaysOn, recorded, spot_of};
+ghost use Rattle.rl_play.specs.Stage.{CanRun, IsRecorded, StaysOn, recorded, spot_of};
 ghost use Rattle.rl_script.specs.declared.line.Line.TheVariants as say;
 
 use crate::log::Log;
@@ -65,14 +64,10 @@ fn run_sequence<D: Device, K: Log>(
 ) -> Result<Tally, Failed>
     requires ready { IsReady model.old (each standing adapters.old.items) (D.state device.old) }
     requires block { IfSome block (λ b. b < model.old.chip.blocks) }
-    ensures ready { IsReady model.new (each standing adapters.new.items) (D.state device.new) }
-    ensures parts { IsSameChip model.old model.new }
-    ensures logs { LogsTallied (planned (plan_of which model.old block))
+    ensures { IsRecorded K.Sink (planned (plan_of which model.old block))
         (recorded standing D.errors D.state K.written model.old adapters.old.items device.old rec.old)
-        (recorded standing D.errors D.state K.written model.new adapters.new.items device.new rec.new) result }
-    ensures cause { HasCause (K.faults rec.old.sink.now) (K.faults rec.new.sink.now) result }
-    ensures steady { rec.new.sink.ghost_name ∷ K.ends rec.new.sink.now ∷ K.target rec.new.sink.now ∷ []
-        ≡ rec.old.sink.ghost_name ∷ K.ends rec.old.sink.now ∷ K.target rec.old.sink.now ∷ [] }
+        (recorded standing D.errors D.state K.written model.new adapters.new.items device.new rec.new)
+        rec.old rec.new result }
 {
     match which {
         Sequence::HwReset => rl_seq::hw_reset(model, device, adapters, block, rec),
@@ -84,7 +79,6 @@ fn run_sequence<D: Device, K: Log>(
 }
 
 // Does what is more than one operation: its events are recorded as they come.
-#[tactic(auto, using(crate::proofs::ReadyLemmas::all_steady))]
 fn record_job<D: Device, K: Log>(
     model: &mut Model,
     device: &mut D,
@@ -94,15 +88,10 @@ fn record_job<D: Device, K: Log>(
 ) -> Result<Tally, Failed>
     requires ready { IsReady model.old (each standing adapters.old.items) (D.state device.old) }
     requires numbers { JobHasNumbers model.old.chip (length model.old.layout.maps) job }
-    ensures ready { IsReady model.new (each standing adapters.new.items) (D.state device.new) }
-    ensures parts { IsSameChip model.old model.new }
-    ensures logs { LogsTallied (job_work job.entry model.old)
+    ensures { IsRecorded K.Sink (job_work job.entry model.old)
         (recorded standing D.errors D.state K.written model.old adapters.old.items device.old rec.old)
-        (recorded standing D.errors D.state K.written model.new adapters.new.items device.new rec.new) result }
-    ensures cause { HasCause (K.faults rec.old.sink.now) (K.faults rec.new.sink.now) result }
-    ensures ends_kept { K.ends rec.new.sink.now ≡ K.ends rec.old.sink.now }
-    ensures same_target { K.target rec.new.sink.now ≡ K.target rec.old.sink.now }
-    ensures same_sink { rec.new.sink.ghost_name ≡ rec.old.sink.ghost_name }
+        (recorded standing D.errors D.state K.written model.new adapters.new.items device.new rec.new)
+        rec.old rec.new result }
 {
     match job {
         Job::Sequence { which, block } => run_sequence(model, device, adapters, which, block, rec),
@@ -122,6 +111,7 @@ fn record_job<D: Device, K: Log>(
 }
 
 // The same, to a sink.
+#[tactic(auto, using(crate::proofs::ReadyLemmas::all_steady))]
 fn log_job<D: Device, K: Log>(stage: &mut Stage<'_, D, K>, job: Job<'_>) -> Result<Tally, Failed>
     requires ready { CanRun D.Device (each standing stage.old.adapters.now.items) stage.old }
     requires numbers { JobHasNumbers stage.old.model.now.chip (length stage.old.model.now.layout.maps) job }
@@ -137,6 +127,16 @@ fn log_job<D: Device, K: Log>(stage: &mut Stage<'_, D, K>, job: Job<'_>) -> Resu
     let result = record_job(stage.model, stage.device, stage.adapters, job, &mut rec);
     *stage.counts = rec.counts;
     result
+}
+
+// How a line went whose names are there, by how its work went.
+fn ran<T: Copy>(work: Result<T, Failed>) -> Ran
+    ensures { MatchResult work (λ done. result ≡ Ok None) (λ failed. result ≡ Err failed) }
+{
+    match work {
+        Ok(_) => Ok(None),
+        Err(failed) => Err(failed),
+    }
 }
 
 // Runs a line that is a burst of writes.
@@ -166,8 +166,7 @@ fn write_burst<D: Device, K: Log>(
         first,
         values: values.items(),
     };
-    log_job(stage, job)?;
-    Ok(None)
+    ran(log_job(stage, job))
 }
 
 // Runs a line that is a burst of reads.
@@ -192,8 +191,7 @@ fn read_burst<D: Device, K: Log>(stage: &mut Stage<'_, D, K>, line: &ItemLine<'_
         first: line.first,
         count: line.second,
     };
-    log_job(stage, job)?;
-    Ok(None)
+    ran(log_job(stage, job))
 }
 
 // Runs a line that is a sequence, with the lines around its events.
@@ -214,26 +212,10 @@ fn sequence<D: Device, K: Log>(
     };
     put_sequence_begin(stage.out, which, path)?;
     let tally = log_job(stage, Job::Sequence { which, block })?;
-    put_sequence_end(stage.out, which, path, &Counts::of(&tally))?;
-    Ok(None)
+    ran(put_sequence_end(stage.out, which, path, &Counts::of(&tally)))
 }
 
-// Performs an operation that is no burst, and writes its log.
-fn perform<D: Device, K: Log>(stage: &mut Stage<'_, D, K>, op: Op) -> Result<(), Failed>
-    requires ready { CanRun D.Device (each standing stage.old.adapters.now.items) stage.old }
-    requires numbers { HasNumbers stage.old.model.now.chip (length stage.old.model.now.layout.maps) op }
-    requires single { is_single op ≡ true }
-    ensures logs { Logs (single op)
-        (spot_of D.Device K.Sink (each standing stage.old.adapters.now.items) stage.old)
-        (spot_of D.Device K.Sink (each standing stage.new.adapters.now.items) stage.new) result }
-    ensures stays { StaysOn D.Device K.Sink (each standing stage.new.adapters.now.items) stage.old stage.new result }
-{
-    let mut event = Event::blank();
-    perform_into(stage.model, stage.device, stage.adapters, op, &mut event);
-    record(&event, stage.model, stage.out, stage.counts)
-}
-
-// Runs a line that is one operation.
+// Runs a line that is one operation: performs it, and writes its log.
 #[inline(never)]
 fn operation<D: Device, K: Log>(stage: &mut Stage<'_, D, K>, line: &LineRef<'_>) -> Ran
     requires ready { CanRun D.Device (each standing stage.old.adapters.now.items) stage.old }
@@ -245,8 +227,9 @@ fn operation<D: Device, K: Log>(stage: &mut Stage<'_, D, K>, line: &LineRef<'_>)
     let Some(op) = op_of(stage.model, line) else {
         return Ok(Some(LineRefusal::NoSuchName));
     };
-    perform(stage, op)?;
-    Ok(None)
+    let mut event = Event::blank();
+    perform_into(stage.model, stage.device, stage.adapters, op, &mut event);
+    ran(record(&event, stage.model, stage.out, stage.counts))
 }
 
 // Runs a line, and writes its log. Answers why it is refused, if a name isn't there.

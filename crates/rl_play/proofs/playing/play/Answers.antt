@@ -1,6 +1,4 @@
-use Rattle.rl_play.proofs.DoneLemmas.{does_first}
-use Rattle.rl_play.proofs.AnyLemmas.{plays_all}
-use Rattle.rl_play.proofs.WrittenLemmas.{played_written}
+use Rattle.rl_play.proofs.WrittenLemmas.{script_done, script_played, script_written}
 use Rattle.rl_play.proofs.playing.play.Goals as goal
 
 pub returns-clause-ends : goal.returns-clause-ends
@@ -11,16 +9,13 @@ returns-clause-ends g c = record {
 }
 
 pub returns-clause-log : goal.returns-clause-log
-returns-clause-log g c =
-    played_written _ _ _ _ _ _ _ _ _ _ c.add.ensures (rw c.new-own.ensures at c.play_through-status.ensures.plays.log)
+returns-clause-log g c = script_written _ _ _ _ _ _ _ _ _ _ _ c.new-own.ensures c.add.ensures c.play_through-status.ensures.plays
 
 pub returns-clause-any_device : goal.returns-clause-any_device
-returns-clause-any_device g c =
-    plays_all _ _ _ _ _ _ _ _ _ c.add.ensures (rw c.new-own.ensures at c.play_through-status.ensures.plays.on_any_device)
+returns-clause-any_device g c = script_played _ _ _ _ _ _ _ _ _ _ _ c.new-own.ensures c.add.ensures c.play_through-status.ensures.plays
 
 pub returns-clause-done : goal.returns-clause-done
-returns-clause-done g c =
-    does_first _ _ _ _ _ _ _ _ _ _ c.add.ensures (rw c.new-own.ensures at c.play_through-status.ensures.plays.done)
+returns-clause-done g c = script_done _ _ _ _ _ _ _ _ _ _ _ c.new-own.ensures c.add.ensures c.play_through-status.ensures.plays
 
 pub returns-clause-at_fault : goal.returns-clause-at_fault
 returns-clause-at_fault g c = c.play_through-status.ensures.plays.at_fault
