@@ -4,7 +4,7 @@ ghost use Rattle.regrun.specs.Words.{task_named, numbered_task, asked_by};
 
 use rl_policy::{NumberText, read_number};
 
-#[derive(Clone, Copy, Debug, PartialEq, Eq)]
+#[derive(Clone, Copy)]
 pub(crate) enum Task {
     // Reads a session and writes its log.
     Run,

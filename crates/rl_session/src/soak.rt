@@ -27,7 +27,7 @@ enum Rows {
 }
 
 // What a line of the script does.
-#[derive(Clone, Copy, Debug, PartialEq, Eq)]
+#[derive(Clone, Copy)]
 enum Step {
     Write,
     Read,

@@ -3,7 +3,7 @@ ghost use Rattle.std.specs.Prelude.{◌≡◌, ◌<◌};
 ghost use Rattle.rl_session.specs.Soak.{next_state, drawn};
 
 /// A generator of numbers, this project's own. It goes on through a whole session.
-#[derive(Clone, Copy, Debug)]
+#[derive(Clone, Copy)]
 pub(crate) struct Draws {
     /// What the last draw left, or what the session began with.
     pub(crate) state: u64,
