@@ -5,7 +5,8 @@
 # which begins with what the crate's own proof kept, as in the gate. The figures are processor time of the prover, which
 # other work on the machine changes little; the whole takes somewhat longer than the rows together. The crates below those
 # that are named are taken from what this machine kept, and the table says so. All is done in a copy of the tree. With
-# GATE_LOG=FILE, FILE gets a line for each run of the prover.
+# GATE_LOG=FILE, FILE gets a line for each run of the prover. With GATE_MODULES=FILE, FILE gets a line for each module that
+# the prover made of a crate and its proofs, with the seconds that it took, the longest first.
 set -eu
 exec python3 - "$(dirname "$(dirname "$(realpath "$0")")")" "$@" << 'PY'
 import json, os, re, shutil, subprocess, sys, tempfile, time
@@ -106,6 +107,7 @@ class Gate:
         status, said, proof = self.prove(crate)
         if status and not said.count("logic=proved"):
             sys.exit(f"gate.sh: {crate} isn't proved:\n{said[-2000:]}")
+        tell_modules(crate, f"{folder}/out/incremental")
         row = {"functions": (re.findall(r"^logic=proved functions=(\d+)", said, re.M) or ["-"])[-1], "proof": proof, "tests": [], "edits": [], "each": {}}
         tell(f"{crate}: proved in {seconds(proof)} s")
         sources = [f"{at}/{name}" for at, _, files in os.walk(f"{folder}/src") for name in files]
@@ -127,6 +129,16 @@ class Gate:
         row["count"] = len(edits)
         shutil.rmtree(f"{folder}/out/incremental", ignore_errors=True)
         return row
+
+
+def tell_modules(crate, kept):
+    """Appends what each module took to GATE_MODULES. One job checks them in turn, and keeps each as it ends with it."""
+    if "GATE_MODULES" not in os.environ:
+        return
+    files = sorted((os.stat(f"{at}/{name}").st_mtime, name) for at, _, names in os.walk(kept) for name in names)
+    took = sorted(((end - start, name) for (start, _), (end, name) in zip(files, files[1:])), reverse=True)
+    with open(os.environ["GATE_MODULES"], "a") as log:
+        log.writelines(f"{crate}\t{each:.1f} s\t{name.removesuffix('.oantt')}\n" for each, name in took)
 
 
 def tell(text):
