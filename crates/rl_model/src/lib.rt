@@ -19,7 +19,6 @@ mod parts;
 mod paths;
 mod rows;
 mod sets;
-mod text;
 
 pub use check::is_name;
 pub use chip::Chip;

@@ -1,37 +1,39 @@
 //! Texts, each with the number of its place.
 use crate::name::Name;
-use crate::text::TextRef;
-use indexmap::IndexSet;
 use std::alloc::{AllocError, Global};
+use std::collections::HashMap;
 use std::marker::Model;
 
 /// Texts that differ, in the order in which they came.
 #[derive(Drop)]
 pub struct Paths {
-    index: IndexSet<Name>,
+    texts: Vec<Name>,
+    // The place of each text, under a copy of it.
+    numbers: HashMap<Vec<u8>, usize>,
 }
 
 impl Model for Paths {
     ghost use Rattle.std.specs.Prelude.{List, ℕ};
-    ghost use Rattle.rl_model.specs.Paths.{AreDistinct};
+    ghost use Rattle.rl_model.specs.Paths.{AreNumbered};
 
     ghost Value = { List (List ℕ) };
 
-    ghost view = { λ p. p.index.keys };
+    ghost view = { λ p. p.texts.items };
 
-    ghost invariant = { λ p. AreDistinct p.index.keys };
+    ghost invariant = { λ p. AreNumbered p.texts.items p.numbers };
 }
 
 impl Paths {
     ghost use Rattle.std.specs.Prelude.{◌≡◌, ◌↔◌, ◌<◌, ◌^◌, ◌+◌, ◌++◌, ◌∷◌, ℕ, Some, [], not, length, position};
-    ghost use Rattle.std.specs.Prelude.{slice_get, take, IfOk, OnErr, bytes_eq};
+    ghost use Rattle.std.specs.Prelude.{slice_get, take, IfOk, OnErr, bytes_eq, None};
     ghost use Rattle.rl_model.specs.Paths.{is_among, with_text, number_in};
 
     pub fn new(alloc: Global) -> Paths
         ensures { result ≡ [] }
     {
         Paths {
-            index: IndexSet::new(alloc),
+            texts: Vec::new(alloc),
+            numbers: HashMap::new(alloc),
         }
     }
 
@@ -39,7 +41,7 @@ impl Paths {
         ensures len { result ≡ length self.now }
         ensures small { result < 2 ^ 63 }
     {
-        self.index.len()
+        self.texts.len()
     }
 
     /// Adds a text at the end, if it is new, and says which number it has.
@@ -47,8 +49,10 @@ impl Paths {
         ensures number { IfOk result (λ i. i ≡ number_in self.old text.items) }
         ensures added { IfOk result (λ _. self.new ≡ with_text self.old text.items) }
     {
-        let (number, _) = self.index.insert_full(Name::of(text))?;
-        Ok(number)
+        match self.number(&text) {
+            Some(number) => Ok(number),
+            None => self.push(text),
+        }
     }
 
     /// The number of a text, which goes to the end if it is new. Only a new one is copied.
@@ -58,8 +62,23 @@ impl Paths {
     {
         match self.number(text) {
             Some(number) => Ok(number),
-            None => self.add(Vec::from_slice(alloc, text)?),
+            None => self.push(Vec::from_slice(alloc, text)?),
         }
+    }
+
+    /// Adds a new text at the end. It changes nothing where there is no memory for it.
+    fn push(&mut self, text: Vec<u8>) -> Result<usize, AllocError>
+        requires { position (bytes_eq text.items) self.old ≡ None }
+        ensures number { IfOk result (λ i. i ≡ number_in self.old text.items) }
+        ensures added { IfOk result (λ _. self.new ≡ with_text self.old text.items) }
+    {
+        let number = self.texts.len();
+        self.texts.reserve(1)?;
+        self.numbers.insert(text.clone()?, number)?;
+        if self.texts.push(Name::of(text)).is_err() {
+            unreachable!();
+        }
+        Ok(number)
     }
 
     /// The number of a text.
@@ -67,7 +86,7 @@ impl Paths {
         ensures exact { (i : ℕ) → (result ≡ Some i) ↔ (slice_get self.now i ≡ Some text.now) }
         ensures first { result ≡ position (bytes_eq text.now) self.now }
     {
-        self.index.get_index_of(TextRef { bytes: text })
+        self.numbers.get(text).copied()
     }
 
     /// Whether a text is one of the first `count`.
@@ -91,6 +110,6 @@ impl Paths {
         requires { number < length self.now }
         ensures { slice_get self.now number ≡ Some result.now }
     {
-        self.index.get_index(number).unwrap().text()
+        self.texts[number].text()
     }
 }
