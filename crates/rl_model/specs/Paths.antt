@@ -1,17 +1,21 @@
 -- Texts that differ, as lists of bytes.
-use Rattle.std.specs.Prelude.{◌≡◌, ℕ, Bool, List, [], ◌∷◌, ◌++◌, if◌then◌else◌, slice_get, position, Some, Vec}
+use Rattle.std.specs.Prelude.{◌≡◌, ℕ, Bool, List, [], ◌∷◌, ◌++◌, if◌then◌else◌, slice_get, position, length, nat_eq, ◌<◌, MatchOption, None, Some}
 use Rattle.std.specs.Str.{bytes_eq}
-use Rattle.std.specs.HashMap.{HashMap, get_by}
+use Rattle.std.specs.Hash.FoldHasher.{initial, write, finish}
+use Rattle.std.specs.HashMap.{HashMap, get}
 use Rattle.std.specs.List.{IsDistinct, list_any, position_or_len}
 
 -- no two are the same text
 abbrev pub AreDistinct : List (List ℕ) → Type 0
 AreDistinct texts = IsDistinct bytes_eq texts
 
--- no two are the same, and the map has for each text the first place where it stands
-pub record AreNumbered {Y S : Type 0} (texts : List (List ℕ)) (numbers : HashMap (Vec ℕ Y) ℕ S) : Type 0 where
+unfoldable pub hash_of : List ℕ → ℕ
+hash_of text = finish (write initial text)
+
+-- no two are the same, and the map has a place for the hash of each text
+pub record AreNumbered {S : Type 0} (texts : List (List ℕ)) (numbers : HashMap ℕ ℕ S) : Type 0 where
   pub distinct : AreDistinct texts
-  pub first : (text : List ℕ) → get_by (λ k. bytes_eq text k.items) numbers ≡ position (bytes_eq text) texts
+  pub found : (text : List ℕ) → MatchOption (get nat_eq numbers (hash_of text)) (position (bytes_eq text) texts ≡ None) (λ i. i < length texts)
 
 abbrev pub is_among : List ℕ → List (List ℕ) → Bool
 is_among text texts = list_any (bytes_eq text) texts

@@ -1,15 +1,19 @@
 //! Texts, each with the number of its place.
+ghost use Rattle.std.specs.Prelude.{◌≡◌, position, bytes_eq};
+ghost use Rattle.rl_model.specs.Paths.{hash_of};
+
 use crate::name::Name;
 use std::alloc::{AllocError, Global};
 use std::collections::HashMap;
+use std::hash::{FoldHasher, Hasher};
 use std::marker::Model;
 
 /// Texts that differ, in the order in which they came.
 #[derive(Drop)]
 pub struct Paths {
     texts: Vec<Name>,
-    // The place of each text, under a copy of it.
-    numbers: HashMap<Vec<u8>, usize>,
+    // Under each hash the place of the last text that has it.
+    numbers: HashMap<u64, usize>,
 }
 
 impl Model for Paths {
@@ -74,7 +78,7 @@ impl Paths {
     {
         let number = self.texts.len();
         self.texts.reserve(1)?;
-        self.numbers.insert(text.clone()?, number)?;
+        self.numbers.insert(hash_of(&text), number)?;
         if self.texts.push(Name::of(text)).is_err() {
             unreachable!();
         }
@@ -86,7 +90,12 @@ impl Paths {
         ensures exact { (i : ℕ) → (result ≡ Some i) ↔ (slice_get self.now i ≡ Some text.now) }
         ensures first { result ≡ position (bytes_eq text.now) self.now }
     {
-        self.numbers.get(text).copied()
+        match self.numbers.get(&hash_of(text)) {
+            None => None,
+            Some(number) if self.texts[*number].text() == text => Some(*number),
+            // Two texts with one hash are all but unheard of.
+            Some(_) => place_among(&self.texts, text),
+        }
     }
 
     /// Whether a text is one of the first `count`.
@@ -112,4 +121,19 @@ impl Paths {
     {
         self.texts[number].text()
     }
+}
+
+fn place_among(texts: &[Name], text: &[u8]) -> Option<usize>
+    ensures { result ≡ position (bytes_eq text.now) texts.now }
+{
+    texts.iter().position(|name| text == name.text())
+}
+
+// Taken of a text in one piece: a map whose keys are bytes takes it byte by byte.
+fn hash_of(text: &[u8]) -> u64
+    ensures { result ≡ hash_of text.now }
+{
+    let mut hasher = FoldHasher::default();
+    hasher.write(text);
+    hasher.finish()
 }

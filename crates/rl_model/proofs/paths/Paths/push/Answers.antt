@@ -1,5 +1,4 @@
 use Rattle.std.proofs.Common.{◌≡◌, ◌++◌, ◌∷◌, [], length, position, bytes_eq, None, arith}
-use Rattle.std.specs.List.{each_same}
 use Rattle.rl_model.proofs.PathLemmas.{any-None, place-None, numbered-push}
 use Rattle.rl_model.proofs.paths.Paths.push.Goals as goal
 
@@ -12,8 +11,7 @@ number_is c = grind arith
 pub invariant_of-self-2 : goal.invariant_of-self-2
 invariant_of-self-2 c =
     let free : position (bytes_eq c.args.text.items) c.self.inside.texts.items ≡ None = rw (← c.self.view_is) at c.requires in
-    let copy : c.in_ok-clone.field-0.items ≡ c.args.text.items = each_same _ _ c.in_ok-clone.ensures.cases.0 in
-    rw (pushed c) (numbered-push _ _ c.in_ok-clone.field-0 _ _ c.self.invariant free copy (rw (number_is c) at c.in_ok-insert.ensures.updates))
+    rw (pushed c) (numbered-push _ c.args.text.items _ _ c.self.invariant free (rw (c.hash_of.ensures, c.deref.ensures.value, number_is c) at c.in_ok-insert.ensures.updates))
 
 pub returns-clause-number : goal.returns-clause-number
 returns-clause-number c = rw (place-None _ _ c.requires, ← c.self.view_is) (number_is c)
