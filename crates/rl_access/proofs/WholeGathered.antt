@@ -4,6 +4,7 @@ use Rattle.std.proofs.Common.{None, Some, is_some, refl, sym, ap, ◌∙◌, sub
 use Rattle.std.specs.Prelude.{unwrap_or}
 use Rattle.std.proofs.lemmas.Bool.{cases_lt}
 use Rattle.std.proofs.lemmas.Bool.Decides.{nat_tests}
+use Rattle.std.proofs.lemmas.Option.{get_or_from_slice_get, slice_get_within}
 use Rattle.std.proofs.lemmas.List.{set-set, set-get_or, get_or-set_same, length-set, length_push, length-map, get_or-map, drop_more}
 use Rattle.std.proofs.Math.Pow.{pow_mono}
 use Rattle.rl_policy.specs.Bits.{bit, from_bits}
@@ -13,7 +14,7 @@ use Rattle.rl_bus.specs.declared.table.Lanes.{Lanes}
 use Rattle.rl_bus.specs.Spread.{lane_below, lane_bit, bit_in, spread_bit, gathered_bit}
 use Rattle.rl_model.specs.Rows.{ChipData}
 use Rattle.rl_map.specs.declared.word.Word.{Word}
-use Rattle.rl_map.specs.Layout.{LayoutData, place_at, port_at, words_of, has_right, HasWords}
+use Rattle.rl_map.specs.Layout.{LayoutData, place_at, port_at, words_of, has_right, HasWords, IsSound}
 use Rattle.rl_map.specs.Words.{no_word}
 use Rattle.rl_mirror.specs.Mirror.{MirrorData}
 use Rattle.rl_mirror.specs.Prediction.{predict_write, predict_read}
@@ -26,7 +27,7 @@ use Rattle.rl_access.specs.declared.predictor.Gathered.{Gathered}
 use Rattle.rl_access.specs.declared.trace.TraceItem.{TraceItem}
 use Rattle.rl_access.specs.Gathering.{no_words, gathered_at, is_next, IsRegisterPlace}
 use Rattle.rl_access.specs.Items.{has_failed, words_answered}
-use Rattle.rl_access.specs.Observed.{Seen, seen, reg_in, word_told, is_whole, predicted, taken_in, observed, observed_all, word_ops, implied, WholeAccessPredicts}
+use Rattle.rl_access.specs.Observed.{Seen, seen, reg_in, word_told, is_whole, predicted, taken_in, observed, observed_all, word_ops, implied, watched_place, IsWordOf, WholeAccessPredicts}
 use Rattle.rl_access.specs.Rules.{every_field}
 use Rattle.rl_access.proofs.Bytes.{bytes_bits}
 use Rattle.rl_access.proofs.Gathers.{watched_is, one_observed}
@@ -216,6 +217,18 @@ pub word_ops_are : (l : LayoutData) (place : ℕ) (value : Option ℕ) → IsHer
     (is_some value)) (words_of l place 0)
 unfolding ops_of sent_of
 word_ops_are l place value here = ap (map (op_of l place (all_bytes (place_at l place).bytes) (unwrap_or value 0) (is_some value))) (all_sent l place 0 here)
+
+-- the item of a word of a watched place is found to be the place's
+pub word_watched : (l : LayoutData) (place : ℕ) (op : BusOp) → IsSound l → IsRegisterPlace l place → IsWordOf l place op → (port_at l (place_at l place).port).explicit ≡ true →
+    has_right (place_at l place).rights op.write ≡ true → watched_place l (place_at l place).port op ≡ Some place
+word_watched l place op sound there (value, k, at) explicit right =
+    let here = is_here l place 0 sound (first_of_place l place sound there.inside) in
+    let ops = word_ops l place value in
+    let are : AreWordsOf l place (is_some value) ops = ops_are l place (all_bytes (place_at l place).bytes) (unwrap_or value 0) (is_some value) ops (word_ops_are l place value here) in
+    let inside : k < length ops = slice_get_within ops k op at in
+    let address : op.address ≡ (get_or (words_of l place 0) k no_word).address =
+    ap (λ (o : BusOp). o.address) (sym (get_or_from_slice_get ops k op no_op at)) ∙ are.address k inside in
+    watched_is l place k op.write op here.words there explicit right (subst (λ n. k < n) are.count inside) refl address
 
 pub implied_is : (c : ChipData) (l : LayoutData) (place : ℕ) (value : Option ℕ) (items : List TraceItem) (m : MirrorData) → IsHere l place 0 → unwrap_or value 0 < 256 ^ (place_at l place).bytes →
     map op_in items ≡ word_ops l place value →

@@ -1,5 +1,5 @@
 -- What a predictor makes of an item that it sees.
-use Rattle.std.specs.Prelude.{◌≡◌, ℕ, ◌^◌, ◌<◌, ◌==◌, Bool, true, false, if◌then◌else◌, List, [], ◌∷◌, length, map, slice_set, Option, None, Some, is_some, unwrap_or}
+use Rattle.std.specs.Prelude.{◌≡◌, ℕ, ◌^◌, ◌<◌, ◌==◌, Bool, true, false, if◌then◌else◌, List, [], ◌∷◌, length, map, slice_get, slice_set, Option, None, Some, is_some, unwrap_or}
 use Rattle.rl_bus.specs.declared.op.Answer.{Answer}
 use Rattle.rl_bus.specs.declared.op.BusOp.{BusOp}
 use Rattle.rl_model.specs.declared.rows.Item.{Item}
@@ -87,6 +87,10 @@ observing m item =
 
 abbrev pub word_ops : LayoutData → (place : ℕ) → Option ℕ → List BusOp
 word_ops l place value = ops_of l place 0 (all_bytes (place_at l place).bytes) (unwrap_or value 0) (is_some value)
+
+-- the operation is that of a word of one
+abbrev pub IsWordOf : LayoutData → (place : ℕ) → BusOp → Type 0
+IsWordOf l place op = (value : Option ℕ) × (k : ℕ) × (slice_get (word_ops l place value) k ≡ Some op)
 
 -- ---- the law of gathering
 

@@ -6,10 +6,12 @@ ghost use Rattle.rl_access.specs.Prelude.{field_of, field_read, field_written, f
 ghost use Rattle.rl_access.specs.Prelude.{fresh, is_alone, map_of_place, memory_size, needs_update, observing};
 ghost use Rattle.rl_access.specs.Prelude.{place_at, predict_raw, predict_read, predict_write, reg_of, reset, set};
 ghost use Rattle.rl_access.specs.Prelude.{size_of, update_word_of, whole};
+ghost use Rattle.rl_access.specs.Gathering.{IsRegisterPlace};
+ghost use Rattle.rl_access.specs.Observed.{IsWordOf};
 ghost use Rattle.rl_model.specs.declared.rows.Item.TheVariants as item;
 
 use crate::access::Access;
-use crate::predictor::Predictor;
+use crate::predictor::{Predictor, watched_word};
 use crate::trace::TraceItem;
 use rl_map::Layout;
 use rl_mirror::Mirror;
@@ -148,16 +150,19 @@ impl Model {
         }
     }
 
-    /// The predictor sees an item.
-    pub(crate) fn observe(&mut self, item: &TraceItem)
-        requires { item.now.port < length self.old.layout.ports }
+    /// The predictor sees the item of a word of a register's place.
+    pub(crate) fn observe(&mut self, place: u32, item: &TraceItem)
+        requires place { IsRegisterPlace self.old.layout place }
+        requires word { IsWordOf self.old.layout place item.now.op }
+        requires port { item.now.port ≡ (place_at self.old.layout place).port }
         ensures { self.new ≡ observing self.old item.now }
     {
-        self.predictor.observe(
+        let watched = watched_word(&self.layout, place, &item.op);
+        self.predictor.see(
             &self.chip,
             &self.layout,
             &mut self.mirror,
-            item.port,
+            watched,
             &item.op,
             &item.answer,
         );

@@ -7,10 +7,10 @@ ghost use Rattle.rl_mirror.specs.Reachable.{IsReachable};
 ghost use Rattle.rl_access.specs.Gathering.{IsPredictorOf, IsRegisterPlace, no_words, gathered_at, is_next};
 ghost use Rattle.rl_access.specs.Gathering.{same_direction, emptied, appended, gathered_with};
 ghost use Rattle.rl_access.specs.Observed.{as_register, watched_place, is_whole, value_gathered, reg_in, predicted};
-ghost use Rattle.rl_access.specs.Observed.{taken_in, observed};
+ghost use Rattle.rl_access.specs.Observed.{taken_in, observed, observed_at, IsWordOf};
 
 use rl_bus::{Answer, BusOp};
-use rl_map::Layout;
+use rl_map::{Layout, has_right};
 use rl_mirror::Mirror;
 use rl_model::{Chip, Item};
 use rl_split::{Answers, join_whole};
@@ -167,6 +167,23 @@ fn watched_place(layout: &Layout, port: u32, op: &BusOp) -> Option<u32>
     }
 }
 
+/// The place that an item of one of its words is of, where a predictor watches. A place with the right of the
+/// item's direction is the one that a search by the address finds, so that none is needed.
+pub(crate) fn watched_word(layout: &Layout, place: u32, op: &BusOp) -> Option<u32>
+    requires place { IsRegisterPlace layout.now place }
+    requires word { IsWordOf layout.now place op.now }
+    ensures watched { result ≡ watched_place layout.now (place_at layout.now place).port op.now }
+    ensures there { IfSome result (IsRegisterPlace layout.now) }
+{
+    // The call tells that the layout is sound.
+    let _ = layout.places();
+    let port = layout.port_of(place);
+    if layout.explicit(port) && has_right(layout.rights(place), op.write) {
+        return Some(place);
+    }
+    watched_place(layout, port, op)
+}
+
 impl Predictor {
     /// A predictor that has gathered nothing, with room for the words of each place.
     pub fn build(alloc: Global, layout: &Layout) -> Result<Predictor, AllocError>
@@ -214,13 +231,46 @@ impl Predictor {
         ensures mirror { IsMirrorOf chip.now mirror.new }
         ensures reach { IsReachable chip.now mirror.old → IsReachable chip.now mirror.new }
     {
-        if let Some(place) = watched_place(layout, port, op) {
-            if answer.failed {
-                self.forget_at(layout, place);
-            } else {
-                let word = if op.write { op.word } else { answer.word };
-                self.take_in(chip, layout, mirror, place, op, word);
-            }
+        self.see(
+            chip,
+            layout,
+            mirror,
+            watched_place(layout, port, op),
+            op,
+            answer,
+        );
+    }
+
+    /// The same, for an item of which the place is known, where a predictor watches it.
+    pub(crate) fn see(
+        &mut self,
+        chip: &Chip,
+        layout: &Layout,
+        mirror: &mut Mirror,
+        watched: Option<u32>,
+        op: &BusOp,
+        answer: &Answer,
+    )
+        requires built_with { IsBuiltWith layout.now chip.now }
+        requires predictor { IsPredictorOf layout.now self.old }
+        requires mirror { IsMirrorOf chip.now mirror.old }
+        requires watched { IfSome watched (IsRegisterPlace layout.now) }
+        ensures gathered { self.new ≡
+            (observed_at chip.now layout.now watched op.now answer.now self.old mirror.old).gathered }
+        ensures predicted { mirror.new ≡
+            (observed_at chip.now layout.now watched op.now answer.now self.old mirror.old).mirror }
+        ensures predictor { IsPredictorOf layout.now self.new }
+        ensures mirror { IsMirrorOf chip.now mirror.new }
+        ensures reach { IsReachable chip.now mirror.old → IsReachable chip.now mirror.new }
+    {
+        let Some(place) = watched else {
+            return;
+        };
+        if answer.failed {
+            self.forget_at(layout, place);
+        } else {
+            let word = if op.write { op.word } else { answer.word };
+            self.take_in(chip, layout, mirror, place, op, word);
         }
     }
 

@@ -151,6 +151,15 @@ impl Trace {
         self.len = 0;
     }
 
+    /// Takes the items of another trace in place of its own.
+    pub fn copy_from(&mut self, other: &Trace)
+        ensures { self.new ≡ other.now }
+    {
+        let len = other.len as usize;
+        self.items[..len].copy_from_slice(&other.items[..len]);
+        self.len = other.len;
+    }
+
     /// Appends an item.
     pub fn push(&mut self, item: TraceItem)
         requires { length self.old < 8 }

@@ -40,7 +40,7 @@ pub fn send_word<D: Device>(
     let port = model.layout().port_of(place);
     let which = model.layout().adapter(port);
     let item = send_one(device, adapters, which, port, &op);
-    model.observe(&item);
+    model.observe(place, &item);
     item
 }
 

@@ -30,7 +30,7 @@ impl Woven {
         let _ = model.layout();
         let word = self.items.len();
         event.op = op_used(model, &self.access, self.place);
-        event.trace = self.take_items(item);
+        self.give_items(item, &mut event.trace);
         let end = if item.answer.failed {
             End::BusError { word }
         } else {

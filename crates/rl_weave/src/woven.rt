@@ -4,7 +4,6 @@ ghost use Rattle.rl_weave.specs.Weave.{is_over};
 
 use crate::access::Access;
 use rl_access::{Trace, TraceItem};
-use std::mem;
 
 /// An access with its place, how many words it has, and the items that were sent so far.
 #[derive(Drop)]
@@ -25,12 +24,13 @@ impl Woven {
     }
 
     /// Gives its items away, with a last one.
-    pub(crate) fn take_items(&mut self, item: TraceItem) -> Trace
+    pub(crate) fn give_items(&mut self, item: TraceItem, trace: &mut Trace)
         requires { length self.old.items < 8 }
-        ensures items { result ≡ self.old.items ++ item ∷ [] }
+        ensures items { trace.new ≡ self.old.items ++ item ∷ [] }
         ensures left { self.new ≡ record self.old { items = [] } }
     {
-        self.items.push(item);
-        mem::replace(&mut self.items, Trace::new())
+        trace.copy_from(&self.items);
+        trace.push(item);
+        self.items.clear();
     }
 }
