@@ -1,9 +1,14 @@
 // Files that a program is told of.
+ghost use Rattle.std.specs.Prelude.{◌≡◌, IfErr, IfOk, None, Some};
+
 use std::fs::Files;
 use std::{fs, io};
 
 // A file, where it could be had. Else one line on standard error says why not.
-fn had<F>(rt: &impl Eprint, program: &str, path: &str, file: io::Result<F>) -> Option<F> {
+fn had<F>(rt: &impl Eprint, program: &str, path: &str, file: io::Result<F>) -> Option<F>
+    ensures had { IfOk file (λ it. result ≡ Some it) }
+    ensures none { IfErr file (λ error. result ≡ None) }
+{
     match file {
         Ok(file) => Some(file),
         Err(error) => {
