@@ -7,7 +7,7 @@ use Rattle.std.proofs.lemmas.Bool.Decides.{nat_tests}
 use Rattle.rl_policy.specs.Bits.{bit, is_within, put_bit}
 use Rattle.rl_policy.specs.declared.policy.Policy.{Policy}
 use Rattle.rl_policy.proofs.BitLemmas.{bit-mod}
-use Rattle.rl_bench.specs.Masks.{owned_test}
+use Rattle.rl_policy.specs.Masks.{owned_test}
 
 pub owned_some : (f : ℕ → Policy) (o : Option ℕ) → owned_test (λ p. true) (option_map f o) ≡ is_some o
 owned_some f None = refl

@@ -5,7 +5,6 @@ pub mod DepositLemmas
 pub mod HeldLemmas
 pub mod HintLemmas
 pub mod ListLemmas
-pub mod MaskLemmas
 pub mod NamedLemmas
 pub mod ResetLemmas
 pub mod StepLemmas

@@ -19,7 +19,8 @@ use Rattle.rl_bench.specs.Stretch.{IsStretch}
 use Rattle.rl_bench.specs.Beats.{beats_of, no_word}
 use Rattle.rl_bench.proofs.BeatLemmas.{set_one, stands_at_own}
 use Rattle.rl_bench.proofs.RowLemmas.{some_same}
-use Rattle.rl_bench.proofs.ListLemmas.{position_more, element}
+use Rattle.rl_policy.proofs.Positions.{position_more}
+use Rattle.rl_bench.proofs.ListLemmas.{element}
 
 -- ---- filters
 

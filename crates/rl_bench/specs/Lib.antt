@@ -4,7 +4,6 @@ pub mod Cells
 pub mod Flaws
 pub mod FlawTables
 pub mod Found
-pub mod Masks
 pub mod Prelude
 pub mod Rows
 pub mod Shape

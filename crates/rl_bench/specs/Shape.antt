@@ -2,11 +2,11 @@
 use Rattle.std.specs.Prelude.{◌≡◌, ℕ, ◌<◌, false, is_some}
 use Rattle.rl_policy.specs.Bits.{bit, from_bits}
 use Rattle.rl_bus.specs.declared.table.Lanes.{Lanes}
-use Rattle.rl_bus.specs.Bits.{bit_written, mark_written, bit_answered, bit_left}
+use Rattle.rl_policy.specs.Access.{bit_written, mark_written, bit_answered, bit_left}
 use Rattle.rl_bus.specs.Setup.{Setup, policy_at, stuck_at, or_else, held}
 use Rattle.rl_bus.specs.Spread.{spread_bit, lane_bit, gathered_bit}
 use Rattle.rl_bench.specs.declared.shape.Shape.{Shape}
-use Rattle.rl_bench.specs.Masks.{AreEffectsOf}
+use Rattle.rl_policy.specs.Masks.{AreEffectsOf}
 
 -- a register of a setup
 pub record RegOf : Type 0 where

@@ -1,16 +1,16 @@
 //! The masks of the registers, made of the tables.
 ghost use Rattle.std.specs.Prelude.{◌<◌, length, get_or, IfOk};
 ghost use Rattle.rl_bus.specs.Setup.{policy_at, names_bit, no_stuck};
-ghost use Rattle.rl_bench.specs.Masks.{HasBits, AreEffectsOf};
+ghost use Rattle.rl_policy.specs.Masks.{HasBits, AreEffectsOf};
 ghost use Rattle.rl_bench.specs.Shape.{IsShapeOf};
 ghost use Rattle.rl_bench.specs.Board.{IsSetup, AreShapesOf};
 ghost use Rattle.rl_bench.specs.Tables.{setup_held};
 
-use crate::effects::Effects;
 use crate::find::fields_of;
 use crate::seat::seat_in;
 use crate::shape::Shape;
 use crate::tables::Tables;
+use rl_policy::Effects;
 use rl_policy::word::{repeated, window};
 use std::alloc::{AllocError, Global};
 

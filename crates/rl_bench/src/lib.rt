@@ -12,7 +12,6 @@ mod bench;
 mod board;
 mod build;
 mod cells;
-mod effects;
 mod find;
 mod flaw;
 mod hints;

@@ -1,7 +1,7 @@
 //! Resets.
 ghost use Rattle.rl_bench.specs.Board.{FitCells};
 ghost use Rattle.rl_bench.specs.Cells.{AreReset, bit_after_reset};
-ghost use Rattle.rl_bench.specs.Masks.{HasBits};
+ghost use Rattle.rl_policy.specs.Masks.{HasBits};
 ghost use Rattle.rl_bench.specs.Tables.{setup_held};
 
 use crate::board::Board;

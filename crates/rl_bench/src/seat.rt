@@ -3,7 +3,7 @@ ghost use Rattle.std.specs.Prelude.{◌≡◌, ℕ, ◌+◌, ◌-◌, ◌<◌, �
 ghost use Rattle.rl_policy.specs.Bits.{bit, is_within};
 ghost use Rattle.rl_bus.specs.Setup.{covers};
 ghost use Rattle.rl_bus.specs.State.{value_bit};
-ghost use Rattle.rl_bench.specs.Masks.{HasBits};
+ghost use Rattle.rl_policy.specs.Masks.{HasBits};
 
 use rl_bus::FieldRow;
 use rl_policy::word::{mask, put, replaced, window};

@@ -4,8 +4,8 @@ ghost use Rattle.rl_policy.specs.Bits.{bit};
 ghost use Rattle.rl_bus.specs.Setup.{held};
 ghost use Rattle.rl_bus.specs.Spread.{AreInCell};
 
-use crate::effects::Effects;
 use rl_bus::Lanes;
+use rl_policy::Effects;
 use rl_policy::word::replaced;
 
 /// What accesses do to the bits of a register, and which bits are stuck at which values.

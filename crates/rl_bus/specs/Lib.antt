@@ -1,4 +1,3 @@
-pub mod Bits
 pub mod Causes
 pub mod Device
 pub mod Kinds

@@ -9,7 +9,7 @@ use Rattle.rl_bus.specs.declared.op.BusOp.{BusOp}
 use Rattle.rl_bus.specs.declared.table.Cell.{Cell}
 use Rattle.rl_bus.specs.declared.table.Cell.TheVariants.{Reg, Loc}
 use Rattle.rl_bus.specs.declared.table.WordRow.{WordRow}
-use Rattle.rl_bus.specs.Bits.{bit_written, mark_written, bit_answered, bit_left}
+use Rattle.rl_policy.specs.Access.{bit_written, mark_written, bit_answered, bit_left}
 use Rattle.rl_bus.specs.Setup.{Setup, field_of, mem_of, field_at, policy_at, held, reset_of, location, is_deaf, words_at, is_of_place, is_named}
 use Rattle.rl_bus.specs.Spread.{spread_bit, lane_bit, gathered_bit, lanes_in}
 

@@ -13,7 +13,7 @@ use Rattle.rl_bus.specs.declared.op.BusOp.{BusOp}
 use Rattle.rl_bus.specs.declared.table.Cell.TheVariants.{Reg}
 use Rattle.rl_bus.specs.declared.table.Lanes.{Lanes}
 use Rattle.rl_bus.specs.declared.table.WordRow.{WordRow}
-use Rattle.rl_bus.specs.Bits.{bit_answered, bit_left}
+use Rattle.rl_policy.specs.Access.{bit_answered, bit_left}
 use Rattle.rl_bus.specs.Setup.{Setup, is_deaf, policy_at, stuck_at, or_else, held}
 use Rattle.rl_bus.specs.Spread.{lane_bit, spread_bit, gathered_bit, lanes_in}
 use Rattle.rl_bus.specs.State.{State, counted, word_at, is_faulty, after_reading, after_writing, after_word, after_touch, state_after, answer_of}

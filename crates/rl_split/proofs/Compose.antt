@@ -1,7 +1,7 @@
 -- Several items on the bits of one register, of which no two have a lane in common: each bit is touched once.
 use Rattle.std.proofs.Common.{◌≡◌, Bool, true, false, ◌||◌, Option, Some, None, refl, arith}
 use Rattle.rl_policy.specs.declared.policy.Policy.{Policy}
-use Rattle.rl_bus.specs.Bits.{bit_written, mark_written, bit_left}
+use Rattle.rl_policy.specs.Access.{bit_written, mark_written, bit_left}
 
 -- one bit under two items, of which one at most has its lane
 pub two_bits : (o : Option Policy) (x s v w l t : Bool) → (l ≡ true → (v ≡ w) × (t ≡ false)) → bit_written o (bit_written o x s v l) (mark_written o s l) w t ≡ bit_written o x s w (l || t)

@@ -9,7 +9,7 @@ use Rattle.rl_bus.specs.declared.table.Cell.{Cell}
 use Rattle.rl_bus.specs.declared.table.Cell.TheVariants.{Reg}
 use Rattle.rl_bus.specs.declared.table.Lanes.{Lanes}
 use Rattle.rl_bus.specs.declared.table.WordRow.{WordRow}
-use Rattle.rl_bus.specs.Bits.{bit_written, mark_written, bit_answered, bit_left}
+use Rattle.rl_policy.specs.Access.{bit_written, mark_written, bit_answered, bit_left}
 use Rattle.rl_bus.specs.Setup.{Setup, Flaws, policy_at, names_bit, held, or_else, is_deaf, is_of, is_named}
 use Rattle.rl_bus.specs.Spread.{spread_bit, lane_bit, gathered_bit, lanes_in}
 use Rattle.rl_bus.specs.State.{State, counted, word_at, is_faulty, shown_bit, word_shown, after_reading, after_writing, after_word, after_touch, answer_at, beats_on, beats_back, state_after}

@@ -11,7 +11,7 @@ use Rattle.rl_bus.specs.declared.op.BusOp.{BusOp}
 use Rattle.rl_bus.specs.declared.table.Cell.TheVariants.{Reg}
 use Rattle.rl_bus.specs.declared.table.Lanes.{Lanes}
 use Rattle.rl_bus.specs.declared.table.WordRow.{WordRow}
-use Rattle.rl_bus.specs.Bits.{bit_answered, bit_left}
+use Rattle.rl_policy.specs.Access.{bit_answered, bit_left}
 use Rattle.rl_bus.specs.Setup.{Setup, policy_at}
 use Rattle.rl_bus.specs.Spread.{lane_below, bit_in, spread_bit, lane_bit}
 use Rattle.rl_bus.specs.State.{State, state_after, answer_of}

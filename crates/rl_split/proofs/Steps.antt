@@ -10,7 +10,7 @@ use Rattle.rl_policy.proofs.BitLemmas.{bit-from_bits, is_from_bits, from_bits-lt
 use Rattle.rl_model.specs.Rows.{FieldSeen, ChipData}
 use Rattle.rl_bus.specs.declared.op.Answer.{Answer}
 use Rattle.rl_bus.specs.declared.table.Cell.TheVariants.{Reg}
-use Rattle.rl_bus.specs.Bits.{bit_written, mark_written, bit_answered, bit_left}
+use Rattle.rl_policy.specs.Access.{bit_written, mark_written, bit_answered, bit_left}
 use Rattle.rl_bus.specs.Setup.{Setup}
 use Rattle.rl_bus.specs.State.{State}
 use Rattle.rl_map.specs.declared.word.Word.{Word}

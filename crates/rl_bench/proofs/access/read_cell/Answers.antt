@@ -1,7 +1,7 @@
 use Rattle.std.proofs.Common.{ap, ◌∙◌}
 use Rattle.std.specs.Prelude.{slice_set}
 use Rattle.rl_policy.specs.Bits.{bit, from_bits}
-use Rattle.rl_bus.specs.Bits.{bit_left, bit_answered}
+use Rattle.rl_policy.specs.Access.{bit_left, bit_answered}
 use Rattle.rl_bus.specs.Setup.{policy_at, held}
 use Rattle.rl_bus.specs.Spread.{lane_bit, gathered_bit}
 use Rattle.rl_bench.specs.Board.{state_of}

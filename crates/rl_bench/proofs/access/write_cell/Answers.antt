@@ -3,7 +3,7 @@ use Rattle.std.specs.Prelude.{slice_set, slice_index}
 use Rattle.std.proofs.lemmas.List.{get_or_read}
 use Rattle.rl_policy.specs.Bits.{bit, from_bits}
 use Rattle.rl_policy.proofs.BitLemmas.{is_from_bits, bit-from_bits}
-use Rattle.rl_bus.specs.Bits.{bit_written, mark_written}
+use Rattle.rl_policy.specs.Access.{bit_written, mark_written}
 use Rattle.rl_bus.specs.Setup.{policy_at, held, location, mem_of, no_mem}
 use Rattle.rl_bus.specs.Spread.{spread_bit, lane_bit}
 use Rattle.rl_bench.specs.Board.{state_of}

@@ -3,10 +3,10 @@ use Rattle.std.specs.Prelude.{position, option_map}
 use Rattle.std.specs.Option.{option_or}
 use Rattle.rl_policy.specs.declared.policy.Policy.{Policy}
 use Rattle.rl_bus.specs.Setup.{covers, policy_of, no_field}
-use Rattle.rl_bench.specs.Masks.{more_owned_bit}
+use Rattle.rl_policy.specs.Masks.{more_owned_bit}
 use Rattle.rl_bench.specs.Tables.{setup_held}
-use Rattle.rl_bench.proofs.BuildLemmas.{effects_same, own_bit}
-use Rattle.rl_bench.proofs.ListLemmas.{position_more}
+use Rattle.rl_policy.proofs.MaskLemmas.{effects_same, own_bit}
+use Rattle.rl_policy.proofs.Positions.{position_more}
 use Rattle.rl_bench.proofs.StretchLemmas.{no_place_before, no_place_behind, other_reg, fields_there}
 use Rattle.rl_bench.proofs.build.effects_of.Goals as goal
 

@@ -1,7 +1,7 @@
 use Rattle.std.proofs.Common.{take}
 use Rattle.std.specs.Prelude.{option_map, position}
 use Rattle.rl_bus.specs.Setup.{policy_of, covers}
-use Rattle.rl_bench.specs.Masks.{AreEffectsOf}
+use Rattle.rl_policy.specs.Masks.{AreEffectsOf}
 use Rattle.rl_bench.specs.Tables.{setup_held}
 use Rattle.rl_bench.proofs.build.effects_of.Given as goal
 

@@ -8,7 +8,7 @@ use Rattle.rl_policy.proofs.BitLemmas.{bit-zero, bit-and, bit-or, bit-not}
 use Rattle.rl_bus.specs.Setup.{covers, no_field, field_of}
 use Rattle.rl_bench.specs.Tables.{setup_held}
 use Rattle.rl_bus.specs.State.{reset_bit}
-use Rattle.rl_bench.proofs.ListLemmas.{position_more}
+use Rattle.rl_policy.proofs.Positions.{position_more}
 use Rattle.rl_bench.proofs.StretchLemmas.{no_place_before, no_place_behind, other_reg, fields_there}
 use Rattle.rl_bench.proofs.ResetLemmas.{right_true, taken_bit, word_bit}
 use Rattle.rl_bench.proofs.StepLemmas.{left_true}

@@ -1,7 +1,7 @@
 use Rattle.std.proofs.Common.{ap, ◌∙◌}
 use Rattle.rl_policy.specs.Bits.{bit}
 use Rattle.rl_policy.proofs.BitLemmas.{bit-from_bits, from_bits-same}
-use Rattle.rl_bus.specs.Bits.{bit_left}
+use Rattle.rl_policy.specs.Access.{bit_left}
 use Rattle.rl_bus.specs.Setup.{policy_at}
 use Rattle.rl_bench.proofs.HeldLemmas.{held_same, gathered_same}
 use Rattle.rl_bench.proofs.shape.Shape.read.Goals as goal

@@ -1,14 +1,16 @@
 -- Masks by effect, over one field more.
 use Rattle.std.proofs.Common.{◌≡◌, ℕ, ◌<◌, ◌^◌, Bool, true, false, not, ◌&&◌, ◌||◌, cond, Option, Some, None, refl, sym, ap, ◌∙◌, arith}
-use Rattle.std.specs.Prelude.{bit_and, bit_or}
+use Rattle.std.specs.Prelude.{bit_and, bit_or, option_map}
+use Rattle.std.specs.Option.{option_or}
+use Rattle.std.specs.Int.{bit_not, w64}
 use Rattle.rl_policy.specs.Bits.{bit}
 use Rattle.rl_policy.specs.Table.{after_write, after_read, value_read, spends_mark, is_write_only}
 use Rattle.rl_policy.specs.declared.policy.Policy.{Policy}
 use Rattle.rl_policy.proofs.BitLemmas.{bit-or, bit-and, bit-not}
 use Rattle.rl_policy.proofs.TableLemmas.{after_write-by_mark}
-use Rattle.rl_bus.specs.Bits.{bit_written, mark_written, bit_left, bit_answered}
-use Rattle.rl_bench.specs.Masks.{owned_test, IsMaskOf, more_owned, more_owned_bit}
-use Rattle.std.specs.Int.{bit_not, w64}
+use Rattle.rl_policy.specs.Access.{bit_written, mark_written, bit_left, bit_answered}
+use Rattle.rl_policy.specs.Masks.{AreEffectsOf, owned_test, IsMaskOf, more_owned, more_owned_bit}
+use Rattle.rl_policy.specs.declared.effects.Effects.{Effects}
 
 -- the bits of a field whose effect is e join the mask of those before
 mask_more_bit : (test : Policy → Bool) (m w s : Bool) (p : Policy) (o : Option Policy) → m ≡ owned_test test o
@@ -24,6 +26,26 @@ mask_more test own m w s e p fits before owned effect b k =
     bit-or m _ b
     ∙ ap (λ x. bit m b || x) (bit-and _ e b ∙ ap (λ x. x && bit e b) (bit-and s _ b ∙ ap (λ x. bit s b && x) (bit-not w b fits k)) ∙ ap (λ x. (bit s b && not (bit w b)) && x) (effect b k))
     ∙ mask_more_bit test (bit m b) (bit w b) (bit s b) p (own b) (before b k) (owned b k)
+
+-- the same policies have the same masks
+pub effects_same : (own new : ℕ → Option Policy) (e : Effects) → ((b : ℕ) → b < 64 → own b ≡ new b) → AreEffectsOf own e → AreEffectsOf new e
+effects_same own new e same h = record {
+  owned = λ b k. h.owned b k ∙ ap (owned_test _) (same b k);
+  spending = λ b k. h.spending b k ∙ ap (owned_test _) (same b k);
+  zero_by_zero = λ b k. h.zero_by_zero b k ∙ ap (owned_test _) (same b k);
+  one_by_zero = λ b k. h.one_by_zero b k ∙ ap (owned_test _) (same b k);
+  zero_by_one = λ b k. h.zero_by_one b k ∙ ap (owned_test _) (same b k);
+  one_by_one = λ b k. h.one_by_one b k ∙ ap (owned_test _) (same b k);
+  zero_by_read = λ b k. h.zero_by_read b k ∙ ap (owned_test _) (same b k);
+  one_by_read = λ b k. h.one_by_read b k ∙ ap (owned_test _) (same b k);
+  shown = λ b k. h.shown b k ∙ ap (owned_test _) (same b k);
+}
+
+-- a bit that belongs to the i-th of some fields, or to none so far
+pub own_bit : (f : ℕ → Policy) (o : Option ℕ) (c : Bool) (i : ℕ) → more_owned_bit (option_map f o) c (f i) ≡ option_map f (option_or o (cond c (Some i) None))
+own_bit f (Some j) c i = refl
+own_bit f None true i = refl
+own_bit f None false i = refl
 
 -- any effect is that of its four cases
 four_cases : (p : Policy) (x w : Bool)

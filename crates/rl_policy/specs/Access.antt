@@ -1,4 +1,4 @@
--- What an item does to one bit, by the policy that the bit has: none, where it belongs to no field.
+-- What an access does to one bit, by the policy that the bit has: none, where it belongs to no field.
 use Rattle.std.specs.Prelude.{Bool, false, ◌&&◌, ◌||◌, if◌then◌else◌, Option, Some, None}
 use Rattle.rl_policy.specs.Table.{after_write, after_read, value_read, spends_mark}
 use Rattle.rl_policy.specs.declared.policy.Policy.{Policy}

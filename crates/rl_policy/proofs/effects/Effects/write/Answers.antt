@@ -3,8 +3,8 @@ use Rattle.std.specs.Prelude.{bit_and}
 use Rattle.std.proofs.lemmas.Nat.{or_lt, and_le_r}
 use Rattle.rl_policy.specs.Bits.{bit}
 use Rattle.rl_policy.proofs.BitLemmas.{is_from_bits, bit-and, bit-not, bit-or}
-use Rattle.rl_bench.proofs.MaskLemmas.{masks_write, masks_mark}
-use Rattle.rl_bench.proofs.effects.Effects.write.Goals as goal
+use Rattle.rl_policy.proofs.MaskLemmas.{masks_write, masks_mark}
+use Rattle.rl_policy.proofs.effects.Effects.write.Goals as goal
 
 pub returns-clause-bits : goal.returns-clause-bits
 returns-clause-bits c own e =

@@ -2,8 +2,8 @@ use Rattle.std.proofs.Common.{arith}
 use Rattle.std.proofs.lemmas.Nat.{and_le_r}
 use Rattle.rl_policy.specs.Bits.{bit}
 use Rattle.rl_policy.proofs.BitLemmas.{is_from_bits, bit-and}
-use Rattle.rl_bench.proofs.MaskLemmas.{masks_left, masks_answer}
-use Rattle.rl_bench.proofs.effects.Effects.read.Goals as goal
+use Rattle.rl_policy.proofs.MaskLemmas.{masks_left, masks_answer}
+use Rattle.rl_policy.proofs.effects.Effects.read.Goals as goal
 
 pub returns-clause-answer : goal.returns-clause-answer
 returns-clause-answer c own e =

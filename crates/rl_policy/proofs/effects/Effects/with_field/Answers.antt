@@ -3,9 +3,9 @@ use Rattle.rl_policy.specs.Bits.{bit}
 use Rattle.rl_policy.specs.Table.{after_write, after_read, value_read, spends_mark}
 use Rattle.rl_policy.specs.declared.policy.Policy.{Policy}
 use Rattle.rl_policy.proofs.BitLemmas.{bit-zero, bit-max}
-use Rattle.rl_bench.specs.Masks.{IsMaskOf}
-use Rattle.rl_bench.proofs.MaskLemmas.{mask_more}
-use Rattle.rl_bench.proofs.effects.Effects.with_field.Goals as goal
+use Rattle.rl_policy.specs.Masks.{IsMaskOf}
+use Rattle.rl_policy.proofs.MaskLemmas.{mask_more}
+use Rattle.rl_policy.proofs.effects.Effects.with_field.Goals as goal
 
 pub returns : goal.returns
 returns c own e =

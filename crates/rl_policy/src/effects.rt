@@ -2,10 +2,15 @@
 ghost use Rattle.std.specs.Prelude.{◌≡◌, None};
 ghost use Rattle.rl_policy.specs.Bits.{bit};
 
-use rl_policy::word::{repeated, replaced};
-use rl_policy::{Policy, spends};
+use crate::policy::{Policy, spends};
+use crate::word::{repeated, replaced};
 
-/// Masks of the bits on which an access has one effect.
+/// The bits of a register, by what a write and a read do to them: one mask for each effect that an access
+/// can have on a bit. So an access to the whole register is a few operations on words, whatever the policies
+/// of its fields.
+///
+/// A bit that belongs to no field is in no mask. The masks are this project's own; the effects are those of
+/// the policies.
 #[derive(Clone, Copy)]
 pub struct Effects {
     /// The bits that belong to a field.
@@ -29,8 +34,8 @@ pub struct Effects {
 }
 
 impl Effects {
-    ghost use Rattle.rl_bench.specs.Masks.{AreEffectsOf, ForPoliciesOf, more_owned};
-    ghost use Rattle.rl_bench.specs.Masks.{bits_written, marks_written, bits_answered, bits_left};
+    ghost use Rattle.rl_policy.specs.Masks.{AreEffectsOf, ForPoliciesOf, more_owned};
+    ghost use Rattle.rl_policy.specs.Masks.{bits_written, marks_written, bits_answered, bits_left};
 
     /// The effects of a register with no field.
     pub fn none() -> Effects

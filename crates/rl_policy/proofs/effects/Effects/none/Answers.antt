@@ -1,5 +1,5 @@
 use Rattle.rl_policy.proofs.BitLemmas.{bit-zero}
-use Rattle.rl_bench.proofs.effects.Effects.none.Goals as goal
+use Rattle.rl_policy.proofs.effects.Effects.none.Goals as goal
 
 pub returns : goal.returns
 returns c = record {

@@ -3,8 +3,8 @@ use Rattle.std.specs.Prelude.{◌≡◌, ℕ, ◌<◌, Bool, true, false, Option
 use Rattle.rl_policy.specs.Bits.{bit, from_bits}
 use Rattle.rl_policy.specs.Table.{after_write, after_read, value_read, spends_mark}
 use Rattle.rl_policy.specs.declared.policy.Policy.{Policy}
-use Rattle.rl_bus.specs.Bits.{bit_written, mark_written, bit_answered, bit_left}
-use Rattle.rl_bench.specs.declared.effects.Effects.{Effects}
+use Rattle.rl_policy.specs.Access.{bit_written, mark_written, bit_answered, bit_left}
+use Rattle.rl_policy.specs.declared.effects.Effects.{Effects}
 
 -- the bits of a word are these
 abbrev pub HasBits : ℕ → (ℕ → Bool) → Type 0
