@@ -16,3 +16,4 @@ pub mod ChipSound
 pub mod Within
 pub mod ChipLaws
 pub mod Repeats
+pub mod EffectLemmas

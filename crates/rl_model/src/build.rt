@@ -10,6 +10,7 @@ ghost use Rattle.rl_model.specs.Build as build;
 
 use crate::check::{add_path, check_field, check_width};
 use crate::chip::Chip;
+use crate::effects::all_effects;
 use crate::fault::{Array, ModelCause, ModelFault, Spot};
 use crate::limits::{MOST_KINDS, MOST_LOCATIONS, MOST_MEMS, MOST_REGS, MOST_SCOPES};
 use crate::name::Name;
@@ -32,6 +33,7 @@ impl Chip {
         let (regs, fields, mems) = add_rows(alloc, &mut paths, &mut kinds, parts)?;
         let blocks = parts.blocks.len();
         let scopes = blocks + parts.files.len();
+        let effects = all_effects(alloc, &regs, &fields)?;
         Ok(Chip {
             blocks: blocks as u32,
             scopes,
@@ -40,6 +42,7 @@ impl Chip {
             mems,
             fields,
             kinds,
+            effects,
         })
     }
 }

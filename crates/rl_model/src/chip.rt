@@ -1,12 +1,15 @@
 //! A chip, and what it answers.
 ghost use Rattle.std.specs.Prelude.{◌≡◌, ◌+◌, ◌^◌, ◌<◌, ◌≤◌, ◌↔◌, ℕ, Some, IfSome, position, length, slice_get};
 ghost use Rattle.std.specs.Prelude.{option_map, option_and_then, bytes_eq, unwrap_or, IsTrue, []};
+ghost use Rattle.rl_policy.specs.Masks.{AreEffectsOf};
+ghost use Rattle.rl_model.specs.Fields.{fields_of, policy_at};
 ghost use Rattle.rl_model.specs.Chip.{HasItem, HasBits, Holds, bytes_of, backdoor_of, skip_of, place_of, path_at};
 ghost use Rattle.rl_model.specs.Chip.{path_of_item, value_for, is_inside, field_path, last_dot, IsNamed, IsSound};
 
 use crate::paths::Paths;
 use crate::rows::{Field, FieldRow, Item, MemRow, RegRow, Reset};
 use crate::sets::Skip;
+use rl_policy::Effects;
 use std::marker::Model;
 
 /// The registers, fields, memories, blocks and reset kinds of a description. Look-ups by text are by
@@ -19,6 +22,7 @@ pub struct Chip {
     pub(crate) mems: Vec<MemRow>,
     pub(crate) fields: Vec<FieldRow>,
     pub(crate) kinds: Paths,
+    pub(crate) effects: Vec<Effects>,
 }
 
 // Written out, so that whoever owns a chip lets it go by one call, and not field by field.
@@ -32,6 +36,7 @@ impl Drop for Chip {
             mems: _,
             fields: _,
             kinds: _,
+            effects: _,
         } = self;
     }
 }
@@ -42,6 +47,7 @@ impl Model for Chip {
     ghost Value = { ChipData };
 
     ghost use Rattle.rl_model.specs.Chip.{IsSound};
+    ghost use Rattle.rl_model.specs.Fields.{AreEffects};
 
     ghost view = { λ c. record {
       blocks = c.blocks;
@@ -61,7 +67,7 @@ impl Model for Chip {
       mems = c.mems.items;
       fields = c.fields.items;
       kinds = c.kinds;
-    }) };
+    }) × AreEffects c.regs.items c.fields.items c.effects.items };
 }
 
 impl Chip {
@@ -134,6 +140,15 @@ impl Chip {
         ensures sound { IsSound self.now }
     {
         self.regs[reg as usize].count
+    }
+
+    /// The masks of the register: its bits by what a write and a read do to them.
+    pub fn effects(&self, reg: u32) -> &Effects
+        requires { reg < length self.now.regs }
+        ensures value { AreEffectsOf (policy_at (fields_of self.now reg)) result.now }
+        ensures sound { IsSound self.now }
+    {
+        &self.effects[reg as usize]
     }
 
     /// The value that a field has after a reset of a kind, if it has one.

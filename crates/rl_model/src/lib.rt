@@ -12,6 +12,7 @@
 mod build;
 mod check;
 mod chip;
+mod effects;
 mod fault;
 mod limits;
 mod name;

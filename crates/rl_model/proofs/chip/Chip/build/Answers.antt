@@ -1,11 +1,23 @@
-use Rattle.std.proofs.Common.{◌≡◌, ◌+◌, None, sym, subst, arith}
+use Rattle.std.proofs.Common.{◌≡◌, ◌+◌, sym, subst, ◌∙◌, arith}
 use Rattle.std.proofs.lemmas.Grind.{common_steps}
 use Rattle.rl_model.specs.Rows.{ChipData}
 use Rattle.rl_model.specs.Chip.{IsSound}
-use Rattle.rl_model.specs.Build.{first_kinds, chip_of, chip_fault}
+use Rattle.rl_model.specs.Fields.{AreEffects}
+use Rattle.rl_model.specs.Build.{first_kinds, chip_of}
 use Rattle.rl_model.proofs.Numbering.{all_plain}
+use Rattle.rl_model.proofs.EffectLemmas.{rows_of}
 use Rattle.rl_model.proofs.ChipSound.{each_chip_sound}
 use Rattle.rl_model.proofs.chip.Chip.build.Goals as goal
+
+pub all_effects-requires-clause-seats : goal.all_effects-requires-clause-seats
+all_effects-requires-clause-seats c =
+    let exact = c.in_ok-regs.ensures.exact in
+    (rows_of c.args.parts.now c.deref.result.now c.deref-2.result.now exact.0 (c.deref.ensures.value ∙ exact.1.0) (c.deref-2.ensures.value ∙ exact.1.1)).seats
+
+pub all_effects-requires-clause-within : goal.all_effects-requires-clause-within
+all_effects-requires-clause-within c =
+    let exact = c.in_ok-regs.ensures.exact in
+    (rows_of c.args.parts.now c.deref.result.now c.deref-2.result.now exact.0 (c.deref.ensures.value ∙ exact.1.0) (c.deref-2.ensures.value ∙ exact.1.1)).within
 
 pub invariant_of-result : goal.invariant_of-result
 unfolding chip_of
@@ -22,8 +34,9 @@ invariant_of-result c =
       kinds = c.add_rows.new.kinds;
     } in
     let is : chip ≡ chip_of parts = grind (arith, common_steps, plain) in
-    let none : chip_fault parts ≡ None = grind (arith, common_steps) in
-    subst IsSound (sym is) (each_chip_sound parts none)
+    let masks : AreEffects c.in_ok-regs.regs.items c.in_ok-regs.fields.items c.in_ok-effects.effects.items =
+    rw (← c.deref.ensures.value, ← c.deref-2.ensures.value) c.in_ok-effects.ensures in
+    (subst IsSound (sym is) (each_chip_sound parts c.in_ok-regs.ensures.exact.0), masks)
 
 pub returns : goal.returns
 unfolding chip_of

@@ -7,7 +7,7 @@ use Rattle.rl_model.proofs.chip.Chip.bytes.Goals as goal
 pub returns-in-Reg-clause-range : goal.returns-in-Reg-clause-range
 returns-in-Reg-clause-range c =
     let chip = c.args.self.now in
-    let sound = subst (λ (x : ChipData). IsSound x) c.self.view_is c.self.invariant in
+    let sound = subst (λ (x : ChipData). IsSound x) c.self.view_is c.self.invariant.0 in
     let has = rw c.in-Reg.is at c.requires in
     let at = slice_get_read chip.regs (length chip.regs) c.in-Reg.reg c.index.result.now refl has (rw (← c.self.view_is) c.index.ensures) in
     let fits = sound.each_reg c.in-Reg.reg c.index.result.now at in (fits.0, fits.1)
@@ -15,7 +15,7 @@ returns-in-Reg-clause-range c =
 pub returns-in-Mem-clause-range : goal.returns-in-Mem-clause-range
 returns-in-Mem-clause-range c =
     let chip = c.args.self.now in
-    let sound = subst (λ (x : ChipData). IsSound x) c.self.view_is c.self.invariant in
+    let sound = subst (λ (x : ChipData). IsSound x) c.self.view_is c.self.invariant.0 in
     let has = rw c.in-Mem.is at c.requires in
     let row = c.index-in-Mem.result.now in
     let at = slice_get_read chip.mems (length chip.mems) c.in-Mem.mem row refl has (rw (← c.self.view_is) c.index-in-Mem.ensures) in

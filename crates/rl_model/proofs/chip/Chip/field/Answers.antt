@@ -10,7 +10,7 @@ pub returns-clause-fits : goal.returns-clause-fits
 returns-clause-fits c =
     let P : ChipData → Type 0 = IsSound in
     let chip = c.args.self.now in
-    let sound = subst P c.self.view_is c.self.invariant in
+    let sound = subst P c.self.view_is c.self.invariant.0 in
     let row = c.index-row.result.now in
     let at = slice_get_read chip.fields (length chip.fields) c.args.field row refl c.requires (rw (← c.self.view_is) c.index-row.ensures) in
     let has = field_has_bits chip sound c.args.field row at in

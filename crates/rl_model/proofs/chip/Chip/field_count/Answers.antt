@@ -6,5 +6,5 @@ use Rattle.rl_model.proofs.chip.Chip.field_count.Goals as goal
 
 pub returns-clause-few : goal.returns-clause-few
 returns-clause-few c =
-    (subst (λ (x : ChipData). IsSound x) c.self.view_is c.self.invariant).few_fields c.args.reg c.index.result.now
+    (subst (λ (x : ChipData). IsSound x) c.self.view_is c.self.invariant.0).few_fields c.args.reg c.index.result.now
     (slice_get_read c.args.self.now.regs (length c.args.self.now.regs) c.args.reg c.index.result.now refl c.requires (rw (← c.self.view_is) c.index.ensures))

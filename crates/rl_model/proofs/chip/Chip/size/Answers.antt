@@ -9,7 +9,7 @@ pub returns-clause-range : goal.returns-clause-range
 returns-clause-range c =
     let P : ChipData → Type 0 = IsSound in
     let chip = c.args.self.now in
-    let sound = subst P c.self.view_is c.self.invariant in
+    let sound = subst P c.self.view_is c.self.invariant.0 in
     let row = c.index.result.now in
     let at = slice_get_read chip.mems (length chip.mems) c.args.mem row refl c.requires (rw (← c.self.view_is) c.index.ensures) in
     size_fits chip sound c.args.mem row at

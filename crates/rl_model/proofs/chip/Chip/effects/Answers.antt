@@ -1,0 +1,10 @@
+use Rattle.std.proofs.Common.{subst}
+use Rattle.rl_model.specs.Rows.{ChipData}
+use Rattle.rl_model.specs.Fields.{AreEffects}
+use Rattle.rl_model.proofs.EffectLemmas.{masks_at}
+use Rattle.rl_model.proofs.chip.Chip.effects.Goals as goal
+
+pub returns-clause-value : goal.returns-clause-value
+returns-clause-value c =
+    masks_at c.args.self.now c.self.inside.effects.items c.args.reg c.index.result.now
+    (subst (λ (x : ChipData). AreEffects x.regs x.fields c.self.inside.effects.items) c.self.view_is c.self.invariant.1) c.requires c.index.ensures
