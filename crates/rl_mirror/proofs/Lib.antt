@@ -1,6 +1,7 @@
 pub mod PlaceLemmas
 pub mod FieldLemmas
 pub mod WordLemmas
+pub mod MaskedLemmas
 pub mod SetLemmas
 pub mod SpentLemmas
 pub mod ResetLemmas

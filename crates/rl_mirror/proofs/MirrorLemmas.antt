@@ -18,54 +18,87 @@ use Rattle.rl_model.specs.declared.rows.Field.{Field}
 use Rattle.rl_model.specs.Chip.{IsSound}
 use Rattle.rl_mirror.proofs.PlaceLemmas.{IsFieldList, is_place, covers_is}
 use Rattle.rl_mirror.proofs.FieldLemmas.{seated, field_list, length-fields_of, field_in-fields_of}
+use Rattle.rl_mirror.proofs.SpentLemmas.{length-spent_after}
 use Rattle.rl_mirror.proofs.WordLemmas.{is_word_by_field, owned_bit, owned_zero, word_is_value, bytes_pow}
 use Rattle.rl_model.specs.Rows.{FieldSeen, ChipData}
 use Rattle.rl_mirror.specs.declared.effect.Effect.{Effect}
-use Rattle.rl_mirror.specs.declared.effect.Effect.TheVariants.{Written, Learned, Updating, Neutral}
+use Rattle.rl_mirror.specs.declared.effect.Effect.TheVariants.{Updating, Neutral}
 use Rattle.rl_mirror.specs.Effect.{effect_bit}
 use Rattle.rl_model.specs.Fields.{field_of, first_of, count_of, size_of, fields_of, field_in, policy_in, place_at}
 use Rattle.rl_mirror.specs.Fields.{word_by_field, owned}
 use Rattle.rl_mirror.specs.Mirror.{MirrorData, mirrored_of, desired_of, is_spent, marks_in, IsValueOf, IsMirrorOf}
-use Rattle.rl_mirror.specs.Prediction.{written, predict_write, predict_read, predict_raw, learned_by_write, learned_by_read, spent_after, after_reset, reset, blank, set as set_field, update_word}
+use Rattle.rl_mirror.specs.Prediction.{predict_write, predict_read, predict_raw, learned_by_write, learned_by_read, spent_after, after_reset, reset, blank, set as set_field, update_word}
 use Rattle.rl_mirror.specs.Prediction.{update_word_of, neutral_word, neutral_around}
 
--- what an effect makes of the fields of a set, with other bits kept
-abbrev pub laid_over : ChipData → (reg : ℕ) → List Bool → (fields : ℕ) → Effect → (kept : ℕ) → ℕ
-laid_over c reg spent fields effect kept =
-    word_by_field (fields_of c reg) (λ k b. cond (bit fields k) (effect_bit effect (policy_in (fields_of c reg) k) (marks_in c spent reg k) b) (bit kept b))
-
 -- what the code reads of a register, before the mirror as a whole is known to be the one that it stands for
-pub record IsReadOf (reg known wish : ℕ) (m : MirrorData) : Type 0 where
-  pub mirrored : known ≡ mirrored_of m reg
-  pub desired : wish ≡ desired_of m reg
+pub record IsReadOf (c : ChipData) (reg first second : ℕ) (m : MirrorData) : Type 0 where
+  pub mirrored : first ≡ mirrored_of m reg
+  pub desired : second ≡ desired_of m reg
+  pub known : first ≡ owned (fields_of c reg) first
+  pub wish : second ≡ owned (fields_of c reg) second
 
 pub read_of : (c : ChipData) (reg mirrored desired : ℕ) (m known : MirrorData) → m ≡ known → IsMirrorOf c known → reg < length c.regs
-    → mirrored ≡ get_or m.mirrored reg mirrored → desired ≡ get_or m.desired reg desired → IsReadOf reg mirrored desired m
+    → mirrored ≡ get_or m.mirrored reg mirrored → desired ≡ get_or m.desired reg desired → IsReadOf c reg mirrored desired m
 read_of c reg mirrored desired m known is built l e f =
     let own : IsMirrorOf c m = subst (λ (m : MirrorData). IsMirrorOf c m) (sym is) built in
+    let first : mirrored ≡ mirrored_of m reg = get_or_read_under m.mirrored reg (length m.mirrored) mirrored 0 e (omega (arith, own.registers)) refl in
+    let second : desired ≡ desired_of m reg = get_or_read_under m.desired reg (length m.desired) desired 0 f (omega (arith, own.wishes)) refl in
     record {
-      mirrored = get_or_read_under m.mirrored reg (length m.mirrored) mirrored 0 e (omega (arith, own.registers)) refl;
-      desired = get_or_read_under m.desired reg (length m.desired) desired 0 f (omega (arith, own.wishes)) refl;
+      mirrored = first;
+      desired = second;
+      known = subst (λ (v : ℕ). v ≡ owned (fields_of c reg) v) (sym first) (own.mirrored reg l).owned;
+      wish = subst (λ (v : ℕ). v ≡ owned (fields_of c reg) v) (sym second) (own.desired reg l).owned;
     }
 
-pub write_is : (c : ChipData) (reg value fields : ℕ) (m : MirrorData) (mirrored desired new_mirrored new_desired : ℕ) (first second third marks : List Bool)
-    → mirrored ≡ mirrored_of m reg → desired ≡ desired_of m reg → first ≡ m.spent → second ≡ m.spent → third ≡ m.spent
-    → new_mirrored ≡ laid_over c reg first fields (Written mirrored value) mirrored
-    → new_desired ≡ laid_over c reg second fields (Written mirrored value) desired
-    → marks ≡ spent_after c reg fields third
-    → record { mirrored = set m.mirrored reg new_mirrored; desired = set m.desired reg new_desired; spent = marks } ≡ predict_write c reg value fields m
-unfolding predict_write learned_by_write
-write_is c reg value fields m mirrored desired new_mirrored new_desired first second third marks is_mirrored is_desired e f g p q r =
-    rw (p, q, r, e, f, g, is_mirrored, is_desired) refl
+pub write_is : (c : ChipData) (reg value fields : ℕ) (m : MirrorData) (mirrored desired known wish : ℕ) (first second marks : List Bool)
+    → mirrored ≡ mirrored_of m reg → desired ≡ desired_of m reg → first ≡ m.spent → second ≡ m.spent
+    → known ≡ learned_by_write (fields_of c reg) (bit fields) (marks_in c first reg) mirrored value mirrored
+    → wish ≡ learned_by_write (fields_of c reg) (bit fields) (marks_in c first reg) mirrored value desired
+    → marks ≡ spent_after c reg fields second
+    → record { mirrored = set m.mirrored reg known; desired = set m.desired reg wish; spent = marks } ≡ predict_write c reg value fields m
+unfolding predict_write
+write_is c reg value fields m mirrored desired known wish first second marks is_mirrored is_desired e f p q r =
+    rw (p, q, r, e, f, is_mirrored, is_desired) refl
 
-pub read_is : (c : ChipData) (reg read fields : ℕ) (m : MirrorData) (mirrored desired new_mirrored new_desired : ℕ) (first second : List Bool)
+pub read_is : (c : ChipData) (reg read fields : ℕ) (m : MirrorData) (mirrored desired known wish : ℕ)
     → mirrored ≡ mirrored_of m reg → desired ≡ desired_of m reg
-    → new_mirrored ≡ laid_over c reg first fields (Learned read mirrored) mirrored
-    → new_desired ≡ laid_over c reg second fields (Learned read desired) desired
-    → record { mirrored = set m.mirrored reg new_mirrored; desired = set m.desired reg new_desired; spent = m.spent } ≡ predict_read c reg read fields m
-unfolding predict_read learned_by_read
-read_is c reg read fields m mirrored desired new_mirrored new_desired first second is_mirrored is_desired p q =
+    → known ≡ learned_by_read (fields_of c reg) (bit fields) read mirrored
+    → wish ≡ learned_by_read (fields_of c reg) (bit fields) read desired
+    → record { mirrored = set m.mirrored reg known; desired = set m.desired reg wish; spent = m.spent } ≡ predict_read c reg read fields m
+unfolding predict_read
+read_is c reg read fields m mirrored desired known wish is_mirrored is_desired p q =
     rw (p, q, is_mirrored, is_desired) refl
+
+-- one value of a register more
+value_set : (c : ChipData) (xs : List ℕ) (reg a : ℕ) → length xs ≡ length c.regs → reg < length c.regs → IsValueOf c reg a
+    → ((r : ℕ) → r < length c.regs → IsValueOf c r (get_or xs r 0)) → (r : ℕ) → r < length c.regs → IsValueOf c r (get_or (set xs reg a) r 0)
+value_set c xs reg a long l value before r lr =
+    elim (cases_eq r reg) [
+      | inl same ↦
+          let at : get_or (set xs reg a) r 0 ≡ a = rw same (get_or-set_same xs reg a 0 (omega (arith, long, l))) in
+          subst (λ (v : ℕ). IsValueOf c r v) (sym at) (subst (λ (n : ℕ). IsValueOf c n a) (sym same) value)
+      | inr other ↦ subst (λ (v : ℕ). IsValueOf c r v) (sym (get_or-set_other xs reg r a 0 other)) (before r lr)
+    ]
+
+pub write_built : (c : ChipData) (reg word fields : ℕ) (m : MirrorData) → IsSound c → reg < length c.regs → IsMirrorOf c m → IsMirrorOf c (predict_write c reg word fields m)
+unfolding predict_write learned_by_write
+write_built c reg word fields m sound l built = record {
+  registers = length-set m.mirrored reg _ ∙ built.registers;
+  wishes = length-set m.desired reg _ ∙ built.wishes;
+  marks = length-spent_after c reg fields m.spent ∙ built.marks;
+  mirrored = value_set c m.mirrored reg _ built.registers l (word_is_value c reg _ sound l) built.mirrored;
+  desired = value_set c m.desired reg _ built.wishes l (word_is_value c reg _ sound l) built.desired;
+}
+
+pub read_built : (c : ChipData) (reg read fields : ℕ) (m : MirrorData) → IsSound c → reg < length c.regs → IsMirrorOf c m → IsMirrorOf c (predict_read c reg read fields m)
+unfolding predict_read learned_by_read
+read_built c reg read fields m sound l built = record {
+  registers = length-set m.mirrored reg _ ∙ built.registers;
+  wishes = length-set m.desired reg _ ∙ built.wishes;
+  marks = built.marks;
+  mirrored = value_set c m.mirrored reg _ built.registers l (word_is_value c reg _ sound l) built.mirrored;
+  desired = value_set c m.desired reg _ built.wishes l (word_is_value c reg _ sound l) built.desired;
+}
 
 pub raw_is : (c : ChipData) (reg value : ℕ) (m : MirrorData) (bits : ℕ) → bits ≡ owned (fields_of c reg) value
     → record { mirrored = set m.mirrored reg bits; desired = set m.desired reg bits; spent = m.spent } ≡ predict_raw c reg value m
@@ -152,12 +185,6 @@ pub update_is : (c : ChipData) (reg : ℕ) (m : MirrorData) (desired mirrored wo
     → word ≡ update_word_of c reg m
 unfolding update_word_of update_word
 update_is c reg m desired mirrored word spent is_desired is_mirrored e = e ∙ rw (is_desired, is_mirrored) refl
-
-pub written_is : (c : ChipData) (reg : ℕ) (m : MirrorData) (bits word result : ℕ) (spent : List Bool) → spent ≡ m.spent
-    → result ≡ word_by_field (fields_of c reg) (λ k b. effect_bit (Written bits word) (policy_in (fields_of c reg) k) (marks_in c spent reg k) b)
-    → result ≡ written (fields_of c reg) (marks_in c m.spent reg) bits word
-unfolding written
-written_is c reg m bits word result spent same e = e ∙ rw same refl
 
 -- ---- one field of a register
 

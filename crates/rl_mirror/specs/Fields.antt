@@ -14,6 +14,10 @@ word_by_field fields part = from_bits 64 (λ b. option_map_or (λ k. part k b) (
 abbrev pub owned : List FieldSeen → ℕ → ℕ
 owned fields word = word_by_field fields (λ k b. bit word b)
 
+-- the bits of the chosen fields
+abbrev pub chosen_bits : List FieldSeen → (chosen : ℕ) → ℕ
+chosen_bits fields chosen = word_by_field fields (λ k b. bit chosen k)
+
 -- the value of a field in a word of its register
 abbrev pub part_of : Field → ℕ → ℕ
 part_of f word = from_bits f.width (λ i. bit word (f.lsb + i))

@@ -2,7 +2,7 @@
 use Rattle.std.specs.Prelude.{◌≡◌, ℕ, ◌+◌, ◌^◌, ◌<◌, Bool, false, List, length, get_or}
 use Rattle.rl_model.specs.Rows.{ChipData}
 use Rattle.rl_model.specs.Fields.{first_of, size_of, fields_of, field_in}
-use Rattle.rl_mirror.specs.Fields.{owned, part_of}
+use Rattle.rl_mirror.specs.Fields.{word_by_field, owned, part_of}
 
 -- A mirrored and a desired value for each register, and a spent mark for each field, counted through all registers.
 pub record MirrorData : Type 0 where
@@ -22,6 +22,10 @@ is_spent m field = get_or m.spent field false
 -- the marks of a register's fields: that of its k-th field
 abbrev pub marks_in : ChipData → List Bool → (reg : ℕ) → ℕ → Bool
 marks_in c spent reg k = get_or spent (first_of c reg + k) false
+
+-- the bits of the register's fields with a spent mark
+abbrev pub marked_bits : ChipData → List Bool → (reg : ℕ) → ℕ
+marked_bits c spent reg = word_by_field (fields_of c reg) (λ k b. marks_in c spent reg k)
 
 -- a value of the register: it has the register's bytes, and 0 in the bits without a field
 pub record IsValueOf (c : ChipData) (reg value : ℕ) : Type 0 where

@@ -42,6 +42,10 @@ learned_by_write fields chosen marks mirrored word kept =
 abbrev pub learned_bit : Policy → (read kept : Bool) → Bool
 learned_bit p read kept = if is_write_only p then kept else after_read p read
 
+-- the bits of the chosen fields of which a read tells
+abbrev pub told_bits : List FieldSeen → (chosen : ℕ) → ℕ
+told_bits fields chosen = word_by_field fields (λ k b. bit chosen k && not (is_write_only (policy_in fields k)))
+
 unfoldable pub learned_by_read : List FieldSeen → (chosen : ℕ → Bool) → (read kept : ℕ) → ℕ
 learned_by_read fields chosen read kept =
     word_by_field fields (λ k b. if chosen k then learned_bit (policy_in fields k) (bit read b) (bit kept b) else bit kept b)

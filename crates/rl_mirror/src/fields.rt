@@ -4,11 +4,12 @@ ghost use Rattle.rl_policy.specs.Bits.{bit};
 ghost use Rattle.rl_policy.specs.Table.{spends_mark};
 ghost use Rattle.rl_model.specs.Chip.{IsSound};
 ghost use Rattle.rl_mirror.specs.Compared.{is_compared, differing};
-ghost use Rattle.rl_mirror.specs.Effect.{effect_bit, overlaid};
-ghost use Rattle.rl_model.specs.Fields.{field_of, first_of, count_of, size_of, fields_of, field_in, policy_in};
-ghost use Rattle.rl_mirror.specs.Fields.{word_by_field, owned, part_of};
-ghost use Rattle.rl_mirror.specs.Mirror.{IsValueOf, marks_in};
-ghost use Rattle.rl_mirror.specs.Prediction.{shown, left_by_read, spent_after};
+ghost use Rattle.rl_mirror.specs.Effect.{effect_bit};
+ghost use Rattle.rl_model.specs.Fields.{field_of, first_of, count_of, size_of, fields_of, field_in, policy_in, policy_at};
+ghost use Rattle.rl_mirror.specs.Fields.{word_by_field, owned, chosen_bits, part_of};
+ghost use Rattle.rl_mirror.specs.Mirror.{IsValueOf, marks_in, marked_bits};
+ghost use Rattle.rl_mirror.specs.Prediction.{shown, left_by_read, told_bits, spent_after};
+ghost use Rattle.rl_policy.specs.Masks.{bits_written};
 
 use crate::effect::Effect;
 use rl_model::{Chip, Field};
@@ -77,80 +78,9 @@ fn mark_at(chip: &Chip, reg: u32, k: u32, spent: &[bool]) -> bool
     number < spent.len() && spent[number]
 }
 
-/// The word with what `effect` makes of each field of the set, and the bits of `kept` elsewhere.
+/// The word with what is asked of each field, and 0 in the bits without a field.
 ///
 /// It is inlined so that each caller's loop has the one effect that the caller asks for.
-#[inline(always)]
-pub(crate) fn overlaid(
-    chip: &Chip,
-    reg: u32,
-    spent: &[bool],
-    fields: u64,
-    effect: Effect,
-    kept: u64,
-) -> u64
-    requires reg { reg < length chip.now.regs }
-    requires kept { kept ≡ owned (fields_of chip.now reg) kept }
-    ensures sound { IsSound chip.now }
-    ensures held { IsValueOf chip.now reg result }
-    ensures value { result ≡ overlaid chip.now reg spent.now fields effect kept }
-{
-    let mut word = kept;
-    for k in 0..field_count(chip, reg) {
-        let field = field_at(chip, reg, k);
-        if has_field(fields, k) {
-            let by = effect.on(field.policy, mark_at(chip, reg, k, spent));
-            word = replaced(word, by, window(field.lsb, field.width));
-        }
-    }
-    word
-}
-
-/// The same for an effect that is told apart at each field, where it is seldom asked for.
-#[inline(never)]
-fn overlaid_apart(
-    chip: &Chip,
-    reg: u32,
-    spent: &[bool],
-    fields: u64,
-    effect: Effect,
-    kept: u64,
-) -> u64
-    requires reg { reg < length chip.now.regs }
-    requires kept { kept ≡ owned (fields_of chip.now reg) kept }
-    ensures held { IsValueOf chip.now reg result }
-    ensures value { result ≡ overlaid chip.now reg spent.now fields effect kept }
-{
-    overlaid(chip, reg, spent, fields, effect, kept)
-}
-
-/// The same over a desired word, which is `known` where the mirrored word is the desired one.
-#[inline(always)]
-pub(crate) fn wished(
-    chip: &Chip,
-    reg: u32,
-    spent: &[bool],
-    fields: u64,
-    effect: Effect,
-    desired: u64,
-    mirrored: u64,
-    known: u64,
-) -> u64
-    requires reg { reg < length chip.now.regs }
-    requires desired { desired ≡ owned (fields_of chip.now reg) desired }
-    requires held { IsValueOf chip.now reg known }
-    requires known { desired ≡ mirrored → known ≡ overlaid chip.now reg spent.now fields effect desired }
-    ensures held { IsValueOf chip.now reg result }
-    ensures value { result ≡ overlaid chip.now reg spent.now fields effect desired }
-{
-    if desired == mirrored {
-        known
-    } else {
-        overlaid_apart(chip, reg, spent, fields, effect, desired)
-    }
-}
-
-/// The word with what `effect` makes of each field, and 0 in the bits without a field.
 #[inline(always)]
 pub(crate) fn assembled(chip: &Chip, reg: u32, spent: &[bool], effect: Effect) -> u64
     requires { reg < length chip.now.regs }
@@ -159,7 +89,83 @@ pub(crate) fn assembled(chip: &Chip, reg: u32, spent: &[bool], effect: Effect) -
     ensures value { result ≡ word_by_field (fields_of chip.now reg)
         (λ k b. effect_bit effect (policy_in (fields_of chip.now reg) k) (marks_in chip.now spent.now reg k) b) }
 {
-    overlaid(chip, reg, spent, u64::MAX, effect, 0)
+    let mut word = 0;
+    for k in 0..field_count(chip, reg) {
+        let field = field_at(chip, reg, k);
+        let by = effect.on(field.policy, mark_at(chip, reg, k, spent));
+        word = replaced(word, by, window(field.lsb, field.width));
+    }
+    word
+}
+
+/// The bits of some fields of a register.
+#[inline(never)]
+fn some_chosen(chip: &Chip, reg: u32, fields: u64) -> u64
+    requires { reg < length chip.now.regs }
+    ensures { result ≡ chosen_bits (fields_of chip.now reg) fields }
+{
+    let mut word = 0u64;
+    for k in 0..field_count(chip, reg) {
+        let field = field_at(chip, reg, k);
+        if has_field(fields, k) {
+            word |= window(field.lsb, field.width);
+        }
+    }
+    word
+}
+
+/// The bits of the fields of a set.
+pub(crate) fn chosen(chip: &Chip, reg: u32, fields: u64) -> u64
+    requires { reg < length chip.now.regs }
+    ensures sound { IsSound chip.now }
+    ensures bits { result ≡ chosen_bits (fields_of chip.now reg) fields }
+{
+    let owned = chip.effects(reg).owned;
+    if fields == u64::MAX {
+        owned
+    } else {
+        some_chosen(chip, reg, fields)
+    }
+}
+
+/// The bits of the fields of a set of which a read tells.
+pub(crate) fn told(chip: &Chip, reg: u32, fields: u64) -> u64
+    requires { reg < length chip.now.regs }
+    ensures sound { IsSound chip.now }
+    ensures bits { result ≡ told_bits (fields_of chip.now reg) fields }
+{
+    chosen(chip, reg, fields) & chip.effects(reg).shown
+}
+
+/// The bits with a spent mark, as far as a write of these places asks for them.
+fn asked_marks(chip: &Chip, reg: u32, spent: &[bool], places: u64) -> u64
+    requires { reg < length chip.now.regs }
+    ensures { (bits : ℕ) → (word : ℕ) → bits_written (policy_at (fields_of chip.now reg)) bits result word places
+        ≡ bits_written (policy_at (fields_of chip.now reg)) bits (marked_bits chip.now spent.now reg) word places }
+{
+    if chip.effects(reg).spending & places == 0 {
+        0
+    } else {
+        assembled(chip, reg, spent, Effect::Mark)
+    }
+}
+
+/// The bits of a register after a write of these places of `word`, where it held `bits`.
+pub(crate) fn written_over(
+    chip: &Chip,
+    reg: u32,
+    spent: &[bool],
+    bits: u64,
+    word: u64,
+    places: u64,
+) -> u64
+    requires { reg < length chip.now.regs }
+    ensures { result ≡ bits_written (policy_at (fields_of chip.now reg)) bits
+        (marked_bits chip.now spent.now reg) word places }
+{
+    let marks = asked_marks(chip, reg, spent, places);
+    let (written, _) = chip.effects(reg).write(bits, marks, word, places);
+    written
 }
 
 /// What a read of all fields answers where the register holds these bits.
@@ -168,7 +174,7 @@ pub fn shown(chip: &Chip, reg: u32, bits: u64) -> u64
     ensures value { result ≡ shown (fields_of chip.now reg) bits }
     ensures fits { result < 256 ^ size_of chip.now reg }
 {
-    assembled(chip, reg, &[], Effect::Shown { stored: bits })
+    chip.effects(reg).shown & bits
 }
 
 /// The bits of the register after a read of all fields, where it held these.
@@ -177,7 +183,9 @@ pub fn left_by_read(chip: &Chip, reg: u32, bits: u64) -> u64
     ensures value { result ≡ left_by_read (fields_of chip.now reg) bits }
     ensures fits { result < 256 ^ size_of chip.now reg }
 {
-    assembled(chip, reg, &[], Effect::LeftByRead { stored: bits })
+    let effects = chip.effects(reg);
+    let (_, left) = effects.read(bits, u64::MAX);
+    effects.owned & left
 }
 
 /// These bits of the register, as far as they belong to a field.
@@ -187,7 +195,7 @@ pub fn owned(chip: &Chip, reg: u32, bits: u64) -> u64
     ensures fits { result < 256 ^ size_of chip.now reg }
     ensures held { IsValueOf chip.now reg result }
 {
-    assembled(chip, reg, &[], Effect::Given { bits })
+    chip.effects(reg).owned & bits
 }
 
 /// Whether a write of the fields of the set spends the `k`-th one.
@@ -200,12 +208,16 @@ fn spends_field(chip: &Chip, reg: u32, fields: u64, k: u32) -> bool
     spends(field_at(chip, reg, k).policy) && has_field(fields, k)
 }
 
-/// Marks the fields of the set that take one write alone as spent.
-pub(crate) fn spend(chip: &Chip, reg: u32, fields: u64, spent: &mut [bool])
+/// Marks the fields of the set that take one write alone as spent; `places` are the bits of the set.
+pub(crate) fn spend(chip: &Chip, reg: u32, fields: u64, places: u64, spent: &mut [bool])
     requires reg { reg < length chip.now.regs }
+    requires places { places ≡ chosen_bits (fields_of chip.now reg) fields }
     requires marks { length spent.old ≡ length chip.now.fields }
     ensures { spent.new ≡ spent_after chip.now reg fields spent.old }
 {
+    if chip.effects(reg).spending & places == 0 {
+        return;
+    }
     for k in 0..field_count(chip, reg) {
         if !spends_field(chip, reg, fields, k) {
             continue;

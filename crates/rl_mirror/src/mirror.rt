@@ -8,11 +8,11 @@ ghost use Rattle.rl_mirror.specs.Prediction.{written, predict_write, predict_rea
 ghost use Rattle.rl_mirror.specs.Prediction.{needs_update, update_word_of, neutral_around};
 
 use crate::effect::Effect;
-use crate::fields::{assembled, differing, numbered_field, overlaid, owned, spend, wished};
+use crate::fields::{assembled, chosen, differing, numbered_field, owned, spend, told, written_over};
 use crate::resets::{clear, reset_all};
 use rl_model::{Chip, Field};
 use rl_policy::policy::set_value;
-use rl_policy::word::{put, take};
+use rl_policy::word::{put, replaced, take};
 use std::alloc::{AllocError, Global};
 use std::marker::Model;
 
@@ -79,26 +79,13 @@ impl Mirror {
         ensures built { IsMirrorOf chip.now self.new }
         ensures reach { IsReachable chip.now self.old → IsReachable chip.now self.new }
     {
+        let places = chosen(chip, reg, fields);
         let mirrored = self.mirrored[reg as usize];
         let desired = self.desired[reg as usize];
-        let effect = Effect::Written {
-            stored: mirrored,
-            word: value,
-        };
-        let known = overlaid(chip, reg, &self.spent, fields, effect, mirrored);
-        let wish = wished(
-            chip,
-            reg,
-            &self.spent,
-            fields,
-            effect,
-            desired,
-            mirrored,
-            known,
-        );
+        let known = written_over(chip, reg, &self.spent, mirrored, value, places);
         self.mirrored[reg as usize] = known;
-        self.desired[reg as usize] = wish;
-        spend(chip, reg, fields, &mut self.spent);
+        self.desired[reg as usize] = replaced(desired, known, places);
+        spend(chip, reg, fields, places, &mut self.spent);
     }
 
     /// Takes a read of the fields of the set as done, which answered `value`.
@@ -111,20 +98,12 @@ impl Mirror {
         ensures built { IsMirrorOf chip.now self.new }
         ensures reach { IsReachable chip.now self.old → IsReachable chip.now self.new }
     {
+        let places = told(chip, reg, fields);
+        let (_, left) = chip.effects(reg).read(value, places);
         let mirrored = self.mirrored[reg as usize];
         let desired = self.desired[reg as usize];
-        let effect = Effect::Learned {
-            read: value,
-            kept: mirrored,
-        };
-        let known = overlaid(chip, reg, &[], fields, effect, mirrored);
-        let effect = Effect::Learned {
-            read: value,
-            kept: desired,
-        };
-        let wish = wished(chip, reg, &[], fields, effect, desired, mirrored, known);
-        self.mirrored[reg as usize] = known;
-        self.desired[reg as usize] = wish;
+        self.mirrored[reg as usize] = replaced(mirrored, left, places);
+        self.desired[reg as usize] = replaced(desired, left, places);
     }
 
     /// Takes the register's bits as known to be those of `value`.
@@ -267,7 +246,7 @@ impl Mirror {
         ensures value { result ≡ written (fields_of chip.now reg) (marks_in chip.now self.now.spent reg) bits word }
         ensures fits { result < 256 ^ size_of chip.now reg }
     {
-        let effect = Effect::Written { stored: bits, word };
-        assembled(chip, reg, &self.spent, effect)
+        let written = written_over(chip, reg, &self.spent, bits, word, u64::MAX);
+        chip.effects(reg).owned & written
     }
 }

@@ -5,8 +5,14 @@ use Rattle.rl_policy.specs.Table.{spends_mark}
 use Rattle.rl_model.specs.Rows.{FieldSeen}
 use Rattle.rl_model.specs.Fields.{first_of, count_of, fields_of}
 use Rattle.rl_mirror.proofs.FieldLemmas.{field_in-fields_of, length-fields_of}
+use Rattle.rl_mirror.proofs.MaskedLemmas.{none_spent}
 use Rattle.rl_mirror.proofs.SpentLemmas.{is_spent_so_far, spends_at, spent_none, spent_passed, spent_added, spent_all}
 use Rattle.rl_mirror.proofs.fields.spend.Goals as goal
+
+pub returns-then-effects-places-eq0 : goal.returns-then-effects-places-eq0
+returns-then-effects-places-eq0 c =
+    none_spent c.args.chip.now c.args.reg c.args.fields c.effects.result.now.spending c.args.places c.args.spent.now c.effects.ensures.sound c.requires.reg c.requires.marks
+    c.effects.ensures.value.spending c.requires.places c.if-effects-places-eq0.true
 
 pub loop-k-init : goal.loop-k-init
 loop-k-init c = record {

@@ -1,15 +1,14 @@
-use Rattle.std.proofs.Common.{◌≡◌, ℕ, ◌<◌, ◌^◌, cond}
+use Rattle.std.proofs.Common.{◌≡◌, ℕ, ◌<◌, ◌^◌}
 use Rattle.rl_policy.specs.Bits.{bit}
 use Rattle.rl_mirror.specs.Effect.{effect_bit}
 use Rattle.rl_model.specs.Fields.{fields_of, policy_in, place_at}
 use Rattle.rl_mirror.specs.Mirror.{marks_in}
 use Rattle.rl_mirror.proofs.PlaceLemmas.{so_far}
-use Rattle.rl_mirror.proofs.fields.overlaid.Given as goal
+use Rattle.rl_mirror.proofs.fields.assembled.Given as goal
 
 abbrev pub invariant-loop-k : goal.invariant-loop-k
 invariant-loop-k l = record {
   fits : l.word < 2 ^ 64;
   bits : (b : ℕ) → b < 64
-      → bit l.word b ≡ so_far l.k (λ k. cond (bit l.fields k) (effect_bit l.effect (policy_in (fields_of l.chip l.reg) k) (marks_in l.chip l.spent l.reg k) b) (bit l.kept b))
-      (place_at (fields_of l.chip l.reg) b) (bit l.kept b);
+      → bit l.word b ≡ so_far l.k (λ k. effect_bit l.effect (policy_in (fields_of l.chip l.reg) k) (marks_in l.chip l.spent l.reg k) b) (place_at (fields_of l.chip l.reg) b) (bit 0 b);
 }
