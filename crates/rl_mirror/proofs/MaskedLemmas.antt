@@ -1,13 +1,13 @@
 -- Words of a register by its masks.
-use Rattle.std.proofs.Common.{◌≡◌, ℕ, ◌+◌, ◌-◌, ◌*◌, ◌≤◌, ◌<◌, ◌^◌, Bool, true, false, cond, not, ◌&&◌, ◌||◌, eqb, leb, ltb, List, length, get_or, Option, Some, None, option_map, refl, sym, ap, ◌∙◌, inl, inr, le-leb, lt-ltb, le-ltb, arith}
+use Rattle.std.proofs.Common.{◌≡◌, ℕ, ◌+◌, ◌-◌, ◌*◌, ◌≤◌, ◌<◌, ◌^◌, Bool, true, false, cond, not, ◌&&◌, ◌||◌, leb, ltb, List, length, get_or, Option, Some, None, option_map, refl, sym, ap, ◌∙◌, inl, inr, le-leb, lt-ltb, le-ltb, arith}
 use Rattle.std.specs.Prelude.{bit_and}
 use Rattle.std.specs.Option.{option_map_or}
-use Rattle.std.proofs.lemmas.Bool.{eqb-true, cases_lt, lt-leb}
+use Rattle.std.proofs.lemmas.Bool.{eqb-true, cases_lt}
 use Rattle.std.proofs.lemmas.Nat.{and_le_l}
 use Rattle.rl_policy.specs.Bits.{bit}
 use Rattle.rl_policy.specs.Table.{after_write, after_read, value_read, spends_mark, is_write_only}
 use Rattle.rl_policy.specs.declared.policy.Policy.{Policy}
-use Rattle.rl_policy.specs.Access.{bit_written, bit_answered, bit_left}
+use Rattle.rl_policy.specs.Access.{bit_written, bit_left}
 use Rattle.rl_policy.specs.Masks.{owned_test, IsMaskOf, bits_written, bits_left}
 use Rattle.rl_policy.proofs.BitLemmas.{bit-and, bit-zero, bit-max, bit-from_bits, from_bits-lt, from_bits-same}
 use Rattle.rl_policy.proofs.TableLemmas.{after_write-by_mark}
@@ -16,7 +16,7 @@ use Rattle.rl_model.specs.Chip.{IsSound}
 use Rattle.rl_model.specs.Fields.{first_of, count_of, size_of, fields_of, field_in, policy_in, place_at, policy_at, covers}
 use Rattle.rl_mirror.specs.Fields.{word_by_field, owned, chosen_bits}
 use Rattle.rl_mirror.specs.Prediction.{written, shown, left_by_read, learned_by_write, learned_by_read, told_bits, spent_after}
-use Rattle.rl_mirror.proofs.PlaceLemmas.{IsFieldList, place_is, is_place, covers_is}
+use Rattle.rl_mirror.proofs.PlaceLemmas.{place_is, is_place, covers_is}
 use Rattle.rl_mirror.proofs.FieldLemmas.{field_list, field_in-fields_of, length-fields_of}
 use Rattle.rl_mirror.proofs.WordLemmas.{bit-word_by_field, is_word_by_field, word_by_field-same, owned_bit, word_is_value}
 use Rattle.rl_mirror.proofs.SpentLemmas.{spends_at, is_spent_so_far, spent_all}

@@ -21,7 +21,6 @@ use Rattle.rl_mirror.proofs.FieldLemmas.{seated, field_list, length-fields_of, f
 use Rattle.rl_mirror.proofs.SpentLemmas.{length-spent_after}
 use Rattle.rl_mirror.proofs.WordLemmas.{is_word_by_field, owned_bit, owned_zero, word_is_value, bytes_pow}
 use Rattle.rl_model.specs.Rows.{FieldSeen, ChipData}
-use Rattle.rl_mirror.specs.declared.effect.Effect.{Effect}
 use Rattle.rl_mirror.specs.declared.effect.Effect.TheVariants.{Updating, Neutral}
 use Rattle.rl_mirror.specs.Effect.{effect_bit}
 use Rattle.rl_model.specs.Fields.{field_of, first_of, count_of, size_of, fields_of, field_in, policy_in, place_at}

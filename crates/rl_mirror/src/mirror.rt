@@ -8,7 +8,9 @@ ghost use Rattle.rl_mirror.specs.Prediction.{written, predict_write, predict_rea
 ghost use Rattle.rl_mirror.specs.Prediction.{needs_update, update_word_of, neutral_around};
 
 use crate::effect::Effect;
-use crate::fields::{assembled, chosen, differing, numbered_field, owned, spend, told, written_over};
+use crate::fields::{
+    assembled, chosen, differing, numbered_field, owned, spend, told, written_over,
+};
 use crate::resets::{clear, reset_all};
 use rl_model::{Chip, Field};
 use rl_policy::policy::set_value;

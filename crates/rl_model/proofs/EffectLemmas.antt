@@ -14,7 +14,8 @@ use Rattle.rl_model.specs.Rules.{all_kinds}
 use Rattle.rl_model.specs.Stages.{all_next}
 use Rattle.rl_model.specs.Build.{first_kinds, regs_seen, all_fields, chip_of, chip_fault}
 use Rattle.rl_model.specs.Chip.{IsSound}
-use Rattle.rl_model.specs.Fields.{no_field, field_in, fields_of, covers, place_at, policy_at, AllHaveSeats, HaveFields, AreEffects}
+use Rattle.rl_model.specs.Fields.{no_field, field_in, fields_of, covers, place_at, policy_at}
+use Rattle.rl_model.specs.Masks.{AllHaveSeats, HaveFields, AreEffects}
 use Rattle.rl_model.proofs.Numbering.{all_plain}
 use Rattle.rl_model.proofs.ChipLaws.{field_has_bits}
 use Rattle.rl_model.proofs.ChipSound.{each_chip_sound}

@@ -1,13 +1,10 @@
 -- The fields of a register, and the field that a bit belongs to.
-use Rattle.std.specs.Prelude.{◌≡◌, ℕ, ◌+◌, ◌≤◌, Bool, List, [], length, get_or, take, drop, position, slice_get, Option, Some, option_map, false}
+use Rattle.std.specs.Prelude.{ℕ, Bool, List, [], get_or, take, drop, position, slice_get, Option, option_map, false}
 use Rattle.std.specs.Option.{option_map_or}
 use Rattle.rl_policy.specs.Bits.{is_within}
 use Rattle.rl_policy.specs.declared.policy.Policy.{Policy}
 use Rattle.rl_policy.specs.declared.policy.Policy.TheVariants.{Ro}
-use Rattle.rl_policy.specs.declared.effects.Effects.{Effects}
-use Rattle.rl_policy.specs.Masks.{AreEffectsOf}
 use Rattle.rl_model.specs.declared.rows.Field.{Field}
-use Rattle.rl_model.specs.declared.rows.RegRow.{RegRow}
 use Rattle.rl_model.specs.Rows.{FieldSeen, ChipData}
 
 -- past the end of a list of fields
@@ -54,21 +51,3 @@ place_at fields b = position (λ f. covers f.shape b) fields
 -- the policy of bit b, by its field
 abbrev pub policy_at : List FieldSeen → ℕ → Option Policy
 policy_at fields b = option_map (policy_in fields) (place_at fields b)
-
--- ---- the masks of registers
-
--- a field has bits, all within 64
-abbrev pub HasSeat : FieldSeen → Type 0
-HasSeat f = (1 ≤ f.shape.width) × (f.shape.lsb + f.shape.width ≤ 64)
-
-abbrev pub AllHaveSeats : List FieldSeen → Type 0
-AllHaveSeats fields = (i : ℕ) (f : FieldSeen) → slice_get fields i ≡ Some f → HasSeat f
-
--- each register's fields are among these
-abbrev pub HaveFields : List RegRow → List FieldSeen → Type 0
-HaveFields regs fields = (n : ℕ) (r : RegRow) → slice_get regs n ≡ Some r → r.first + r.count ≤ length fields
-
--- for each register its masks
-pub record AreEffects (regs : List RegRow) (fields : List FieldSeen) (all : List Effects) : Type 0 where
-  pub long : length all ≡ length regs
-  pub each : (n : ℕ) (r : RegRow) (e : Effects) → slice_get regs n ≡ Some r → slice_get all n ≡ Some e → AreEffectsOf (policy_at (take r.count (drop r.first fields))) e

@@ -47,7 +47,7 @@ impl Model for Chip {
     ghost Value = { ChipData };
 
     ghost use Rattle.rl_model.specs.Chip.{IsSound};
-    ghost use Rattle.rl_model.specs.Fields.{AreEffects};
+    ghost use Rattle.rl_model.specs.Masks.{AreEffects};
 
     ghost view = { λ c. record {
       blocks = c.blocks;

@@ -1,7 +1,8 @@
 //! The masks of the registers.
 ghost use Rattle.std.specs.Prelude.{IfOk};
 ghost use Rattle.rl_policy.specs.Masks.{AreEffectsOf};
-ghost use Rattle.rl_model.specs.Fields.{policy_at, AllHaveSeats, HaveFields, AreEffects};
+ghost use Rattle.rl_model.specs.Fields.{policy_at};
+ghost use Rattle.rl_model.specs.Masks.{AllHaveSeats, HaveFields, AreEffects};
 
 use crate::rows::{FieldRow, RegRow};
 use rl_policy::Effects;

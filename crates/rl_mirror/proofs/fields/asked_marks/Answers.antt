@@ -1,7 +1,5 @@
-use Rattle.std.proofs.Common.{ap}
-use Rattle.rl_model.specs.Fields.{fields_of, policy_at}
+use Rattle.rl_model.specs.Fields.{fields_of}
 use Rattle.rl_mirror.specs.Mirror.{marked_bits}
-use Rattle.rl_policy.specs.Masks.{bits_written}
 use Rattle.rl_mirror.proofs.MaskedLemmas.{unasked}
 use Rattle.rl_mirror.proofs.fields.asked_marks.Goals as goal
 

@@ -2,10 +2,10 @@ use Rattle.std.proofs.Common.{◌≡◌, ℕ, ◌<◌, Bool, subst, refl, sym, a
 use Rattle.rl_policy.specs.Bits.{bit}
 use Rattle.rl_model.specs.declared.rows.Field.{Field}
 use Rattle.rl_mirror.specs.Effect.{effect_bit}
-use Rattle.rl_model.specs.Fields.{fields_of, place_at, policy_in}
+use Rattle.rl_model.specs.Fields.{fields_of, policy_in}
 use Rattle.rl_mirror.specs.Fields.{word_by_field}
 use Rattle.rl_mirror.specs.Mirror.{marks_in, IsValueOf}
-use Rattle.rl_mirror.proofs.PlaceLemmas.{taken, so_far-zero}
+use Rattle.rl_mirror.proofs.PlaceLemmas.{taken}
 use Rattle.rl_mirror.proofs.FieldLemmas.{field_list}
 use Rattle.rl_mirror.proofs.WordLemmas.{is_word_by_field, finished, owned_zero, word_is_value}
 use Rattle.rl_mirror.proofs.fields.assembled.Goals as goal

@@ -1,4 +1,4 @@
-use Rattle.std.proofs.Common.{◌≡◌, ◌<◌, ◌^◌, arith}
+use Rattle.std.proofs.Common.{◌≡◌, arith}
 use Rattle.std.specs.Prelude.{bit_and}
 use Rattle.rl_model.specs.Fields.{fields_of, policy_at}
 use Rattle.rl_mirror.specs.Prediction.{left_by_read}

@@ -1,4 +1,4 @@
-use Rattle.std.proofs.Common.{◌≡◌, ℕ, ◌<◌, ◌^◌, sym, subst, arith}
+use Rattle.std.proofs.Common.{◌≡◌, ℕ, sym, subst, arith}
 use Rattle.std.specs.Prelude.{bit_and}
 use Rattle.rl_policy.specs.Bits.{bit}
 use Rattle.rl_model.specs.Fields.{fields_of}

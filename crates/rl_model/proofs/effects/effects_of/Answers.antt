@@ -7,7 +7,8 @@ use Rattle.rl_policy.specs.Masks.{more_owned_bit}
 use Rattle.rl_policy.proofs.MaskLemmas.{effects_same, own_bit}
 use Rattle.rl_model.specs.declared.rows.Field.{Field}
 use Rattle.rl_model.specs.Rows.{FieldSeen}
-use Rattle.rl_model.specs.Fields.{no_field, field_in, policy_in, covers, place_at, HasSeat}
+use Rattle.rl_model.specs.Fields.{no_field, field_in, policy_in, covers, place_at}
+use Rattle.rl_model.specs.Masks.{HasSeat}
 use Rattle.rl_model.proofs.EffectLemmas.{place_nowhere, place_more}
 use Rattle.rl_model.proofs.effects.effects_of.Goals as goal
 

@@ -1,6 +1,5 @@
-use Rattle.std.proofs.Common.{◌≡◌, ◌<◌, ◌^◌, Bool, List, ap, ◌∙◌, arith}
-use Rattle.std.specs.Prelude.{bit_and}
-use Rattle.rl_model.specs.Fields.{fields_of, size_of}
+use Rattle.std.proofs.Common.{◌≡◌, Bool, List, ap, ◌∙◌, arith}
+use Rattle.rl_model.specs.Fields.{fields_of}
 use Rattle.rl_mirror.specs.Mirror.{MirrorData, marks_in}
 use Rattle.rl_mirror.specs.Prediction.{written}
 use Rattle.rl_mirror.proofs.MaskedLemmas.{written_is, written_fits}

@@ -2,7 +2,7 @@ use Rattle.std.proofs.Common.{◌≡◌, ◌+◌, sym, subst, ◌∙◌, arith}
 use Rattle.std.proofs.lemmas.Grind.{common_steps}
 use Rattle.rl_model.specs.Rows.{ChipData}
 use Rattle.rl_model.specs.Chip.{IsSound}
-use Rattle.rl_model.specs.Fields.{AreEffects}
+use Rattle.rl_model.specs.Masks.{AreEffects}
 use Rattle.rl_model.specs.Build.{first_kinds, chip_of}
 use Rattle.rl_model.proofs.Numbering.{all_plain}
 use Rattle.rl_model.proofs.EffectLemmas.{rows_of}

@@ -1,6 +1,6 @@
 use Rattle.std.proofs.Common.{subst}
 use Rattle.rl_model.specs.Rows.{ChipData}
-use Rattle.rl_model.specs.Fields.{AreEffects}
+use Rattle.rl_model.specs.Masks.{AreEffects}
 use Rattle.rl_model.proofs.EffectLemmas.{masks_at}
 use Rattle.rl_model.proofs.chip.Chip.effects.Goals as goal
 
