@@ -3,6 +3,7 @@ ghost use Rattle.std.specs.Prelude.{◌≡◌, ◌+◌, ◌^◌, ◌<◌, ◌≤
 ghost use Rattle.std.specs.Prelude.{IfOk, position, length, slice_get, All};
 ghost use Rattle.rl_map.specs.Layout.{map_at, port_at, place_at, seat_at, words_of, has_right, found};
 ghost use Rattle.rl_map.specs.Layout.{words_found, standing, place_of, map_named, IsLocation, IsHere, IsSound};
+ghost use Rattle.rl_map.specs.Links.{IsLast};
 ghost use Rattle.rl_map.specs.Partition.{IsWordOn};
 
 use crate::find::{count_through, first_through, index_of, map_number, rows_at};
@@ -161,6 +162,13 @@ impl Layout {
         ensures there { IfSome result (λ p. (p < length self.now.places) × ((place_at self.now p).item ≡ item)) }
     {
         self.links.place_of(&self.places, item, map)
+    }
+
+    /// The number above the last place of an item, and 0 where it has none.
+    pub fn end_of(&self, item: Item) -> u32
+        ensures { IsLast self.now.places (length self.now.places) item result }
+    {
+        self.links.last(item)
     }
 
     /// The register or memory that stands at a place.

@@ -58,7 +58,7 @@ impl ItemLinks {
     }
 
     /// The number above the last place of an item, and 0 if it has none.
-    fn last(&self, item: Item) -> u32
+    pub(crate) fn last(&self, item: Item) -> u32
         ensures { result ≡ slice_index_or self.now.lasts.items (number_of_item item) 0 }
     {
         match self.lasts.get(number_of_item(item)) {

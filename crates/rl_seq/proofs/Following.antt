@@ -1,5 +1,5 @@
 -- Plans that are followed one after another, with all that stays.
-use Rattle.std.proofs.Common.{◌≡◌, ℕ, ◌+◌, ◌<◌, true, false, List, Option, Result, Ok, Err, OnOk, OnErr, refl, sym, ap, ◌∙◌, arith}
+use Rattle.std.proofs.Common.{◌≡◌, ℕ, zero, suc, ◌+◌, ◌-◌, ◌<◌, ◌≤◌, true, false, List, Option, Result, Ok, Err, OnOk, OnErr, refl, sym, ap, ◌∙◌, subst, arith}
 use Rattle.std.specs.Result.{IsErr}
 use Rattle.rl_bus.specs.Causes.{HasCause}
 use Rattle.rl_bus.specs.Standing.{Standing}
@@ -17,7 +17,7 @@ use Rattle.rl_seq.specs.Plan.{Plan, stop, step, look, followed_by, each_below}
 use Rattle.rl_seq.specs.Running.{GoesOn, IsReadyAt, IsSameRun, stage_at}
 use Rattle.rl_seq.specs.declared.running.Running.{Running}
 use Rattle.rl_seq.specs.Sequences.{walk, beginning_of, plan_of}
-use Rattle.rl_seq.specs.Stage.{Stage, stage_of, Stays, Follows, IsRunOf}
+use Rattle.rl_seq.specs.Stage.{Stage, Stays, Follows, IsRunOf}
 use Rattle.rl_seq.proofs.Planned.{walks_one, walks_none, walks_then, walks_broke, walks_below, walks_look, walks_same, walks_alike, Alike, grown, same_plan, sequence_done, sequence_broke}
 
 pub same_parts : (m : ModelData) → IsSameChip m m
@@ -165,6 +165,25 @@ module _ {R : Type 0} (r : Recorder R) where
   each_skipped d before after run mid f i out a =
       each_more {E = Unit {0}} d before after after run mid mid f i stop (tt {0}) (sym out) a
       (record { follows = follows_none (stage_at d after mid) mid.tally (tt {0}) a.follows.stays.ready; same = same_run mid })
+
+  -- those that come next were left out
+  each_passed : {D X : Type 0} {V : X → Type 0} (d : Device D) (before after : List Standing) (run mid : Running D R X V) (f : ℕ → Plan) (i gap : ℕ)
+      → ((k : ℕ) → i ≤ k → k < i + gap → f k ≡ stop) → WentOn d before after run mid (each_below i f)
+      → WentOn d before after run mid (each_below (i + gap) f)
+  each_passed d before after run mid f i zero out a =
+      subst (λ n. WentOn d before after run mid (each_below n f)) (let e : i ≡ i + 0 = omega arith in e) a
+  each_passed d before after run mid f i (suc gap) out a =
+      subst (λ n. WentOn d before after run mid (each_below n f)) (let e : i + gap + 1 ≡ i + suc gap = omega arith in e)
+      (each_skipped d before after run mid f (i + gap) (out (i + gap) (omega arith) (omega arith))
+      (each_passed d before after run mid f i gap (λ k from low. out k from (omega (arith, low))) a))
+
+  -- up to a number
+  pub each_up_to : {D X : Type 0} {V : X → Type 0} (d : Device D) (before after : List Standing) (run mid : Running D R X V) (f : ℕ → Plan) (i n : ℕ)
+      → i ≤ n → ((k : ℕ) → i ≤ k → k < n → f k ≡ stop) → WentOn d before after run mid (each_below i f)
+      → WentOn d before after run mid (each_below n f)
+  each_up_to d before after run mid f i n low out a =
+      subst (λ k. WentOn d before after run mid (each_below k f)) (let e : i + (n - i) ≡ n = omega (arith, low) in e)
+      (each_passed d before after run mid f i (n - i) (λ k from under. out k from (omega (arith, low, under))) a)
 
   -- the one that comes next broke off
   pub each_broke : {D X : Type 0} {V : X → Type 0} {U W E : Type 0} (d : Device D) (before between after : List Standing) (run mid new : Running D R X V) (f : ℕ → Plan)

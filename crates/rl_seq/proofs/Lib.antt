@@ -2,4 +2,5 @@ pub mod Choosing
 pub mod Following
 pub mod Granting
 pub mod Planned
+pub mod Stretch
 pub mod Turning

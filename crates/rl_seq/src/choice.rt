@@ -1,5 +1,6 @@
 //! Which registers, memories, places and bits a sequence goes over.
-ghost use Rattle.std.specs.Prelude.{◌≡◌, ◌<◌, ◌&&◌, length, IfSome};
+ghost use Rattle.std.specs.Prelude.{◌≡◌, ◌<◌, ◌&&◌, length, unwrap_or, None, IfSome};
+ghost use Rattle.rl_map.specs.Layout.{place_of};
 ghost use Rattle.rl_model.specs.Chip.{HasItem};
 ghost use Rattle.rl_mirror.specs.Compared.{is_compared};
 ghost use Rattle.rl_policy.specs.Bits.{is_within};
@@ -93,12 +94,19 @@ pub(crate) fn may_write(layout: &Layout, place: u32) -> bool
     has_right(layout.rights(place), true)
 }
 
+/// The first place of the item, and 0 where it has none.
+pub(crate) fn first_place(layout: &Layout, item: Item) -> u32
+    ensures { result ≡ unwrap_or (place_of layout.now item None) 0 }
+{
+    layout.place_of(item, None).unwrap_or(0)
+}
+
 /// How many places the item has.
 fn places_of(layout: &Layout, item: Item) -> u32
     ensures { result ≡ places_of layout.now item }
 {
     let mut count = 0;
-    for place in 0..layout.places() {
+    for place in first_place(layout, item)..layout.end_of(item) {
         if is_of(layout, place, item) {
             count += 1;
         }

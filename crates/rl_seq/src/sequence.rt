@@ -32,8 +32,8 @@ impl Sequence {
         }
     }
 
-    // The register, or memory, with this number.
-    fn item(self, number: u32) -> Item
+    /// The register, or memory, with this number.
+    pub(crate) fn item(self, number: u32) -> Item
         ensures { result ≡ item_of self number }
     {
         match self {

@@ -5,6 +5,7 @@ ghost use Rattle.rl_seq.specs.Running.{GoesOn, IsReadyAt, stage_at};
 ghost use Rattle.rl_seq.specs.Sequences.{items_of, walk, visit};
 ghost use Rattle.rl_seq.specs.Visits.{IsVisit, turns_of, turn_of, turns};
 
+use crate::choice::first_place;
 use crate::running::Running;
 use crate::sequence::Sequence;
 use crate::step::perform_step;
@@ -33,7 +34,7 @@ pub(crate) fn walk<D: Device, R: Recorder>(
     Ok(())
 }
 
-// Goes over the places of a register or memory.
+// Goes over the places of a register or memory: from its first one to its last.
 fn visit_places<D: Device, R: Recorder>(
     sequence: Sequence,
     number: u32,
@@ -46,7 +47,10 @@ fn visit_places<D: Device, R: Recorder>(
         (each_below (length run.old.model.now.layout.places)
         (visit sequence run.old.model.now.chip run.old.model.now.layout number)) result }
 {
-    for place in 0..run.model.layout().places() {
+    let item = sequence.item(number);
+    let first = first_place(run.model.layout(), item);
+    let end = run.model.layout().end_of(item);
+    for place in first..end {
         if !sequence.visits(run.model.layout(), number, place) {
             continue;
         }
