@@ -14,12 +14,12 @@ use std::rt::Env;
 fn run(rt: &(impl Env + AllocGlobal + Input + Print)) -> io::Result<u8> {
     let alloc = rt.alloc();
     let words = words(rt)?;
-    let mut source = StdSource::new(rt.reader());
-    let mut sink = StdSink::new(io::writer(rt));
     let (plain, apb) = fresh_adapters();
     let mut adapters: Adapters = Vec::new(alloc);
     adapters.push(Box::new(alloc, plain)?)?;
     adapters.push(Box::new(alloc, apb)?)?;
+    let mut source = StdSource::new(rt.reader());
+    let mut sink = StdSink::new(io::writer(rt));
     Ok(regrun(alloc, &words, &mut source, &mut sink, &mut adapters).code())
 }
 
