@@ -1,9 +1,10 @@
 -- Conditions that are tested in parts.
-use Rattle.std.proofs.Common.{◌≡◌, List, [], ◌∷◌, ◌++◌, Option, Some, None, Result, Err, refl, sym, ap, ◌∙◌, subst, inl, inr}
+use Rattle.std.proofs.Common.{◌≡◌, ℕ, ◌≤◌, false, arith, List, [], ◌∷◌, ◌++◌, Option, Some, None, Result, Err, refl, sym, ap, ◌∙◌, subst, inl, inr}
 use Rattle.std.proofs.lemmas.Bool.{cases_Bool}
+use Rattle.std.proofs.lemmas.Bool.Decides.{nat_tests}
 use Rattle.rl_model.specs.declared.fault.Spot.{Spot}
 use Rattle.rl_model.specs.declared.fault.ModelFault.{ModelFault}
-use Rattle.rl_model.specs.Rules.{Check, first_of, or_else, Fails, Passes}
+use Rattle.rl_model.specs.Rules.{Check, first_of, is_bad_width, or_else, Fails, Passes}
 
 pub first_of_all : (spot : Spot) (cs ds : List Check) → first_of spot (cs ++ ds) ≡ or_else (first_of spot cs) (first_of spot ds)
 first_of_all spot [] ds = refl
@@ -29,3 +30,8 @@ fails_first e first later whole fails split = λ other. split ∙ ap (λ o. or_e
 pub passed_on : {X : Type 0} (r : Result X ModelFault) (P : X → Type 0) (first later whole : Option ModelFault)
     → first ≡ None → Passes r later P → whole ≡ or_else first later → Passes r whole P
 passed_on r P first later whole none passes split = subst (λ o. Passes r o P) (sym (split ∙ ap (λ o. or_else o later) none)) passes
+
+-- ---- widths
+
+pub width_fits : (bytes : ℕ) → is_bad_width bytes ≡ false → bytes ≤ 8
+width_fits bytes fits = grind (arith, nat_tests)

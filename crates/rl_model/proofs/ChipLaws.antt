@@ -13,7 +13,7 @@ use Rattle.rl_model.specs.declared.rows.MemRow.{MemRow}
 use Rattle.rl_model.specs.declared.rows.Reset.{Reset}
 use Rattle.rl_model.specs.Rows.{FieldSeen, ChipData}
 use Rattle.rl_model.specs.Chip.{IsSound, HasBits, IsFieldOf, bytes_of, value_for}
-use Rattle.rl_model.proofs.SoundLemmas.{there, get-take}
+use Rattle.rl_model.proofs.SoundLemmas.{there, get-take, get-drop}
 
 mapped : {X Y : Type 0} (v : X → Y) (o : Option X) (y : Y) → option_map v o ≡ Some y → (x : X) × (o ≡ Some x) × (v x ≡ y)
 mapped v None y h = absurd (none-some y h)
@@ -151,11 +151,6 @@ fields_of-filter c s n r at =
 
 pub length-fields_of : (c : ChipData) → IsSound c → (n : ℕ) (r : RegRow) → slice_get c.regs n ≡ Some r → length (fields_of c r) ≡ r.count
 length-fields_of c s n r at = omega (arith, length-take-le r.count (drop r.first c.fields), length-drop r.first c.fields, (s.each_reg n r at).2)
-
-get-drop : {X : Type 0} (xs : List X) (a k : ℕ) → slice_get (drop a xs) k ≡ slice_get xs (a + k)
-get-drop xs zero k = let e : 0 + k ≡ k = omega arith in rw e
-get-drop [] (suc a) k = refl
-get-drop (x ∷ xs) (suc a) k = let e : suc a + k ≡ suc (a + k) = omega arith in rw e (get-drop xs a k)
 
 -- the k-th of the register's fields has the number `first + k`
 pub get-fields_of : (c : ChipData) (k : ℕ) (r : RegRow) → k < r.count → slice_get (fields_of c r) k ≡ slice_get c.fields (r.first + k)

@@ -1,8 +1,8 @@
 -- The policies of the bits of a register.
-use Rattle.std.proofs.Common.{◌≡◌, ◌⊎◌, ℕ, ◌+◌, ◌<◌, ◌≤◌, cond, List, [], ◌∷◌, ◌++◌, length, take, get_or, slice_get, Some, None, refl, sym, ap, ◌∙◌, inl, inr, arith}
+use Rattle.std.proofs.Common.{◌≡◌, ◌⊎◌, ℕ, ◌+◌, ◌<◌, ◌≤◌, cond, List, [], ◌∷◌, ◌++◌, length, length-take, take, drop, get_or, slice_get, Some, None, refl, sym, ap, ◌∙◌, inl, inr, arith}
 use Rattle.std.proofs.lemmas.Bool.{cases_lt}
 use Rattle.std.proofs.lemmas.List.{get_or_append_left, get_or_push}
-use Rattle.std.proofs.lemmas.Option.{same_Some, slice_get_cases, slice_get_read, get_or_from_slice_get}
+use Rattle.std.proofs.lemmas.Option.{same_Some, slice_get_cases, slice_get_read, slice_get_within, get_or_from_slice_get}
 use Rattle.rl_policy.specs.declared.effects.Effects.{Effects}
 use Rattle.rl_policy.specs.Masks.{AreEffectsOf}
 use Rattle.std.specs.Option.{option_or}
@@ -17,6 +17,7 @@ use Rattle.rl_model.specs.Chip.{IsSound}
 use Rattle.rl_model.specs.Fields.{no_field, field_in, fields_of, covers, place_at, policy_at}
 use Rattle.rl_model.specs.Masks.{AllHaveSeats, HaveFields, AreEffects}
 use Rattle.rl_model.proofs.Numbering.{all_plain}
+use Rattle.rl_model.proofs.SoundLemmas.{get-take, get-drop}
 use Rattle.rl_model.proofs.ChipLaws.{field_has_bits}
 use Rattle.rl_model.proofs.ChipSound.{each_chip_sound}
 
@@ -79,3 +80,8 @@ unfolding chip_of
 rows_of parts regs fields none regs_are fields_are =
     let rows : HasRows (regs_seen 0 parts.regs) (all_fields 0 (all_kinds first_kinds parts.regs) parts.regs) = sound_rows (chip_of parts) (each_chip_sound parts none) in
     rw (regs_are, fields_are, all_plain 0 first_kinds parts.regs) rows
+
+pub seats_within : (fields : List FieldSeen) (first count : ℕ) → AllHaveSeats fields → AllHaveSeats (take count (drop first fields))
+seats_within fields first count seats i f at =
+    let low : i < count = omega (arith, slice_get_within (take count (drop first fields)) i f at, length-take count (drop first fields)) in
+    seats (first + i) f (sym (get-take (drop first fields) i count low ∙ get-drop fields first i) ∙ at)

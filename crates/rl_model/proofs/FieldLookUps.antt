@@ -1,5 +1,5 @@
 -- A field by its register and name, and by its path.
-use Rattle.std.proofs.Common.{◌≡◌, ◌↔◌, ℕ, zero, suc, length-take-le, length-drop, ◌+◌, ◌-◌, ◌<◌, Bool, true, false, nat_lt, List, [], ◌∷◌, ◌++◌, length, take, drop}
+use Rattle.std.proofs.Common.{◌≡◌, ◌↔◌, ℕ, length-take-le, length-drop, ◌+◌, ◌-◌, ◌<◌, Bool, true, false, nat_lt, List, [], ◌∷◌, ◌++◌, length, take, drop}
 use Rattle.std.proofs.Common.{slice_get, position, Option, Some, None, option_map, is_some, unwrap_or, IsSomeAnd, refl, sym, ap, ◌∙◌, inl, inr, arith, bytes_eq}
 use Rattle.std.proofs.lemmas.Bool.{cases_Bool, false≢true}
 use Rattle.std.proofs.lemmas.Bool.Decides.{nat_tests}
@@ -10,9 +10,10 @@ use Rattle.std.specs.List.{list_any}
 use Rattle.rl_policy.specs.declared.policy.Policy.TheVariants as policy
 use Rattle.rl_model.specs.declared.rows.RegRow.{RegRow}
 use Rattle.rl_model.specs.Rows.{FieldSeen, ChipData}
+use Rattle.rl_model.specs.Fields.{no_field}
 use Rattle.rl_model.specs.Chip.{IsSound, IsNamed, IsFieldOf, field_path, path_at, last_dot}
 use Rattle.rl_model.proofs.PathLemmas.{any-position}
-use Rattle.rl_model.proofs.SoundLemmas.{there, none_at, get-take}
+use Rattle.rl_model.proofs.SoundLemmas.{there, none_at, get-take, get-drop}
 use Rattle.rl_model.proofs.Sound.{some_holds}
 use Rattle.rl_model.proofs.Dots.{last_dot-append, no_dot, split_at_dot, take_front, drop_after}
 
@@ -174,11 +175,6 @@ by_path c s path dot reg result is regs named n = (
 
 -- ---- the fields of a register, as a part of all fields
 
-get-drop : {X : Type 0} (xs : List X) (a k : ℕ) → slice_get (drop a xs) k ≡ slice_get xs (a + k)
-get-drop xs zero k = let e : 0 + k ≡ k = omega arith in rw e
-get-drop [] (suc a) k = refl
-get-drop (x ∷ xs) (suc a) k = let e : suc a + k ≡ suc (a + k) = omega arith in rw e (get-drop xs a k)
-
 own_fields : (c : ChipData) → IsSound c → (reg : ℕ) (row : RegRow) → slice_get c.regs reg ≡ Some row → AreOwn c row (take (row.first + row.count - row.first) (drop row.first c.fields))
 own_fields c s reg row at =
     let fits = s.each_reg reg row at in
@@ -193,3 +189,10 @@ pub named_in : (c : ChipData) → IsSound c → (reg : ℕ) (row : RegRow) (name
     → (n : ℕ) → (option_map (λ place. row.first + place) found ≡ Some n) ↔ IsNamed c reg name n
 named_in c s reg row name None at none = named_None c s reg row _ name at (own_fields c s reg row at) none
 named_in c s reg row name (Some place) at found = named_Some c s reg row _ name place at (own_fields c s reg row at) found
+
+-- a place among a register's fields, counted from its first one, is a field
+pub place_within : (c : ChipData) → IsSound c → (reg : ℕ) (row : RegRow) (name : List ℕ) (place : ℕ) → slice_get c.regs reg ≡ Some row
+    → position (has_name name) (take (row.first + row.count - row.first) (drop row.first c.fields)) ≡ Some place → row.first + place < length c.fields
+place_within c s reg row name place at found =
+    let own = own_fields c s reg row at in
+    omega (arith, own.count, (position-Some (has_name name) _ place no_field found).0, (s.each_reg reg row at).2)

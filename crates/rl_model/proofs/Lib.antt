@@ -1,6 +1,8 @@
 pub mod PathLemmas
 pub mod Checks
 pub mod LookUps
+pub mod Reading
+pub mod Lists
 pub mod BuildLemmas
 pub mod Numbering
 pub mod SoundLemmas

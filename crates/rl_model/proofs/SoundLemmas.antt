@@ -1,6 +1,6 @@
 -- What holds of a chip whose parts have no fault.
 use Rattle.std.proofs.Common.{◌≡◌, ℕ, zero, suc, ◌+◌, ◌-◌, ◌*◌, ◌^◌, ◌<◌, ◌≤◌, Bool, true, false, not, ◌||◌, ◌&&◌, nat_lt, nat_le, List, [], ◌∷◌, ◌++◌}
-use Rattle.std.proofs.Common.{length, map, take, slice_get, Option, Some, None, option_map, refl, sym, ◌∙◌, inl, inr, arith, length-append, bytes_eq}
+use Rattle.std.proofs.Common.{length, map, take, drop, slice_get, Option, Some, None, option_map, refl, sym, ◌∙◌, inl, inr, arith, length-append, bytes_eq}
 use Rattle.std.proofs.lemmas.Bool.{cases_Bool}
 use Rattle.std.proofs.lemmas.Bool.Decides.{nat_tests}
 use Rattle.std.proofs.lemmas.Option.{none-some, same_Some, slice_get-map}
@@ -56,6 +56,11 @@ get-take xs k zero h = absurd (omega arith)
 get-take [] k (suc j) h = refl
 get-take (x ∷ xs) zero (suc j) h = refl
 get-take (x ∷ xs) (suc k) (suc j) h = get-take xs k j (omega arith)
+
+pub get-drop : {X : Type 0} (xs : List X) (a k : ℕ) → slice_get (drop a xs) k ≡ slice_get xs (a + k)
+get-drop xs zero k = let e : 0 + k ≡ k = omega arith in rw e
+get-drop [] (suc a) k = refl
+get-drop (x ∷ xs) (suc a) k = let e : suc a + k ≡ suc (a + k) = omega arith in rw e (get-drop xs a k)
 
 pub there : {X : Type 0} (xs : List X) (i : ℕ) → i < length xs → (x : X) × (slice_get xs i ≡ Some x)
 there [] i h = absurd (omega arith)

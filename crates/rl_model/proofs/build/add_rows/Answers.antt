@@ -1,4 +1,4 @@
-use Rattle.std.proofs.Common.{◌≡◌, ℕ, List, ◌++◌, length, map, None, refl, sym, ap, ◌∙◌, arith}
+use Rattle.std.proofs.Common.{◌≡◌, ℕ, ◌≤◌, subst, List, ◌++◌, length, map, None, refl, sym, ap, ◌∙◌, arith}
 use Rattle.std.proofs.lemmas.List.{length-map}
 use Rattle.std.proofs.lemmas.Result.{err_from_is_err_and}
 use Rattle.rl_model.specs.Data.{PartsData}
@@ -81,3 +81,9 @@ returns-clause-exact c =
         made.3 ∙ ap (λ ks. all_kinds ks c.deref.result.now) kinds ∙ ap (all_kinds first_kinds) regs,
       ),
     )
+
+pub returns-clause-few : goal.returns-clause-few
+returns-clause-few c = c.in_ok-add_all_scopes.ensures.few
+
+pub add_regs-requires : goal.add_regs-requires
+add_regs-requires c = subst (λ (kinds : List (List ℕ)). length kinds ≤ 16) (sym c.in_ok-add_known_kinds.ensures) (omega arith)

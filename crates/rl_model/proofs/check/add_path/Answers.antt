@@ -37,3 +37,6 @@ returns-clause-exact c =
     let added : c.add.new.self ≡ a.paths.now ++ path_of a.of.now a.name.now ∷ [] = grind (arith, common_steps) in
     passed_on (Ok (tt {0})) (λ _. c.add.new.self ≡ a.paths.now ++ path_of a.of.now a.name.now ∷ []) (first_of a.spot row) (first_of a.spot path) _
     c.in_ok-check_row.ensures.exact.0 (none, added) (first_of_all a.spot row path)
+
+pub returns-clause-row : goal.returns-clause-row
+returns-clause-row c = c.in_ok-check_row.ensures.row

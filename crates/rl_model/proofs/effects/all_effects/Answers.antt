@@ -1,12 +1,24 @@
-use Rattle.std.proofs.Common.{◌≡◌, ℕ, ◌+◌, ◌-◌, List, false, length, take, drop, get_or, slice_get, Some, ap, subst, ◌∙◌, arith}
+use Rattle.std.proofs.Common.{◌≡◌, ℕ, ◌+◌, ◌-◌, ◌<◌, List, false, length, take, drop, get_or, slice_get, Some, ap, subst, ◌∙◌, arith}
 use Rattle.std.proofs.lemmas.List.{length_push}
 use Rattle.std.proofs.lemmas.Option.{slice_get-get_or, slice_get_within}
 use Rattle.rl_policy.specs.declared.effects.Effects.{Effects}
 use Rattle.rl_policy.specs.Masks.{AreEffectsOf}
 use Rattle.rl_model.specs.declared.rows.RegRow.{RegRow}
 use Rattle.rl_model.specs.Fields.{policy_at}
-use Rattle.rl_model.proofs.EffectLemmas.{pairs_more}
+use Rattle.rl_model.proofs.EffectLemmas.{pairs_more, seats_within}
 use Rattle.rl_model.proofs.effects.all_effects.Goals as goal
+
+abbrev no_row : RegRow
+no_row = record { bytes = 0; backdoor = false; skip = record { bits = 0 }; first = 0; count = 0 }
+
+row_at : (regs : List RegRow) (i : ℕ) → i < length regs → slice_get regs i ≡ Some (get_or regs i no_row)
+row_at regs i low = slice_get-get_or regs i no_row low
+
+pub effects_of-requires : goal.effects_of-requires
+effects_of-requires c = seats_within c.args.fields.now _ _ c.requires.seats
+
+pub slice_bounds-effects_of-end : goal.slice_bounds-effects_of-end
+slice_bounds-effects_of-end c = omega (arith, c.requires.within c.loop-reg.reg-index _ (row_at c.args.regs.now c.loop-reg.reg-index c.loop-reg-test.true))
 
 pub loop-reg-preserved : goal.loop-reg-preserved
 loop-reg-preserved c =
@@ -14,9 +26,8 @@ loop-reg-preserved c =
     let fields = c.args.fields.now in
     let i = c.loop-reg.reg-index in
     let all = c.loop-reg.all.items in
-    let none : RegRow = record { bytes = 0; backdoor = false; skip = record { bits = 0 }; first = 0; count = 0 } in
-    let row : RegRow = get_or regs i none in
-    let at : slice_get regs i ≡ Some row = slice_get-get_or regs i none (omega (arith, c.loop-reg-test.true)) in
+    let row : RegRow = get_or regs i no_row in
+    let at : slice_get regs i ≡ Some row = row_at regs i c.loop-reg-test.true in
     let count : (row.first + row.count) - row.first ≡ row.count = omega arith in
     let here : AreEffectsOf (policy_at (take row.count (drop row.first fields))) c.effects_of.result =
     subst (λ (n : ℕ). AreEffectsOf (policy_at (take n (drop row.first fields))) c.effects_of.result) count c.effects_of.ensures in

@@ -1,5 +1,6 @@
-use Rattle.std.proofs.Common.{◌≡◌, ◌+◌, sym, subst, ◌∙◌, arith}
+use Rattle.std.proofs.Common.{◌≡◌, ◌+◌, length, sym, ap, subst, ◌∙◌, arith}
 use Rattle.std.proofs.lemmas.Grind.{common_steps}
+use Rattle.rl_model.specs.Data.{PartsData}
 use Rattle.rl_model.specs.Rows.{ChipData}
 use Rattle.rl_model.specs.Chip.{IsSound}
 use Rattle.rl_model.specs.Masks.{AreEffects}
@@ -43,3 +44,7 @@ unfolding chip_of
 returns c =
     let plain = all_plain 0 first_kinds c.args.parts.now.regs in
     grind (arith, common_steps, plain)
+
+pub overflow_cast-result : goal.overflow_cast-result
+overflow_cast-result c =
+    omega (arith, c.len-blocks.ensures, c.parts.inside.blocks.ok, ap (λ (parts : PartsData). length parts.blocks) c.parts.view_is, c.in_ok-regs.ensures.few.0)
