@@ -1,7 +1,7 @@
 -- Which places are accepted, and which condition refuses the next.
 use Rattle.std.proofs.Common.{◌≡◌, ℕ, zero, suc, ◌+◌, ◌<◌, ◌≤◌, Bool, true, false, cond, List, [], ◌∷◌, ◌++◌, length, get_or, take}
 use Rattle.std.proofs.Common.{drop, map, nat_lt, nat_le, Option, Some, None, refl, sym, ap, ◌∙◌, subst, arith, length-append}
-use Rattle.std.specs.Prelude.{slice_get, position, bytes_eq, is_some, option_map, ◌↔◌, Result, Err}
+use Rattle.std.specs.Prelude.{All, slice_get, position, bytes_eq, is_some, option_map, ◌↔◌, Result, Err}
 use Rattle.std.specs.List.{position_or_len}
 use Rattle.std.specs.Option.{option_or}
 use Rattle.std.proofs.Common.{get_or-take, get_or-drop, length-take, length-drop}
@@ -38,6 +38,13 @@ use Rattle.rl_map.proofs.Lists.{append_twice, dropped}
 
 -- ---- an item by its path
 
+-- nothing is some
+no_some : {P : Type 0} → false ≡ true → P
+no_some e = cc
+
+pub no_value : {X : Type 0} {P : Type 0} (x : X) → None ≡ Some x → P
+no_value x e = cc
+
 lt_same : (a : ℕ) → nat_lt a a ≡ false
 lt_same a = grind (arith, nat_tests)
 
@@ -59,6 +66,12 @@ part_inside xs first len k low high = let n = length-take len (drop first xs) in
 
 part_at : {X : Type 0} (xs : List X) (first len k : ℕ) (d : X) → k < len → get_or (take len (drop first xs)) k d ≡ get_or xs (first + k) d
 part_at xs first len k d low = get_or-take len (drop first xs) k d low ∙ get_or-drop first xs k d
+
+-- what holds of a whole list holds of a part
+pub all_part : {X : Type 0} (P : X → Type 0) (xs : List X) (first len : ℕ) → All P xs → All P (take len (drop first xs))
+all_part P xs first len h k d low =
+    let inside = part_length xs first len k low in
+    subst P (sym (part_at xs first len k d inside.0)) (h (first + k) d inside.1)
 
 found_by : (paths : List (List ℕ)) (first len : ℕ) (path : List ℕ) (o : Option ℕ) → IsFoundIn paths first len path o → position (bytes_eq path) (take len (drop first paths)) ≡ o
 found_by paths first len path o h = by o refl
@@ -242,7 +255,7 @@ module _ (chip : ChipData) (maps : List MapRow) (ports : List PortRow) (parts : 
       by : (o : Option MapFault) → is_some o ≡ true → o ≡ own_fault chip maps ports places words part
           → o ≡ or_else (own_fault chip maps ports places words part)
           (own_faults chip maps ports (places ++ place_row chip maps part ∷ []) (words + word_count (place_of_part chip maps ports part)) (drop (i + 1) parts))
-      by None e f = cc
+      by None e f = no_some e
       by (Some x) e f = ap (λ o. or_else o (own_faults chip maps ports (places ++ place_row chip maps part ∷ []) (words + word_count (place_of_part chip maps ports part)) (drop (i + 1) parts))) f
 
   pub accepted_end : (places places' : List PlaceRow) (words : ℕ) (refused : Option MapFault) (whole : List PlaceRow) → is_some refused ≡ true → refused ≡ own_fault chip maps ports places words part
@@ -256,7 +269,7 @@ module _ (chip : ChipData) (maps : List MapRow) (ports : List PortRow) (parts : 
       more = place_row chip maps part ∷ accepted chip maps ports (places ++ place_row chip maps part ∷ []) (words + word_count (place_of_part chip maps ports part)) (drop (i + 1) parts)
 
       by : (o : Option MapFault) → is_some o ≡ true → ((e : MapFault) → o ≡ Some e → places' ≡ places) → places' ≡ places
-      by None e f = cc
+      by None e f = no_some e
       by (Some x) e f = f x refl
 
   -- a place that is added

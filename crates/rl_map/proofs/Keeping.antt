@@ -38,6 +38,18 @@ low_words path base item words by ok size fits e k d low =
     omega (arith, fits here.byte here.inside, here.address_is, ap (λ (w : Word). w.address) at)
 
 -- what was read through references
+pub path_read : (maps : List MapRow) (p : PlaceRow) (map : MapRow) (path : List Level) → p.map < length maps → map ≡ get_or maps p.map map → path ≡ map.path → path ≡ path_in maps p
+path_read maps p map path low read is = is ∙ ap (λ (m : MapRow). m.path) (read_is maps p.map map no_map low read)
+
+pub fits_read : (maps : List MapRow) (ports : List PortRow) (p : PlaceRow) (map : MapRow) (port : PortRow) (path : List Level) (loc : Location)
+    → p.map < length maps → p.port < length ports → map ≡ get_or maps p.map map → port ≡ get_or ports p.port port → path ≡ map.path → loc ≡ location_of p 0
+    → ((index : ℕ) → index < p.size → AddressesFit (path_in maps p) (port_for ports p).base (location_of p index))
+    → (index : ℕ) → index < p.size → AddressesFit path port.base (record loc { index = index })
+fits_read maps ports p map port path loc low_m low_p a b e f h index low =
+    subst (λ x. AddressesFit x port.base (record loc { index = index })) (sym (path_read maps p map path low_m a e))
+    (subst (λ (x : PortRow). AddressesFit (path_in maps p) x.base (record loc { index = index })) (sym (read_is ports p.port port no_port low_p b))
+    (subst (λ (x : Location). AddressesFit (path_in maps p) (port_for ports p).base (record x { index = index })) (sym f) (h index low)))
+
 pub kept_of : (maps : List MapRow) (ports : List PortRow) (p : PlaceRow) (map : MapRow) (port : PortRow) (path : List Level) (loc : Location) (kept : PlaceWords)
     → p.map < length maps → p.port < length ports → map ≡ get_or maps p.map map → port ≡ get_or ports p.port port → path ≡ map.path → loc ≡ location_of p 0
     → AreLocations path port.base loc p.size kept → AreLocations (path_in maps p) (port_for ports p).base (location_of p 0) p.size kept

@@ -64,7 +64,8 @@ flat_nothing f first (suc n) h =
     let here : f first ≡ [] = subst (λ k. f k ≡ []) (let e : first + 0 ≡ first = omega arith in e) (h 0 (omega arith)) in
     rw here (flat_nothing f (first + 1) n (λ j low. subst (λ k. f k ≡ []) (let e : first + suc j ≡ first + 1 + j = omega arith in e) (h (suc j) (omega arith))))
 
-append_nothing : {Y : Type 0} (ys : List Y) → ys ++ [] ≡ ys
+-- nothing behind a list
+pub append_nothing : {Y : Type 0} (ys : List Y) → ys ++ [] ≡ ys
 append_nothing [] = refl
 append_nothing (y ∷ ys) = ap (λ zs. y ∷ zs) (append_nothing ys)
 
@@ -119,3 +120,33 @@ pub dropped : {X : Type 0} (xs : List X) (i : ℕ) (x : X) → i < length xs →
 dropped [] i x low read = absurd (omega arith)
 dropped (y ∷ ys) zero x low read = ap (λ z. z ∷ ys) (sym read)
 dropped (y ∷ ys) (suc i) x low read = dropped ys i x (omega arith) read ∙ ap (λ n. x ∷ drop n (y ∷ ys)) (let e : suc (i + 1) ≡ suc i + 1 = omega arith in e)
+
+-- the part of a list from a place on begins with what stands there
+pub drop_at : {X : Type 0} (xs : List X) (i : ℕ) (d : X) → i < length xs → drop i xs ≡ get_or xs i d ∷ drop (i + 1) xs
+drop_at [] i d low = absurd (omega arith)
+drop_at (y ∷ ys) zero d low = refl
+drop_at (y ∷ ys) (suc i) d low = drop_at ys i d (omega arith) ∙ ap (λ n. get_or ys i d ∷ drop n (y ∷ ys)) (let e : suc (i + 1) ≡ suc i + 1 = omega arith in e)
+
+-- ---- a list that grows by what a function gives of another one
+
+pub mapped_next : {X Y : Type 0} (f : X → Y) (ys : List Y) (xs : List X) (i : ℕ) (d : X) → i < length xs
+    → (ys ++ f (get_or xs i d) ∷ []) ++ map f (drop (i + 1) xs) ≡ ys ++ map f (drop i xs)
+mapped_next f ys xs i d low =
+    append_twice ys (f (get_or xs i d) ∷ []) (map f (drop (i + 1) xs)) ∙ ap (λ zs. ys ++ map f zs) (sym (drop_at xs i d low))
+
+-- nothing is left from the end on
+pub nothing_from : {X : Type 0} (xs : List X) (i : ℕ) → length xs ≤ i → drop i xs ≡ []
+nothing_from [] zero h = refl
+nothing_from [] (suc i) h = refl
+nothing_from (x ∷ xs) zero h = absurd (omega arith)
+nothing_from (x ∷ xs) (suc i) h = nothing_from xs i (omega arith)
+
+pub mapped_done : {X Y : Type 0} (f : X → Y) (ys zs : List Y) (xs : List X) (i : ℕ) → length xs ≤ i → ys ++ map f (drop i xs) ≡ zs → ys ≡ zs
+mapped_done f ys zs xs i high was = sym (append_nothing ys) ∙ ap (λ us. ys ++ map f us) (sym (nothing_from xs i high)) ∙ was
+
+-- a zero behind a list changes nothing of what is read
+pub zero_behind : (xs : List ℕ) (k : ℕ) → get_or (xs ++ 0 ∷ []) k 0 ≡ get_or xs k 0
+zero_behind [] zero = refl
+zero_behind [] (suc k) = refl
+zero_behind (x ∷ xs) zero = refl
+zero_behind (x ∷ xs) (suc k) = zero_behind xs k

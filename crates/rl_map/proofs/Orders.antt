@@ -1,4 +1,4 @@
-use Rattle.std.proofs.Common.{◌≡◌, ℕ, suc, zero, ◌+◌, ◌<◌, ◌≤◌, Bool, true, false, cond, ◌==◌, List, [], ◌∷◌, ◌++◌, ◌||◌, length, arith, refl, length-append, nat_lt}
+use Rattle.std.proofs.Common.{◌≡◌, ℕ, suc, zero, ◌+◌, ◌<◌, ◌≤◌, Bool, true, false, cond, ◌==◌, List, [], ◌∷◌, ◌++◌, ◌||◌, length, arith, refl, length-append, nat_lt, add-one}
 use Rattle.std.specs.List.{list_any}
 use Rattle.std.proofs.lemmas.List.{length-map}
 use Rattle.std.proofs.lemmas.Bool.Decides.{nat_tests}
@@ -51,3 +51,16 @@ length-words_below seats n e =
     let few = length-orders_below seats (suc n) in
     let grown : length (orders_below seats (suc n)) ≡ length (orders_below seats n ++ n ∷ []) = rw e refl in
     rw length-map (omega (arith, length-append (orders_below seats n) (n ∷ [])))
+
+-- one order more, counted where a byte has it
+pub more_orders : (seats : List Seat) (n count : ℕ) → count ≡ length (orders_below seats n)
+    → count + cond (list_any (λ seat. seat.order == n) seats) 1 0 ≡ length (orders_below seats (n + 1))
+more_orders seats n count was = rw add-one (by (list_any (λ seat. seat.order == n) seats))
+  where
+    by : (t : Bool) → count + cond t 1 0 ≡ length (cond t (orders_below seats n ++ n ∷ []) (orders_below seats n))
+    by true = omega (arith, was, length-append (orders_below seats n) (n ∷ []))
+    by false = omega (arith, was)
+
+pub digit_le : (b : Bool) → cond {A = ℕ} b 1 0 ≤ 1
+digit_le true = omega arith
+digit_le false = omega arith

@@ -100,6 +100,20 @@ row_by_path spot spot' maps m e same fine h other =
     first_later spot (name_checks maps m) (under_checks maps m ++ width_checks m) (subst (λ s. first_of s (name_checks maps m) ≡ None) same fine)
     ∙ first_met spot (under_checks maps m) (width_checks m) e (subst (λ s. first_of s (under_checks maps m) ≡ Some e) same (h other))
 
+pub row_by_width : (spot spot' : Spot) (maps : List MapRow) (m : MapNode) (e : MapFault) → spot' ≡ spot → first_of spot' (name_checks maps m) ≡ None
+    → first_of spot' (under_checks maps m) ≡ None → is_width m.bytes ≡ false → e ≡ Bad BadBytes spot' → Fails e (first_of spot (row_checks maps m))
+row_by_width spot spot' maps m e same named under narrow is other =
+    first_later spot (name_checks maps m) (under_checks maps m ++ width_checks m) (subst (λ s. first_of s (name_checks maps m) ≡ None) same named)
+    ∙ first_later spot (under_checks maps m) (width_checks m) (subst (λ s. first_of s (under_checks maps m) ≡ None) same under)
+    ∙ ap (λ t. cond (not t) (Some (Bad BadBytes spot)) None) narrow ∙ ap (λ s. Some (Bad BadBytes s)) (sym same) ∙ ap Some (sym is)
+
+pub row_fine : (spot spot' : Spot) (maps : List MapRow) (m : MapNode) → spot' ≡ spot → first_of spot' (name_checks maps m) ≡ None
+    → first_of spot' (under_checks maps m) ≡ None → is_width m.bytes ≡ true → first_of spot (row_checks maps m) ≡ None
+row_fine spot spot' maps m same named under wide =
+    first_later spot (name_checks maps m) (under_checks maps m ++ width_checks m) (subst (λ s. first_of s (name_checks maps m) ≡ None) same named)
+    ∙ first_later spot (under_checks maps m) (width_checks m) (subst (λ s. first_of s (under_checks maps m) ≡ None) same under)
+    ∙ ap (λ t. cond (not t) (Some (Bad BadBytes spot)) None) wide
+
 pub map_by_row : (kinds : List AdapterKind) (spot : Spot) (maps : List MapRow) (m : MapNode) (e : MapFault) → Fails e (first_of spot (row_checks maps m))
     → Fails e (first_of spot (map_checks kinds maps m))
 map_by_row kinds spot maps m e h other = first_met spot (row_checks maps m) (port_checks kinds m) e (h other)

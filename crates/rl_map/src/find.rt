@@ -1,6 +1,6 @@
 //! Words by address.
 ghost use Rattle.std.specs.Prelude.{◌≡◌, ◌<◌, ◌≤◌, ◌*◌, ◌+◌, ◌^◌, ℕ, List, length, filter};
-ghost use Rattle.std.specs.Prelude.{find, position, bytes_eq, All, if◌then◌else◌, ◌==◌, not};
+ghost use Rattle.std.specs.Prelude.{find, option_copied, position, bytes_eq, All, if◌then◌else◌, ◌==◌, not};
 ghost use Rattle.std.specs.List.{position_or_len};
 ghost use Rattle.rl_bus.specs.Setup.{stands_at};
 ghost use Rattle.rl_map.specs.Layout.{key_of, index_of, is_in, lets_through, IsAscending};
@@ -44,13 +44,14 @@ pub(crate) fn rows_at(rows: &[WordRow], port: u32, address: u64) -> &[WordRow]
 }
 
 /// The first row that has the right of a direction.
-pub(crate) fn first_through(rows: &[WordRow], write: bool) -> Option<WordRow>
-    ensures { result ≡ find (lets_through write) rows.now }
+pub(crate) fn first_through(rows: &[WordRow], write: bool) -> Option<&WordRow>
+    ensures { option_copied result ≡ find (lets_through write) rows.now }
 {
-    rows.iter().copied().find(|row| lets_through(row, write))
+    rows.iter().find(|row| lets_through(row, write))
 }
 
-fn one_if(test: bool) -> u32
+/// 1 where a test holds, and else 0.
+pub(crate) fn one_if(test: bool) -> u32
     ensures { result ≡ (if test then 1 else 0) }
 {
     if test { 1 } else { 0 }

@@ -1,5 +1,5 @@
 //! The words of an item: the bytes that one bus item carries.
-ghost use Rattle.std.specs.Prelude.{◌≡◌, ℕ, ◌+◌, ◌^◌, ◌<◌, ◌≤◌, ◌==◌, if◌then◌else◌, List, [], ◌∷◌};
+ghost use Rattle.std.specs.Prelude.{◌≡◌, ℕ, ◌+◌, ◌^◌, ◌<◌, ◌≤◌, ◌==◌, List, [], ◌∷◌};
 ghost use Rattle.std.specs.Prelude.{◌++◌, ◌*◌, length, take, slice_get, Some, IsTrue, ◌↔◌, All};
 ghost use Rattle.std.specs.List.{list_any};
 ghost use Rattle.rl_map.specs.Words.{byte_at, address_at, word_of, words_below, seats_of, item_words, words_with};
@@ -7,6 +7,7 @@ ghost use Rattle.rl_map.specs.Locations.{all_further};
 ghost use Rattle.rl_map.specs.Level.{IsPath};
 ghost use Rattle.rl_map.specs.Seat.{AddressesFit, slots};
 
+use crate::find::one_if;
 use crate::path::Level;
 use crate::seat::{Location, Seat};
 use std::marker::Model;
@@ -200,12 +201,6 @@ fn collect(seats: &[Seat], slots: u32) -> Words
         }
     }
     words
-}
-
-fn one_if(test: bool) -> u32
-    ensures { result ≡ (if test then 1 else 0) }
-{
-    if test { 1 } else { 0 }
 }
 
 impl Location {

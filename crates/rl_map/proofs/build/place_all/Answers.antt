@@ -1,5 +1,6 @@
 use Rattle.std.proofs.Common.{◌≡◌, Option, sym, ◌∙◌, subst}
 use Rattle.rl_map.specs.declared.fault.MapFault.{MapFault}
+use Rattle.rl_map.specs.Layout.{IsAscending}
 use Rattle.rl_map.specs.Building.{AreRowsOf}
 use Rattle.rl_map.specs.Clashes.{IsLeast, IsMade}
 use Rattle.rl_map.specs.Ordered.{AreOrdered}
@@ -50,3 +51,6 @@ returns-in-Some-clause-refused c = λ other. made (goal.at.returns-in-Some-claus
 
 pub returns-in-None-clause-ordered : goal.returns-in-None-clause-ordered
 returns-in-None-clause-ordered c = made (goal.at.returns-in-None-clause-ordered c).After-first_fault _ c.in-None.is
+
+pub first_shared-shared-requires-clause-ascending : goal.first_shared-shared-requires-clause-ascending
+first_shared-shared-requires-clause-ascending c = subst IsAscending (sym c.deref-2.ensures.value) c.in_ok-sort_rows.ensures.ascending

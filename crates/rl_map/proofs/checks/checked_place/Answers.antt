@@ -1,5 +1,9 @@
 use Rattle.std.proofs.Common.{◌<◌, length, sym, ◌∙◌, subst, arith}
+use Rattle.rl_map.specs.declared.rows.MapRow.{MapRow}
+use Rattle.rl_map.specs.declared.rows.PortRow.{PortRow}
+use Rattle.rl_map.specs.Level.{IsPath}
 use Rattle.rl_map.specs.Layout.{no_map}
+use Rattle.rl_map.proofs.Chunks.{some_width}
 use Rattle.rl_map.proofs.Placing.{room_is}
 use Rattle.std.proofs.lemmas.Result.{err_from_is_err_and}
 use Rattle.rl_map.proofs.Accepting.{own_many, own_absent, own_twice, own_lined, own_words, row_seat, told}
@@ -65,3 +69,37 @@ returns-clause-row c =
       port_in = subst (λ n. n < length c.args.ports.now) (sym placed.port) (c.requires.tables.1.each_map row.map no_map placed.map).port;
       mem = c.in_ok-check_fifo.ensures.mem;
     }
+
+pub bounds-ports-row : goal.bounds-ports-row
+bounds-ports-row c =
+    let placed = c.in_ok-row.ensures.placed in
+    subst (λ n. n < length c.args.ports.now) (sym placed.port) (c.requires.tables.1.each_map c.in_ok-row.row.map no_map placed.map).port
+
+pub check_words-requires-clause-path : goal.check_words-requires-clause-path
+check_words-requires-clause-path c =
+    let row = c.in_ok-row.row in
+    let map = c.index-maps-row.result in
+    subst IsPath (sym c.levels.ensures.levels)
+    (subst (λ (m : MapRow). IsPath m.path) (sym c.index-maps-row.is) (c.requires.tables.1.each_map row.map map c.in_ok-row.ensures.placed.map).path)
+
+pub check_words-requires-clause-width : goal.check_words-requires-clause-width
+check_words-requires-clause-width c =
+    let row = c.in_ok-row.row in
+    let placed = c.in_ok-row.ensures.placed in
+    let inside : row.port < length c.args.ports.now = subst (λ n. n < length c.args.ports.now) (sym placed.port) (c.requires.tables.1.each_map row.map no_map placed.map).port in
+    subst (λ (p : PortRow). 0 < p.bytes) (sym c.index-ports-row.is) (some_width (c.requires.tables.1.each_port row.port c.index-ports-row.result inside).width)
+
+pub overflow_cast-port : goal.overflow_cast-port
+overflow_cast-port c =
+    let placed = c.in_ok-row.ensures.placed in
+    let tables = c.requires.tables.1 in
+    omega (arith, placed.port, (tables.each_map c.in_ok-row.row.map no_map placed.map).port, tables.few, tables.fewer)
+
+pub offset_bounds-ports-row : goal.offset_bounds-ports-row
+offset_bounds-ports-row c =
+    let placed = c.in_ok-row.ensures.placed in
+    let tables = c.requires.tables.1 in
+    omega (arith, placed.port, (tables.each_map c.in_ok-row.row.map no_map placed.map).port, tables.few, tables.fewer)
+
+pub returns-clause-few : goal.returns-clause-few
+returns-clause-few c = c.if-places-ge-MOST_PLACES.false

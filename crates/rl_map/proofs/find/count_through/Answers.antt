@@ -1,11 +1,8 @@
-use Rattle.std.proofs.Common.{sym, arith, cond, true, false, Bool, ◌≤◌, ℕ}
+use Rattle.std.proofs.Common.{sym, arith}
 use Rattle.std.proofs.lemmas.List.Filters.{length-filter_more}
 use Rattle.rl_map.specs.Layout.{lets_through}
+use Rattle.rl_map.proofs.Orders.{digit_le}
 use Rattle.rl_map.proofs.find.count_through.Goals as goal
-
-digit_le : (b : Bool) → cond {A = ℕ} b 1 0 ≤ 1
-digit_le true = omega arith
-digit_le false = omega arith
 
 pub loop-row-preserved : goal.loop-row-preserved
 loop-row-preserved c =

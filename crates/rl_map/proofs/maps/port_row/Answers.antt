@@ -17,3 +17,8 @@ returns-else-map-from-clause-fits c =
       narrow = by_width (λ n. n ≤ 8) _ c.requires.width (omega arith) (omega arith) (omega arith) (omega arith);
       most = omega (arith, c.last_address.ensures, c.last_address.type_inv);
     }
+
+pub overflow_cast-result-in-Some : goal.overflow_cast-result-in-Some
+overflow_cast-result-in-Some c =
+    let at = position-Some _ c.args.kinds.now c.in-Some.adapter no_kind (sym c.kind_number.ensures ∙ c.in-Some.is) in
+    omega (arith, at.0, c.requires.kinds)

@@ -1,5 +1,5 @@
 use Rattle.std.proofs.Common.{◌≡◌, [], ◌∷◌, ◌++◌, length, None, Some, sym, ap, ◌∙◌, subst, arith}
-use Rattle.rl_map.specs.Layout.{no_port}
+use Rattle.rl_map.specs.Layout.{no_map, no_port}
 use Rattle.rl_map.specs.Links.{AreLinked}
 use Rattle.rl_map.proofs.Closing.{straight_of}
 use Rattle.rl_map.proofs.Keeping.{words_more}
@@ -7,7 +7,7 @@ use Rattle.rl_map.proofs.Placing.{fits_of, places_more}
 use Rattle.rl_model.specs.declared.fault.Array.TheVariants as array
 use Rattle.rl_map.specs.Faults.{row_at}
 use Rattle.rl_map.specs.Steps.{first_cause, own_checks, place_of_part}
-use Rattle.rl_map.proofs.Accepting.{own_fine, own_met}
+use Rattle.rl_map.proofs.Accepting.{no_value, own_fine, own_met}
 use Rattle.rl_map.proofs.places.add_place.Goals as goal
 
 pub push_place-requires-clause-fits : goal.push_place-requires-clause-fits
@@ -57,3 +57,28 @@ returns-in-Err-clause-fault c =
     (subst (λ x. first_cause (own_checks chip maps x (length c.args.placing.now.rows.items) c.args.part.now p) ≡ Some c.in-Err.cause) c.deref.ensures.value
     (subst (λ n. first_cause (own_checks chip maps c.deref.result.now n c.args.part.now p) ≡ Some c.in-Err.cause) words c.in-Err.ensures.fault))
     c.refusal.ensures (c.row_at.ensures ∙ ap (row_at array.Place) number)
+
+pub overflow_cast-number : goal.overflow_cast-number
+overflow_cast-number c = omega (arith, c.len-number.ensures, c.args.placing.now.places.ok, c.requires.placed.places.few)
+
+pub checked_place-requires-clause-linked : goal.checked_place-requires-clause-linked
+checked_place-requires-clause-linked c =
+    let links = c.args.placing.now.links in
+    subst (λ places. AreLinked places links.lasts.items links.before.items) (sym c.deref.ensures.value) c.requires.placed.links
+
+pub checked_place-requires-clause-words : goal.checked_place-requires-clause-words
+checked_place-requires-clause-words c = omega (arith, c.len-count.ensures, c.args.placing.now.rows.ok, c.requires.placed.places.few_words)
+
+pub push_place-requires-clause-path : goal.push_place-requires-clause-path
+push_place-requires-clause-path c = (c.requires.tables.1.each_map c.in-Ok.row.map no_map c.in-Ok.ensures.row.placed.map).path
+
+pub push-requires-in-Ok-clause-linked : goal.push-requires-in-Ok-clause-linked
+push-requires-in-Ok-clause-linked c =
+    let links = c.args.placing.now.links in
+    subst (λ places. AreLinked places links.lasts.items links.before.items) (sym c.deref-in-Ok.ensures.value) c.requires.placed.links
+
+pub push-requires-in-Ok-clause-few : goal.push-requires-in-Ok-clause-few
+push-requires-in-Ok-clause-few c = omega (arith, ap length c.deref-in-Ok.ensures.value, ap length c.deref.ensures.value, c.in-Ok.ensures.few)
+
+pub returns-in_ok-push-in-Ok-3-clause-kept : goal.returns-in_ok-push-in-Ok-3-clause-kept
+returns-in_ok-push-in-Ok-3-clause-kept c = λ fault e. no_value fault e

@@ -1,4 +1,6 @@
-use Rattle.std.proofs.Common.{length, sym, ◌∙◌}
+use Rattle.std.proofs.Common.{◌++◌, length, sym, ap, ◌∙◌, arith}
+use Rattle.rl_map.specs.Steps.{own_faults, accepted}
+use Rattle.rl_map.proofs.Lists.{append_nothing, nothing_from}
 use Rattle.rl_map.proofs.Accepting.{faults_end, accepted_end, faults_next, accepted_next}
 use Rattle.rl_map.proofs.places.add_places.Goals as goal
 
@@ -30,3 +32,19 @@ loop-part-preserved c =
           c.loop-part.placing.rows.items c.add_place.new.placing.rows.items c.in_ok-refused.refused _
           none told.fault told.added was.placed.places told.placed.places was.accepted;
     }
+
+pub returns-clause-fault : goal.returns-clause-fault
+returns-clause-fault c =
+    let placed = c.loop-part.placing in
+    sym (ap (own_faults c.args.chip.now c.args.maps.now c.args.ports.now placed.places.items (length placed.rows.items))
+    (nothing_from c.args.parts.now c.loop-part.part-index (omega (arith, c.loop-part-test.false))))
+    ∙ c.loop-part.invariant.fault
+
+pub returns-clause-accepted : goal.returns-clause-accepted
+returns-clause-accepted c =
+    let placed = c.loop-part.placing in
+    let places = placed.places.items in
+    sym (append_nothing places)
+    ∙ ap (λ parts. places ++ accepted c.args.chip.now c.args.maps.now c.args.ports.now places (length placed.rows.items) parts)
+    (sym (nothing_from c.args.parts.now c.loop-part.part-index (omega (arith, c.loop-part-test.false))))
+    ∙ c.loop-part.invariant.accepted

@@ -1,4 +1,5 @@
 use Rattle.std.proofs.Common.{◌+◌, ◌<◌, length, sym, subst, arith}
+use Rattle.rl_map.proofs.Accepting.{all_part}
 use Rattle.rl_map.proofs.Sorting.{some_row}
 use Rattle.rl_map.proofs.Scanning.{scan_more, slice_length}
 use Rattle.rl_map.proofs.Folding.{Seen, seen_more, seen_none}
@@ -34,3 +35,6 @@ returns-clause-least c i j d less low key clash = c.loop-k.invariant.seen.least 
 
 pub returns-clause-made : goal.returns-clause-made
 returns-clause-made c s e = c.loop-k.invariant.seen.made s e
+
+pub with_row-best-requires-clause-rows : goal.with_row-best-requires-clause-rows
+with_row-best-requires-clause-rows c = all_part (λ row. row.place < length c.args.places.now) c.args.rows.now _ _ c.requires.rows

@@ -1,7 +1,7 @@
 use Rattle.std.proofs.Common.{◌≡◌, None, Some, refl, sym, ap, ◌∙◌, subst}
 use Rattle.std.proofs.lemmas.Result.{err_from_is_err_and}
-use Rattle.rl_map.specs.Layout.{IsSound}
-use Rattle.rl_map.specs.Building.{NoRowsClash}
+use Rattle.rl_map.specs.Layout.{IsSound, no_place}
+use Rattle.rl_map.specs.Building.{NoRowsClash, AreTables}
 use Rattle.rl_map.specs.Locations.{AreKept}
 use Rattle.rl_map.specs.Ordered.{AreOrdered}
 use Rattle.rl_map.proofs.Closing.{built, built_sound}
@@ -68,3 +68,17 @@ returns-clause-exact c =
       ap (λ v. built c.in_ok-map_rows.map_rows.items p.places.items c.in_ok-map_rows.ports.items c.in_ok-kept_kinds.kept_kinds.items v.items) c.in_ok-new.ensures.ok
           ∙ whole_is c.args.chip.now c.args.maps.now c.args.places.now c.args.kinds.now _ _ _ _ _ _ _ _ all none c.in_ok-kept_kinds.ensures.items,
     )
+
+pub place_all-requires-clause-tables : goal.place_all-requires-clause-tables
+place_all-requires-clause-tables c =
+    let kinds = c.args.kinds.now in (
+      kinds,
+      subst (λ maps. AreTables kinds maps c.deref-2.result.now) (sym c.deref.ensures.value)
+          (subst (λ ports. AreTables kinds c.in_ok-map_rows.map_rows.items ports) (sym c.deref-2.ensures.value) c.in_ok-map_rows.ensures.tables),
+    )
+
+pub returns-clause-built_with : goal.returns-clause-built_with
+returns-clause-built_with c place low = ((ordered (goal.at.returns-clause-built_with c).In_ok-place_all).placed.each place no_place low).placed.known
+
+pub returns-clause-kinds : goal.returns-clause-kinds
+returns-clause-kinds c = c.in_ok-kept_kinds.ensures.items

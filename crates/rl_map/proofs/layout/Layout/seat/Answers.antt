@@ -1,4 +1,6 @@
-use Rattle.std.proofs.Common.{◌≡◌, ◌^◌, ◌<◌, length, sym, subst}
+use Rattle.std.proofs.Common.{◌≡◌, ◌^◌, ◌<◌, length, sym, ap, ◌∙◌, subst}
+use Rattle.rl_map.specs.declared.rows.MapRow.{MapRow}
+use Rattle.rl_map.specs.Level.{IsPath}
 use Rattle.rl_map.specs.declared.rows.PlaceRow.{PlaceRow}
 use Rattle.rl_map.specs.declared.seat.Seat.{Seat}
 use Rattle.rl_map.specs.Layout.{no_map, no_port, no_place, place_at, map_at, port_at, IsLocation, IsSound}
@@ -22,3 +24,13 @@ seat-requires-clause-fits c =
     row_is map_is port_is c.levels.ensures.levels c.location.ensures in
     subst (λ (s : Seat). s.address < 2 ^ 64) (sym same)
     ((sound.each_location c.args.place c.args.index there).fits c.from.result (subst (λ n. n < (place_at l c.args.place).bytes) (sym c.from.ensures) byte_in))
+
+pub seat-requires-clause-path : goal.seat-requires-clause-path
+seat-requires-clause-path c =
+    let l = opened c.self.inside in
+    let sound : IsSound l = c.self.invariant.0 in
+    let there : IsLocation l c.args.place c.args.index = subst (λ v. IsLocation v c.args.place c.args.index) (sym c.self.view_is) c.requires.location in
+    let row_is : c.index-row.result.now ≡ place_at l c.args.place = read_is l.places c.args.place _ no_place there.place_in c.index-row.ensures in
+    let inside : c.index-row.result.now.map < length l.maps = subst (λ (r : PlaceRow). r.map < length l.maps) (sym row_is) (sound.each_place c.args.place there.place_in).map in
+    let map_is : c.index-map.result.now ≡ map_at l c.index-row.result.now.map = read_is l.maps c.index-row.result.now.map _ no_map inside c.index-map.ensures in
+    subst IsPath (sym (c.levels.ensures.levels ∙ ap (λ (m : MapRow). m.path) map_is)) (sound.each_map c.index-row.result.now.map inside).path
