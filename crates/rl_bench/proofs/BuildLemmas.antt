@@ -3,8 +3,12 @@ use Rattle.std.proofs.Common.{◌≡◌, ℕ, Bool, true, false, not, ◌&&◌, 
 use Rattle.std.specs.Prelude.{option_map}
 use Rattle.std.specs.Option.{option_or}
 use Rattle.std.proofs.lemmas.Bool.Decides.{nat_tests}
+use Rattle.rl_policy.specs.Bits.{is_within}
 use Rattle.rl_bus.specs.declared.table.StuckRow.{StuckRow}
 use Rattle.rl_bus.specs.Setup.{or_else}
+
+pub own_bit : (x reg y b : ℕ) → x ≡ reg → is_within y 1 b ≡ (eqb x reg && eqb y b)
+own_bit x reg y b e = grind (arith, nat_tests)
 
 pub other_bit : (x reg y b : ℕ) → (x ≡ reg → ⊥) → false ≡ (eqb x reg && eqb y b)
 other_bit x reg y b h = grind (arith, nat_tests)

@@ -2,6 +2,7 @@ pub mod BeatLemmas
 pub mod BuildLemmas
 pub mod CellLemmas
 pub mod DepositLemmas
+pub mod FlawLemmas
 pub mod HeldLemmas
 pub mod HintLemmas
 pub mod ListLemmas

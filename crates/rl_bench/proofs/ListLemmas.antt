@@ -1,6 +1,6 @@
 -- Lists that are filtered in a loop.
 use Rattle.std.proofs.lemmas.List.Filters.{length-filter_more}
-use Rattle.std.proofs.Common.{◌≡◌, ℕ, zero, suc, ◌+◌, ◌<◌, Bool, true, false, cond, ◌&&◌, eqb, List, [], ◌∷◌, ◌++◌, length, get_or, take, refl, sym, ap, ◌∙◌, arith, Some, None}
+use Rattle.std.proofs.Common.{◌≡◌, ℕ, zero, suc, ◌+◌, ◌<◌, ◌≤◌, Bool, true, false, cond, ◌&&◌, eqb, List, [], ◌∷◌, ◌++◌, length, get_or, take, drop, refl, sym, ap, ◌∙◌, arith, Some, None}
 use Rattle.std.specs.Prelude.{slice_get, filter, find}
 use Rattle.std.proofs.lemmas.List.Elements.{filter_more}
 use Rattle.std.proofs.lemmas.List.{append-nil, take_more}
@@ -53,3 +53,16 @@ pub element : {X : Type 0} (xs : List X) (k : ℕ) → k < length xs → (x : X)
 element [] k l = absurd (omega (arith, l))
 element (x ∷ xs) zero l = (x, refl)
 element (x ∷ xs) (suc k) l = element xs k (omega (arith, l))
+
+-- ---- a list from a place on
+
+pub drop_at : {X : Type 0} (xs : List X) (i : ℕ) (d : X) → i < length xs → drop i xs ≡ get_or xs i d ∷ drop (i + 1) xs
+drop_at [] i d low = absurd (omega arith)
+drop_at (y ∷ ys) zero d low = refl
+drop_at (y ∷ ys) (suc i) d low = drop_at ys i d (omega arith) ∙ ap (λ n. get_or ys i d ∷ drop n (y ∷ ys)) (let e : suc (i + 1) ≡ suc i + 1 = omega arith in e)
+
+pub nothing_from : {X : Type 0} (xs : List X) (i : ℕ) → length xs ≤ i → drop i xs ≡ []
+nothing_from [] zero h = refl
+nothing_from [] (suc i) h = refl
+nothing_from (x ∷ xs) zero h = absurd (omega arith)
+nothing_from (x ∷ xs) (suc i) h = nothing_from xs i (omega arith)

@@ -1,5 +1,5 @@
 -- Rows made one after another.
-use Rattle.std.proofs.Common.{◌≡◌, ℕ, zero, suc, ◌+◌, ◌^◌, ◌<◌, List, [], ◌∷◌, ◌++◌, length, get_or, take, map, Bool, Option, Some, None, refl, sym, ap, ◌∙◌, arith, append_assoc, add-zero}
+use Rattle.std.proofs.Common.{◌≡◌, ℕ, zero, suc, ◌+◌, ◌^◌, ◌<◌, ◌≤◌, List, [], ◌∷◌, ◌++◌, length, get_or, take, map, Bool, Option, Some, None, refl, sym, ap, ◌∙◌, arith, append_assoc, add-zero}
 use Rattle.std.specs.Prelude.{slice_get, option_map, sum_by}
 use Rattle.std.proofs.lemmas.List.{take_more, map-append, append-nil}
 use Rattle.std.proofs.lemmas.Option.{slice_get_within, slice_get-get_or}
@@ -120,3 +120,20 @@ shape_row s = record { reg = s.reg; lsb = s.lsb; width = s.width; policy = s.pol
 
 pub fields_more : (fs : List FieldSeen) (k : ℕ) (s : Field) → option_map (λ f. f.shape) (slice_get fs k) ≡ Some s → map field_row (take k fs) ++ shape_row s ∷ [] ≡ map field_row (take (k + 1) fs)
 fields_more fs k s h = mapped_more field_row fs k (shape_row s) (option_then (λ f. f.shape) shape_row (slice_get fs k) s h)
+
+-- a part of a list adds up to no more than the whole
+part_below : {X : Type 0} (f : X → ℕ) (xs : List X) (k : ℕ) → sum_by f (take k xs) ≤ sum_by f xs
+part_below f [] zero = omega arith
+part_below f [] (suc k) = omega arith
+part_below f (x ∷ xs) zero = omega arith
+part_below f (x ∷ xs) (suc k) = omega (arith, sum_by-cons f x (take k xs), sum_by-cons f x xs, part_below f xs k)
+
+pub sizes_in : (ms : List Mem) (k size : ℕ) → option_map (λ m. m.size) (slice_get ms k) ≡ Some size → sum_by (λ m. m.size) (take k ms) + size ≤ sum_by (λ m. m.size) ms
+sizes_in ms k size h = omega (arith, sizes_more ms k size h, part_below (λ m. m.size) ms (k + 1))
+
+-- one element more behind those of a list
+pub pushed : {X Y : Type 0} (f : X → Y) (ys zs : List Y) (xs : List X) (k : ℕ) (d : X) → k < length xs
+    → zs ≡ ys ++ map f (take k xs) → zs ++ f (get_or xs k d) ∷ [] ≡ ys ++ map f (take (k + 1) xs)
+pushed f ys zs xs k d low was =
+    ap (λ us. us ++ f (get_or xs k d) ∷ []) was ∙ append_assoc ys (map f (take k xs)) (f (get_or xs k d) ∷ [])
+    ∙ ap (λ us. ys ++ us) (mapped_at f xs k (get_or xs k d) (slice_get-get_or xs k d low))

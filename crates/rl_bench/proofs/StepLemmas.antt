@@ -2,6 +2,7 @@
 use Rattle.std.proofs.Common.{◌≡◌, ℕ, ◌<◌, ◌^◌, ◌*◌, ◌≤◌, ◌/◌, zero, suc, Bool, true, false, cond, ◌&&◌, List, [], ◌∷◌, length, get_or, refl, sym, ap, ◌∙◌, arith, Some, None, subst, ⊎_elim}
 use Rattle.std.specs.Prelude.{slice_get, filter, position, is_some}
 use mathlib.Core.Path.{fun_ext}
+use Rattle.rl_bus.specs.declared.op.Answer.{Answer}
 use Rattle.rl_bus.specs.declared.op.BusOp.{BusOp}
 use Rattle.rl_bus.specs.declared.table.WordRow.{WordRow}
 use Rattle.rl_bus.specs.Setup.{Setup, stands_for, stands_at, words_at}
@@ -30,7 +31,7 @@ missing_answer s port op h = sym (ap (answer_at (counted s) port op) h)
 abbrev with_beats : State → (ℕ → ℕ → ℕ) → State
 with_beats s b = record s { beats = b }
 
-same_beats : {f g : ℕ → ℕ → ℕ} → ((p a : ℕ) → f p a ≡ g p a) → f ≡ g
+pub same_beats : {f g : ℕ → ℕ → ℕ} → ((p a : ℕ) → f p a ≡ g p a) → f ≡ g
 same_beats h = fun_ext (λ p. fun_ext (λ a. h p a))
 
 pub faulty_state : (s : State) (port : ℕ) (op : BusOp) (w : WordRow) (beats : ℕ → ℕ → ℕ) → word_at s port op ≡ Some w
@@ -151,3 +152,7 @@ carried_lanes (form.Apb apb) h = by apb.write
     by : (b : Bool) → cond b apb.pstrb (all_lanes apb.bytes) < 2 ^ apb.bytes
     by true = h.0.enabled
     by false = omega (arith, pow_pos apb.bytes)
+
+-- the answer of a failed item
+pub none_small : (a : Answer) (op : BusOp) → a ≡ record { word = 0; failed = true } → IsWidth op.bytes → a.word < 256 ^ op.bytes
+none_small a op is width = subst (λ (x : Answer). x.word < 256 ^ op.bytes) (sym is) (width_pos op.bytes width)

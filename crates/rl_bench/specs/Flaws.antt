@@ -1,5 +1,5 @@
 -- The flaws of a device as rows of numbers, each sort in the order of the description.
-use Rattle.std.specs.Prelude.{ℕ, ◌^◌, ◌<◌, List, length, All, Option, Some, None, option_map, unwrap_or, slice_get, filter_map, sum_by}
+use Rattle.std.specs.Prelude.{ℕ, ◌^◌, ◌<◌, List, [], ◌∷◌, ◌++◌, length, All, Option, Some, None, option_map, unwrap_or, slice_get, filter_map, sum_by}
 use Rattle.rl_model.specs.declared.rows.Item.{Item}
 use Rattle.rl_model.specs.declared.rows.Item.TheVariants as item
 use Rattle.rl_model.specs.Rows.{ChipData}
@@ -54,6 +54,15 @@ flaws_of flaws = record {
   nths = filter_map nth_of flaws;
   deaf = filter_map deaf_row flaws;
 }
+
+-- the rows with that of one flaw more
+abbrev pub with_flaw : Flaws → Flaw → Flaws
+with_flaw t (OtherPolicy f p) = record t { policies = t.policies ++ record { field = f; policy = p } ∷ [] }
+with_flaw t (OtherReset f k v) = record t { resets = t.resets ++ record { field = f; kind = k; value = v } ∷ [] }
+with_flaw t (Stuck f b v) = record t { stuck = t.stuck ++ record { field = f; bit = b; value = v } ∷ [] }
+with_flaw t (ErrorRange p a b) = record t { ranges = t.ranges ++ record { port = p; from = a; to = b } ∷ [] }
+with_flaw t (ErrorNth n) = record t { nths = t.nths ++ n ∷ [] }
+with_flaw t (Deaf i) = record t { deaf = t.deaf ++ item_row i ∷ [] }
 
 -- ---- what a flaw names is there
 

@@ -156,10 +156,11 @@ fn empty_memory(alloc: Global, board: &Board, locations: usize) -> Result<Memory
         ≡ replicate (if length board.now.queues.items == 0 then 0 else length (setup_held board.now.tables).words) 0) }
     ensures hints { IfOk result (λ m. (words : List Words) → All (IsHint words) m.hints.slots.items) }
 {
+    let regs = board.tables.regs.len();
     Ok(Memory {
-        cells: empty_cells(alloc, board.tables.regs.len(), locations)?,
-        beats: first_beats(alloc, board.tables.words().len(), &board.queues)?,
         hints: Hints::new(alloc)?,
+        beats: first_beats(alloc, board.tables.words().len(), &board.queues)?,
+        cells: empty_cells(alloc, regs, locations)?,
     })
 }
 

@@ -1,16 +1,14 @@
 //! The rows of a device's tables, from a chip, a layout and flaws.
-ghost use Rattle.std.specs.Prelude.{◌≡◌, ◌+◌, ◌<◌, ◌^◌, ◌++◌, IfOk, map, length, filter_map, slice_index_or};
+ghost use Rattle.std.specs.Prelude.{◌≡◌, ◌+◌, ◌<◌, ◌^◌, ◌++◌, IfOk, map, length, slice_index_or};
 ghost use Rattle.rl_model.specs.Chip.{IsSound};
 ghost use Rattle.rl_map.specs.Layout.{IsSound as IsSoundLayout};
 ghost use Rattle.rl_map.specs.Tables.{field_row, reset_rows, mem_rows};
 ghost use Rattle.rl_bench.specs.Rows.{reset_of};
 ghost use Rattle.rl_model.specs.declared.rows.Reset.{Reset as Resets};
 ghost use Rattle.std.specs.Prelude.{ℕ};
-ghost use Rattle.rl_bench.specs.Flaws.{locations_of, policy_row, reset_row, stuck_row, range_row};
-ghost use Rattle.rl_bench.specs.Flaws.{nth_of, item_row, deaf_row};
+ghost use Rattle.rl_bench.specs.Flaws.{locations_of, item_row};
 
-use crate::flaw::Flaw;
-use rl_bus::{FieldRow, ItemRow, MemRow, PolicyRow, RangeRow, ResetRow, StuckRow};
+use rl_bus::{FieldRow, ItemRow, MemRow, ResetRow};
 use rl_map::Layout;
 use rl_model::{Chip, Item, Reset};
 use std::alloc::{AllocError, Global};
@@ -118,118 +116,8 @@ pub(crate) fn port_bytes(alloc: Global, layout: &Layout) -> Result<Vec<u32>, All
 
 // ---- flaws
 
-/// The other policies.
-pub(crate) fn policy_rows(alloc: Global, flaws: &[Flaw]) -> Result<Vec<PolicyRow>, AllocError>
-    ensures { IfOk result (λ v. v.items ≡ filter_map policy_row flaws.now) }
-{
-    flaws
-        .iter()
-        .filter_map(|flaw| policy_row(flaw))
-        .collect(alloc)
-}
-
-fn policy_row(flaw: &Flaw) -> Option<PolicyRow>
-    ensures { result ≡ policy_row flaw.now }
-{
-    match *flaw {
-        Flaw::OtherPolicy { field, policy } => Some(PolicyRow { field, policy }),
-        _ => None,
-    }
-}
-
-/// The other reset values.
-pub(crate) fn other_resets(alloc: Global, flaws: &[Flaw]) -> Result<Vec<ResetRow>, AllocError>
-    ensures { IfOk result (λ v. v.items ≡ filter_map reset_row flaws.now) }
-{
-    flaws
-        .iter()
-        .filter_map(|flaw| reset_row(flaw))
-        .collect(alloc)
-}
-
-fn reset_row(flaw: &Flaw) -> Option<ResetRow>
-    ensures { result ≡ reset_row flaw.now }
-{
-    match *flaw {
-        Flaw::OtherReset { field, kind, value } => Some(ResetRow { field, kind, value }),
-        _ => None,
-    }
-}
-
-/// The stuck bits.
-pub(crate) fn stuck_rows(alloc: Global, flaws: &[Flaw]) -> Result<Vec<StuckRow>, AllocError>
-    ensures { IfOk result (λ v. v.items ≡ filter_map stuck_row flaws.now) }
-{
-    flaws
-        .iter()
-        .filter_map(|flaw| stuck_row(flaw))
-        .collect(alloc)
-}
-
-fn stuck_row(flaw: &Flaw) -> Option<StuckRow>
-    ensures { result ≡ stuck_row flaw.now }
-{
-    match *flaw {
-        Flaw::Stuck { field, bit, value } => Some(StuckRow { field, bit, value }),
-        _ => None,
-    }
-}
-
-/// The ranges of addresses that fail.
-pub(crate) fn range_rows(alloc: Global, flaws: &[Flaw]) -> Result<Vec<RangeRow>, AllocError>
-    ensures { IfOk result (λ v. v.items ≡ filter_map range_row flaws.now) }
-{
-    flaws
-        .iter()
-        .filter_map(|flaw| range_row(flaw))
-        .collect(alloc)
-}
-
-fn range_row(flaw: &Flaw) -> Option<RangeRow>
-    ensures { result ≡ range_row flaw.now }
-{
-    match *flaw {
-        Flaw::ErrorRange { port, from, to } => Some(RangeRow { port, from, to }),
-        _ => None,
-    }
-}
-
-/// The numbers of the items that fail.
-pub(crate) fn failing_items(alloc: Global, flaws: &[Flaw]) -> Result<Vec<u64>, AllocError>
-    ensures { IfOk result (λ v. v.items ≡ filter_map nth_of flaws.now) }
-{
-    flaws.iter().filter_map(|flaw| nth_of(flaw)).collect(alloc)
-}
-
-fn nth_of(flaw: &Flaw) -> Option<u64>
-    ensures { result ≡ nth_of flaw.now }
-{
-    match *flaw {
-        Flaw::ErrorNth { nth } => Some(nth),
-        _ => None,
-    }
-}
-
-/// The deaf registers and memories.
-pub(crate) fn deaf_rows(alloc: Global, flaws: &[Flaw]) -> Result<Vec<ItemRow>, AllocError>
-    ensures { IfOk result (λ v. v.items ≡ filter_map deaf_row flaws.now) }
-{
-    flaws
-        .iter()
-        .filter_map(|flaw| deaf_row(flaw))
-        .collect(alloc)
-}
-
-fn deaf_row(flaw: &Flaw) -> Option<ItemRow>
-    ensures { result ≡ deaf_row flaw.now }
-{
-    match *flaw {
-        Flaw::Deaf { item } => Some(item_row(item)),
-        _ => None,
-    }
-}
-
-fn item_row(item: Item) -> ItemRow
+/// The row of a register or a memory.
+pub(crate) fn item_row(item: Item) -> ItemRow
     ensures { result ≡ item_row item }
 {
     match item {

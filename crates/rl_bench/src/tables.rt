@@ -1,17 +1,14 @@
 //! The tables of a device, and what they say of a field, a cell and an address.
-ghost use Rattle.std.specs.Prelude.{◌≡◌, ◌<◌, length, ◌&&◌, ◌==◌, nat_le, find, map, IfOk};
+ghost use Rattle.std.specs.Prelude.{◌≡◌, ◌<◌, length, ◌&&◌, ◌==◌, nat_le, find, map, IfOk, OnOk};
 ghost use Rattle.std.specs.List.{list_any};
 ghost use Rattle.rl_bus.specs.Setup.{policy_of, is_deaf, is_named, reset_of, is_of};
 ghost use Rattle.rl_map.specs.Tables.{field_row, reset_rows, mem_rows};
-ghost use Rattle.rl_bench.specs.Flaws.{flaws_of};
+ghost use Rattle.rl_bench.specs.Flaws.{flaws_of, with_flaw};
 ghost use Rattle.rl_bench.specs.FlawTables.{flaws_held};
 
 use crate::find::resets_of;
 use crate::flaw::Flaw;
-use crate::rows::{
-    deaf_rows, failing_items, field_rows, mem_rows, other_resets, policy_rows, port_bytes,
-    range_rows, reg_bytes, reset_rows, stuck_rows,
-};
+use crate::rows::{field_rows, item_row, mem_rows, port_bytes, reg_bytes, reset_rows};
 use rl_bus::{Cell, FieldRow, ItemRow, MemRow, PolicyRow, RangeRow, ResetRow, StuckRow, WordRow};
 use rl_map::Layout;
 use rl_model::Chip;
@@ -20,7 +17,6 @@ use std::alloc::{AllocError, Global};
 use std::rc::Rc;
 
 /// What the device has, and its flaws.
-#[derive(Drop)]
 pub struct Tables {
     /// The size of each register in bytes.
     pub regs: Vec<u32>,
@@ -46,6 +42,26 @@ pub struct Tables {
     pub nths: Vec<u64>,
     /// The registers and memories that bus writes don't reach.
     pub deaf: Vec<ItemRow>,
+}
+
+// Written out, so that whoever owns the tables lets them go by one call, and not field by field.
+impl Drop for Tables {
+    fn drop(self) {
+        let Tables {
+            regs: _,
+            fields: _,
+            resets: _,
+            mems: _,
+            ports: _,
+            words: _,
+            other_policies: _,
+            other_resets: _,
+            stuck: _,
+            ranges: _,
+            nths: _,
+            deaf: _,
+        } = self;
+    }
 }
 
 /// The tables that are made of a chip.
@@ -82,17 +98,48 @@ struct FlawTables {
     deaf: Vec<ItemRow>,
 }
 
+/// Adds the row of a flaw to the table of its sort.
+fn push_flaw(tables: &mut FlawTables, flaw: &Flaw) -> Result<(), AllocError>
+    ensures { OnOk result (flaws_held tables.new ≡ with_flaw (flaws_held tables.old) flaw.now) }
+{
+    match *flaw {
+        Flaw::OtherPolicy { field, policy } => {
+            tables.policies.push(PolicyRow { field, policy })?;
+        }
+        Flaw::OtherReset { field, kind, value } => {
+            tables.resets.push(ResetRow { field, kind, value })?;
+        }
+        Flaw::Stuck { field, bit, value } => {
+            tables.stuck.push(StuckRow { field, bit, value })?;
+        }
+        Flaw::ErrorRange { port, from, to } => {
+            tables.ranges.push(RangeRow { port, from, to })?;
+        }
+        Flaw::ErrorNth { nth } => {
+            tables.nths.push(nth)?;
+        }
+        Flaw::Deaf { item } => {
+            tables.deaf.push(item_row(item))?;
+        }
+    }
+    Ok(())
+}
+
 fn flaw_tables(alloc: Global, flaws: &[Flaw]) -> Result<FlawTables, AllocError>
     ensures { IfOk result (λ t. flaws_held t ≡ flaws_of flaws.now) }
 {
-    Ok(FlawTables {
-        policies: policy_rows(alloc, flaws)?,
-        resets: other_resets(alloc, flaws)?,
-        stuck: stuck_rows(alloc, flaws)?,
-        ranges: range_rows(alloc, flaws)?,
-        nths: failing_items(alloc, flaws)?,
-        deaf: deaf_rows(alloc, flaws)?,
-    })
+    let mut tables = FlawTables {
+        policies: Vec::new(alloc),
+        resets: Vec::new(alloc),
+        stuck: Vec::new(alloc),
+        ranges: Vec::new(alloc),
+        nths: Vec::new(alloc),
+        deaf: Vec::new(alloc),
+    };
+    for flaw in flaws {
+        push_flaw(&mut tables, flaw)?;
+    }
+    Ok(tables)
 }
 
 fn other_policy(rows: &[PolicyRow], field: u32) -> Option<PolicyRow>
@@ -126,9 +173,9 @@ impl Tables {
         ensures held { IfOk result (λ t. setup_held t ≡ setup_of chip.now layout.now (flaws_of flaws.now)) }
         ensures layout { IfOk result (λ _. IsSound layout.now) }
     {
-        let of_chip = chip_tables(alloc, chip)?;
         let ports = port_bytes(alloc, layout)?;
         let words = layout.shared_rows()?;
+        let of_chip = chip_tables(alloc, chip)?;
         let of_flaws = flaw_tables(alloc, flaws)?;
         Ok(Tables {
             regs: of_chip.regs,

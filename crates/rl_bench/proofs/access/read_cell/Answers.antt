@@ -1,4 +1,5 @@
-use Rattle.std.proofs.Common.{ap, ◌∙◌}
+use Rattle.std.proofs.Common.{ap, ◌∙◌, refl}
+use Rattle.std.proofs.lemmas.List.{length-set}
 use Rattle.std.specs.Prelude.{slice_set}
 use Rattle.rl_policy.specs.Bits.{bit, from_bits}
 use Rattle.rl_policy.specs.Access.{bit_left, bit_answered}
@@ -6,7 +7,7 @@ use Rattle.rl_bus.specs.Setup.{policy_at, held}
 use Rattle.rl_bus.specs.Spread.{lane_bit, gathered_bit}
 use Rattle.rl_bench.specs.Board.{state_of}
 use Rattle.rl_bench.specs.Tables.{setup_held}
-use Rattle.rl_bench.proofs.CellLemmas.{reg_read}
+use Rattle.rl_bench.proofs.CellLemmas.{reg_read, fit_with}
 use Rattle.rl_bench.proofs.access.read_cell.Goals as goal
 
 pub returns-in-Reg-clause-state : goal.returns-in-Reg-clause-state
@@ -26,3 +27,14 @@ returns-in-Reg-clause-answer c beats items =
 
 pub location-at-requires-clause-mem : goal.location-at-requires-clause-mem
 location-at-requires-clause-mem c = (c.requires.cell.loc c.in-Loc.mem c.in-Loc.index c.in-Loc.is).0
+
+pub returns-in-Reg-clause-fit : goal.returns-in-Reg-clause-fit
+returns-in-Reg-clause-fit c =
+    let old = c.args.cells.now in
+    fit_with _ old _ c.requires.fit (length-set old.bits.items c.in-Reg.reg _) refl refl
+
+pub read-word-requires : goal.read-word-requires
+read-word-requires c = c.requires.lanes
+
+pub gather-requires : goal.gather-requires
+gather-requires c = c.requires.lanes

@@ -1,6 +1,6 @@
 use Rattle.std.proofs.Common.{◌≡◌, ℕ, ◌<◌, ap, sym, ◌∙◌, arith, true, refl}
 use Rattle.std.specs.Prelude.{slice_set, slice_index}
-use Rattle.std.proofs.lemmas.List.{get_or_read}
+use Rattle.std.proofs.lemmas.List.{get_or_read, length-set}
 use Rattle.rl_policy.specs.Bits.{bit, from_bits}
 use Rattle.rl_policy.proofs.BitLemmas.{is_from_bits, bit-from_bits}
 use Rattle.rl_policy.specs.Access.{bit_written, mark_written}
@@ -8,7 +8,7 @@ use Rattle.rl_bus.specs.Setup.{policy_at, held, location, mem_of, no_mem}
 use Rattle.rl_bus.specs.Spread.{spread_bit, lane_bit}
 use Rattle.rl_bench.specs.Board.{state_of}
 use Rattle.rl_bench.specs.Tables.{setup_held}
-use Rattle.rl_bench.proofs.CellLemmas.{reg_read}
+use Rattle.rl_bench.proofs.CellLemmas.{reg_read, fit_with}
 use Rattle.rl_bench.proofs.access.write_cell.Goals as goal
 
 pub returns-in-Reg-clause-state : goal.returns-in-Reg-clause-state
@@ -55,3 +55,22 @@ returns-then-index-clause-state c beats items =
     let carried : (b : ℕ) → b < 64 → bit c.spread-carried.result b ≡ spread_bit c.args.lanes.now (bit c.args.word) b = λ b k. ap (λ n. bit n b) c.spread-carried.ensures ∙ bit-from_bits 64 _ b k in
     rw (c.in-Loc.is, writable, c.location-at.ensures.at) (ap (λ v. record (state_of t old beats items) { locations = slice_set old.locations.items here v })
     (is_from_bits 64 _ _ c.replaced.type_inv (λ b k. rw (c.replaced.ensures b k, lane b k, carried b k, x) refl)))
+
+pub covered-requires : goal.covered-requires
+covered-requires c = c.requires.lanes
+
+pub spread-carried-requires : goal.spread-carried-requires
+spread-carried-requires c = c.requires.lanes
+
+pub write-written-requires : goal.write-written-requires
+write-written-requires c = c.requires.lanes
+
+pub returns-in-Reg-clause-fit : goal.returns-in-Reg-clause-fit
+returns-in-Reg-clause-fit c =
+    let old = c.args.cells.now in
+    fit_with _ old _ c.requires.fit (length-set old.bits.items c.in-Reg.reg _) (length-set old.marks.items c.in-Reg.reg _) refl
+
+pub returns-then-index-clause-fit : goal.returns-then-index-clause-fit
+returns-then-index-clause-fit c =
+    let old = c.args.cells.now in
+    fit_with _ old _ c.requires.fit refl refl (length-set old.locations.items c.location-at.result _)

@@ -1,12 +1,12 @@
 use Rattle.std.proofs.Common.{◌≡◌, ◌*◌, ◌^◌, ◌%◌, ap, ◌∙◌, arith, refl}
 use Rattle.std.specs.Prelude.{slice_set, bit_and}
-use Rattle.std.proofs.lemmas.List.{get_or_read}
+use Rattle.std.proofs.lemmas.List.{get_or_read, length-set}
 use Rattle.std.proofs.lemmas.Nat.{and_mask}
 use Rattle.rl_bus.specs.Setup.{field_at, policy_of, location, mem_of, no_mem}
 use Rattle.rl_bus.specs.State.{poked}
 use Rattle.rl_bench.specs.Board.{state_of}
 use Rattle.rl_bench.specs.Tables.{setup_held}
-use Rattle.rl_bench.proofs.CellLemmas.{reg_read}
+use Rattle.rl_bench.proofs.CellLemmas.{reg_read, fit_with}
 use Rattle.rl_bench.proofs.DepositLemmas.{owned_some, pow_bytes}
 use Rattle.rl_bench.proofs.HeldLemmas.{held_same}
 use Rattle.rl_bench.proofs.backdoor.poke_cell.Goals as goal
@@ -39,3 +39,13 @@ returns-in-Loc-clause-state c beats items =
     rw (c.in-Loc.is, c.location-at.ensures.at) (ap (λ v. record (state_of t old beats items) { locations = slice_set old.locations.items (location t mem c.in-Loc.index) v })
     (ap (bit_and c.args.value) c.mask.ensures ∙ and_mask c.args.value (8 * c.index-in-Loc.result.now.bytes) ∙ ap (λ n. c.args.value % n) (pow_bytes c.index-in-Loc.result.now.bytes)
     ∙ ap (λ m. c.args.value % 256 ^ m.bytes) row))
+
+pub returns-in-Reg-clause-fit : goal.returns-in-Reg-clause-fit
+returns-in-Reg-clause-fit c =
+    let old = c.args.cells.now in
+    fit_with _ old _ c.requires.fit (length-set old.bits.items c.in-Reg.reg _) refl refl
+
+pub returns-in-Loc-clause-fit : goal.returns-in-Loc-clause-fit
+returns-in-Loc-clause-fit c =
+    let old = c.args.cells.now in
+    fit_with _ old _ c.requires.fit refl refl (length-set old.locations.items c.location-at.result _)

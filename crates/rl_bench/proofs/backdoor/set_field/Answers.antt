@@ -1,6 +1,6 @@
-use Rattle.std.proofs.Common.{◌≡◌, ℕ, ap, ◌∙◌, arith, sym, subst}
+use Rattle.std.proofs.Common.{◌≡◌, ℕ, ap, ◌∙◌, arith, refl, sym, subst}
 use Rattle.std.specs.Prelude.{slice_set, slice_index}
-use Rattle.std.proofs.lemmas.List.{get_or_read}
+use Rattle.std.proofs.lemmas.List.{get_or_read, length-set}
 use Rattle.rl_policy.specs.Bits.{bit, put_bit}
 use Rattle.rl_policy.proofs.BitLemmas.{bit-from_bits}
 use Rattle.rl_bus.specs.declared.table.FieldRow.{FieldRow}
@@ -9,7 +9,7 @@ use Rattle.rl_bus.specs.State.{State, hw_set}
 use Rattle.rl_bench.specs.Shape.{RegOf, IsShapeOf}
 use Rattle.rl_bench.specs.Board.{state_of, IsFieldIn}
 use Rattle.rl_bench.specs.Tables.{setup_held}
-use Rattle.rl_bench.proofs.CellLemmas.{shape_at}
+use Rattle.rl_bench.proofs.CellLemmas.{shape_at, fit_with}
 use Rattle.rl_bench.proofs.DepositLemmas.{part_bit}
 use Rattle.rl_bench.proofs.HeldLemmas.{held_same}
 use Rattle.rl_bench.proofs.backdoor.set_field.Goals as goal
@@ -35,3 +35,8 @@ returns-clause-state c beats items =
     ∙ part_bit f.lsb f.width c.args.value c.mask.result (bit c.index.result.now) b c.mask.ensures
     ∙ ap (λ n. put_bit f.lsb f.width (bit c.args.value) (bit n) b) x))
     ∙ ap (set_in s c.args.value) row
+
+pub returns-clause-fit : goal.returns-clause-fit
+returns-clause-fit c =
+    let old = c.args.cells.now in
+    fit_with _ old _ c.requires.fit (length-set old.bits.items c.index-row.result.now.reg _) refl refl

@@ -31,3 +31,6 @@ pub overflow_cast-at : goal.overflow_cast-at
 overflow_cast-at c =
     let s = c.words_beside-at.ensures no_word in
     omega (arith, s.order, s.within, c.requires.few)
+
+pub words_beside-at-requires-clause-rise : goal.words_beside-at-requires-clause-rise
+words_beside-at-requires-clause-rise c = c.requires.rise

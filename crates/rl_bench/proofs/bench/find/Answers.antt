@@ -1,7 +1,7 @@
 use Rattle.std.proofs.Common.{List, ◌∙◌, sym, ap, subst, length}
 use Rattle.std.specs.Prelude.{All, filter, slice_get}
 use Rattle.rl_bus.specs.declared.table.WordRow.{WordRow}
-use Rattle.rl_bench.specs.Stretch.{IsHint}
+use Rattle.rl_bench.specs.Stretch.{IsHint, AreOrdered}
 use Rattle.rl_bus.specs.Setup.{stands_for}
 use Rattle.rl_bench.proofs.StretchLemmas.{words_there, beat_is}
 use Rattle.rl_bench.proofs.bench.find.Goals as goal
@@ -38,3 +38,6 @@ returns-clause-word c =
 pub returns-clause-count : goal.returns-clause-count
 returns-clause-count c =
     c.find_word-here.ensures.count ∙ ap (λ words. length (filter (stands_for c.args.port c.args.op.now.address c.args.op.now.write) words)) c.words-words.ensures
+
+pub stretch_at-at-requires-clause-rise : goal.stretch_at-at-requires-clause-rise
+stretch_at-at-requires-clause-rise c = subst AreOrdered (sym c.words-words.ensures) c.args.board.now.sound.words_rise

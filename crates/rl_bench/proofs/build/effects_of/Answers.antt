@@ -1,4 +1,5 @@
-use Rattle.std.proofs.Common.{◌≡◌, ℕ, ◌+◌, ◌<◌, cond, ap, sym, ◌∙◌, arith, Option, Some, None, take, length, get_or}
+use Rattle.std.proofs.Common.{◌≡◌, ℕ, ◌+◌, ◌<◌, cond, ap, sym, ◌∙◌, arith, Option, Some, None, take, length, get_or, subst}
+use Rattle.std.specs.List.Sorted.{IsNonDecreasingBy}
 use Rattle.std.specs.Prelude.{position, option_map}
 use Rattle.std.specs.Option.{option_or}
 use Rattle.rl_policy.specs.declared.policy.Policy.{Policy}
@@ -50,3 +51,6 @@ returns c =
     (λ b _. ap (option_map (policy_of t))
     (no_place_behind (λ f. covers f reg b) t.fields k no_field (omega (arith, c.loop-k.auto.k-end own.order, own.within))
     (λ j l m. other_reg (get_or t.fields j no_field) reg b (own.behind j no_field (omega (arith, l, c.loop-k-test.false)) m)))) c.loop-k.invariant
+
+pub fields_of-own-requires : goal.fields_of-own-requires
+fields_of-own-requires c = subst (λ fields. IsNonDecreasingBy (λ f. f.reg) fields) (sym c.deref.ensures.value) c.requires.fields_rise

@@ -13,3 +13,6 @@ loop-first-preserved c =
 pub returns-then-not-is_before-2-clause-behind : goal.returns-then-not-is_before-2-clause-behind
 returns-then-not-is_before-2-clause-behind c =
     first_high c.args.words.now c.loop-first.first (c.args.port * 2 ^ 64 + c.args.address) _ c.requires (omega arith) (sym c.is_before-in-loop-first.ensures ∙ c.if-not-is_before-2.true)
+
+pub returns-then-not-is_before-2-clause-before : goal.returns-then-not-is_before-2-clause-before
+returns-then-not-is_before-2-clause-before c = c.loop-first.invariant

@@ -1,6 +1,7 @@
-use Rattle.std.proofs.Common.{◌≡◌, ℕ, ◌+◌, ◌-◌, ◌<◌, length, get_or, ap, ◌∙◌, arith}
+use Rattle.std.proofs.Common.{◌≡◌, ℕ, ◌+◌, ◌-◌, ◌<◌, length, get_or, ap, ◌∙◌, subst, arith}
 use Rattle.rl_map.specs.Layout.{key_of}
-use Rattle.rl_bench.proofs.StretchLemmas.{stretch_one}
+use Rattle.rl_bench.specs.Stretch.{IsStretch, stands_beside}
+use Rattle.rl_bench.proofs.StretchLemmas.{stretch_one, any_default}
 use Rattle.rl_bench.proofs.find.words_beside.Goals as goal
 use Rattle.rl_bench.proofs.find.words_beside.Goals.{else-k-gt0-via-then-k-gt0+else-same_address, else-k-gt0-via-else-k-gt0, else-k-words-via-then-k-words+else-same_address-2}
 use Rattle.rl_bench.proofs.find.words_beside.Goals.{else-k-words-via-else-k-words}
@@ -20,3 +21,20 @@ returns c d =
       | else-k-words-via-else-k-words w ↦ λ m same. omega (arith, m, w.if-k-words.false)
     ] in
     stretch_one words k d c.requires.rise c.requires.k before behind
+
+pub words_at-requires : goal.words_at-requires
+words_at-requires c = c.requires.rise
+
+pub words_at-requires-then-same_address-2 : goal.words_at-requires-then-same_address-2
+words_at-requires-then-same_address-2 c = c.requires.rise
+
+pub returns-then-same_address : goal.returns-then-same_address
+returns-then-same_address c d =
+    let words = c.args.words.now in
+    subst (λ w. IsStretch (stands_beside w) words c.words_at.result.first c.words_at.result.end) (any_default words c.args.k _ d c.requires.k) c.words_at.ensures
+
+pub returns-then-same_address-2 : goal.returns-then-same_address-2
+returns-then-same_address-2 c d =
+    let words = c.args.words.now in
+    let at = c.words_at-then-same_address-2 in
+    subst (λ w. IsStretch (stands_beside w) words at.result.first at.result.end) (any_default words c.args.k _ d c.requires.k) at.ensures

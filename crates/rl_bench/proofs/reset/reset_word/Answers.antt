@@ -1,4 +1,5 @@
-use Rattle.std.proofs.Common.{◌≡◌, ℕ, ◌+◌, ◌<◌, not, ◌&&◌, ◌||◌, cond, ap, sym, ◌∙◌, arith, Option, Some, None, is_some, take, length, get_or}
+use Rattle.std.proofs.Common.{◌≡◌, ℕ, ◌+◌, ◌<◌, not, ◌&&◌, ◌||◌, cond, ap, sym, ◌∙◌, arith, Option, Some, None, is_some, take, length, get_or, subst}
+use Rattle.std.specs.List.Sorted.{IsNonDecreasingBy}
 use Rattle.std.specs.Prelude.{position, bit_and}
 use Rattle.std.specs.Int.{bit_not, w64}
 use Rattle.std.specs.Option.{option_or}
@@ -67,3 +68,9 @@ loop-k-preserved c =
       word = λ b k. rw (c.with_value-word.ensures b k, free b k, more b)
           (word_bit t c.args.kind i b row.lsb (bit c.args.bits b) (bit c.loop-k.word b) (covers row reg b) (place b) c.reset_of.result (was.word b k) c.reset_of.ensures lsb);
     }
+
+pub reset_of-requires : goal.reset_of-requires
+reset_of-requires c = c.args.board.now.sound.resets_rise
+
+pub fields_of-own-requires : goal.fields_of-own-requires
+fields_of-own-requires c = subst (λ fields. IsNonDecreasingBy (λ f. f.reg) fields) (sym c.deref.ensures.value) c.args.board.now.sound.fields_rise

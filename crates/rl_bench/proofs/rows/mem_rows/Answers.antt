@@ -1,7 +1,7 @@
 use Rattle.std.proofs.Common.{◌+◌, ◌++◌, ◌∷◌, [], refl, ap, ◌∙◌, arith}
 use Rattle.std.proofs.lemmas.List.{take_all}
 use Rattle.rl_map.specs.Tables.{mem_rows}
-use Rattle.rl_bench.proofs.RowLemmas.{mem_more, sizes_more}
+use Rattle.rl_bench.proofs.RowLemmas.{mem_more, sizes_more, sizes_in}
 use Rattle.rl_bench.proofs.rows.mem_rows.Goals as goal
 
 pub loop-mem-preserved : goal.loop-mem-preserved
@@ -23,3 +23,8 @@ loop-mem-init c = record { rows = c.new-rows.ensures.items; first = refl }
 pub returns : goal.returns
 returns c =
     c.loop-mem.invariant.rows ∙ ap (mem_rows 0) (take_all c.loop-mem.mem c.args.chip.now.mems (omega (arith, c.loop-mem-test.false, c.mems-mem-end.ensures.count)))
+
+pub overflow_add-first : goal.overflow_add-first
+overflow_add-first c =
+    let mems = c.args.chip.now.mems in
+    omega (arith, c.loop-mem.invariant.first, sizes_in mems c.loop-mem.mem c.size-size.result c.size-size.ensures.value, c.mems-mem-end.ensures.sound.locations)

@@ -10,8 +10,8 @@ use Rattle.rl_bus.specs.Setup.{stands_for, stands_at}
 use Rattle.rl_bus.specs.State.{counted, word_at, is_faulty, beats_on}
 use Rattle.rl_bench.specs.Beats.{beats_of}
 use Rattle.rl_bench.specs.Board.{state_of}
-use Rattle.rl_bench.specs.State.{bench_state}
-use Rattle.rl_bench.proofs.StepLemmas.{missing_state, missing_answer, faulty_state, faulty_answer, touched_state, touched_answer, filter_le, word_in, stands_there, moved, answer_small}
+use Rattle.rl_bench.specs.State.{bench_state, failures_after}
+use Rattle.rl_bench.proofs.StepLemmas.{missing_state, missing_answer, faulty_state, faulty_answer, touched_state, touched_answer, filter_le, word_in, stands_there, moved, answer_small, none_small}
 use Rattle.rl_bench.proofs.bench.Bench.item.Goals as goal
 
 pub returns-in_default-clause-state : goal.returns-in_default-clause-state
@@ -185,3 +185,41 @@ invariant_of-self-then-is_faulty-clause-beaten c =
     let ws = c.send_back.new.beats in
     let e : (with_items b.beats ws).items ≡ ws = with_items_is b.beats ws (c.send_back.auto.beats ∙ c.deref_mut.ensures.len) in
     λ p a write more. ap length e ∙ c.send_back.auto.beats ∙ ap length c.deref_mut.ensures.value ∙ b.beaten p a write more
+
+-- ---- what an item leaves alone
+
+pub invariant_of-self-clause-quiet : goal.invariant_of-self-clause-quiet
+invariant_of-self-clause-quiet c = c.args.self.now.quiet
+
+pub invariant_of-self-clause-fit : goal.invariant_of-self-clause-fit
+invariant_of-self-clause-fit c = c.args.self.now.fit
+
+pub invariant_of-self-clause-beaten : goal.invariant_of-self-clause-beaten
+invariant_of-self-clause-beaten c = c.args.self.now.beaten
+
+pub invariant_of-self-clause-named : goal.invariant_of-self-clause-named
+invariant_of-self-clause-named c = c.args.self.now.named
+
+pub invariant_of-self-then-is_faulty-clause-fit : goal.invariant_of-self-then-is_faulty-clause-fit
+invariant_of-self-then-is_faulty-clause-fit c = c.args.self.now.fit
+
+pub touch-answer-requires-clause-fit : goal.touch-answer-requires-clause-fit
+touch-answer-requires-clause-fit c = c.args.self.now.fit
+
+pub invariant_of-self-2-clause-fit : goal.invariant_of-self-2-clause-fit
+invariant_of-self-2-clause-fit c = c.touch-answer.ensures.fit
+
+-- ---- failed items
+
+pub returns-in_default-clause-failures : goal.returns-in_default-clause-failures
+returns-in_default-clause-failures c = c.failed_answer.ensures.failures ∙ ap (failures_after c.args.self.now.failures) (sym c.failed_answer.ensures.answer)
+
+pub returns-then-is_faulty-clause-failures : goal.returns-then-is_faulty-clause-failures
+returns-then-is_faulty-clause-failures c =
+    c.failed_answer-then-is_faulty.ensures.failures ∙ ap (failures_after c.args.self.now.failures) (sym c.failed_answer-then-is_faulty.ensures.answer)
+
+pub returns-in_default-clause-small : goal.returns-in_default-clause-small
+returns-in_default-clause-small c = none_small c.failed_answer.result c.args.op.now c.failed_answer.ensures.answer c.requires.width
+
+pub returns-then-is_faulty-clause-small : goal.returns-then-is_faulty-clause-small
+returns-then-is_faulty-clause-small c = none_small c.failed_answer-then-is_faulty.result c.args.op.now c.failed_answer-then-is_faulty.ensures.answer c.requires.width
