@@ -1,12 +1,13 @@
 -- A call that sent nothing performed its operation.
-use Rattle.std.proofs.Common.{◌≡◌, ℕ, ◌≤◌, Bool, true, false, if◌then◌else◌, List, [], Option, None, Some, option_map, Ok, Err, refl, sym, ap, ◌∙◌, subst, arith}
+use Rattle.std.proofs.Common.{◌≡◌, ℕ, ◌*◌, ◌^◌, ◌<◌, ◌≤◌, length, Bool, true, false, if◌then◌else◌, List, [], Option, None, Some, option_map, Ok, Err, refl, sym, ap, ◌∙◌, subst, arith}
 use Rattle.std.proofs.lemmas.List.{set-get_or}
 use Rattle.rl_bus.specs.Standing.{Standing, standing_at, nobody}
 use Rattle.rl_bus.specs.State.{State, peeked, poked, hw_set, reset_by}
 use Rattle.rl_bus.specs.declared.op.BusOp.{BusOp}
 use Rattle.rl_bus.specs.declared.table.Cell.TheVariants as cell
 use Rattle.rl_mirror.specs.Compared.{differ}
-use Rattle.rl_model.specs.Fields.{fields_of}
+use Rattle.rl_model.specs.Fields.{fields_of, size_of}
+use Rattle.rl_model.specs.Rows.{ChipData}
 use Rattle.rl_mirror.specs.Mirror.{marks_in}
 use Rattle.rl_mirror.specs.Prediction.{written, shown, left_by_read, predict_read, reset}
 use Rattle.rl_access.specs.declared.event.End.{End}
@@ -20,7 +21,8 @@ use Rattle.rl_model.specs.declared.rows.Item.TheVariants as item
 use Rattle.rl_access.specs.Backdoor.{IsFound, IsReadBehind}
 use Rattle.rl_access.specs.Items.{AreItemsOf, HasCauses, items_of, state_after_all, moved_on_by_all, port_for, adapter_for}
 use Rattle.rl_access.specs.Model.{ModelData}
-use Rattle.rl_access.specs.Operation.{reg_of}
+use Rattle.rl_access.specs.Event.{IsEndWithin}
+use Rattle.rl_access.specs.Operation.{HasNumbers, digits_of, has_end, reg_of, register_of}
 use Rattle.rl_access.specs.Rules.{Grant, quiet, taking_raw, every_field, owned_of, back_written, back_value, back_left, back_outcome, grant, named, sends, outcome, Outcome, register_event}
 use Rattle.rl_access.specs.Rules.{memory_event, event_at, event_of, refused_event, found_by, device_after, by_backdoor}
 use Rattle.rl_access.specs.Call.{scene, Performs}
@@ -159,6 +161,22 @@ record IsReading (m : ModelData) (check : Bool) (reg place : ℕ) (read : Op) : 
 is_reading : (m : ModelData) (check : Bool) (reg place : ℕ) → IsReading m check reg place (reading check reg)
 is_reading m true reg place = record { nothing = refl; event_is = λ o. refl; outcome_is = λ sampled. refl; finds = λ d. refl; leaves = λ sampled d. refl }
 is_reading m false reg place = record { nothing = refl; event_is = λ o. refl; outcome_is = λ sampled. refl; finds = λ d. refl; leaves = λ sampled d. refl }
+
+-- its event tells of the register, and may end with such a value or refused
+pub record IsReadingTold (c : ChipData) (maps reg value : ℕ) (read : Op) : Type 0 where
+  pub register : register_of c read ≡ Some reg
+  pub numbers : HasNumbers c maps read
+  pub ends : has_end read (end.Value value) ≡ true
+  pub refuses : (why : Refused) → has_end read (end.Refused why) ≡ true
+  pub within : IsEndWithin (digits_of c read) (end.Value value)
+
+reading_told_of : (c : ChipData) (maps reg value : ℕ) (check : Bool) → reg < length c.regs → value < 16 ^ (2 * size_of c reg) → IsReadingTold c maps reg value (reading check reg)
+reading_told_of c maps reg value true inside fits = record { register = refl; numbers = inside; ends = refl; refuses = λ why. refl; within = fits }
+reading_told_of c maps reg value false inside fits = record { register = refl; numbers = inside; ends = refl; refuses = λ why. refl; within = fits }
+
+pub reading_told : (c : ChipData) (maps reg value : ℕ) (check : Bool) (read : Op) → read ≡ reading check reg → reg < length c.regs → value < 16 ^ (2 * size_of c reg) →
+    IsReadingTold c maps reg value read
+reading_told c maps reg value check read is inside fits = subst (IsReadingTold c maps reg value) (sym is) (reading_told_of c maps reg value check inside fits)
 
 reading_granted : (m : ModelData) (check : Bool) (reg : ℕ) → grant m (reading check reg) ≡ by_backdoor m (item.Reg reg)
 reading_granted m true reg = refl

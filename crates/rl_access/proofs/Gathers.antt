@@ -1,5 +1,5 @@
 -- The words of a whole access, as a predictor sees them one after another.
-use Rattle.std.proofs.Common.{◌≡◌, ◌⊎◌, ℕ, zero, suc, ◌<◌, Bool, true, false, ◌&&◌, cond, eqb, if◌then◌else◌, List, [], ◌∷◌, ◌++◌, length, map, set, get_or, None, Some, refl, sym, ap, ◌∙◌, inl, inr}
+use Rattle.std.proofs.Common.{◌≡◌, ◌⊎◌, ℕ, zero, suc, ◌<◌, Bool, true, false, ◌&&◌, cond, eqb, if◌then◌else◌, List, [], ◌∷◌, ◌++◌, length, map, set, get_or, Option, None, Some, refl, sym, ap, ◌∙◌, inl, inr}
 use Rattle.std.proofs.Common.{arith, eq-eqb}
 use Rattle.std.proofs.lemmas.List.{set-set}
 use Rattle.rl_bus.specs.declared.op.Answer.{Answer}
@@ -92,3 +92,17 @@ whole_taken c l place g first mid last m taken emptied whole =
     ∙ ap (λ v. set v place no_words) taken
     ∙ set-set first place g no_words
     ∙ ap (λ t. let s : Seen = if t then seen (set first place no_words) (predicted c l place g m) else seen (set first place g) m in s.gathered) (sym whole)
+
+-- ---- an item whose place is known
+
+pub nowhere_observed : (c : ChipData) (l : LayoutData) (watched : Option ℕ) (op : BusOp) (answer : Answer) (gathered : List Gathered) (m : MirrorData) → watched ≡ None →
+    observed_at c l watched op answer gathered m ≡ seen gathered m
+nowhere_observed c l watched op answer gathered m none = ap (λ p. observed_at c l p op answer gathered m) none
+
+pub word_observed : (c : ChipData) (l : LayoutData) (watched : Option ℕ) (place word : ℕ) (op : BusOp) (answer : Answer) (gathered : List Gathered) (m : MirrorData) → watched ≡ Some place →
+    answer.failed ≡ false → word ≡ word_told op answer →
+    observed_at c l watched op answer gathered m ≡ taken_in c l place (gathered_with l place op word (gathered_at gathered place)) gathered m
+word_observed c l watched place word op answer gathered m at quiet is =
+    ap (λ p. observed_at c l p op answer gathered m) at
+    ∙ ap (λ t. if t then seen (set gathered place no_words) m else taken_in c l place (gathered_with l place op (word_told op answer) (gathered_at gathered place)) gathered m) quiet
+    ∙ ap (λ w. taken_in c l place (gathered_with l place op w (gathered_at gathered place)) gathered m) (sym is)

@@ -1,5 +1,6 @@
 pub mod Alone
 pub mod BackPerforms
+pub mod Begun
 pub mod Beliefs
 pub mod Brought
 pub mod Bursting
@@ -22,6 +23,7 @@ pub mod Rights
 pub mod Running
 pub mod Setups
 pub mod Tables
+pub mod Taken
 pub mod Traces
 pub mod UnderWay
 pub mod Whole

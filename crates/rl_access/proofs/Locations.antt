@@ -52,6 +52,13 @@ pub same_sent : {items : List TraceItem} {before now : List Standing} {errors la
 same_sent {items} {before} {now} {errors} {later} {state} {after} l o it same sent =
     subst (λ (x : Outgoing). AreSent (adapter_for l x.place) (port_for l x.place) (outgoing_ops l x) items before now errors later state after) same sent
 
+-- and told by equal items
+pub told_sent : {items told : List TraceItem} {before now : List Standing} {errors later : ℕ} {state after : Option State} (l : LayoutData) (o it : Outgoing) → o ≡ it → told ≡ items →
+    AreSent (adapter_for l o.place) (port_for l o.place) (outgoing_ops l o) items before now errors later state after →
+    AreSent (adapter_for l it.place) (port_for l it.place) (outgoing_ops l it) told before now errors later state after
+told_sent {items} {told} {before} {now} {errors} {later} {state} {after} l o it same all sent =
+    subst (λ (t : List TraceItem). AreSent (adapter_for l it.place) (port_for l it.place) (outgoing_ops l it) t before now errors later state after) (sym all) (same_sent l o it same sent)
+
 -- a read of a location by an equal number
 pub read_at : (m : ModelData) (mem place index it : ℕ) (items : List TraceItem) (e : End) (before now : List Standing) (errors later : ℕ) (state after : Option State) → index ≡ it →
     AreSent (adapter_for m.layout place) (port_for m.layout place) (ops_of m.layout place index (location_bytes m mem) 0 false) items before now errors later state after →

@@ -1,5 +1,5 @@
 -- One operation that is sent alone.
-use Rattle.std.proofs.Common.{◌≡◌, ℕ, ◌<◌, List, [], ◌∷◌, length, Bool, true, false, All, Option, refl, arith}
+use Rattle.std.proofs.Common.{◌≡◌, ℕ, ◌<◌, List, [], ◌∷◌, length, slice_get, Bool, true, false, All, Option, Some, refl, sym, ap, ◌∙◌, subst, arith}
 use Rattle.std.proofs.lemmas.List.Elements.{All-head, All-cons}
 use Rattle.rl_bus.specs.Causes.{AnswerHasCause}
 use Rattle.rl_bus.specs.Device.{IsStep}
@@ -11,8 +11,11 @@ use Rattle.rl_map.specs.Layout.{LayoutData, place_at, port_at, IsSound}
 use Rattle.rl_split.specs.Access.{kind_of}
 use Rattle.rl_access.specs.declared.trace.TraceItem.{TraceItem}
 use Rattle.rl_access.specs.Event.{ItemFits}
-use Rattle.rl_access.specs.Items.{IsAnswerSmall, item_of, AreItemsOf}
+use Rattle.rl_access.specs.Call.{scene}
+use Rattle.rl_access.specs.Items.{IsAnswerSmall, item_of, AreItemsOf, adapter_for, port_for}
 use Rattle.rl_access.specs.Model.{ModelData}
+use Rattle.rl_access.specs.Observed.{observing, word_ops}
+use Rattle.rl_access.specs.Word.{IsWordSent}
 use Rattle.rl_access.proofs.Ready.{fits_there}
 use Rattle.rl_access.proofs.Traces.{items_fit}
 use Rattle.rl_access.proofs.UnderWay.{IsNext, IsSentInOrder, under_way_first, under_way_next, under_way_failed, under_way_done, next_of}
@@ -54,3 +57,23 @@ pub item_fits_sent : {first new : List Standing} {which port errors later : ℕ}
     port < length l.ports → op.bytes ≡ (port_at l port).bytes → Fits (kind_of l place) op → IsAnswerSmall item → ItemFits l item
 item_fits_sent {first} {new} {which} {port} {errors} {later} {op} {item} {state} {after} l place sent inside bytes fits small = item_fits_there l port place (standing_at first which) op item
     sent.sent.items_are inside bytes fits small
+
+-- the word of an access went to the port of its place, through that port's adapter
+pub word_sent : {first new : List Standing} {errors later : ℕ} {state after : Option State} (m left : ModelData) (place k : ℕ) (value : Option ℕ) (which port : ℕ) (op : BusOp) (item : TraceItem) →
+    slice_get (word_ops m.layout place value) k ≡ Some op → port ≡ port_for m.layout place → which ≡ adapter_for m.layout place →
+    item ≡ item_of (standing_at first which) port op item.answer → new ≡ moved_on first which item.op item.answer → AnswerHasCause errors later item.answer →
+    IsStep state after port op item.answer → left ≡ observing m item → IsWordSent (scene m first errors state) (scene left new later after) place k value item
+word_sent {first} {new} {errors} {later} {state} {after} m left place k value which port op item word there through sent moves cause step seen =
+    let same : op ≡ item.op = sym (ap (λ (i : TraceItem). i.op) sent) in
+    record {
+      op = word ∙ ap Some same;
+      item_is =
+          sent
+          ∙ ap (λ w. item_of (standing_at first w) port op item.answer) through
+          ∙ ap (λ p. item_of (standing_at first (adapter_for m.layout place)) p op item.answer) there
+          ∙ ap (λ o. item_of (standing_at first (adapter_for m.layout place)) (port_for m.layout place) o item.answer) same;
+      adapters = moves ∙ ap (λ w. moved_on first w item.op item.answer) through;
+      cause = cause;
+      step = subst (λ o. IsStep state after (port_for m.layout place) o item.answer) same (subst (λ p. IsStep state after p op item.answer) there step);
+      model = seen;
+    }

@@ -13,8 +13,10 @@ use Rattle.rl_map.specs.declared.rows.PortRow.{PortRow}
 use Rattle.rl_map.specs.Layout.{LayoutData, place_at, port_at, IsSound}
 use Rattle.rl_map.specs.Tables.{setup_of}
 use Rattle.rl_split.specs.Access.{kind_of}
+use Rattle.rl_split.specs.Outgoing.{outgoing_ops}
+use Rattle.rl_split.specs.declared.access.Outgoing.{Outgoing}
 use Rattle.rl_access.specs.declared.trace.TraceItem.{TraceItem}
-use Rattle.rl_access.specs.Items.{AreSent, state_after_all}
+use Rattle.rl_access.specs.Items.{AreSent, adapter_for, port_for, state_after_all}
 use Rattle.rl_access.specs.Model.{ModelData, IsDeviceOf, IsReady}
 use Rattle.rl_access.proofs.Setups.{setup-state_after_all}
 
@@ -64,3 +66,12 @@ pub fits_there : (m : ModelData) (standings : List Standing) (which place : ℕ)
 fits_there m standings which place ops sound inside same is fits =
     let kind : kind_at (kinds_of standings) which ≡ kind_of m.layout place = ap (λ w. kind_at (kinds_of standings) w) is ∙ kind_there m standings (place_at m.layout place).port sound inside same in
     subst (λ k. All (Fits k) ops) (sym kind) fits
+
+-- what went out by the place's port and adapter, and by an equal layout
+pub sent_at : {items : List TraceItem} {before now : List Standing} {errors later : ℕ} {told after : Option State} (l here : LayoutData) (o : Outgoing) (which port : ℕ) → here ≡ l →
+    port ≡ port_for l o.place → which ≡ adapter_for l o.place → AreSent which port (outgoing_ops here o) items before now errors later told after →
+    AreSent (adapter_for l o.place) (port_for l o.place) (outgoing_ops l o) items before now errors later told after
+sent_at {items} {before} {now} {errors} {later} {told} {after} l here o which port same there through sent =
+    subst (λ w. AreSent w (port_for l o.place) (outgoing_ops l o) items before now errors later told after) through
+    (subst (λ p. AreSent which p (outgoing_ops l o) items before now errors later told after) there
+    (subst (λ x. AreSent which port (outgoing_ops x o) items before now errors later told after) same sent))

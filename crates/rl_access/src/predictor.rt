@@ -7,7 +7,7 @@ ghost use Rattle.rl_mirror.specs.Reachable.{IsReachable};
 ghost use Rattle.rl_access.specs.Gathering.{IsPredictorOf, IsRegisterPlace, no_words, gathered_at, is_next};
 ghost use Rattle.rl_access.specs.Gathering.{same_direction, emptied, appended, gathered_with};
 ghost use Rattle.rl_access.specs.Observed.{as_register, watched_place, is_whole, value_gathered, reg_in, predicted};
-ghost use Rattle.rl_access.specs.Observed.{taken_in, observed, observed_at, IsWordOf};
+ghost use Rattle.rl_access.specs.Observed.{taken_in, observed, observed_at, word_told, IsWordOf};
 
 use rl_bus::{Answer, BusOp};
 use rl_map::{Layout, has_right};
@@ -167,6 +167,13 @@ fn watched_place(layout: &Layout, port: u32, op: &BusOp) -> Option<u32>
     }
 }
 
+// What was written, or what was answered.
+fn word_told(op: &BusOp, answer: &Answer) -> u64
+    ensures { result ≡ word_told op.now answer.now }
+{
+    if op.write { op.word } else { answer.word }
+}
+
 /// The place that an item of one of its words is of, where a predictor watches. A place with the right of the
 /// item's direction is the one that a search by the address finds, so that none is needed.
 pub(crate) fn watched_word(layout: &Layout, place: u32, op: &BusOp) -> Option<u32>
@@ -269,8 +276,7 @@ impl Predictor {
         if answer.failed {
             self.forget_at(layout, place);
         } else {
-            let word = if op.write { op.word } else { answer.word };
-            self.take_in(chip, layout, mirror, place, op, word);
+            self.take_in(chip, layout, mirror, place, op, word_told(op, answer));
         }
     }
 

@@ -4,7 +4,9 @@ use Rattle.rl_bus.specs.Wire.{Fits}
 use Rattle.rl_split.specs.Access.{kind_of}
 use Rattle.rl_split.specs.Outgoing.{outgoing_ops}
 use Rattle.rl_split.proofs.Sent.{outgoing_fits}
-use Rattle.rl_access.proofs.Ready.{port_of_device, fits_there, ready_later}
+use Rattle.rl_access.specs.Access.{IsBrought}
+use Rattle.rl_split.specs.Outgoing.{IsOutgoingOn}
+use Rattle.rl_access.proofs.Ready.{adapter_there, port_of_device, fits_there, ready_later, sent_at}
 use Rattle.rl_access.proofs.Traces.{items_fit, ops_have_bytes}
 use Rattle.rl_access.proofs.engine.send.Goals as goal
 
@@ -42,3 +44,24 @@ returns-clause-fit g c =
     (subst (λ p. All (λ o. o.bytes ≡ (port_at m.layout p).bytes) (outgoing_ops m.layout s)) (sym port) (ops_have_bytes m.layout s.place s.index s.chosen s.value s.write)))
     (subst (λ (l : LayoutData). All (Fits (kind_of m.layout s.place)) (outgoing_ops l s)) (sym same) (outgoing_fits m.layout s c.layout-layout.ensures.sound.layout c.requires.outgoing))
     c.send_all.ensures.small
+
+pub send_all-requires-clause-in_range : goal.send_all-requires-clause-in_range
+send_all-requires-clause-in_range g c =
+    adapter_there c.args.model.now _ c.adapter-which.result c.requires.ready.kinds
+    (subst (λ (l : LayoutData). c.adapter-which.result < length l.kinds) c.layout-layout.ensures.layout c.adapter-which.ensures.in_range)
+
+pub send_all-requires-clause-outgoing : goal.send_all-requires-clause-outgoing
+send_all-requires-clause-outgoing g c = subst (λ (l : LayoutData). IsOutgoingOn l c.args.outgoing.now) (sym c.layout-layout.ensures.layout) c.requires.outgoing
+
+pub returns-clause-sent : goal.returns-clause-sent
+returns-clause-sent g c =
+    let l = c.args.model.now.layout in
+    let s = c.args.outgoing.now in
+    let same = c.layout-layout.ensures.layout in
+    let port : c.port_of-port.result ≡ (place_at l s.place).port = c.port_of-port.ensures.port ∙ ap (λ (x : LayoutData). (place_at x s.place).port) same in
+    sent_at l c.layout-layout.result.now s c.adapter-which.result c.port_of-port.result same port
+    (c.adapter-which.ensures.adapter ∙ ap (λ (x : LayoutData). (port_at x c.port_of-port.result).adapter) same ∙ ap (λ p. (port_at l p).adapter) port) c.send_all.ensures.sent
+
+pub returns-clause-value : goal.returns-clause-value
+returns-clause-value g c =
+    λ reads. subst (λ (l : LayoutData). IsBrought l c.args.outgoing.now c.send_all.new.trace c.send_all.result) c.layout-layout.ensures.layout (c.send_all.ensures.value reads)

@@ -1,9 +1,14 @@
-use Rattle.std.proofs.Common.{All, ap, sym, subst, ◌∙◌}
+use Rattle.std.proofs.Common.{◌≡◌, true, List, All, ap, sym, subst, ◌∙◌}
 use Rattle.std.proofs.lemmas.Nat.{pow_pos}
 use Rattle.rl_map.specs.Layout.{LayoutData}
+use Rattle.rl_access.specs.declared.event.Event.{Event}
+use Rattle.rl_access.specs.declared.trace.TraceItem.{TraceItem}
+use Rattle.rl_access.specs.Access.{outgoing_of}
 use Rattle.rl_access.specs.Event.{ItemFits}
 use Rattle.rl_access.specs.Rules.{Outcome, register_event, write_outcome}
+use Rattle.rl_access.proofs.Begun.{ready_same}
 use Rattle.rl_access.proofs.Concluded.{write_concluded, told_by_trace}
+use Rattle.rl_access.proofs.Locations.{told_sent}
 use Rattle.rl_access.proofs.engine.write_as.Goals as goal
 
 pub conclude-requires : goal.conclude-requires
@@ -31,3 +36,21 @@ pub returns-clause-parts : goal.returns-clause-parts
 returns-clause-parts g c =
     (write_concluded c.args.model.now c.conclude_write-end.new.model c.args.good c.conclude_write-end.result c.args.access.now c.args.event.now.op c.send.new.trace
     c.requires.told c.requires.ends c.requires.within c.conclude_write-end.ensures.end c.conclude_write-end.ensures.model).parts
+
+pub send-requires-clause-outgoing : goal.send-requires-clause-outgoing
+send-requires-clause-outgoing g c = c.outgoing.ensures.on c.args.model.now c.requires.access
+
+pub returns-clause-ready : goal.returns-clause-ready
+returns-clause-ready g c =
+    let done = write_concluded c.args.model.now c.conclude_write-end.new.model c.args.good c.conclude_write-end.result c.args.access.now c.args.event.now.op c.send.new.trace
+    c.requires.told c.requires.ends c.requires.within c.conclude_write-end.ensures.end c.conclude_write-end.ensures.model in
+    ready_same c.args.model.now c.conclude_write-end.new.model done.parts c.send.ensures.ready
+
+pub returns-clause-sent : goal.returns-clause-sent
+returns-clause-sent g c =
+    told_sent c.args.model.now.layout c.outgoing.result (outgoing_of c.args.access.now true) c.outgoing.ensures.outgoing (ap (λ (x : Event). x.trace) c.conclude.ensures.event) c.send.ensures.sent
+
+pub returns-clause-model : goal.returns-clause-model
+returns-clause-model g c =
+    subst (λ (t : List TraceItem). c.conclude_write-end.new.model ≡ (write_outcome c.args.model.now c.args.good c.args.access.now t).model) (sym (ap (λ (x : Event). x.trace) c.conclude.ensures.event))
+    c.conclude_write-end.ensures.model
