@@ -4,3 +4,4 @@ pub mod Granting
 pub mod Planned
 pub mod Stretch
 pub mod Turning
+pub mod Walking

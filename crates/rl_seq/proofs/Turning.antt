@@ -1,5 +1,5 @@
 -- The parts of a turn do what the plan of the turn says, and the turns at a place what the plan of the place says.
-use Rattle.std.proofs.Common.{◌≡◌, ℕ, zero, suc, ◌+◌, Bool, true, false, if◌then◌else◌, length, Option, None, Some, Result, Ok, refl, sym, ap, ◌∙◌, add-one}
+use Rattle.std.proofs.Common.{◌≡◌, ℕ, zero, suc, ◌+◌, ◌-◌, ◌<◌, ◌≤◌, Bool, true, false, if◌then◌else◌, length, Option, None, Some, IfSome, Result, Ok, refl, sym, ap, subst, ◌∙◌, add-one, arith}
 use Rattle.rl_map.specs.Layout.{LayoutData}
 use Rattle.rl_model.specs.Rows.{ChipData}
 use Rattle.rl_mirror.specs.Mirror.{mirrored_of}
@@ -13,7 +13,7 @@ use Rattle.rl_seq.specs.declared.visit.Visit.{Visit}
 use Rattle.rl_seq.specs.declared.visit.Visit.TheVariants.{Check, Bash, Access, Share, Walk}
 use Rattle.rl_seq.specs.Choice.{is_bit_compared}
 use Rattle.rl_seq.specs.Plan.{Plan, stop, step, look, followed_by, only_if, each_below}
-use Rattle.rl_seq.specs.Sequences.{map_at, bash_once, access_with, write_turned, check_other, walk_location, is_chosen, is_visited, at_place, visit, visit_all}
+use Rattle.rl_seq.specs.Sequences.{items_of, map_at, bash_once, access_with, write_turned, check_other, walk_location, is_chosen, is_visited, at_place, visit, visit_all}
 use Rattle.rl_seq.specs.Stage.{Stage, Follows}
 use Rattle.rl_seq.specs.Visits.{visit_of, turn_of, turns, parts_of, part_of}
 use Rattle.rl_seq.proofs.Planned.{Alike, alike_same, alike_step, alike_look, alike_looked, same_plan}
@@ -166,3 +166,26 @@ item_followed r m which block number answer h y s new before after result same i
     (same_plan (λ c l. visit_all which c l block number) m n same)
     (follows_same r s new before after all (visit_all which n.chip n.layout block number) result
     (chosen_is (is_chosen which n.chip n.layout block number) all (sym here ∙ so)) a)
+
+-- ---- numbers that are in range stay so, where chip and layout are as before
+
+pub place_there : (place : ℕ) {l now : LayoutData} → place < length l.places → now ≡ l → place < length now.places
+place_there place low same = subst (λ (l : LayoutData). place < length l.places) (sym same) low
+
+pub place_in : (place end : ℕ) {l now : LayoutData} → place < end → end ≤ length l.places → now ≡ l → place < length now.places
+place_in place end low most same = place_there place (omega (arith, low, most)) same
+
+pub number_in : (which : Sequence) (number : ℕ) {c now : ChipData} → number < items_of which c → now ≡ c → number < items_of which now
+number_in which number low same = subst (λ c. number < items_of which c) (sym same) low
+
+pub block_in : (block : Option ℕ) {c now : ChipData} → IfSome block (λ b. b < c.blocks) → now ≡ c → IfSome block (λ b. b < now.blocks)
+block_in block there same = subst (λ (c : ChipData). IfSome block (λ b. b < c.blocks)) (sym same) there
+
+pub reg_in : (reg : ℕ) {c now : ChipData} → reg < length c.regs → now ≡ c → reg < length now.regs
+reg_in reg low same = subst (λ (c : ChipData). reg < length c.regs) (sym same) low
+
+pub mem_in : (mem : ℕ) {c now : ChipData} → mem < length c.mems → now ≡ c → mem < length now.mems
+mem_in mem low same = subst (λ (c : ChipData). mem < length c.mems) (sym same) low
+
+pub place_before : (place turn : ℕ) {l now : LayoutData} → (1 ≤ turn) × (place ≡ turn - 1) → turn < length l.places + 1 → now ≡ l → place < length now.places
+place_before place turn before low same = place_there place (omega (arith, before.0, before.1, low)) same

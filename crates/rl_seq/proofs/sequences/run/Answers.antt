@@ -1,6 +1,7 @@
 use Rattle.std.proofs.Common.{Err, refl, rules}
 use Rattle.rl_seq.specs.Sequences.{walk, beginning_of}
 use Rattle.rl_seq.proofs.Following.{follows_broke, then_walked, sequence_ends, sequence_breaks}
+use Rattle.rl_seq.proofs.Turning.{block_in}
 use Rattle.rl_seq.proofs.sequences.run.Goals as goal
 
 pub returns-in_err-begin : goal.returns-in_err-begin
@@ -25,3 +26,6 @@ returns g c =
     (then_walked g.R.Recorder _ _ _ c.args.sequence c.args.block _ _ _ _ _ c.in_ok-begin.ensures.follows c.in_ok-walk.ensures.follows)
     c.new.ensures in
     search (rules, done)
+
+pub walk-requires-clause-block : goal.walk-requires-clause-block
+walk-requires-clause-block g c = block_in c.args.block c.requires.block c.in_ok-begin.ensures.follows.stays.parts.chip

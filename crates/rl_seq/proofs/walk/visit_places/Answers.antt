@@ -2,7 +2,7 @@ use Rattle.std.proofs.Common.{◌∙◌, length, sym, refl, arith}
 use Rattle.rl_seq.specs.Sequences.{is_visited, visit}
 use Rattle.rl_seq.proofs.Following.{each_first, each_more, each_skipped, each_broke, each_all, each_up_to}
 use Rattle.rl_seq.proofs.Stretch.{stretch}
-use Rattle.rl_seq.proofs.Turning.{left_out, visited_same, place_followed}
+use Rattle.rl_seq.proofs.Turning.{left_out, visited_same, place_followed, number_in, place_in}
 use Rattle.rl_seq.proofs.walk.visit_places.Goals as goal
 
 pub loop-place-init : goal.loop-place-init
@@ -75,3 +75,20 @@ returns g c =
     each_all g.R.Recorder g.D.Device _ _ _ _ f all all _ refl
     (each_up_to g.R.Recorder g.D.Device _ _ _ _ f c.loop-place.place all c.loop-place.invariant.within
     (λ k from low. s.behind k (omega (arith, from, c.loop-place-test.false)) low) c.loop-place.invariant.went)
+
+pub visits-requires : goal.visits-requires
+visits-requires g c =
+    let m = c.args.run.now.model.now in
+    let s = stretch c.args.sequence m.chip m.layout c.layout.result.now c.layout-2.result.now c.args.number c.first_place-first.result c.end_of-end.result c.item-item.result
+    c.item-item.ensures c.layout.ensures.layout c.layout-2.ensures.layout c.first_place-first.ensures c.end_of-end.ensures in
+    place_in c.loop-place.place _ c.loop-place-test.true s.end_in (c.layout-in-loop-place.ensures.layout ∙ c.loop-place.invariant.went.follows.stays.parts.layout)
+
+pub of-requires-clause-place : goal.of-requires-clause-place
+of-requires-clause-place g c =
+    let m = c.args.run.now.model.now in
+    let s = stretch c.args.sequence m.chip m.layout c.layout.result.now c.layout-2.result.now c.args.number c.first_place-first.result c.end_of-end.result c.item-item.result
+    c.item-item.ensures c.layout.ensures.layout c.layout-2.ensures.layout c.first_place-first.ensures c.end_of-end.ensures in
+    place_in c.loop-place.place _ c.loop-place-test.true s.end_in c.loop-place.invariant.went.follows.stays.parts.layout
+
+pub of-requires-clause-number : goal.of-requires-clause-number
+of-requires-clause-number g c = number_in c.args.sequence c.args.number c.requires.number c.loop-place.invariant.went.follows.stays.parts.chip
