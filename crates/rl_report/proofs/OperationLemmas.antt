@@ -150,6 +150,9 @@ pub register_by_subject : (c : ChipData) (o : Op) → register_of c o ≡ option
 register_by_subject c (op.Write reg map value) = refl
 register_by_subject c _ = refl
 
+pub register_at : (c : ChipData) (o : Op) (s : Subject) → subject_of o ≡ Some s → register_on c s ≡ register_of c o
+register_at c o s e = sym (register_by_subject c o ∙ ap (λ (q : Option Subject). option_and_then (register_on c) q) e)
+
 abbrev pub digits_on : ChipData → Subject → ℕ
 digits_on c (Reg reg) = 2 * size_of c reg
 digits_on c (Field field) = 2 * size_of c (reg_of c field)
@@ -163,6 +166,13 @@ IsFieldRead _ = ⊥
 pub digits_by_subject : (c : ChipData) (o : Op) → (IsFieldRead o → ⊥) → digits_of c o ≡ option_map_or (digits_on c) (subject_of o) 0
 digits_by_subject c (op.FieldRead field map) other = absurd (other tt)
 digits_by_subject c _ other = refl
+
+isnt_read : (o : Op) → ((field : ℕ) (map : Option ℕ) → o ≡ op.FieldRead field map → ⊥) → IsFieldRead o → ⊥
+isnt_read (op.FieldRead field map) other read = other field map refl
+isnt_read _ other read = read
+
+pub digits_at : (c : ChipData) (o : Op) (s : Subject) → ((field : ℕ) (map : Option ℕ) → o ≡ op.FieldRead field map → ⊥) → subject_of o ≡ Some s → digits_on c s ≡ digits_of c o
+digits_at c o s other e = sym (digits_by_subject c o (isnt_read o other) ∙ ap (λ (q : Option Subject). option_map_or (digits_on c) q 0) e)
 
 pub text_is_spoken : (m : ModelData) (o : Op) (s : Spoken) → spoken_of o ≡ Some s → op_text m o ≡ spelling (spoken_line m s)
 text_is_spoken m (op.Reset kind) s e = absurd (cc)

@@ -280,23 +280,7 @@ impl<'a> Telling<'a> {
         self.put_differ(sink, text, reg)
     }
 
-    // Gathers what is known after an operation that wasn't refused.
-    fn put_after<K: Sink>(&self, sink: &mut K, text: &mut Text) -> Result<(), Failed>
-        requires room { length text.old + 64 ≤ 512 }
-        requires fits { EventFits self.now.model.now self.now.event.now }
-        ensures bytes { GathersTo K.Sink sink.old sink.new text.old text.new
-            (spec.after_text self.now.model.now.chip self.now.event.now
-            (register_of self.now.model.now.chip self.now.event.now.op)) result }
-        ensures stays { SinkStays K.Sink sink.old sink.new result }
-    {
-        match register_of(self.model, self.event.op) {
-            Some(reg) => self.put_register(sink, text, reg),
-            None if has_differ(self.event) => gather(sink, text, b" differ"),
-            None => Ok(()),
-        }
-    }
-
-    // Gathers what stands after an operation: nothing where that is refused.
+    // Gathers what is known after an operation: nothing where that is refused.
     fn put_rest<K: Sink>(&self, sink: &mut K, text: &mut Text) -> Result<(), Failed>
         requires room { length text.old + 64 ≤ 512 }
         requires fits { EventFits self.now.model.now self.now.event.now }
@@ -307,7 +291,11 @@ impl<'a> Telling<'a> {
         if is_refused(self.event.end) {
             return Ok(());
         }
-        self.put_after(sink, text)
+        match register_of(self.model, self.event.op) {
+            Some(reg) => self.put_register(sink, text, reg),
+            None if has_differ(self.event) => gather(sink, text, b" differ"),
+            None => Ok(()),
+        }
     }
 
     // Gathers what came of an operation.

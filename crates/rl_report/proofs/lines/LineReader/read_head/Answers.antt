@@ -1,6 +1,7 @@
 use Rattle.std.proofs.Common.{arith, ap, length, ◌∙◌, sym}
 use Rattle.rl_report.specs.Reading.{input_of}
 use Rattle.rl_report.proofs.TakenLemmas.{passes_start, keeps_head, from_err, head_fault_after}
+use Rattle.rl_report.specs.Lines.{first_line}
 use Rattle.rl_report.proofs.lines.LineReader.read_head.Goals as goal
 
 pub loop-taken-init : goal.loop-taken-init
@@ -74,3 +75,18 @@ returns-then-is_err-clause-closed g c = c.take_more.ensures.phase.closed ∙ c.t
 
 pub returns-then-is_err-clause-line : goal.returns-then-is_err-clause-line
 returns-then-is_err-clause-line g c = c.take_more.ensures.line ∙ c.take_part.ensures.line ∙ c.loop-taken.invariant.line
+
+pub take_more-requires-clause-short : goal.take_more-requires-clause-short
+take_more-requires-clause-short g c =
+    let nothing = rw c.in-Nothing.is at c.in-Ok.ensures.took in
+    omega (arith, ap (λ r. length r.pending) nothing.same, nothing.few)
+
+pub take_more-requires-clause-none_whole : goal.take_more-requires-clause-none_whole
+take_more-requires-clause-none_whole g c =
+    let nothing = rw c.in-Nothing.is at c.in-Ok.ensures.took in
+    ap (λ r. first_line r.pending) nothing.same ∙ nothing.none_whole ∙ ap (λ r. r.pending) (sym nothing.same)
+
+pub take_more-requires-clause-going : goal.take_more-requires-clause-going
+take_more-requires-clause-going g c =
+    let nothing = rw c.in-Nothing.is at c.in-Ok.ensures.took in
+    ap (λ r. r.ended) nothing.same ∙ nothing.going

@@ -1,5 +1,6 @@
-use Rattle.std.proofs.Common.{◌++◌, length, take, ap, ◌∙◌, arith, refl}
+use Rattle.std.proofs.Common.{◌++◌, length, take, ap, sym, ◌∙◌, arith, refl, length-drop}
 use Rattle.rl_report.proofs.TakenLemmas.{takes_separator, takes_last, takes_too_much, same_text}
+use Rattle.rl_report.specs.Lines.{first_line}
 use Rattle.rl_report.proofs.lines.LineReader.take_part.Goals as goal
 
 pub returns-in-Separator-clause-took : goal.returns-in-Separator-clause-took
@@ -63,3 +64,21 @@ returns-in-Text-clause-held c = c.pending.ensures.held
 
 pub returns-in_err-extend_from_slice-in-Text-2-clause-held : goal.returns-in_err-extend_from_slice-in-Text-2-clause-held
 returns-in_err-extend_from_slice-in-Text-2-clause-held c = c.pending.ensures.held
+
+pub returns-in-Separator-clause-held : goal.returns-in-Separator-clause-held
+returns-in-Separator-clause-held c =
+    omega (arith, ap (λ r. length r.pending) c.pass_separator.ensures, length-drop c.in-Separator.size c.args.self.now.pending, c.pending.ensures.held)
+
+pub returns-in-Unclear-clause-took : goal.returns-in-Unclear-clause-took
+returns-in-Unclear-clause-took c =
+    let part = rw (c.pending.ensures.bytes, c.has_ended.ensures) at c.in-Unclear.ensures in
+    record { same = refl; same_head = refl; few = part.few; none_whole = part.none_whole; going = part.going }
+
+pub next_part-requires : goal.next_part-requires
+next_part-requires c = c.first_len.ensures ∙ ap (λ l. length (first_line l)) (sym c.pending.ensures.bytes)
+
+pub pass_separator-requires : goal.pass_separator-requires
+pass_separator-requires c = let part = rw c.pending.ensures.bytes at c.in-Separator.ensures in part.within
+
+pub pass-requires : goal.pass-requires
+pass-requires c = let part = rw c.pending.ensures.bytes at c.in-Text.ensures in part.within
