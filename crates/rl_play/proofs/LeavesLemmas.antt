@@ -1,11 +1,14 @@
 -- What calls leave of source and sink, one call after another.
-use Rattle.std.proofs.Common.{◌≡◌, ◌≢◌, ◌≤◌, ℕ, true, false, Option, Some, None, IfSome, refl, ap, subst, sym, ◌∙◌, arith}
+use Rattle.std.proofs.Common.{◌≡◌, ◌≢◌, ◌≤◌, ℕ, true, false, Option, Some, None, IfSome, Result, Err, refl, ap, subst, sym, ◌∙◌, arith}
+use Rattle.std.proofs.lemmas.Bool.{true≢false}
 use Rattle.rl_log.specs.Causes.{IsCaused}
 use Rattle.rl_log.specs.Endings.{IsCounted}
+use Rattle.rl_log.specs.Statuses.{is_complete}
 use Rattle.rl_log.specs.declared.counts.Counts.{Counts}
 use Rattle.rl_log.specs.declared.status.Status.{Status}
-use Rattle.rl_log.specs.declared.status.Status.TheVariants.{SourceFault, Memory}
+use Rattle.rl_log.specs.declared.status.Status.TheVariants.{SourceFault, SinkFault, Memory}
 use Rattle.rl_report.specs.declared.sink.Sink.{Ghosts as Sink}
+use Rattle.rl_report.specs.Pieces.{SinkStays}
 use Rattle.rl_report.specs.Reading.{Reading}
 use Rattle.rl_play.specs.declared.playing.Turn.{Turn}
 use Rattle.rl_play.specs.declared.playing.Turn.TheVariants.{Next, Stop}
@@ -90,6 +93,37 @@ module _ {K : Type 0} (sink : Sink K) where
     cause = tt;
   }
 
+  -- a call that went on
+  pub leaves_went : {T E : Type 0} (old new : K) (r : Result T E) → SinkStays sink old new r → Leaves sink 0 0 old new None
+  leaves_went old new r h = record {
+    source_later = omega arith;
+    sink_later = h.cause.later;
+    ends_kept = h.ends;
+    same_target = h.target;
+    cause = tt;
+  }
+
+  -- a call that failed
+  pub leaves_failed : {T E : Type 0} (old new : K) (failed : E) → SinkStays {T = T} sink old new (Err failed)
+      → Leaves sink 0 0 old new (Some SinkFault)
+  leaves_failed old new failed h = record {
+    source_later = omega arith;
+    sink_later = h.cause.later;
+    ends_kept = h.ends;
+    same_target = h.target;
+    cause = record { source_fault = λ is. absurd (cc); sink_fault = λ is. h.cause.failed; known = λ is. absurd (cc) };
+  }
+
+  -- memory ran out
+  pub leaves_unmade : (n : ℕ) (k : K) → Leaves sink n n k k (Some Memory)
+  leaves_unmade n k = record {
+    source_later = omega arith;
+    sink_later = omega arith;
+    ends_kept = refl;
+    same_target = refl;
+    cause = record { source_fault = λ is. absurd (cc); sink_fault = λ is. absurd (cc); known = λ is. absurd (cc) };
+  }
+
 -- a source that didn't fail ends no script
 pub no_source_turn : (turn : Turn) (old new : ℕ) → IfSome (stop_of turn) (λ s. IsCaused s 0 0 old new) → turn ≢ Stop SourceFault
 no_source_turn Next old new h is = cc
@@ -99,6 +133,10 @@ no_source_turn (Stop s) old new h is = let fault : s ≡ SourceFault = cc in ome
 pub counted_turn : (turn : Turn) (counts : Counts) → NotByCounts (stop_of turn) → IfSome (stop_of turn) (λ s. IsCounted s counts)
 counted_turn Next counts h = tt
 counted_turn (Stop s) counts h = counted_other s counts h.0 h.1
+
+pub not_by_counts : (status : Status) → is_complete status ≡ false → NotByCounts (Some status)
+not_by_counts status broken =
+    (λ e. true≢false (sym (ap is_complete e) ∙ broken), λ e. true≢false (sym (ap is_complete e) ∙ broken))
 
 -- ---- the reader, from before the lines that were read first
 
@@ -158,11 +196,5 @@ module _ {K : Type 0} (sink : Sink K) where
   leaves_memory is_out lines n k found = record {
     reads = record { found = found; going = λ is. absurd (stop_is_no_next Memory is); ended = λ e. e };
     goes_on = λ is. absurd (cc);
-    leaves = record {
-      source_later = omega arith;
-      sink_later = omega arith;
-      ends_kept = refl;
-      same_target = refl;
-      cause = record { source_fault = λ is. absurd (cc); sink_fault = λ is. absurd (cc); known = λ is. absurd (cc) };
-    };
+    leaves = leaves_unmade sink n k;
   }

@@ -12,6 +12,7 @@ pub mod NamedLemmas
 pub mod PlayLemmas
 pub mod ReadyLemmas
 pub mod Recorded
+pub mod StageLemmas
 pub mod Traces
 pub mod TurnLemmas
 pub mod WrittenLemmas

@@ -58,7 +58,7 @@ broken_at number given work before after T F failed is l part = record {
 }
 
 -- a line goes as its work went
-abbrev GoesAs : {T : Type 0} → Result T Failed → Result (Option LineRefusal) Failed → Type 0
+abbrev pub GoesAs : {T : Type 0} → Result T Failed → Result (Option LineRefusal) Failed → Type 0
 GoesAs work r = MatchResult work (λ done. r ≡ Ok None) (λ failed. r ≡ Err failed)
 
 -- it writes the text of its events alone

@@ -1,5 +1,6 @@
 use Rattle.std.proofs.Common.{Err, ap, ◌∙◌}
 use Rattle.rl_play.proofs.LeavesLemmas.{leaves_ended, leaves_taken, leaves_untaken}
+use Rattle.rl_play.proofs.StageLemmas.{ready_still}
 use Rattle.rl_play.proofs.TurnLemmas.{line_untaken, line_ended, line_taken}
 use Rattle.rl_play.proofs.playing.play_line.Goals as goal
 
@@ -37,3 +38,15 @@ returns-clause-plays g c =
     line_taken c.args.number _ _ _ _ c.in-Ok.got _ c.take_line.new.lines _ _ _ c.run_taken.result
     (c.is_end.ensures.more c.if-is_end.false) r.short c.in-Ok.ensures.handed c.line-line.ensures c.take_line.ensures.told
     r.turn r.leaves.cause r.counted r.last
+
+pub returns-in-Err-clause-ready : goal.returns-in-Err-clause-ready
+returns-in-Err-clause-ready g c = ready_still _ _ _ c.requires.ready
+
+pub returns-then-is_end-clause-ready : goal.returns-then-is_end-clause-ready
+returns-then-is_end-clause-ready g c = ready_still _ _ _ c.requires.ready
+
+pub returns-clause-ready : goal.returns-clause-ready
+returns-clause-ready g c = c.run_taken.ensures.ready
+
+pub run_taken-requires : goal.run_taken-requires
+run_taken-requires g c = record { ready = c.requires.ready }

@@ -59,3 +59,27 @@ pub returns-in-Stop-clause-leaves : goal.returns-in-Stop-clause-leaves
 returns-in-Stop-clause-leaves g c =
     let i = c.loop-number.invariant in
     leaves_behind g.L.Sink _ _ _ _ _ _ _ _ _ _ _ _ _ i.ended i.leaves c.in-Stop.is c.play_line.ensures.leaves
+
+pub returns-in-Stop-clause-ready : goal.returns-in-Stop-clause-ready
+returns-in-Stop-clause-ready g c = c.play_line.ensures.ready.ready
+
+pub returns-in-Stop-clause-parts : goal.returns-in-Stop-clause-parts
+returns-in-Stop-clause-parts g c =
+    let first = c.loop-number.invariant.parts in
+    let last = c.play_line.ensures.ready.parts in
+    record { chip = last.chip ∙ first.chip; layout = last.layout ∙ first.layout }
+
+pub loop-number-smaller : goal.loop-number-smaller
+loop-number-smaller g c = omega (arith, c.play_line.ensures.plays.last c.in-Next.is)
+
+pub overflow_add-number : goal.overflow_add-number
+overflow_add-number g c = omega (arith, c.loop-number.invariant.in_range)
+
+pub play_line-requires-clause-ready : goal.play_line-requires-clause-ready
+play_line-requires-clause-ready g c = c.loop-number.invariant.ready
+
+pub play_line-requires-clause-found : goal.play_line-requires-clause-found
+play_line-requires-clause-found g c = c.loop-number.invariant.found
+
+pub play_line-requires-clause-going : goal.play_line-requires-clause-going
+play_line-requires-clause-going g c = c.loop-number.invariant.going

@@ -20,3 +20,15 @@ returns-clause-plays g c =
 
 pub returns-clause-again : goal.returns-clause-again
 returns-clause-again g c = λ is. (c.play_lines-status.ensures.leaves.goes_on (ap Stop (same_status _ _ c.settle.ensures.kept is))).again
+
+pub returns-clause-ready : goal.returns-clause-ready
+returns-clause-ready g c = c.play_lines-status.ensures.ready
+
+pub returns-clause-parts : goal.returns-clause-parts
+returns-clause-parts g c = c.play_lines-status.ensures.parts
+
+pub returns-clause-found : goal.returns-clause-found
+returns-clause-found g c = c.play_lines-status.ensures.leaves.reads.found
+
+pub returns-clause-source_later : goal.returns-clause-source_later
+returns-clause-source_later g c = c.play_lines-status.ensures.leaves.leaves.source_later

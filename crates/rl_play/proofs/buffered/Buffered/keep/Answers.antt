@@ -8,3 +8,8 @@ returns-clause-kept g c =
     let e = c.copy_behind.ensures in
     spliced s.bytes _ s.start s.end (length c.args.piece.now) (omega (arith, s.ordered)) e.before ∙ ap
     (λ l. slice_range s.bytes s.start s.end ++ l) e.copied
+
+pub invariant_of-self : goal.invariant_of-self
+invariant_of-self g c =
+    let s = c.args.self.now in
+    record { keeps_earlier = s.keeps_earlier; ordered = omega (arith, s.ordered); within = omega (arith, c.requires.room) }
