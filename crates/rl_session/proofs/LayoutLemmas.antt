@@ -1,12 +1,14 @@
 -- A layout's text in pieces.
-use Rattle.std.proofs.Common.{◌≡◌, ℕ, ◌+◌, ◌-◌, ◌<◌, List, [], ◌∷◌, ◌++◌, length, drop, Some, codes, decimal, sym, ap, ◌∙◌, append_assoc}
+use Rattle.std.proofs.Common.{◌≡◌, ℕ, ◌+◌, ◌-◌, ◌<◌, List, [], ◌∷◌, ◌++◌, length, drop, Some, codes, decimal, Result, Ok, Err, IsErr, sym, ap, ◌∙◌, subst, append_assoc}
 use Rattle.std.specs.List.{flat_map, range_with_len, slice_get}
 use Rattle.rl_policy.specs.Numbers.{hex_digits}
 use Rattle.rl_model.specs.Rows.{ChipData}
 use Rattle.rl_map.specs.declared.word.Word.{Word}
 use Rattle.rl_map.specs.Layout.{LayoutData}
 use Rattle.rl_map.specs.LayoutText.{lanes_text, word_text, place_text, layout_text}
-use Rattle.rl_report.specs.Pieces.{joined}
+use Rattle.rl_report.specs.declared.sink.Sink.{Ghosts as Sink}
+use Rattle.rl_report.specs.Pieces.{PutsText, joined}
+use Rattle.rl_report.proofs.PieceLemmas.{text_after, text_stopped}
 use Rattle.rl_session.specs.LayoutPieces.{heading_text, word_line, words_text, places_text}
 use Rattle.rl_session.proofs.ListingLemmas.{next_item, next_number}
 
@@ -52,3 +54,20 @@ pub next_place : (chip : ChipData) (l : LayoutData) (i n : ℕ) → i < n
 next_place chip l i n h =
     next_number (place_text chip l) i n h ∙ ap (λ t. t ++ flat_map (place_text chip l)
     (range_with_len (i + 1) (n - (i + 1)))) (place_is chip l i)
+
+-- ---- a name behind a word, in a text of pieces
+
+pieces_are : (word name : List ℕ) (others : List (List ℕ)) → (word ++ name) ++ joined others ≡ joined (word ∷ name ∷ others)
+unfolding joined
+pieces_are word name others = append_assoc word name (joined others)
+
+pub named_then : {K U F T E : Type 0} (sink : Sink K) (a b c : K) (word name : List ℕ) (others : List (List ℕ)) (v : U) (r : Result T E)
+    → PutsText {T = U} {E = F} sink a b (word ++ name) (Ok v) → PutsText sink b c (joined others) r
+    → PutsText sink a c (joined (word ∷ name ∷ others)) r
+named_then sink a b c word name others v r p q =
+    subst (λ t. PutsText sink a c t r) (pieces_are word name others) (text_after sink a b c (word ++ name) (joined others) v r p q)
+
+pub named_failed : {K U F T E : Type 0} (sink : Sink K) (a b : K) (word name : List ℕ) (others : List (List ℕ)) (e : F) (r : Result T E)
+    → IsErr r → PutsText {T = U} {E = F} sink a b (word ++ name) (Err e) → PutsText sink a b (joined (word ∷ name ∷ others)) r
+named_failed sink a b word name others e r is p =
+    subst (λ t. PutsText sink a b t r) (pieces_are word name others) (text_stopped sink a b (word ++ name) (joined others) e r is p)

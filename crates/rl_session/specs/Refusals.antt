@@ -77,6 +77,10 @@ map_reason (map.SharedAddress address other) =
 
 -- ---- the line
 
+-- what stands before the reason
+abbrev pub before_reason : Option Spot → List ℕ
+before_reason spot = joined (codes "refused description" ∷ where_text spot ∷ codes ": " ∷ [])
+
 abbrev pub refusal_text : Option Spot → List (List ℕ) → List ℕ
 refusal_text spot reason =
     joined (codes "refused description" ∷ where_text spot ∷ codes ": " ∷ joined reason ∷ codes "\n" ∷ [])

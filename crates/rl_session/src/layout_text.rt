@@ -97,6 +97,14 @@ fn rights_text(rights: Rights) -> &'static [u8]
     }
 }
 
+// Writes a name behind a word.
+fn put_named<K: Sink>(sink: &mut K, word: &[u8], name: &[u8]) -> Result<(), Failed>
+    ensures { PutsText K.Sink sink.old sink.new (word.now ++ name.now) result }
+{
+    put_all(sink, word)?;
+    put_all(sink, name)
+}
+
 // Writes where a place stands, before its words.
 fn put_heading<K: Sink>(
     sink: &mut K,
@@ -108,13 +116,11 @@ fn put_heading<K: Sink>(
     requires built_with { IsBuiltWith layout.now chip.now }
     ensures { PutsText K.Sink sink.old sink.new (heading_text chip.now layout.now place) result }
 {
-    put_all(sink, b"place ")?;
-    put_all(sink, chip.path(layout.item(place)))?;
-    put_all(sink, b" @")?;
-    put_all(sink, layout.map_name(layout.map_of(place)))?;
-    put_all(sink, b" ")?;
-    put_all(sink, rights_text(layout.rights(place)))?;
-    put_all(sink, b"\n")
+    let rights = rights_text(layout.rights(place));
+    put_named(sink, b"place ", chip.path(layout.item(place)))?;
+    put_named(sink, b" @", layout.map_name(layout.map_of(place)))?;
+    let pieces: [&[u8]; 3] = [b" ", rights, b"\n"];
+    put_pieces(sink, &pieces)
 }
 
 fn put_place<K: Sink>(sink: &mut K, chip: &Chip, layout: &Layout, place: u32) -> Result<(), Failed>

@@ -1,12 +1,13 @@
 // The last line of a session whose description is refused.
-ghost use Rattle.std.specs.Prelude.{◌≡◌, ◌≢◌, [], ◌∷◌, map, Some};
+ghost use Rattle.std.specs.Prelude.{◌≡◌, ◌≢◌, ◌++◌, [], ◌∷◌, codes, map, Some, slice_index_or};
+ghost use Rattle.rl_desc.specs.Keys.{key_name};
 ghost use Rattle.rl_report.specs.Pieces.{PutsText};
-ghost use Rattle.rl_session.specs.Refusals.{array_name, field_text, where_text, bad_reason, model_reason, map_reason};
+ghost use Rattle.rl_session.specs.Refusals.{array_name, field_text, before_reason, bad_reason, model_reason, map_reason};
 ghost use Rattle.rl_session.specs.Refusals.{refusal_text, flaw_at, description_refused_text};
 
 use crate::digits::front;
 use itoa::Buffer;
-use rl_desc::{DescCause, DescFault};
+use rl_desc::{DescCause, DescFault, Key};
 use rl_map::MapCause;
 use rl_model::{Array, ModelCause, Spot};
 use rl_policy::spell;
@@ -21,23 +22,32 @@ fn array_name(array: Array) -> &'static [u8]
     }
 }
 
+// Writes the field, and that the reason follows.
 fn put_field<K: Sink>(sink: &mut K, field: Option<u32>) -> Result<(), Failed>
-    ensures { PutsText K.Sink sink.old sink.new (field_text field) result }
+    ensures { PutsText K.Sink sink.old sink.new (field_text field ++ codes ": ") result }
 {
     let Some(field) = field else {
-        return put_all(sink, b"");
+        return put_all(sink, b": ");
     };
     let mut number = Buffer::new();
-    let pieces: [&[u8]; 2] = [b" field ", number.format(u64::from(field) + 1).as_bytes()];
+    let pieces: [&[u8]; 3] = [
+        b" field ",
+        number.format(u64::from(field) + 1).as_bytes(),
+        b": ",
+    ];
     put_pieces(sink, &pieces)
 }
 
-fn put_spot<K: Sink>(sink: &mut K, spot: Spot) -> Result<(), Failed>
-    ensures { PutsText K.Sink sink.old sink.new (where_text (Some spot)) result }
+// Writes that the description is refused, and where.
+fn put_where<K: Sink>(sink: &mut K, spot: Option<Spot>) -> Result<(), Failed>
+    ensures { PutsText K.Sink sink.old sink.new (before_reason spot) result }
 {
+    let Some(spot) = spot else {
+        return put_all(sink, b"refused description: ");
+    };
     let mut row = Buffer::new();
     let pieces: [&[u8]; 4] = [
-        b" ",
+        b"refused description ",
         array_name(spot.array),
         b" ",
         row.format(u64::from(spot.row) + 1).as_bytes(),
@@ -46,21 +56,10 @@ fn put_spot<K: Sink>(sink: &mut K, spot: Spot) -> Result<(), Failed>
     put_field(sink, spot.field)
 }
 
-fn put_where<K: Sink>(sink: &mut K, spot: Option<Spot>) -> Result<(), Failed>
-    ensures { PutsText K.Sink sink.old sink.new (where_text spot) result }
-{
-    match spot {
-        Some(spot) => put_spot(sink, spot),
-        None => put_all(sink, b""),
-    }
-}
-
 fn put_refusal<K: Sink>(sink: &mut K, spot: Option<Spot>, reason: &[&[u8]]) -> Result<(), Failed>
     ensures { PutsText K.Sink sink.old sink.new (refusal_text spot (map (λ piece. piece.now) reason.now)) result }
 {
-    put_all(sink, b"refused description")?;
     put_where(sink, spot)?;
-    put_all(sink, b": ")?;
     put_pieces(sink, reason)?;
     put_all(sink, b"\n")
 }
@@ -72,24 +71,28 @@ fn put_plain<K: Sink>(sink: &mut K, spot: Option<Spot>, reason: &[u8]) -> Result
     put_refusal(sink, spot, &pieces)
 }
 
+// A reason that names a key.
+fn put_key<K: Sink>(
+    sink: &mut K,
+    spot: Option<Spot>,
+    reason: &'static [u8],
+    key: Key,
+) -> Result<(), Failed>
+    ensures { PutsText K.Sink sink.old sink.new (refusal_text spot (reason.now ∷ key_name key ∷ [])) result }
+{
+    let pieces: [&[u8]; 2] = [reason, key.name().as_bytes()];
+    put_refusal(sink, spot, &pieces)
+}
+
 fn put_bad<K: Sink>(sink: &mut K, cause: DescCause, spot: Option<Spot>) -> Result<(), Failed>
     ensures { PutsText K.Sink sink.old sink.new (refusal_text spot (bad_reason cause)) result }
 {
     match cause {
         DescCause::Text => put_plain(sink, spot, b"not toml"),
         DescCause::UnknownKey => put_plain(sink, spot, b"unknown key"),
-        DescCause::MissingKey { key } => {
-            let pieces: [&[u8]; 2] = [b"missing key ", key.name().as_bytes()];
-            put_refusal(sink, spot, &pieces)
-        }
-        DescCause::WrongType { key } => {
-            let pieces: [&[u8]; 2] = [b"wrong type of ", key.name().as_bytes()];
-            put_refusal(sink, spot, &pieces)
-        }
-        DescCause::BadValue { key } => {
-            let pieces: [&[u8]; 2] = [b"bad value of ", key.name().as_bytes()];
-            put_refusal(sink, spot, &pieces)
-        }
+        DescCause::MissingKey { key } => put_key(sink, spot, b"missing key ", key),
+        DescCause::WrongType { key } => put_key(sink, spot, b"wrong type of ", key),
+        DescCause::BadValue { key } => put_key(sink, spot, b"bad value of ", key),
     }
 }
 
@@ -120,23 +123,25 @@ fn put_shared<K: Sink>(sink: &mut K, spot: Spot, address: u64, other: u32) -> Re
     put_refusal(sink, Some(spot), &pieces)
 }
 
+// The reason, or what it begins with where two places share an address.
+fn map_reason(cause: MapCause) -> &'static [u8]
+    ensures { result.now ≡ slice_index_or (map_reason cause) 0 [] }
+{
+    text_beside! {
+        cause: MapCause;
+        TooMany b"too many", BadName b"bad name", DuplicateName b"duplicate name", NoSuchMap b"no such map",
+        TooDeep b"too deep", BadBytes b"bad bytes", NoSuchAdapter b"no such adapter", NoSuchItem b"no such item",
+        PlacedTwice b"placed twice", MemInFifo b"memory in fifo", AddressOverflow b"address overflow",
+        Unaligned b"unaligned", SharedAddress {..} b"shared address 0x"
+    }
+}
+
 fn put_map_refused<K: Sink>(sink: &mut K, cause: MapCause, spot: Spot) -> Result<(), Failed>
     ensures { PutsText K.Sink sink.old sink.new (refusal_text (Some spot) (map_reason cause)) result }
 {
     match cause {
-        MapCause::TooMany => put_plain(sink, Some(spot), b"too many"),
-        MapCause::BadName => put_plain(sink, Some(spot), b"bad name"),
-        MapCause::DuplicateName => put_plain(sink, Some(spot), b"duplicate name"),
-        MapCause::NoSuchMap => put_plain(sink, Some(spot), b"no such map"),
-        MapCause::TooDeep => put_plain(sink, Some(spot), b"too deep"),
-        MapCause::BadBytes => put_plain(sink, Some(spot), b"bad bytes"),
-        MapCause::NoSuchAdapter => put_plain(sink, Some(spot), b"no such adapter"),
-        MapCause::NoSuchItem => put_plain(sink, Some(spot), b"no such item"),
-        MapCause::PlacedTwice => put_plain(sink, Some(spot), b"placed twice"),
-        MapCause::MemInFifo => put_plain(sink, Some(spot), b"memory in fifo"),
-        MapCause::AddressOverflow => put_plain(sink, Some(spot), b"address overflow"),
-        MapCause::Unaligned => put_plain(sink, Some(spot), b"unaligned"),
         MapCause::SharedAddress { address, other } => put_shared(sink, spot, address, other),
+        _ => put_plain(sink, Some(spot), map_reason(cause)),
     }
 }
 

@@ -63,6 +63,7 @@ fn drawn(x: u64, m: u64) -> u64
     (x >> 33) % m
 }
 
+#[tactic(auto, unfolding(crate::specs::Soak::step_of))]
 fn step_of(c: u64) -> Step
     requires { c < 8 }
     ensures { result ≡ step_of c }
@@ -70,6 +71,7 @@ fn step_of(c: u64) -> Step
     STEPS[c as usize]
 }
 
+#[tactic(auto, unfolding(crate::specs::Soak::policy_of))]
 fn policy_of(k: u32) -> Policy
     ensures { result ≡ policy_of k }
 {

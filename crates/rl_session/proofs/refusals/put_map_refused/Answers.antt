@@ -1,13 +1,6 @@
+use Rattle.rl_session.proofs.RefusalLemmas.{plain_reason}
 use Rattle.rl_session.proofs.refusals.put_map_refused.Goals as goal
 
-pub returns-in-NoSuchMap : goal.returns-in-NoSuchMap
-returns-in-NoSuchMap g c = rw c.in-NoSuchMap.is c.put_plain-in-NoSuchMap.ensures
-
-pub returns-in-NoSuchItem : goal.returns-in-NoSuchItem
-returns-in-NoSuchItem g c = rw c.in-NoSuchItem.is c.put_plain-in-NoSuchItem.ensures
-
-pub returns-in-PlacedTwice : goal.returns-in-PlacedTwice
-returns-in-PlacedTwice g c = rw c.in-PlacedTwice.is c.put_plain-in-PlacedTwice.ensures
-
-pub returns-in-AddressOverflow : goal.returns-in-AddressOverflow
-returns-in-AddressOverflow g c = rw c.in-AddressOverflow.is c.put_plain-in-AddressOverflow.ensures
+pub returns-in_default : goal.returns-in_default
+returns-in_default g c =
+    rw (plain_reason c.args.cause _ c.in_default.not-SharedAddress c.map_reason.ensures) c.put_plain.ensures
