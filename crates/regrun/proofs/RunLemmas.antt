@@ -1,11 +1,14 @@
 -- A session that was opened and run, or ended before its script.
-use Rattle.std.proofs.Common.{◌≡◌, ℕ, ◌≤◌, List, None, IfSome, Result, Ok, Err}
+use Rattle.std.proofs.Common.{◌≡◌, ◌≢◌, ℕ, ◌≤◌, List, Some, None, IfSome, Result, Ok, Err, sym, ap, ◌∙◌}
 use Rattle.rl_bus.specs.Standing.{Standing, kinds_of}
+use Rattle.rl_access.specs.Model.{ModelData, IsReady}
+use Rattle.rl_bench.specs.declared.bench.Bench.{Bench}
+use Rattle.rl_bench.specs.State.{bench_state}
 use Rattle.rl_desc.specs.Data.{DescData}
 use Rattle.rl_log.specs.Causes.{IsCaused}
 use Rattle.rl_log.specs.declared.status.Status.{Status}
 use Rattle.rl_log.specs.declared.status.Status.TheVariants.{SourceFault}
-use Rattle.rl_opening.specs.Opening.{OpensWith}
+use Rattle.rl_opening.specs.Opening.{IsRunnable, OpensWith}
 use Rattle.rl_opening.specs.Stays.{Stays}
 use Rattle.rl_opening.specs.Telling.{Stops}
 use Rattle.rl_opening.proofs.JudgedLemmas.{opened_told, stopped_told}
@@ -19,6 +22,7 @@ use Rattle.rl_report.specs.declared.source.Source.{Ghosts as Source}
 use Rattle.rl_running.specs.Running.{RunsScript}
 use Rattle.rl_running.proofs.LeavesLemmas.{ended_leaves, opened_leaves}
 use Rattle.rl_session.specs.Judged.{Judged, refused}
+use Rattle.rl_session.specs.Opened.{IsOpened}
 use Rattle.rl_session.specs.Session.{behind, opening_of}
 use Rattle.regrun.specs.Output.{RunsWhole}
 use Rattle.regrun.proofs.BreakLemmas.{TellsTaken, off_in_head, off_in_script}
@@ -62,3 +66,17 @@ module _ {S K : Type 0} (source : Source S) (sink : Sink K) (is_out : K → Type
     flushed = λ fault out. still_out is_out old new (same fault) out;
     leaves = ended_leaves sink _ _ _ _ _ later cause stays;
   }
+
+-- what was opened is ready for the adapters with which its description is runnable
+pub opened_ready : (desc : DescData) (model : ModelData) (bench : Bench) (adapters : List Standing) → IsRunnable desc (kinds_of adapters)
+    → IsOpened desc model bench → IsReady model adapters (Some (bench_state bench))
+opened_ready desc model bench adapters runs opened =
+    record { kinds = sym runs.same_kinds ∙ ap (λ l. l.kinds) (sym opened.layout); device = opened.device }
+
+-- ---- results
+
+pub same_error : {X : Type 0} {r : Result X Status} {a b : Status} → r ≡ Err a → r ≡ Err b → a ≡ b
+same_error is other = cc
+
+pub no_error : {X : Type 0} {r : Result X Status} {x : X} {a : Status} → r ≡ Ok x → r ≢ Err a
+no_error is other = cc

@@ -1,15 +1,14 @@
 -- What a task does, of each one and written out.
-use Rattle.std.proofs.Common.{◌≡◌, ◌≢◌, ℕ, true, false, List, Option, Some, None, IfSome, sym, ap, subst, ◌∙◌}
+use Rattle.std.proofs.Common.{◌≡◌, ◌≢◌, ℕ, ◌==◌, true, false, List, Option, Some, None, IfSome, sym, ap, subst, ◌∙◌}
 use Rattle.std.specs.Io.KnownBytes.{Keeps, append_known}
+use Rattle.std.proofs.lemmas.Bool.{eqb-false}
 use Rattle.rl_bus.specs.Standing.{Standing, kinds_of}
 use Rattle.rl_log.specs.declared.status.Status.{Status}
-use Rattle.rl_log.specs.declared.status.Status.TheVariants.{Found, Memory, SourceFault, SinkFault}
+use Rattle.rl_log.specs.declared.status.Status.TheVariants.{Found, SourceFault, SinkFault, Words}
 use Rattle.rl_log.specs.Statuses.{is_complete}
 use Rattle.rl_log.specs.Earlier.{KeepsEarlier}
 use Rattle.rl_play.proofs.FaultLemmas.{same_status}
 use Rattle.rl_plain_log.specs.PlainLog.{IsPlainLog}
-use Rattle.rl_opening.specs.Opening.{LeavesScript}
-use Rattle.rl_report.specs.Opening.{TakesNoHead}
 use Rattle.rl_session.specs.Judged.{Judged, judged, map_judged, soak_judged, taken_text}
 use Rattle.regrun.specs.declared.words.Task.{Task}
 use Rattle.regrun.specs.declared.words.Task.TheVariants.{Run, Map, Soak, Weave}
@@ -99,3 +98,26 @@ some_asked o task P is h = subst (λ o. IfSome o P) (sym is) h
 
 pub none_asked : (o : Option Task) (P : Task → Type 0) → o ≡ None → IfSome o P
 none_asked o P is = subst (λ o. IfSome o P) (sym is) tt
+
+-- ---- one task isn't another
+
+abbrev sort_of : Task → ℕ
+sort_of Run = 0
+sort_of Map = 1
+sort_of (Soak n) = 2
+sort_of (Weave n) = 3
+
+pub one_task : {P : Type 0} {task a b : Task} → task ≡ a → task ≡ b → (sort_of a == sort_of b) ≡ false → P
+one_task is other apart = absurd (eqb-false _ _ apart (ap sort_of (sym is ∙ other)))
+
+-- the task that was found is the one that was asked for
+pub is_asked : {o asked : Option Task} {task other : Task} → asked ≡ o → asked ≡ Some task → o ≡ Some other → task ≡ other
+is_asked found is asked = cc
+
+-- ---- words that ask for nothing are no fault
+
+pub words_no_source : {P : Type 0} → Words ≡ SourceFault → P
+words_no_source is = absurd (cc)
+
+pub words_no_sink : {P : Type 0} → Words ≡ SinkFault → P
+words_no_sink is = absurd (cc)

@@ -1,10 +1,11 @@
-use Rattle.std.proofs.Common.{None}
+use Rattle.std.proofs.Common.{None, Err, refl, ap, ◌∙◌}
 use Rattle.rl_play.proofs.FaultLemmas.{no_source}
 use Rattle.rl_play.proofs.LeavesLemmas.{leaves_written}
 use Rattle.regrun.proofs.JudgedLemmas.{maps_stopped, maps_opened}
 use Rattle.rl_opening.proofs.OpeningLemmas.{opens_as}
 use Rattle.rl_opening.proofs.StaysLemmas.{keeps_same}
 use Rattle.rl_running.proofs.LeavesLemmas.{ended_leaves, opened_leaves}
+use Rattle.regrun.proofs.RunLemmas.{no_error, same_error}
 use Rattle.regrun.proofs.showing.show_layout.Goals as goal
 
 pub returns-in-Err-clause-tells : goal.returns-in-Err-clause-tells
@@ -29,7 +30,22 @@ pub returns-clause-at_fault : goal.returns-clause-at_fault
 returns-clause-at_fault g c = λ is. absurd (no_source _ _ _ c.put_description.ensures.leaves.cause is)
 
 pub returns-in-Err-clause-unread : goal.returns-in-Err-clause-unread
-returns-in-Err-clause-unread g c = λ fault memory. c.in-Err.ensures.unread (λ e. fault (cc)) (λ e. memory (cc))
+returns-in-Err-clause-unread g c = λ fault memory. c.in-Err.ensures.unread (λ e. fault (same_error refl e)) (λ e. memory (same_error refl e))
 
 pub returns-clause-unread : goal.returns-clause-unread
-returns-clause-unread g c = λ fault memory. c.in-Ok.ensures.unread (λ e. absurd (cc)) (λ e. absurd (cc))
+returns-clause-unread g c = λ fault memory. c.in-Ok.ensures.unread (no_error refl) (no_error refl)
+
+pub returns-clause-unwritten : goal.returns-clause-unwritten
+returns-clause-unwritten g c = λ is. absurd (no_source _ _ _ c.put_description.ensures.leaves.cause is)
+
+pub returns-clause-none_found : goal.returns-clause-none_found
+returns-clause-none_found g c = c.put_description.ensures.none_found
+
+pub returns-in-Err-clause-unwritten : goal.returns-in-Err-clause-unwritten
+returns-in-Err-clause-unwritten g c = λ is. c.open_session.ensures.unwritten_at_fault (c.in-Err.is ∙ ap Err is)
+
+pub returns-in-Err-clause-at_fault : goal.returns-in-Err-clause-at_fault
+returns-in-Err-clause-at_fault g c = λ is. c.open_session.ensures.at_fault (c.in-Err.is ∙ ap Err is)
+
+pub returns-in-Err-clause-none_found : goal.returns-in-Err-clause-none_found
+returns-in-Err-clause-none_found g c = c.in-Err.ensures.none_found

@@ -25,3 +25,15 @@ returns-clause-unwritten g c = λ map is.
     let all = f.unwritten fault ∙ c.perform_task-status.ensures.unwritten map fault in
     let w = ap (λ b. b.sink.now) all ∙ c.new-out.ensures.sink in
     search (rules, w)
+
+pub end_buffered-requires : goal.end_buffered-requires
+end_buffered-requires g c = c.perform_task-status.ensures.leaves.cause.known
+
+pub returns-clause-soak_unread : goal.returns-clause-soak_unread
+returns-clause-soak_unread g c = c.perform_task-status.ensures.soak_unread
+
+pub returns-clause-map_adapters : goal.returns-clause-map_adapters
+returns-clause-map_adapters g c = c.perform_task-status.ensures.map_adapters
+
+pub returns-clause-source_later : goal.returns-clause-source_later
+returns-clause-source_later g c = c.perform_task-status.ensures.leaves.source_later

@@ -1,8 +1,9 @@
-use Rattle.std.proofs.Common.{ap}
+use Rattle.std.proofs.Common.{ap, ◌∙◌}
 use Rattle.rl_play.specs.declared.playing.Turn.TheVariants.{Stop}
 use Rattle.rl_running.proofs.RunLemmas.{runs_memory}
 use Rattle.regrun.proofs.BreakLemmas.{weave_breaks}
 use Rattle.regrun.proofs.JudgedLemmas.{weave_told}
+use Rattle.regrun.proofs.RunLemmas.{opened_ready}
 use Rattle.regrun.proofs.weaving.weave_session.Goals as goal
 
 pub returns-in_default-clause-runs : goal.returns-in_default-clause-runs
@@ -20,3 +21,11 @@ returns-clause-runs g c =
       unended = λ is. let on = e.leaves.goes_on (ap Stop is) in (on.unended, on.out);
       leaves = e.leaves.leaves;
     }
+
+pub weave_lines-requires-clause-ready : goal.weave_lines-requires-clause-ready
+weave_lines-requires-clause-ready g c = opened_ready c.args.desc _ _ _ c.requires.awaits.runnable c.in-Ok.ensures.opened
+
+pub returns-clause-kinds : goal.returns-clause-kinds
+returns-clause-kinds g c =
+    let e = c.weave_lines.ensures in
+    e.ready.kinds ∙ ap (λ l. l.kinds) (e.parts.layout ∙ c.in-Ok.ensures.opened.layout) ∙ c.requires.awaits.runnable.same_kinds
