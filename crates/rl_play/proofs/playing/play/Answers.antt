@@ -19,30 +19,3 @@ returns-clause-done g c = script_done _ _ _ _ _ _ _ _ _ _ _ c.new-own.ensures c.
 
 pub returns-clause-at_fault : goal.returns-clause-at_fault
 returns-clause-at_fault g c = c.play_through-status.ensures.plays.at_fault
-
-pub returns-clause-ready : goal.returns-clause-ready
-returns-clause-ready g c = c.play_through-status.ensures.ready
-
-pub returns-clause-parts : goal.returns-clause-parts
-returns-clause-parts g c = c.play_through-status.ensures.parts
-
-pub returns-clause-found : goal.returns-clause-found
-returns-clause-found g c = c.play_through-status.ensures.found
-
-pub returns-clause-again : goal.returns-clause-again
-returns-clause-again g c = c.play_through-status.ensures.again
-
-pub returns-clause-keeps_earlier : goal.returns-clause-keeps_earlier
-returns-clause-keeps_earlier g c = c.play_through-status.ensures.keeps_earlier
-
-pub returns-clause-source_later : goal.returns-clause-source_later
-returns-clause-source_later g c = c.play_through-status.ensures.source_later
-
-pub returns-clause-sink_later : goal.returns-clause-sink_later
-returns-clause-sink_later g c = c.play_through-status.ensures.sink_later
-
-pub returns-clause-cause : goal.returns-clause-cause
-returns-clause-cause g c = c.play_through-status.ensures.cause
-
-pub returns-clause-ends_kept : goal.returns-clause-ends_kept
-returns-clause-ends_kept g c = c.play_through-status.ensures.ends_kept
