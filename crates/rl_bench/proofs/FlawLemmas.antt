@@ -2,9 +2,9 @@
 use Rattle.std.proofs.Common.{◌≡◌, ℕ, ◌+◌, ◌<◌, ◌≤◌, List, [], ◌∷◌, ◌++◌, length, get_or, drop, refl, sym, ap, ◌∙◌, append_assoc}
 use Rattle.std.proofs.lemmas.List.{append-nil}
 use Rattle.rl_bus.specs.Setup.{Flaws}
-use Rattle.rl_bench.specs.declared.flaw.Flaw.{Flaw}
-use Rattle.rl_bench.specs.declared.flaw.Flaw.TheVariants.{OtherPolicy, OtherReset, Stuck, ErrorRange, ErrorNth, Deaf}
-use Rattle.rl_bench.specs.Flaws.{flaws_of, with_flaw}
+use Rattle.rl_flaw.specs.declared.flaw.Flaw.{Flaw}
+use Rattle.rl_flaw.specs.declared.flaw.Flaw.TheVariants.{OtherPolicy, OtherReset, Stuck, ErrorRange, ErrorNth, Deaf}
+use Rattle.rl_flaw.specs.Flaws.{flaws_of, with_flaw}
 use Rattle.rl_bench.proofs.ListLemmas.{drop_at, nothing_from}
 
 -- some rows, and others behind them

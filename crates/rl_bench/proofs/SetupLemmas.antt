@@ -26,9 +26,9 @@ use Rattle.rl_map.specs.Partition.{IsWordOn}
 use Rattle.rl_map.specs.Words.{no_word, lanes_of}
 use Rattle.rl_map.specs.Maps.{IsBuiltWith, IsPlaceIn}
 use Rattle.rl_map.specs.Tables.{field_row, reset_rows, mem_rows, setup_of}
-use Rattle.rl_bench.specs.declared.flaw.Flaw.{Flaw}
-use Rattle.rl_bench.specs.declared.flaw.Flaw.TheVariants.{OtherPolicy, OtherReset, Stuck, ErrorRange, ErrorNth, Deaf}
-use Rattle.rl_bench.specs.Flaws.{flaws_of, stuck_row, width_of, IsFlawOf, AreFlawsOf, locations_of}
+use Rattle.rl_flaw.specs.declared.flaw.Flaw.{Flaw}
+use Rattle.rl_flaw.specs.declared.flaw.Flaw.TheVariants.{OtherPolicy, OtherReset, Stuck, ErrorRange, ErrorNth, Deaf}
+use Rattle.rl_flaw.specs.Flaws.{flaws_of, stuck_row, width_of, IsFlawOf, AreFlawsOf, locations_of}
 use Rattle.rl_bench.specs.Board.{IsSetup, IsWordIn, IsFieldIn, IsMemIn, IsStuckIn, HasRoom}
 use Rattle.rl_bench.proofs.ListLemmas.{element}
 use Rattle.rl_bench.proofs.RowLemmas.{some_same, mem_row}

@@ -1,7 +1,6 @@
 pub mod Beats
 pub mod Board
 pub mod Cells
-pub mod Flaws
 pub mod FlawTables
 pub mod Found
 pub mod Prelude

@@ -8,7 +8,7 @@ pub use Rattle.rl_bus.specs.Wire.{carried_by, IsWellFormed, IsReplyTo, IsAtOnce,
 pub use Rattle.rl_map.specs.Maps.{IsBuiltWith}
 pub use Rattle.rl_bench.specs.Beats.{IsQuiet, HasBeats, BeatsAreWords}
 pub use Rattle.rl_bench.specs.Board.{FitCells, IsSetup, HasRoom}
-pub use Rattle.rl_bench.specs.Flaws.{AreFlawsOf, first_of}
+pub use Rattle.rl_flaw.specs.Flaws.{AreFlawsOf, first_of}
 pub use Rattle.rl_bench.specs.Found.{words_on, words_for, beat_for, item_is_faulty}
 pub use Rattle.rl_bench.specs.Stretch.{IsStretch, IsHint, AreOrdered}
 pub use Rattle.rl_bench.specs.Tables.{setup_held}

@@ -13,7 +13,6 @@ mod board;
 mod build;
 mod cells;
 mod find;
-mod flaw;
 mod hints;
 mod reset;
 mod rows;
@@ -22,4 +21,4 @@ mod shape;
 mod tables;
 
 pub use bench::Bench;
-pub use flaw::Flaw;
+pub use rl_flaw::Flaw;

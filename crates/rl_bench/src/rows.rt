@@ -6,7 +6,7 @@ ghost use Rattle.rl_map.specs.Tables.{field_row, reset_rows, mem_rows};
 ghost use Rattle.rl_bench.specs.Rows.{reset_of};
 ghost use Rattle.rl_model.specs.declared.rows.Reset.{Reset as Resets};
 ghost use Rattle.std.specs.Prelude.{ℕ};
-ghost use Rattle.rl_bench.specs.Flaws.{locations_of, item_row};
+ghost use Rattle.rl_flaw.specs.Flaws.{locations_of, item_row};
 
 use rl_bus::{FieldRow, ItemRow, MemRow, ResetRow};
 use rl_map::Layout;

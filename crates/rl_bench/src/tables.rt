@@ -3,13 +3,13 @@ ghost use Rattle.std.specs.Prelude.{◌≡◌, ◌<◌, length, ◌&&◌, ◌==�
 ghost use Rattle.std.specs.List.{list_any};
 ghost use Rattle.rl_bus.specs.Setup.{policy_of, is_deaf, is_named, reset_of, is_of};
 ghost use Rattle.rl_map.specs.Tables.{field_row, reset_rows, mem_rows};
-ghost use Rattle.rl_bench.specs.Flaws.{flaws_of, with_flaw};
+ghost use Rattle.rl_flaw.specs.Flaws.{flaws_of, with_flaw};
 ghost use Rattle.rl_bench.specs.FlawTables.{flaws_held};
 
 use crate::find::resets_of;
-use crate::flaw::Flaw;
 use crate::rows::{field_rows, item_row, mem_rows, port_bytes, reg_bytes, reset_rows};
 use rl_bus::{Cell, FieldRow, ItemRow, MemRow, PolicyRow, RangeRow, ResetRow, StuckRow, WordRow};
+use rl_flaw::Flaw;
 use rl_map::Layout;
 use rl_model::Chip;
 use rl_policy::Policy;

@@ -6,7 +6,7 @@ use Rattle.std.proofs.lemmas.Bool.Decides.{nat_tests}
 use Rattle.std.proofs.lemmas.List.{drop_more}
 use Rattle.rl_model.specs.Rows.{ChipData}
 use Rattle.rl_map.specs.Layout.{LayoutData}
-use Rattle.rl_bench.specs.declared.flaw.Flaw.{Flaw}
+use Rattle.rl_flaw.specs.declared.flaw.Flaw.{Flaw}
 use Rattle.rl_desc.specs.declared.fault.DescFault.TheVariants.{TooManyFlaws, Flaw as BadFlaw}
 use Rattle.rl_desc.specs.declared.flaw.FlawPart.{FlawPart}
 use Rattle.rl_desc.specs.Flaws.{flaw_of, flaws_fault, flaws_of}

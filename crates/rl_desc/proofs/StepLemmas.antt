@@ -11,7 +11,7 @@ use Rattle.rl_map.specs.declared.fault.MapFault.{MapFault}
 use Rattle.rl_map.specs.declared.fault.MapFault.TheVariants as maps
 use Rattle.rl_model.specs.Rows.{ChipData}
 use Rattle.rl_map.specs.Layout.{LayoutData}
-use Rattle.rl_bench.specs.declared.flaw.Flaw.{Flaw}
+use Rattle.rl_flaw.specs.declared.flaw.Flaw.{Flaw}
 use Rattle.rl_map.specs.Maps.{layout_of}
 use Rattle.rl_map.specs.Faults as faults
 use Rattle.rl_map.specs.Faults.{layout_fault}

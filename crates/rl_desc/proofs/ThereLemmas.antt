@@ -12,9 +12,9 @@ use Rattle.rl_model.specs.declared.rows.Item.TheVariants.{Reg, Mem}
 use Rattle.rl_model.specs.Rows.{ChipData}
 use Rattle.rl_model.specs.Chip.{HasItem, field_path}
 use Rattle.rl_map.specs.Layout.{LayoutData, map_named}
-use Rattle.rl_bench.specs.declared.flaw.Flaw.{Flaw}
-use Rattle.rl_bench.specs.declared.flaw.Flaw.TheVariants as flaw
-use Rattle.rl_bench.specs.Flaws.{width_of, IsFlawOf, AreFlawsOf}
+use Rattle.rl_flaw.specs.declared.flaw.Flaw.{Flaw}
+use Rattle.rl_flaw.specs.declared.flaw.Flaw.TheVariants as flaw
+use Rattle.rl_flaw.specs.Flaws.{width_of, IsFlawOf, AreFlawsOf}
 use Rattle.rl_desc.specs.Data.{DescData}
 use Rattle.rl_desc.specs.declared.fault.DescFault.{DescFault}
 use Rattle.rl_desc.specs.declared.flaw.FlawPart.{FlawPart}

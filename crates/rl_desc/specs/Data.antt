@@ -5,7 +5,7 @@ use Rattle.rl_model.specs.Rows.{ChipData}
 use Rattle.rl_map.specs.declared.parts.MapNode.{MapNode}
 use Rattle.rl_map.specs.declared.parts.PlacePart.{PlacePart}
 use Rattle.rl_map.specs.Layout.{LayoutData}
-use Rattle.rl_bench.specs.declared.flaw.Flaw.{Flaw}
+use Rattle.rl_flaw.specs.declared.flaw.Flaw.{Flaw}
 use Rattle.rl_desc.specs.declared.flaw.FlawPart.{FlawPart}
 
 pub record DocumentData : Type 0 where

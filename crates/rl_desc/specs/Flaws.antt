@@ -8,9 +8,9 @@ use Rattle.rl_model.specs.Chip.{field_path, value_for}
 use Rattle.rl_map.specs.Layout.{LayoutData, map_named}
 use Rattle.rl_model.specs.declared.rows.Item.{Item}
 use Rattle.rl_model.specs.declared.rows.Item.TheVariants.{Reg, Mem}
-use Rattle.rl_bench.specs.Flaws.{width_of}
-use Rattle.rl_bench.specs.declared.flaw.Flaw.{Flaw}
-use Rattle.rl_bench.specs.declared.flaw.Flaw.TheVariants as flaw
+use Rattle.rl_flaw.specs.Flaws.{width_of}
+use Rattle.rl_flaw.specs.declared.flaw.Flaw.{Flaw}
+use Rattle.rl_flaw.specs.declared.flaw.Flaw.TheVariants as flaw
 use Rattle.rl_desc.specs.declared.fault.DescFault.{DescFault}
 use Rattle.rl_desc.specs.declared.fault.DescFault.TheVariants.{TooManyFlaws, Flaw as BadFlaw}
 use Rattle.rl_desc.specs.declared.flaw.FlawPart.{FlawPart}

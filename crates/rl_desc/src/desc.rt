@@ -2,7 +2,7 @@
 ghost use Rattle.std.specs.Prelude.{◌≡◌, ◌≢◌, ◌^◌, ◌<◌, Some, None, length, IfOk, IfErr};
 ghost use Rattle.toml.specs.View.{table_view};
 ghost use Rattle.rl_map.specs.Maps.{IsBuiltWith};
-ghost use Rattle.rl_bench.specs.Flaws.{AreFlawsOf};
+ghost use Rattle.rl_flaw.specs.Flaws.{AreFlawsOf};
 ghost use Rattle.rl_desc.specs.Refusals.{Reads};
 ghost use Rattle.rl_desc.specs.Flaws.{flaws_fault, flaws_of};
 ghost use Rattle.rl_desc.specs.Described.{first_fault, description_of, described, rows_fault};
@@ -11,8 +11,8 @@ use crate::document::Document;
 use crate::fault::{DescCause, DescFault};
 use crate::flaw::{FlawPart, number_flaws};
 use crate::read::read_document;
-use rl_bench::Flaw;
 use rl_bus::AdapterKind;
+use rl_flaw::Flaw;
 use rl_map::Layout;
 use rl_model::Chip;
 use std::alloc::Global;

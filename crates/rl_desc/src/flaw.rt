@@ -5,7 +5,7 @@ ghost use Rattle.rl_desc.specs.Flaws.{field_at, kind_at, text_at, reg_paths, mem
 ghost use Rattle.rl_desc.specs.Flaws.{root_at, reset_flaw, stuck_flaw, flaw_of, flaws_fault, flaws_of};
 
 use crate::fault::DescFault;
-use rl_bench::Flaw;
+use rl_flaw::Flaw;
 use rl_map::Layout;
 use rl_model::{Chip, Item, Name};
 use rl_policy::Policy;

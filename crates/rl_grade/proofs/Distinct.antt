@@ -19,9 +19,9 @@ use Rattle.rl_bus.specs.declared.table.Cell.{Cell}
 use Rattle.rl_bus.specs.declared.table.Cell.TheVariants.{Reg, Loc}
 use Rattle.rl_bus.specs.declared.table.WordRow.{WordRow}
 use Rattle.rl_bench.specs.Beats.{no_word}
-use Rattle.rl_bench.specs.declared.flaw.Flaw.{Flaw}
-use Rattle.rl_bench.specs.declared.flaw.Flaw.TheVariants.{Deaf, ErrorNth, ErrorRange, OtherPolicy, OtherReset, Stuck}
-use Rattle.rl_bench.specs.Flaws.{width_of}
+use Rattle.rl_flaw.specs.declared.flaw.Flaw.{Flaw}
+use Rattle.rl_flaw.specs.declared.flaw.Flaw.TheVariants.{Deaf, ErrorNth, ErrorRange, OtherPolicy, OtherReset, Stuck}
+use Rattle.rl_flaw.specs.Flaws.{width_of}
 use Rattle.rl_desc.specs.Data.{DescData}
 use Rattle.rl_desc.specs.Flaws.{reset_value}
 use Rattle.rl_policy.specs.declared.policy.TheConstants.{POLICIES}

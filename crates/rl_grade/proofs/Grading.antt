@@ -1,7 +1,7 @@
 -- Flaw by flaw through a list, to the answers of a share.
 use Rattle.std.proofs.Common.{◌≡◌, ℕ, ◌+◌, Bool, true, false, if◌then◌else◌, List, [], ◌∷◌, ◌++◌, map, All, sym, ap, ◌∙◌, append_assoc, arith}
 use Rattle.std.proofs.lemmas.List.Elements.{All-cons, All-map, All-nil, All-tail}
-use Rattle.rl_bench.specs.declared.flaw.Flaw.{Flaw}
+use Rattle.rl_flaw.specs.declared.flaw.Flaw.{Flaw}
 use Rattle.rl_desc.specs.Data.{DescData}
 use Rattle.rl_grade.specs.declared.grade.Graded.{Graded}
 use Rattle.rl_grade.specs.declared.grade.Share.{Share}

@@ -14,9 +14,9 @@ use Rattle.rl_model.specs.Rows.{ChipData, FieldSeen}
 use Rattle.rl_model.proofs.ChipLaws.{value_below}
 use Rattle.rl_map.specs.Layout.{LayoutData, IsSound as IsSoundLayout, place_at}
 use Rattle.rl_bus.specs.declared.table.WordRow.{WordRow}
-use Rattle.rl_bench.specs.declared.flaw.Flaw.{Flaw}
-use Rattle.rl_bench.specs.declared.flaw.Flaw.TheVariants.{Deaf, ErrorNth, ErrorRange, OtherPolicy, OtherReset, Stuck}
-use Rattle.rl_bench.specs.Flaws.{IsFlawOf, width_of}
+use Rattle.rl_flaw.specs.declared.flaw.Flaw.{Flaw}
+use Rattle.rl_flaw.specs.declared.flaw.Flaw.TheVariants.{Deaf, ErrorNth, ErrorRange, OtherPolicy, OtherReset, Stuck}
+use Rattle.rl_flaw.specs.Flaws.{IsFlawOf, width_of}
 use Rattle.rl_bench.specs.Beats.{no_word}
 use Rattle.rl_desc.specs.Flaws.{reset_value}
 use Rattle.rl_grade.specs.Flaws.{field_flaws, is_own, item_flaws, own_addresses, policies_beside, policy_of, row_at, session_flaws, stuck_bits, wrong_by, wrong_resets}

@@ -6,9 +6,9 @@ use Rattle.std.proofs.lemmas.List.Elements.{All-append, All-cons, All-map, All-n
 use Rattle.rl_policy.specs.declared.policy.Policy.{Policy}
 use Rattle.rl_policy.specs.Names.{name_of}
 use Rattle.rl_model.specs.declared.rows.Item.{Item}
-use Rattle.rl_bench.specs.declared.flaw.Flaw.{Flaw}
-use Rattle.rl_bench.specs.declared.flaw.Flaw.TheVariants.{Deaf, ErrorNth, ErrorRange, OtherPolicy, OtherReset, Stuck}
-use Rattle.rl_bench.specs.Flaws.{width_of}
+use Rattle.rl_flaw.specs.declared.flaw.Flaw.{Flaw}
+use Rattle.rl_flaw.specs.declared.flaw.Flaw.TheVariants.{Deaf, ErrorNth, ErrorRange, OtherPolicy, OtherReset, Stuck}
+use Rattle.rl_flaw.specs.Flaws.{width_of}
 use Rattle.rl_desc.specs.Data.{DescData}
 use Rattle.rl_desc.specs.Flaws.{reset_value}
 use Rattle.rl_policy.specs.declared.policy.TheConstants.{POLICIES}

@@ -9,8 +9,8 @@ use Rattle.rl_policy.specs.Names.{name_of}
 use Rattle.rl_model.specs.declared.rows.Item.{Item}
 use Rattle.rl_model.specs.Rows.{ChipData}
 use Rattle.rl_bus.specs.declared.table.WordRow.{WordRow}
-use Rattle.rl_bench.specs.declared.flaw.Flaw.{Flaw}
-use Rattle.rl_bench.specs.declared.flaw.Flaw.TheVariants.{ErrorRange, OtherPolicy, OtherReset, Stuck}
+use Rattle.rl_flaw.specs.declared.flaw.Flaw.{Flaw}
+use Rattle.rl_flaw.specs.declared.flaw.Flaw.TheVariants.{ErrorRange, OtherPolicy, OtherReset, Stuck}
 use Rattle.rl_desc.specs.Flaws.{reset_value}
 use Rattle.rl_grade.specs.Flaws.{is_own, other_policies, own_addresses, row_at, stuck_bits, wrong_by, wrong_resets, wrong_values}
 

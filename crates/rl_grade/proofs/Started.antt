@@ -1,6 +1,6 @@
 -- What is known over adapters that have sent nothing.
 use Rattle.std.proofs.Common.{◌≡◌, List, [], ◌∷◌, ◌++◌, map, IfOk, Result, sym, ap, subst, ◌∙◌}
-use Rattle.rl_bench.specs.declared.flaw.Flaw.{Flaw}
+use Rattle.rl_flaw.specs.declared.flaw.Flaw.{Flaw}
 use Rattle.rl_bus.specs.declared.op.AdapterKind.{AdapterKind}
 use Rattle.rl_bus.specs.Standing.{Standing, kinds_of}
 use Rattle.rl_desc.specs.Data.{DescData}

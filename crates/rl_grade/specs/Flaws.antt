@@ -12,9 +12,9 @@ use Rattle.rl_bus.specs.declared.table.Cell.TheVariants.{Reg, Loc}
 use Rattle.rl_bus.specs.declared.table.WordRow.{WordRow}
 use Rattle.rl_map.specs.Layout.{LayoutData}
 use Rattle.rl_bench.specs.Beats.{no_word}
-use Rattle.rl_bench.specs.declared.flaw.Flaw.{Flaw}
-use Rattle.rl_bench.specs.declared.flaw.Flaw.TheVariants.{Deaf, OtherPolicy, OtherReset, Stuck, ErrorNth, ErrorRange}
-use Rattle.rl_bench.specs.Flaws.{width_of}
+use Rattle.rl_flaw.specs.declared.flaw.Flaw.{Flaw}
+use Rattle.rl_flaw.specs.declared.flaw.Flaw.TheVariants.{Deaf, OtherPolicy, OtherReset, Stuck, ErrorNth, ErrorRange}
+use Rattle.rl_flaw.specs.Flaws.{width_of}
 use Rattle.rl_desc.specs.Flaws.{reset_value}
 
 -- how many locations a memory has

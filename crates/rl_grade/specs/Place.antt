@@ -1,6 +1,6 @@
 -- A description with one flaw alone, and the flaws of a place.
 use Rattle.std.specs.Prelude.{ℕ, ◌<◌, List, [], ◌∷◌, length}
-use Rattle.rl_bench.specs.declared.flaw.Flaw.{Flaw}
+use Rattle.rl_flaw.specs.declared.flaw.Flaw.{Flaw}
 use Rattle.rl_desc.specs.Data.{DescData}
 use Rattle.rl_model.specs.Chip.{HasItem}
 use Rattle.rl_model.specs.Rows.{ChipData}

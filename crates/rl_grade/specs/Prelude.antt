@@ -1,7 +1,7 @@
 -- The words that the contracts of this crate use, passed on from one place. Declares nothing.
 pub use Rattle.rl_access.specs.Operation.{HasNumbers, is_single}
 pub use Rattle.rl_access.specs.World.{world}
-pub use Rattle.rl_bench.specs.Flaws.{IsFlawOf}
+pub use Rattle.rl_flaw.specs.Flaws.{IsFlawOf}
 pub use Rattle.rl_log.specs.Entry.{op_course, sequence_course}
 pub use Rattle.rl_play.specs.Prelude.{IsReady, IsSameChip}
 pub use Rattle.rl_session.specs.Prelude.{bench_state, kinds_of, IsBuiltWith, first_world}

@@ -5,9 +5,9 @@ use Rattle.rl_policy.specs.Names.{name_of}
 use Rattle.rl_model.specs.declared.rows.Item.{Item}
 use Rattle.rl_model.specs.Rows.{ChipData}
 use Rattle.rl_bus.specs.declared.table.WordRow.{WordRow}
-use Rattle.rl_bench.specs.declared.flaw.Flaw.{Flaw}
-use Rattle.rl_bench.specs.declared.flaw.Flaw.TheVariants.{Deaf, ErrorNth, ErrorRange, OtherPolicy, OtherReset, Stuck}
-use Rattle.rl_bench.specs.Flaws.{width_of}
+use Rattle.rl_flaw.specs.declared.flaw.Flaw.{Flaw}
+use Rattle.rl_flaw.specs.declared.flaw.Flaw.TheVariants.{Deaf, ErrorNth, ErrorRange, OtherPolicy, OtherReset, Stuck}
+use Rattle.rl_flaw.specs.Flaws.{width_of}
 use Rattle.rl_desc.specs.Data.{DescData}
 use Rattle.rl_desc.specs.Flaws.{reset_value}
 use Rattle.rl_grade.specs.declared.place.Place.{Place}

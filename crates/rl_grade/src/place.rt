@@ -1,6 +1,6 @@
 // Where flaws are told, and the single flaws of a place.
 ghost use Rattle.std.specs.Prelude.{◌≡◌, All, IfOk};
-ghost use Rattle.rl_bench.specs.Flaws.{IsFlawOf};
+ghost use Rattle.rl_flaw.specs.Flaws.{IsFlawOf};
 ghost use Rattle.rl_grade.specs.Place.{IsPlaceIn, flaws_at};
 
 use crate::flaws::{field_flaws, item_flaws, session_flaws};

@@ -4,7 +4,7 @@ use Rattle.std.specs.Prelude.{is_none}
 use Rattle.std.proofs.lemmas.List.Elements.{All-filter, All-map}
 use Rattle.rl_model.specs.Rows.{ChipData}
 use Rattle.rl_map.specs.Layout.{LayoutData}
-use Rattle.rl_bench.specs.Flaws.{IsFlawOf}
+use Rattle.rl_flaw.specs.Flaws.{IsFlawOf}
 use Rattle.rl_grade.specs.declared.grade.Graded.{Graded}
 use Rattle.rl_graded.specs.Lines.{AreGraded, missed_of}
 

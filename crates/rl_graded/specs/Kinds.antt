@@ -1,7 +1,7 @@
 -- The kinds of single flaws.
 use Rattle.std.specs.Prelude.{ℕ, List, Bool, bytes_eq, codes}
-use Rattle.rl_bench.specs.declared.flaw.Flaw.{Flaw}
-use Rattle.rl_bench.specs.declared.flaw.Flaw.TheVariants as flaw
+use Rattle.rl_flaw.specs.declared.flaw.Flaw.{Flaw}
+use Rattle.rl_flaw.specs.declared.flaw.Flaw.TheVariants as flaw
 use Rattle.rl_graded.specs.declared.kind.Kind.{Kind}
 use Rattle.rl_graded.specs.declared.kind.Kind.TheVariants.{Stuck, Reset, Policy, Deaf, Address, Item}
 

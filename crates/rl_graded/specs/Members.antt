@@ -7,8 +7,8 @@ use Rattle.rl_policy.specs.Numbers.{hex_digits}
 use Rattle.rl_model.specs.Rows.{ChipData}
 use Rattle.rl_desc.specs.Flaws.{reset_value}
 use Rattle.rl_report.specs.Pieces.{joined}
-use Rattle.rl_bench.specs.declared.flaw.Flaw.{Flaw}
-use Rattle.rl_bench.specs.declared.flaw.Flaw.TheVariants.{Stuck, OtherReset, OtherPolicy, Deaf, ErrorRange, ErrorNth}
+use Rattle.rl_flaw.specs.declared.flaw.Flaw.{Flaw}
+use Rattle.rl_flaw.specs.declared.flaw.Flaw.TheVariants.{Stuck, OtherReset, OtherPolicy, Deaf, ErrorRange, ErrorNth}
 
 -- ---- numbers, by their runs
 

@@ -7,8 +7,8 @@ use Rattle.rl_model.specs.declared.rows.Item.{Item}
 use Rattle.rl_model.specs.Chip.{path_of_item}
 use Rattle.rl_model.specs.Rows.{ChipData}
 use Rattle.rl_map.specs.Layout.{LayoutData}
-use Rattle.rl_bench.specs.declared.flaw.Flaw.{Flaw}
-use Rattle.rl_bench.specs.declared.flaw.Flaw.TheVariants.{Stuck, OtherReset, OtherPolicy, Deaf, ErrorRange, ErrorNth}
+use Rattle.rl_flaw.specs.declared.flaw.Flaw.{Flaw}
+use Rattle.rl_flaw.specs.declared.flaw.Flaw.TheVariants.{Stuck, OtherReset, OtherPolicy, Deaf, ErrorRange, ErrorNth}
 use Rattle.rl_grade.specs.declared.grade.Graded.{Graded}
 use Rattle.rl_report.specs.Pieces.{joined}
 use Rattle.rl_graded.specs.Groups.{kind_text, root_name}

@@ -1,7 +1,7 @@
 // The missed flaws of a place in words, those of one sort together.
 ghost use Rattle.std.specs.Prelude.{◌≡◌, ◌++◌, ◌<◌, length, filter, All, OnOk, IfOk};
 ghost use Rattle.std.specs.List.{list_any};
-ghost use Rattle.rl_bench.specs.Flaws.{IsFlawOf};
+ghost use Rattle.rl_flaw.specs.Flaws.{IsFlawOf};
 ghost use Rattle.rl_graded.specs.Groups.{detail_of, is_same_sort, is_first, sort_text, group_text, groups_text};
 
 use crate::kind::Kind;

@@ -1,6 +1,6 @@
 // The members of a group of missed flaws: bits and items by number, policies by name, addresses.
 ghost use Rattle.std.specs.Prelude.{◌≡◌, ◌++◌, ◌<◌, [], ◌∷◌, codes, length, map, All, OnOk, IfOk};
-ghost use Rattle.rl_bench.specs.Flaws.{IsFlawOf};
+ghost use Rattle.rl_flaw.specs.Flaws.{IsFlawOf};
 ghost use Rattle.rl_graded.specs.Members.{follows, number_text, ranges_text, wrong_bit, number_of, word_text};
 ghost use Rattle.rl_graded.specs.Members.{words_text, policies_text, members_text};
 ghost use Rattle.rl_policy.specs.Names.{name_of};

@@ -1,6 +1,6 @@
 // A flaw as a row of a description.
 ghost use Rattle.std.specs.Prelude.{◌≡◌, ◌++◌, ◌<◌, length, OnOk};
-ghost use Rattle.rl_bench.specs.Flaws.{IsFlawOf};
+ghost use Rattle.rl_flaw.specs.Flaws.{IsFlawOf};
 ghost use Rattle.rl_model.specs.Chip.{HasItem};
 ghost use Rattle.rl_graded.specs.Lines.{AreGraded};
 ghost use Rattle.rl_graded.specs.Row.{of_field, value_line, stuck_row, reset_row, policy_row, range_row, nth_row};

@@ -8,7 +8,7 @@ use Rattle.rl_access.specs.World.{IsAt, World, world}
 use Rattle.rl_bus.specs.Causes.{Rose}
 use Rattle.rl_bus.specs.Standing.{Standing, kinds_of}
 use Rattle.rl_bus.specs.State.{State}
-use Rattle.rl_bench.specs.declared.flaw.Flaw.{Flaw}
+use Rattle.rl_flaw.specs.declared.flaw.Flaw.{Flaw}
 use Rattle.rl_desc.specs.Data.{DescData}
 use Rattle.rl_report.specs.declared.sink.Sink.{Ghosts as Sink}
 use Rattle.rl_report.specs.Lines.{lines_of}

@@ -1,7 +1,7 @@
 -- The flaws that a grading goes over, and that they are the single flaws of the description, each once.
 use Rattle.std.specs.Prelude.{◌≢◌, ℕ, List, flat_map, All, AllPairs, Contains}
 use Rattle.rl_model.specs.Chip.{IsSound}
-use Rattle.rl_bench.specs.declared.flaw.Flaw.{Flaw}
+use Rattle.rl_flaw.specs.declared.flaw.Flaw.{Flaw}
 use Rattle.rl_desc.specs.Data.{DescData}
 use Rattle.rl_grade.specs.declared.place.Place.{Place}
 use Rattle.rl_grade.specs.Place.{IsPlaceIn, flaws_at}

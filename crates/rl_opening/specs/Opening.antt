@@ -2,7 +2,7 @@
 use Rattle.std.specs.Prelude.{◌≡◌, ◌≢◌, ℕ, ◌≤◌, List, [], ◌++◌, length, true, false, Option, Some, Result, Ok}
 use Rattle.rl_bus.specs.declared.op.AdapterKind.{AdapterKind}
 use Rattle.rl_map.specs.Maps.{IsBuiltWith}
-use Rattle.rl_bench.specs.Flaws.{AreFlawsOf}
+use Rattle.rl_flaw.specs.Flaws.{AreFlawsOf}
 use Rattle.rl_desc.specs.Data.{DescData}
 use Rattle.rl_report.specs.Opening.{separator_at, FindsHead}
 use Rattle.rl_report.specs.Reading.{Reading, input_of}

@@ -6,8 +6,8 @@ use Rattle.rl_bus.specs.Setup.{Setup}
 use Rattle.rl_bus.specs.State.{State, first_state, reset_by}
 use Rattle.rl_model.specs.Rows.{ChipData}
 use Rattle.rl_map.specs.Layout.{LayoutData}
-use Rattle.rl_bench.specs.declared.flaw.Flaw.{Flaw}
-use Rattle.rl_bench.specs.Flaws.{flaws_of, first_of, locations_of}
+use Rattle.rl_flaw.specs.declared.flaw.Flaw.{Flaw}
+use Rattle.rl_flaw.specs.Flaws.{flaws_of, first_of, locations_of}
 use Rattle.rl_map.specs.Tables.{setup_of}
 use Rattle.rl_access.specs.Gathering.{IsNothingGathered, no_words}
 use Rattle.rl_access.specs.Model.{ModelData, IsModel, IsDeviceOf}

@@ -12,7 +12,7 @@ use Rattle.rl_log.specs.Log.{Ending, lines_text, script_from}
 use Rattle.rl_session.specs.Session.{behind, opening_of, map_text, map_status, script_of}
 use Rattle.rl_session.specs.Soak.{mirror_sum, soak_line_text, soak_text}
 use Rattle.rl_access.specs.Gathering.{no_words}
-use Rattle.rl_bench.specs.Flaws.{first_of}
+use Rattle.rl_flaw.specs.Flaws.{first_of}
 use Rattle.rl_mirror.specs.Prediction.{fresh}
 use Rattle.rl_log.specs.Recording.{no_counts}
 use Rattle.rl_access.specs.World.{World}

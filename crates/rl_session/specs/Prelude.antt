@@ -1,7 +1,7 @@
 -- The words that the contracts of an opening use, passed on from one place. Declares nothing.
 pub use Rattle.rl_access.specs.Model.{IsModel}
 pub use Rattle.rl_access.specs.World.{IsAt}
-pub use Rattle.rl_bench.specs.Flaws.{AreFlawsOf}
+pub use Rattle.rl_flaw.specs.Flaws.{AreFlawsOf}
 pub use Rattle.rl_bench.specs.State.{bench_state}
 pub use Rattle.rl_bus.specs.Standing.{Standing, kinds_of}
 pub use Rattle.rl_map.specs.Maps.{IsBuiltWith}

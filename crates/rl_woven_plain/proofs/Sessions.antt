@@ -1,8 +1,8 @@
 -- What `weave` writes of a session on a device that does as described.
 use Rattle.std.proofs.Common.{◌≡◌, ℕ, List, length, replicate, Some, Ok, refl, sym, ap, ◌∙◌, subst, arith}
 use Rattle.std.proofs.lemmas.List.{length-replicate, get_or-replicate}
-use Rattle.rl_bench.specs.declared.flaw.Flaw.{Flaw}
-use Rattle.rl_bench.specs.Flaws.{first_of}
+use Rattle.rl_flaw.specs.declared.flaw.Flaw.{Flaw}
+use Rattle.rl_flaw.specs.Flaws.{first_of}
 use Rattle.rl_bus.specs.Standing.{Standing, kinds_of}
 use Rattle.rl_mirror.specs.Prediction.{fresh, reset}
 use Rattle.rl_access.specs.Gathering.{no_words, IsNothingGathered}

@@ -1,5 +1,5 @@
 use Rattle.std.proofs.Common.{sym, subst, arith}
-use Rattle.rl_bench.specs.Flaws.{AreFlawsOf}
+use Rattle.rl_flaw.specs.Flaws.{AreFlawsOf}
 use Rattle.indirect_table.proofs.parts.opened.Goals as goal
 
 pub open-requires-clause-flaws : goal.open-requires-clause-flaws

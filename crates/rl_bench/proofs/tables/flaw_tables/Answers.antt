@@ -1,5 +1,5 @@
 use Rattle.std.proofs.Common.{◌+◌, drop, ap, ◌∙◌, arith}
-use Rattle.rl_bench.specs.Flaws.{flaws_of}
+use Rattle.rl_flaw.specs.Flaws.{flaws_of}
 use Rattle.rl_bench.specs.FlawTables.{flaws_held}
 use Rattle.rl_bench.proofs.FlawLemmas.{both, flaws_next, flaws_done}
 use Rattle.rl_bench.proofs.tables.flaw_tables.Goals as goal

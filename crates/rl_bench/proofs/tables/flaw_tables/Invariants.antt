@@ -1,5 +1,5 @@
 use Rattle.std.proofs.Common.{◌≡◌, drop}
-use Rattle.rl_bench.specs.Flaws.{flaws_of}
+use Rattle.rl_flaw.specs.Flaws.{flaws_of}
 use Rattle.rl_bench.specs.FlawTables.{flaws_held}
 use Rattle.rl_bench.proofs.FlawLemmas.{both}
 use Rattle.rl_bench.proofs.tables.flaw_tables.Given as goal

@@ -1,7 +1,7 @@
 use Rattle.std.proofs.Common.{◌<◌, [], ◌∷◌, ◌++◌, ap, ◌∙◌, arith}
 use Rattle.std.specs.Prelude.{bit_xor}
 use Rattle.std.proofs.lemmas.Nat.{one_shl}
-use Rattle.rl_bench.specs.declared.flaw.Flaw.TheVariants.{OtherReset}
+use Rattle.rl_flaw.specs.declared.flaw.Flaw.TheVariants.{OtherReset}
 use Rattle.rl_grade.proofs.Pushed.{wrong_more}
 use Rattle.rl_grade.proofs.flaws.push_wrong.Goals as goal
 

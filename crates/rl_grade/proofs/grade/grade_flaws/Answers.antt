@@ -1,6 +1,6 @@
 use Rattle.std.proofs.Common.{◌+◌, refl, sym, ap, ◌∙◌, arith}
 use Rattle.std.proofs.lemmas.List.{drop_more}
-use Rattle.rl_bench.specs.declared.flaw.Flaw.TheVariants.{ErrorNth}
+use Rattle.rl_flaw.specs.declared.flaw.Flaw.TheVariants.{ErrorNth}
 use Rattle.rl_grade.specs.declared.grade.Tries.{Tries}
 use Rattle.rl_grade.proofs.Grading.{flaw_passed, flaw_taken}
 use Rattle.rl_grade.proofs.grade.grade_flaws.Goals as goal

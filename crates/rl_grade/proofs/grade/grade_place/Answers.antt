@@ -1,6 +1,6 @@
 use Rattle.std.specs.Prelude.{Contains}
 use Rattle.std.proofs.lemmas.List.Elements.{All-contains_itself}
-use Rattle.rl_bench.specs.Flaws.{IsFlawOf}
+use Rattle.rl_flaw.specs.Flaws.{IsFlawOf}
 use Rattle.rl_grade.specs.Place.{flaws_at}
 use Rattle.rl_grade.proofs.Grading.{each_graded}
 use Rattle.rl_grade.proofs.grade.grade_place.Goals as goal

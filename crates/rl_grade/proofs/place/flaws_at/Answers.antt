@@ -1,6 +1,6 @@
 use Rattle.std.proofs.Common.{◌<◌, length, sym, subst}
 use Rattle.std.specs.Prelude.{All, IfOk}
-use Rattle.rl_bench.specs.Flaws.{IsFlawOf}
+use Rattle.rl_flaw.specs.Flaws.{IsFlawOf}
 use Rattle.rl_desc.specs.Data.{DescData}
 use Rattle.rl_model.specs.Chip.{HasItem}
 use Rattle.rl_policy.specs.declared.policy.TheConstants.{POLICIES}

@@ -1,5 +1,5 @@
 use Rattle.std.proofs.lemmas.List.Elements.{All-filter}
-use Rattle.rl_bench.specs.Flaws.{IsFlawOf}
+use Rattle.rl_flaw.specs.Flaws.{IsFlawOf}
 use Rattle.rl_graded.specs.Groups.{is_same_sort}
 use Rattle.rl_graded.proofs.groups.push_group.Goals as goal
 

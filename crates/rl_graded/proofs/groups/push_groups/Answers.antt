@@ -1,8 +1,8 @@
 use Rattle.std.proofs.Common.{List, ℕ, codes, sym, ap, ◌∙◌, ◌++◌}
 use Rattle.std.specs.List.{range_with_len}
 use Rattle.std.proofs.lemmas.List.{get_or_default}
-use Rattle.rl_bench.specs.declared.flaw.Flaw.{Flaw}
-use Rattle.rl_bench.specs.declared.flaw.Flaw.TheVariants.{ErrorNth}
+use Rattle.rl_flaw.specs.declared.flaw.Flaw.{Flaw}
+use Rattle.rl_flaw.specs.declared.flaw.Flaw.TheVariants.{ErrorNth}
 use Rattle.rl_graded.specs.Counts.{led}
 use Rattle.rl_graded.specs.Groups.{flaw_at, group_text, is_first}
 use Rattle.rl_graded.proofs.Parts.{is_some_part, led_by, passed, range_more, some_told, told_more}

@@ -1,13 +1,13 @@
 use Rattle.std.proofs.Common.{◌≡◌, List, [], Some, refl, sym, ap, ◌∙◌, subst}
 use Rattle.rl_map.specs.Maps.{IsBuiltWith}
 use Rattle.rl_access.specs.Model.{IsModel, ModelData}
-use Rattle.rl_bench.specs.Flaws.{AreFlawsOf, first_of}
+use Rattle.rl_flaw.specs.Flaws.{AreFlawsOf, first_of}
 use Rattle.rl_bench.specs.State.{bench_state}
 use Rattle.rl_desc.specs.Data.{DescData}
 use Rattle.rl_session.proofs.FirstLemmas.{device_built}
 use Rattle.rl_model.specs.Rows.{ChipData}
 use Rattle.rl_map.specs.Layout.{LayoutData}
-use Rattle.rl_bench.specs.declared.flaw.Flaw.{Flaw}
+use Rattle.rl_flaw.specs.declared.flaw.Flaw.{Flaw}
 use Rattle.rl_session.proofs.opening.open.Goals as goal
 
 -- its parts are those of the description

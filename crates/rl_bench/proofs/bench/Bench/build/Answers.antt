@@ -1,7 +1,7 @@
 use Rattle.std.proofs.Common.{sym, subst}
 use Rattle.rl_bus.specs.Setup.{Setup}
 use Rattle.rl_map.specs.Tables.{setup_of}
-use Rattle.rl_bench.specs.Flaws.{flaws_of}
+use Rattle.rl_flaw.specs.Flaws.{flaws_of}
 use Rattle.rl_bench.specs.Board.{IsSetup, HasRoom}
 use Rattle.rl_bench.proofs.SetupLemmas.{is_setup, has_room}
 use Rattle.rl_bench.proofs.bench.Bench.build.Goals as goal

@@ -14,8 +14,8 @@ use Rattle.rl_bus.specs.Setup.{Flaws}
 use Rattle.rl_bus.specs.State.{State, first_state}
 use Rattle.rl_map.specs.Layout.{LayoutData}
 use Rattle.rl_map.specs.Tables.{setup_of}
-use Rattle.rl_bench.specs.declared.flaw.Flaw.{Flaw}
-use Rattle.rl_bench.specs.declared.flaw.Flaw.TheVariants.{OtherPolicy, OtherReset, Stuck, ErrorRange, ErrorNth, Deaf}
+use Rattle.rl_flaw.specs.declared.flaw.Flaw.{Flaw}
+use Rattle.rl_flaw.specs.declared.flaw.Flaw.TheVariants.{OtherPolicy, OtherReset, Stuck, ErrorRange, ErrorNth, Deaf}
 
 abbrev pub policy_row : Flaw → Option PolicyRow
 policy_row (OtherPolicy f p) = Some (record { field = f; policy = p })
