@@ -1,0 +1,229 @@
+"""The command: what to import, the report, `--strict`, the layout of the text, and what each choice does."""
+
+from __future__ import annotations
+
+from pathlib import Path
+from typing import Dict, List, Tuple
+
+import pytest
+
+from importing import EXAMPLES, command, expected, lines_of
+
+pytest.importorskip("defusedxml", reason="python3-defusedxml isn't installed")
+from regrun import Description  # noqa: E402
+from regrun.importer import Choice, Options, import_file  # noqa: E402
+from regrun.importer.choice import matches  # noqa: E402
+
+SVD = str(EXAMPLES / "soc.svd")
+STM32 = str(EXAMPLES / "stm32" / "stm32f205.svd")
+
+# What a person would write for two registers, one with a name that isn't a name.
+SMALL = """<device schemaVersion="1.3"><name>LED</name><description>Lights</description><peripherals>
+<peripheral><name>LED</name><description>Lights
+  of a board</description><baseAddress>0x50000000</baseAddress><registers>
+<register><name>MODE-SEL</name><description>Mode</description><addressOffset>0x4</addressOffset><size>16</size>
+<resetValue>0x1234</resetValue><fields>
+<field><name>BLINK</name><description>How it blinks</description><bitRange>[11:4]</bitRange></field>
+<field><name>ON</name><bitRange>[0:0]</bitRange><access>read-only</access><enumeratedValues>
+<enumeratedValue><name>Dark</name><description>No light</description><value>0</value></enumeratedValue>
+<enumeratedValue><name>Lit</name><value>1</value></enumeratedValue></enumeratedValues></field></fields></register>
+<register><name>RAW</name><addressOffset>0x100</addressOffset><resetValue>0</resetValue><access>write-only</access>
+</register></registers></peripheral></peripherals></device>"""
+WRITTEN = """# LED: Lights
+# From CMSIS-SVD 1.3, by python -m regrun import.
+
+# 0x50000000 LED: Lights of a board
+[[block]]
+name = "LED"
+
+[[map]]
+name = "bus"
+bytes = 4
+base = 0x50000000
+
+# 0x004 MODE-SEL: Mode
+[[reg]]
+name = "MODE_SEL"
+of = "LED"
+bytes = 2
+field = [
+  { name = "ON", lsb = 0, width = 1, policy = "RO", reset = 0 },
+  #   0 Dark: No light
+  #   1 Lit
+  { name = "BLINK", lsb = 4, width = 8, policy = "RW", reset = 0x23 },  # How it blinks
+]
+[[place]]
+map = "bus"
+item = "LED.MODE_SEL"
+offset = 0x004
+
+# 0x100 RAW
+[[reg]]
+name = "RAW"
+of = "LED"
+bytes = 4
+field = [
+  { name = "value", lsb = 0, width = 32, policy = "WO", reset = 0x00000000 },
+]
+[[place]]
+map = "bus"
+item = "LED.RAW"
+offset = 0x100
+rights = "wo"
+"""
+REPORTED = """led.svd:4: changed: LED.MODE-SEL: `MODE-SEL` has the name MODE_SEL
+led.svd: 1 block, 2 registers, 3 fields, 0 memories; 1 changed, 0 left out, 0 noted
+"""
+
+
+def test_text_and_report(tmp_path: Path) -> None:
+    (tmp_path / "led.svd").write_text(SMALL)
+    done = command("led.svd", folder=tmp_path)
+    assert (done.returncode, done.stdout, done.stderr) == (0, WRITTEN, REPORTED)
+    assert command("led.svd", "--strict", folder=tmp_path).returncode == 0
+
+
+def test_notes_are_those_of_a_session(tmp_path: Path) -> None:
+    (tmp_path / "led.svd").write_text(SMALL)
+    words = ["led.svd", "-o", "led.toml", "--notes", "led.notes.toml"]
+    assert command(*words, folder=tmp_path).returncode == 0
+    chip = Description.read(tmp_path / "led.toml")
+    mode = chip.registers["LED.MODE_SEL"]
+    assert [(it.name, it.doc, it.values) for it in mode.fields] == [
+        ("ON", "", {"Dark": 0, "Lit": 1}),
+        ("BLINK", "How it blinks", {}),
+    ]
+    assert mode.doc == "Mode"
+
+
+def items(text: str) -> List[str]:
+    return [line.split(" ")[1] for line in lines_of(text) if line.startswith(("reg", "mem"))]
+
+
+CHOICES: Dict[str, Tuple[Choice, List[str]]] = {
+    "a block": (
+        Choice(["DMA"]),
+        ["DMA_FLAG_SET", "DMA_FIRST0", "DMA_SRC", "DMA_NEXTA", "DMA_NEXTB"],
+    ),
+    "blocks by a pattern": (Choice(["UART?"]), ["RBR", "THR", "CTRL", "STAT", "CTRL2"]),
+    "addresses": (Choice([], [(0x40001004, 0x40001009)]), ["CTRL"]),
+    "two ranges": (
+        Choice([], [(0x40001008, 0x4000100B), (0x40000000, 0x40000003)]),
+        ["STAT", "DMA_FLAG_SET"],
+    ),
+    "a named alternate": (Choice(["UART1"], [(0x40001000, 0x40001003)], ["UART1.DIV"]), ["DIV"]),
+    "a named field": (Choice(["UART1"], [(0x40001004, 0x40001007)], ["*.CTRL.HALF"]), ["CTRL"]),
+}
+
+
+@pytest.mark.parametrize("what", CHOICES)
+def test_choice(what: str) -> None:
+    choice, names = CHOICES[what]
+    text = import_file(SVD, choice=choice).text
+    assert {item.rpartition(".")[2] for item in items(text)} == set(names)
+    assert ('"HALF"' in text, '"TRIM"' in text) == (
+        (True, False) if what == "a named field" else (False, "CTRL" in names)
+    )
+
+
+def test_patterns() -> None:
+    assert matches("DMA.CH[4].NEXT", "DMA.CH[4].N*") and matches("UART1", "UART?")
+    assert not matches("DMA.CH4.NEXT", "DMA.CH[4].*") and not matches("UART1", "uart1")
+
+
+def test_whole_expected_is_the_choice_of_all() -> None:
+    text = import_file(SVD, choice=Choice(["*"], [(0, 2**64 - 1)])).text
+    assert sorted(lines_of(text)) == sorted(expected("soc.svd")[0])
+
+
+def test_base_adapter_volatile_and_backdoor() -> None:
+    options = Options("apb", 0x1000, ["UART1.CTRL.*"])
+    text = import_file(SVD, None, Choice(["UART1"]), options, backdoor=False).text
+    lines = lines_of(text)
+    assert "map bus bytes=4 adapter=apb base=0x40002000" in lines
+    assert "  EN 0:0 RW volatile HARD=0x0" in lines and "  DONE 0:0 W1C HARD=0x0" in lines
+    assert text.count("backdoor = false") == text.count("[[reg]]")
+
+
+DERIVED = """<device><name>D</name><peripherals>
+<peripheral><name>P1</name><baseAddress>0</baseAddress><registers>
+<register><name>A</name><addressOffset>0</addressOffset><resetValue>7</resetValue></register></registers></peripheral>
+<peripheral derivedFrom="P1"><name>P2</name><baseAddress>0x10</baseAddress></peripheral>
+<peripheral><name>P3</name><baseAddress>0x20</baseAddress><registers>
+<register derivedFrom="P2.A"><name>B</name></register>
+<register><name>C</name><addressOffset>0</addressOffset></register></registers></peripheral></peripherals></device>"""
+
+
+def test_derived_from_what_is_derived_and_the_first_of_the_file(tmp_path: Path) -> None:
+    (tmp_path / "d.svd").write_text(DERIVED)
+    result = import_file(str(tmp_path / "d.svd"))
+    assert "reg P3.B bytes=4 at P3+0x0 rw" in lines_of(result.text)
+    assert lines_of(result.text)[-1] == "  value 31:0 RW HARD=0x7"
+    assert [(one.line, one.kind, one.where) for one in result.report.entries] == [
+        (7, "left out", "P3.C")
+    ]
+
+
+STATUSES: Dict[str, Tuple[List[str], int, str]] = {
+    "strict": ([SVD, "--strict"], 1, "15 left out"),
+    "strict with nothing left out": ([STM32, "--strict", "--block", "USART*"], 0, "0 left out"),
+    "no such file": (["nothing.svd"], 3, "No such file"),
+    "a folder": (["."], 3, "directory"),
+    "no such output": ([SVD, "-o", "/nowhere/x"], 4, "No such file"),
+    "no such report": ([SVD, "--report", "/nowhere/x"], 4, "No such file"),
+    "no such block": ([SVD, "--block", "UART9"], 2, "the file has the blocks UART1, UART2, DMA"),
+    "nothing to take": ([SVD, "--take", "UART1.CTRL9"], 2, "shares its place"),
+    "an empty range": ([SVD, "--address", "1-2"], 2, "nothing of it can be imported"),
+    "a wrong range": ([SVD, "--address", "9-2"], 2, "ends before it begins"),
+    "the wrong format": ([SVD, "--format", "ipxact"], 2, "neither"),
+    "no word": ([], 2, "usage"),
+    "help": (["--help"], 0, ""),
+}
+
+
+@pytest.mark.parametrize("what", STATUSES)
+def test_status(what: str) -> None:
+    words, status, text = STATUSES[what]
+    done = command(*words)
+    assert done.returncode == status and text in done.stderr, done.stderr
+    assert (done.stdout == "") == (status != 0)
+
+
+TABLES = {
+    "tabs, and a register in each row": "reg\taddr\tfield\tmsb\tlsb\ttype\tdefault\nA\t0x0\tF\t3\t0\tRW\t5\nA\t0x0\tG\t7\t4\tRO\t1\n",
+    "commas and bars in the text": 'Name,note\n\nRegister Name,Offset,Bit Field,Bit Range,Attr,Reset,Comment\nA,0,F,[3:0],R/W,5h,"a, b | c"\n,,G,[7:4],R,1,\n',
+    "bars": "| register | offset | field | bits | access | reset |\n|---|---|---|---|---|---|\n| A | 0 | F | 3:0 | rw | 5 |\n| | | G | 7:4 | r | 1 |\n",
+    "widths": "register;offset;field;lsb;width;access;reset\nA;0;F;0;4;rw;5\n;;G;4;4;ro;1\n",
+    "the register's reset": "register;offset;field;bits;access;reset\nA;0;;;rw;0x15\n;;F;3:0;;\n;;G;7:4;ro;\n",
+    "Windows": "\ufeffregister;offset;field;bits;access;reset\r\nA;0;F;3:0;rw;5\r\n;;G;7:4;ro;1\r\n",
+}  # fmt: skip
+
+
+@pytest.mark.parametrize("what", TABLES)
+def test_tables(what: str, tmp_path: Path) -> None:
+    path = tmp_path / "t.csv"
+    path.write_bytes(TABLES[what].encode())
+    wanted = [
+        "map bus bytes=4",
+        "block regs",
+        "reg regs.A bytes=4 at bus+0x0 rw",
+        "  F 3:0 RW HARD=0x5",
+        "  G 7:4 RO HARD=0x1",
+    ]
+    assert lines_of(import_file(str(path)).text) == wanted
+
+
+HJSON = {
+    "{a: 1, b: [1, 2, 'x'\n\"y\"], c: {}}": {"a": "1", "b": ["1", "2", "x", "y"], "c": {}},
+    "# c\na: text to the end, of } it\n// c\nb:'''\n  one\n   two\n  '''\n/* c */ 'c': true": {
+        "a": "text to the end, of } it", "b": "one\n two", "c": "true",
+    },
+    '{"a": "\\u0041\\n\\"" b: -1.5e3 }': {"a": 'A\n"', "b": "-1.5e3"},
+}  # fmt: skip
+
+
+@pytest.mark.parametrize("text", HJSON)
+def test_hjson(text: str) -> None:
+    from regrun.importer import hjsontree
+
+    assert hjsontree.parse(text) == HJSON[text]
