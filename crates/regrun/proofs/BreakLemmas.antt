@@ -16,17 +16,17 @@ use Rattle.rl_report.specs.Reading.{Reading, input_of}
 use Rattle.rl_report.proofs.OpeningLemmas.{no_ten}
 use Rattle.rl_report.proofs.TakenLemmas.{begins_later}
 use Rattle.rl_play.specs.Played.{LinesBreak}
-use Rattle.rl_opening.specs.Output.{run_lines}
-use Rattle.rl_opening.proofs.JudgedLemmas.{from_first}
+use Rattle.rl_session_run.specs.Output.{run_lines}
+use Rattle.rl_session_run.proofs.JudgedLemmas.{from_first}
 use Rattle.regrun.specs.Output.{woven_lines, BreaksOff}
 use Rattle.rl_session.specs.Judged.{taken_by, taken_text, first_world}
 use Rattle.rl_session.specs.Session.{behind, opening_of}
 use Rattle.rl_log.specs.declared.counts.Counts.{Counts}
 use Rattle.rl_log.specs.Recording.{no_counts}
 use Rattle.rl_play.specs.Moment.{moment}
-use Rattle.rl_woven_log.specs.Judged.{woven_taken_by, woven_taken_text}
-use Rattle.rl_woven_log.specs.Turns.{BreaksWeave}
-use Rattle.rl_woven_log.specs.WeaveLog.{closed_text, counting}
+use Rattle.rl_weave_log.specs.Judged.{woven_taken_by, woven_taken_text}
+use Rattle.rl_weave_log.specs.Turns.{BreaksWeave}
+use Rattle.rl_weave_log.specs.WeaveLog.{closed_text, counting}
 use Rattle.rl_access.specs.World.{IsAt}
 use Rattle.rl_log.proofs.KnownLemmas.{keeps_nothing, keeps_then_appends}
 use Rattle.rl_session.proofs.SessionLemmas.{found_head, opening_found}

@@ -18,13 +18,13 @@ use Rattle.rl_play.specs.Moment.{moment}
 use Rattle.rl_play.specs.Played.{EndsAs}
 use Rattle.rl_session.specs.Judged.{Judged, first_world, map_judged}
 use Rattle.rl_session.specs.Session.{map_status, map_text, opening_of}
-use Rattle.rl_opening.specs.Output.{IsJudged}
-use Rattle.rl_opening.specs.Telling.{Stops}
-use Rattle.rl_opening.proofs.JudgedLemmas.{from_first, told_stops}
-use Rattle.rl_running.proofs.JudgedLemmas.{ends_judged}
-use Rattle.rl_woven_log.specs.Judged.{woven_script_judged}
-use Rattle.rl_woven_log.specs.Turns.{WeavesScript}
-use Rattle.rl_woven_log.specs.WeaveLog.{counting, weave_log, woven_from}
+use Rattle.rl_session_run.specs.Output.{IsJudged}
+use Rattle.rl_session_run.specs.Telling.{Stops}
+use Rattle.rl_session_run.proofs.JudgedLemmas.{from_first, told_stops}
+use Rattle.rl_session_run.proofs.PlayedLemmas.{ends_judged}
+use Rattle.rl_weave_log.specs.Judged.{woven_script_judged}
+use Rattle.rl_weave_log.specs.Turns.{WeavesScript}
+use Rattle.rl_weave_log.specs.WeaveLog.{counting, weave_log, woven_from}
 
 -- ---- `map`
 

@@ -5,3 +5,4 @@ pub mod PlainLemmas
 pub mod RunLemmas
 pub mod TaskLemmas
 pub mod WordLemmas
+pub mod WovenLemmas

@@ -8,19 +8,19 @@ use Rattle.rl_desc.specs.Data.{DescData}
 use Rattle.rl_log.specs.Causes.{IsCaused}
 use Rattle.rl_log.specs.declared.status.Status.{Status}
 use Rattle.rl_log.specs.declared.status.Status.TheVariants.{SourceFault}
-use Rattle.rl_opening.specs.Opening.{IsRunnable, OpensWith}
-use Rattle.rl_opening.specs.Stays.{Stays}
-use Rattle.rl_opening.specs.Telling.{Stops}
-use Rattle.rl_opening.proofs.JudgedLemmas.{opened_told, stopped_told}
-use Rattle.rl_opening.proofs.OpeningLemmas.{opens_as, rest_of, head_found}
-use Rattle.rl_opening.proofs.StaysLemmas.{keeps_same, still_out}
+use Rattle.rl_session_run.specs.Opening.{IsRunnable, OpensWith}
+use Rattle.rl_session_run.specs.Stays.{Stays}
+use Rattle.rl_session_run.specs.Telling.{Stops}
+use Rattle.rl_session_run.proofs.JudgedLemmas.{opened_told, stopped_told}
+use Rattle.rl_session_run.proofs.OpeningLemmas.{opens_as, rest_of, head_found}
+use Rattle.rl_session_run.proofs.StaysLemmas.{keeps_same, still_out}
 use Rattle.rl_play.proofs.LeavesLemmas.{leaves_on}
 use Rattle.rl_report.specs.Opening.{TakesNoHead, separator_at}
 use Rattle.rl_report.specs.Reading.{Reading}
 use Rattle.rl_report.specs.declared.sink.Sink.{Ghosts as Sink}
 use Rattle.rl_report.specs.declared.source.Source.{Ghosts as Source}
-use Rattle.rl_running.specs.Running.{RunsScript}
-use Rattle.rl_running.proofs.LeavesLemmas.{ended_leaves, opened_leaves}
+use Rattle.rl_session_run.specs.Running.{RunsScript}
+use Rattle.rl_session_run.proofs.LeavesLemmas.{ended_leaves, opened_leaves}
 use Rattle.rl_session.specs.Judged.{Judged, refused}
 use Rattle.rl_session.specs.Opened.{IsOpened}
 use Rattle.rl_session.specs.Session.{behind, opening_of}

@@ -8,18 +8,19 @@ use Rattle.rl_log.specs.declared.status.Status.TheVariants.{Found, SourceFault, 
 use Rattle.rl_log.specs.Statuses.{is_complete}
 use Rattle.rl_log.specs.Earlier.{KeepsEarlier}
 use Rattle.rl_play.proofs.FaultLemmas.{same_status}
-use Rattle.rl_plain_log.specs.PlainLog.{IsPlainLog}
+use Rattle.rl_plain_log_laws.specs.PlainLog.{IsPlainLog}
 use Rattle.rl_session.specs.Judged.{Judged, judged, map_judged, soak_judged, taken_text}
 use Rattle.regrun.specs.declared.words.Task.{Task}
 use Rattle.regrun.specs.declared.words.Task.TheVariants.{Run, Map, Soak, Weave}
-use Rattle.rl_woven_log.specs.Judged.{woven_judged, woven_taken_text}
-use Rattle.rl_opening.specs.Output.{IsJudged, Output, WritesJudged}
-use Rattle.rl_opening.proofs.JudgedLemmas.{judged_written, all_written}
+use Rattle.rl_weave_log.specs.Judged.{woven_judged, woven_taken_text}
+use Rattle.rl_session_run.specs.Output.{IsJudged, Output, WritesJudged}
+use Rattle.rl_session_run.proofs.JudgedLemmas.{judged_written, all_written}
 use Rattle.regrun.specs.Output.{BreaksOff}
 use Rattle.regrun.specs.Task.{Does, DoesTask, Runs}
 use Rattle.regrun.proofs.BreakLemmas.{off_written}
-use Rattle.regrun.proofs.LawLemmas.{errors_keep, checks_name}
+use Rattle.regrun.proofs.LawLemmas.{all_lawful, events_written}
 use Rattle.regrun.proofs.PlainLemmas.{same_complete, plain_written, plain_later}
+use Rattle.regrun.proofs.WovenLemmas.{woven_later}
 
 -- the task that was asked for
 pub task_does : (asked task : Task) (status : Status) (input left : Option (List ℕ)) (before after : Output) → asked ≡ task
@@ -35,8 +36,8 @@ pub run_does : (status : Status) (input left : Option (List ℕ)) (before after 
     → Runs status input left before after
 run_does status input left before after run plain fault = record {
   run = run;
-  bus_errors = errors_keep input before.adapters;
-  checks = checks_name input before.adapters;
+  lawful = all_lawful input before.adapters;
+  events = λ c. events_written input before.adapters after.adapters status before.text after.text c run;
   plain = λ c. plain_written input before.adapters after.adapters status before.text after.text c run (plain c);
   at_fault = fault;
 }
@@ -67,8 +68,8 @@ module _ (status result : Status) (input left old told new : Option (List ℕ)) 
   task_written : (task : Task) → DoesTask task status input left at_first told_then → DoesTask task result input left at_first written_then
   task_written Run d = record {
     run = all_out (λ bytes. judged bytes before) d.run;
-    bus_errors = d.bus_errors;
-    checks = d.checks;
+    lawful = d.lawful;
+    events = λ c. events_written input before after result old new c (all_out (λ bytes. judged bytes before) d.run);
     plain = λ c. plain_later input before old told new (whole c) (d.plain (same_complete status result same c));
     at_fault = break_out taken_text d.at_fault;
   }
@@ -85,6 +86,7 @@ module _ (status result : Status) (input left old told new : Option (List ℕ)) 
   }
   task_written (Weave n) d = record {
     weave = all_out (λ bytes. woven_judged n bytes before) d.weave;
+    plain = λ c. woven_later n input before old told new (whole c) (d.plain (same_complete status result same c));
     weave_at_fault = break_out (woven_taken_text n) d.weave_at_fault;
   }
 

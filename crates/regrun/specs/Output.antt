@@ -3,20 +3,28 @@ use Rattle.std.specs.Prelude.{◌≡◌, ℕ, List, ◌++◌, Option, Some, IfSo
 use Rattle.std.specs.Io.KnownBytes.{Appends}
 use Rattle.rl_bus.specs.Standing.{Standing}
 use Rattle.rl_desc.specs.Data.{DescData}
+use Rattle.rl_log.specs.Events.{Happened}
+use Rattle.rl_log.specs.Lines.{IsLogOf}
 use Rattle.rl_log.specs.Recording.{no_counts}
 use Rattle.rl_log.specs.declared.status.Status.{Status}
 use Rattle.rl_log.specs.declared.status.Status.TheVariants.{SourceFault}
-use Rattle.rl_opening.specs.Output.{IsJudged}
+use Rattle.rl_session_run.specs.Output.{IsJudged}
 use Rattle.rl_play.specs.Leaves.{Leaves}
 use Rattle.rl_report.specs.declared.sink.Sink.{Ghosts as Sink}
 use Rattle.rl_report.specs.declared.source.Source.{Ghosts as Source}
 use Rattle.rl_session.specs.Judged.{Judged, first_world}
-use Rattle.rl_woven_log.specs.WeaveLog.{closed_text, counting}
+use Rattle.rl_weave_log.specs.WeaveLog.{closed_text, counting}
 
 -- the log of the lines of a script whose accesses are woven, from the first state of a description on: that of the groups that
 -- a blank line among these ends
 abbrev pub woven_lines : (n : ℕ) → DescData → List Standing → List (List ℕ) → List ℕ
 woven_lines n desc adapters lines = closed_text 1 (counting n no_counts (first_world desc adapters)) lines
+
+-- A log was written that tells these events of these lines.
+pub record WritesEvents (lines : List (List ℕ)) (events : List Happened) (old new : Option (List ℕ)) : Type 0 where
+  pub text : List ℕ
+  pub written : Appends old new text
+  pub log : IsLogOf 1 no_counts lines events text
 
 -- Bytes were taken from the front of a session, and exactly their log was written.
 pub record BreaksOff (log : (taken : List ℕ) → List Standing → List ℕ) (bytes : List ℕ) (adapters : List Standing)

@@ -4,10 +4,9 @@ ghost use Rattle.regrun.specs.Prelude.{IsPlainLog, RunsWhole, is_complete, judge
 
 use rl_bus::{Adapter, Adapters};
 use rl_log::Status;
-use rl_opening::open_session;
 use rl_play::Log;
 use rl_report::Source;
-use rl_running::run_session;
+use rl_session_run::{open_session, run_session};
 use std::alloc::Global;
 
 // Reads a session, runs it and writes its log.

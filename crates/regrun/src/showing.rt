@@ -6,10 +6,10 @@ ghost use Rattle.regrun.specs.Prelude.{layout_text, map_judged, output_of};
 use rl_bus::{Adapter, Adapters};
 use rl_desc::Desc;
 use rl_log::Status;
-use rl_opening::open_session;
 use rl_play::Log;
 use rl_report::{Failed, Source};
 use rl_session::put_layout;
+use rl_session_run::open_session;
 use std::alloc::Global;
 
 // Writes where the items of a description stand.

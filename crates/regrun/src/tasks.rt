@@ -1,6 +1,6 @@
 // What each task does, written out.
 ghost use Rattle.std.specs.Prelude.{◌≡◌, ℕ, ◌≤◌, ◌<◌, ◌^◌, Some, map, length, true, false};
-ghost use Rattle.regrun.specs.Prelude.{Does, IsCaused, KeepsEarlier, Leaves, Rose, is_complete, output_of};
+ghost use Rattle.regrun.specs.Prelude.{Does, EndedOnce, IsCaused, KeepsEarlier, Leaves, is_complete, output_of};
 
 use crate::running::run;
 use crate::showing::show_layout;
@@ -10,8 +10,7 @@ use rl_bus::{Adapter, Adapters};
 use rl_log::Status;
 use rl_play::{Buffered, Earlier, Log};
 use rl_report::{Sink, Source};
-use rl_running::end_buffered;
-use rl_soaking::put_soak;
+use rl_session_run::{end_buffered, put_soak};
 use std::alloc::Global;
 
 // Does what the words ask for. What is kept back isn't written yet.
@@ -61,7 +60,7 @@ pub(crate) fn run_task<S: Source, K: Sink, E: Earlier>(
     ensures sink_later { K.faults sink.old ≤ K.faults sink.new }
     ensures cause { IsCaused result
         (S.faults source.old) (S.faults source.new) (K.faults sink.old) (K.faults sink.new) }
-    ensures ended { is_complete result ≡ true → Rose (K.ends sink.old) (K.ends sink.new) }
+    ensures ended { is_complete result ≡ true → EndedOnce (K.ends sink.old) (K.ends sink.new) }
     ensures not_ended { is_complete result ≡ false → K.ends sink.new ≡ K.ends sink.old }
 {
     let mut out = Buffered::<K, E>::new(sink);

@@ -1,6 +1,6 @@
 // All that the program does.
 ghost use Rattle.std.specs.Prelude.{◌≡◌, ◌↔◌, ℕ, ◌≤◌, ◌<◌, ◌^◌, Some, None, map, length, true, false, IfSome};
-ghost use Rattle.regrun.specs.Prelude.{Does, KeepsEarlier, Rose, asked_by, is_complete, output_of};
+ghost use Rattle.regrun.specs.Prelude.{Does, EndedOnce, KeepsEarlier, Rose, asked_by, is_complete, output_of};
 
 use crate::tasks::run_task;
 use crate::words::{Task, task_of};
@@ -54,8 +54,8 @@ pub fn regrun<S: Source, K: Sink>(
     ensures source_cause { result ≡ Status.SourceFault → Rose (S.faults source.old) (S.faults source.new) }
     ensures sink_cause { result ≡ Status.SinkFault → Rose (K.faults sink.old) (K.faults sink.new) }
 
-    // The output is ended exactly where the last line was written.
-    ensures ended { is_complete result ≡ true → Rose (K.ends sink.old) (K.ends sink.new) }
+    // The output is ended, once, exactly where the last line was written.
+    ensures ended { is_complete result ≡ true → EndedOnce (K.ends sink.old) (K.ends sink.new) }
     ensures not_ended { is_complete result ≡ false → K.ends sink.new ≡ K.ends sink.old }
 {
     let Some(task) = task_of(words) else {

@@ -1,16 +1,17 @@
 // A session whose accesses are woven.
-ghost use Rattle.std.specs.Prelude.{◌≡◌, ◌<◌, ◌^◌, length, map};
-ghost use Rattle.regrun.specs.Prelude.{AwaitsScript, RunsScript, RunsWhole, kinds_of};
-ghost use Rattle.regrun.specs.Prelude.{woven_judged, woven_lines, woven_script_judged, woven_taken_text};
+ghost use Rattle.std.specs.Prelude.{◌≡◌, ◌<◌, ◌^◌, List, length, map, true, IfSome};
+ghost use Rattle.regrun.specs.Prelude.{AwaitsScript, IsModel, IsWovenLogPlain, RunsScript, RunsWhole, Standing};
+ghost use Rattle.regrun.specs.Prelude.{first_world, is_complete, kinds_of, woven_judged, woven_lines};
+ghost use Rattle.regrun.specs.Prelude.{woven_script_judged, woven_taken_text};
 
 use rl_bus::{Adapter, Adapters};
 use rl_desc::Desc;
 use rl_log::{Counts, Status};
-use rl_opening::open_session;
 use rl_play::Log;
 use rl_report::{LineReader, Source};
 use rl_session::open;
-use rl_woven_log::weave_lines;
+use rl_session_run::open_session;
+use rl_weave_log::weave_lines;
 use std::alloc::Global;
 
 // Runs the session that a description opens, with its accesses woven.
@@ -28,6 +29,7 @@ fn weave_session<S: Source, L: Log>(
         source.old source.new out.old out.new
         (map standing adapters.old.items) (map standing adapters.new.items) result }
     ensures kinds { kinds_of (map standing adapters.new.items) ≡ kinds_of (map standing adapters.old.items) }
+    ensures sound { is_complete result ≡ true → (adapters : List Standing) → IsModel (first_world desc adapters).model }
 {
     let Ok((mut model, mut bench)) = open(alloc, desc) else {
         return Status::Memory;
@@ -50,6 +52,8 @@ pub(crate) fn weave<S: Source, L: Log>(
     ensures runs { RunsWhole S.Source L.Sink L.is_out (woven_judged n) (woven_taken_text n) source.old source.new
         out.old out.new (map standing adapters.old.items) (map standing adapters.new.items) result }
     ensures kinds { kinds_of (map standing adapters.new.items) ≡ kinds_of (map standing adapters.old.items) }
+    ensures plain { is_complete result ≡ true → IfSome (S.left source.old) (λ bytes.
+        IsWovenLogPlain n bytes (map standing adapters.old.items)) }
 {
     match open_session(alloc, source, out, adapters) {
         Ok((desc, mut lines)) => weave_session(alloc, n, desc, &mut lines, source, out, adapters),

@@ -3,13 +3,13 @@
 #![tactic(auto)]
 
 ghost use Rattle.std.specs.Prelude.{◌<◌};
-ghost use Rattle.rl_grading.specs.Asked.{share_of};
+ghost use Rattle.rl_grade_report.specs.Asked.{share_of};
 
 use rl_apb::fresh_adapters;
 use rl_bus::Adapters;
-use rl_grading::{Asked, Meter, asked_by, run_grade};
+use rl_cli::{code_of, words};
+use rl_grade_report::{Asked, Meter, asked_by, run_grade};
 use rl_log::Status;
-use rl_program::{code_of, words};
 use rl_report::{StdSink, StdSource};
 use std::alloc::AllocError;
 use std::io::{self, IsTerminal};

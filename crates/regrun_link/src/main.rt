@@ -3,24 +3,39 @@
 
 use rl_apb::fresh_adapters;
 use rl_bus::Adapters;
-use rl_link::ByLine;
-use rl_linked::run_linked;
+use rl_cli::{code_of, create_file, open_file, words};
+use rl_link::{ByLine, Streams, run_linked};
 use rl_log::Status;
-use rl_program::{code_of, create_file, open_file, words};
 use rl_report::{StdSink, StdSource};
 use std::alloc::AllocError;
+use std::fs::{Files, OpenOptions};
 use std::io;
 use std::process::ExitCode;
 
 const PROGRAM: &str = "regrun-link";
 
+// A file that is written at its end, whoever else writes it. Where it can't be opened, one line on standard error says why.
+fn file_at_end<R: Files + Eprint>(rt: &R, path: &str) -> Option<R::File> {
+    match OpenOptions::new().append(true).open(rt, path) {
+        Ok(file) => Some(file),
+        Err(error) => {
+            let _ = eprintln!(rt; "{PROGRAM}: {path}: {error}");
+            None
+        }
+    }
+}
+
 // Runs the session in a file, and writes its log to another one.
-fn run_files(rt: &HostRuntime, session: &str, log: &str) -> Result<u8, AllocError> {
+fn run_files(rt: &HostRuntime, session: &str, path: &str) -> Result<u8, AllocError> {
     let alloc = rt.alloc();
     let Some(session) = open_file(rt, PROGRAM, session) else {
         return Ok(Status::SourceFault.code());
     };
-    let Some(log) = create_file(rt, PROGRAM, log) else {
+    // The log and the lines of the link between its events go to one file, which is empty at first.
+    let Some(_emptied) = create_file(rt, PROGRAM, path) else {
+        return Ok(Status::SinkFault.code());
+    };
+    let (Some(log), Some(notes)) = (file_at_end(rt, path), file_at_end(rt, path)) else {
         return Ok(Status::SinkFault.code());
     };
     let (plain, apb) = fresh_adapters();
@@ -29,17 +44,13 @@ fn run_files(rt: &HostRuntime, session: &str, log: &str) -> Result<u8, AllocErro
     adapters.push(Box::new(alloc, apb)?)?;
     let mut session = ByLine::build(alloc, StdSource::new(session))?;
     let mut log = StdSink::new(log);
-    let requests = StdSink::new(io::writer(rt));
-    let answers = StdSource::new(rt.reader());
-    let ran = run_linked(
-        alloc,
-        &mut session,
-        &mut log,
-        answers,
-        requests,
-        &mut adapters,
-    );
-    ran.tell(&mut StdSink::new(rt.stderr()));
+    let streams = Streams {
+        source: StdSource::new(rt.reader()),
+        sink: StdSink::new(io::writer(rt)),
+        notes: StdSink::new(notes),
+        messages: StdSink::new(rt.stderr()),
+    };
+    let ran = run_linked(alloc, &mut session, &mut log, streams, &mut adapters);
     Ok(ran.code())
 }
 

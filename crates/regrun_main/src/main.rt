@@ -4,7 +4,7 @@
 use regrun::{Status, regrun};
 use rl_apb::fresh_adapters;
 use rl_bus::Adapters;
-use rl_program::{code_of, words};
+use rl_cli::{code_of, words};
 use rl_report::{StdSink, StdSource};
 use std::io;
 use std::process::ExitCode;

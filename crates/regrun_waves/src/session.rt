@@ -1,16 +1,15 @@
 // A session on the device model, whose events are drawn.
 ghost use Rattle.std.specs.Prelude.{◌≡◌, ◌≢◌, ◌<◌, ◌^◌, map, length};
 ghost use Rattle.rl_bus.specs.Standing.{kinds_of};
-ghost use Rattle.rl_opening.specs.Opening.{AwaitsScript};
+ghost use Rattle.rl_session_run.specs.Opening.{AwaitsScript};
 
 use rl_bus::{Adapter, Adapters};
 use rl_desc::Desc;
-use rl_dump::{Dump, Fault, Waves};
 use rl_log::Status;
-use rl_opening::open_session;
 use rl_play::{Buffered, Earlier, Log};
 use rl_report::{LineReader, Sink, Source};
-use rl_running::{end_buffered, run_session};
+use rl_session_run::{end_buffered, open_session, run_session};
+use rl_vcd::{Dump, Fault, Waves};
 use std::alloc::Global;
 use std::marker::Brand;
 

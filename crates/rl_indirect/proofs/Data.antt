@@ -1,10 +1,9 @@
 -- A device with the model's chip has the data register of a bank of that chip.
-use Rattle.std.proofs.Common.{◌≡◌, ℕ, zero, suc, ◌<◌, List, [], ◌∷◌, length, map, get_or, slice_get, Option, Some, refl, sym, ap, ◌∙◌, subst}
+use Rattle.std.proofs.Common.{◌≡◌, ℕ, zero, suc, List, [], ◌∷◌, map, slice_get, Option, refl, ap, ◌∙◌}
 use Rattle.std.specs.Prelude.{slice_index}
 use Rattle.std.specs.Option.{option_map_or}
 use Rattle.rl_bus.specs.Setup.{Setup, Flaws}
 use Rattle.rl_bus.specs.State.{State}
-use Rattle.rl_bus.specs.declared.table.Cell.TheVariants.{Reg}
 use Rattle.rl_model.specs.Fields.{size_of}
 use Rattle.rl_model.specs.Rows.{ChipData}
 use Rattle.rl_model.specs.declared.rows.RegRow.{RegRow}

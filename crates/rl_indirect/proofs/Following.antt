@@ -1,21 +1,18 @@
 -- From agreement, both sides of a bank follow the index to the same entry.
-use Rattle.std.proofs.Common.{◌≡◌, ◌⊎◌, ℕ, ◌^◌, ◌<◌, ◌≤◌, Bool, true, false, not, ◌&&◌, cond, eqb, eq-eqb, nat_lt, List, length, length-set, get_or}
-use Rattle.std.proofs.Common.{Option, None, Some, option_map, Result, Ok, Err, MatchResult, refl, sym, ap, ◌∙◌, subst, inl, inr, arith}
+use Rattle.std.proofs.Common.{◌≡◌, ℕ, ◌^◌, ◌<◌, ◌≤◌, Bool, true, false, not, ◌&&◌, cond, eqb, eq-eqb, nat_lt, List, length, length-set}
+use Rattle.std.proofs.Common.{Option, None, Some, option_map, Ok, Err, MatchResult, refl, sym, ap, ◌∙◌, subst, arith}
 use Rattle.std.specs.Prelude.{All, slice_index, slice_set, nat_le}
 use Rattle.std.specs.Option.{option_map_or}
 use Rattle.std.proofs.lemmas.Bool.Decides.{nat_tests}
-use Rattle.std.proofs.lemmas.List.{get_or-set_same, get_or-set_other, set-get_or}
+use Rattle.std.proofs.lemmas.List.{get_or-set_other, set-get_or}
 use Rattle.std.proofs.lemmas.List.Elements.{All-same, All-get_or}
 use Rattle.rl_policy.specs.declared.policy.Policy.{Policy}
 use Rattle.rl_policy.specs.declared.policy.Policy.TheVariants.{Rw}
 use Rattle.rl_bus.specs.State.{State, peeked, poked}
 use Rattle.rl_bus.specs.declared.table.Cell.TheVariants as cell
-use Rattle.rl_model.specs.declared.rows.Field.{Field}
-use Rattle.rl_model.specs.Fields.{fields_of, field_in, policy_in}
+use Rattle.rl_model.specs.Fields.{fields_of, field_in}
 use Rattle.rl_model.specs.Rows.{ChipData}
-use Rattle.rl_mirror.specs.Fields.{owned}
 use Rattle.rl_mirror.specs.Mirror.{IsValueOf, mirrored_of}
-use Rattle.rl_access.specs.declared.event.End.{End}
 use Rattle.rl_access.specs.declared.event.End.TheVariants as end
 use Rattle.rl_access.specs.declared.event.Event.{Event}
 use Rattle.rl_access.specs.declared.event.Op.TheVariants as op
@@ -31,9 +28,9 @@ use Rattle.rl_plain.proofs.Backdoor.{peeked_is}
 use Rattle.rl_plain.proofs.Believed.{access_is_believed, deposit_is_believed, write_is_stored}
 use Rattle.rl_indirect.specs.Agree.{BankAgree, KeepsEntries}
 use Rattle.rl_indirect.specs.Bank.{EntryData, BankData, IsSide, IsBank, IsBankOf, SettlesDevice, bank_believed, device_settled, entries_believed}
-use Rattle.rl_indirect.specs.Bank.{entries_of, entries_there, model_believed, moved, selecting, selects_other, settled}
+use Rattle.rl_indirect.specs.Bank.{entries_of, model_believed, selecting, selects_other, settled}
 use Rattle.rl_indirect.specs.Indexed.{is_done}
-use Rattle.rl_indirect.specs.Window.{is_index, is_index_field, is_rw, is_size}
+use Rattle.rl_indirect.specs.Window.{is_rw}
 use Rattle.rl_indirect.proofs.Found.{not_other, is_other}
 use Rattle.rl_indirect.proofs.Windows.{window_parts}
 

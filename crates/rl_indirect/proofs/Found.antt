@@ -1,12 +1,12 @@
 -- What a check finds, over any device.
-use Rattle.std.proofs.Common.{◌≡◌, ◌⊎◌, ℕ, ◌+◌, ◌<◌, ◌≤◌, Bool, true, false, not, ◌&&◌, cond, eqb, List, length, get_or, Option}
-use Rattle.std.proofs.Common.{None, Some, Result, Ok, Err, MatchResult, refl, sym, ap, ◌∙◌, subst, inl, inr, arith}
-use Rattle.std.specs.Prelude.{slice_index, slice_set, nat_lt}
+use Rattle.std.proofs.Common.{◌≡◌, ◌⊎◌, ℕ, ◌+◌, ◌<◌, Bool, true, false, not, ◌&&◌, cond, eqb, List, length, Option}
+use Rattle.std.proofs.Common.{None, Some, Ok, Err, MatchResult, refl, sym, ap, ◌∙◌, subst, inl, inr, arith}
+use Rattle.std.specs.Prelude.{slice_index, slice_set}
 use Rattle.std.specs.Option.{option_map_or}
-use Rattle.std.proofs.lemmas.Bool.{cases_eq, eq-eqb}
+use Rattle.std.proofs.lemmas.Bool.{cases_eq}
 use Rattle.std.proofs.lemmas.Bool.Decides.{nat_tests}
 use Rattle.std.proofs.lemmas.List.{length-set, get_or-set_same, get_or-set_other}
-use Rattle.rl_policy.specs.Bits.{bit, from_bits}
+use Rattle.rl_policy.specs.Bits.{bit}
 use Rattle.rl_policy.proofs.BitLemmas.{from_bits-same}
 use Rattle.rl_model.specs.Fields.{fields_of, field_in, place_at, covers}
 use Rattle.rl_model.specs.Rows.{FieldSeen, ChipData}
@@ -26,8 +26,8 @@ use Rattle.rl_access.specs.declared.trace.TraceItem.{TraceItem}
 use Rattle.rl_access.specs.Call.{Scene, IsDone, IsRefused, Performs}
 use Rattle.rl_access.specs.Items.{failed_at}
 use Rattle.rl_access.specs.Model.{ModelData, IsModel}
-use Rattle.rl_access.specs.Rules.{Grant, grant, Outcome, whole, every_field, forgetting, write_outcome, read_outcome, value_of, or_error, quiet, register_event, taking_raw}
-use Rattle.rl_indirect.specs.Bank.{EntryData, BankData, IsSide, IsBank, IsBankOf, SettlesDevice, selects_other, moved, model_believed, entries_believed}
+use Rattle.rl_access.specs.Rules.{Grant, grant, whole, every_field, forgetting, value_of, or_error, quiet, taking_raw}
+use Rattle.rl_indirect.specs.Bank.{EntryData, BankData, IsSide, IsBank, IsBankOf, selects_other, model_believed, entries_believed}
 use Rattle.rl_indirect.specs.Indexed.{is_done, Selects}
 use Rattle.rl_indirect.proofs.Windows.{window_parts}
 

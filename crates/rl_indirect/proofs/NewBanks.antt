@@ -1,17 +1,15 @@
 -- A new bank of a device and a model that agree.
-use Rattle.std.proofs.Common.{◌≡◌, ℕ, ◌<◌, List, length, Result, Ok, Err, IfOk, refl, sym, ap, ◌∙◌, subst}
-use Rattle.std.specs.Prelude.{All}
+use Rattle.std.proofs.Common.{◌≡◌, ℕ, ◌<◌, length, refl, ap, ◌∙◌}
 use Rattle.std.proofs.lemmas.List.Elements.{All-set, All-replicate}
-use Rattle.rl_bus.specs.Standing.{Standing}
-use Rattle.rl_bus.specs.State.{State, peeked}
+use Rattle.rl_bus.specs.State.{peeked}
 use Rattle.rl_bus.specs.declared.table.Cell.TheVariants as cell
 use Rattle.rl_mirror.specs.Mirror.{IsValueOf, mirrored_of}
 use Rattle.rl_access.specs.Call.{Scene}
-use Rattle.rl_access.specs.Model.{ModelData, IsModel}
+use Rattle.rl_access.specs.Model.{IsModel}
 use Rattle.rl_plain.specs.Agree.{Agree}
 use Rattle.rl_indirect.specs.declared.window.Window.{Window}
 use Rattle.rl_indirect.specs.Agree.{BankAgree}
-use Rattle.rl_indirect.specs.Bank.{EntryData, BankData, IsFound, all_entries, entries_of, new_bank}
+use Rattle.rl_indirect.specs.Bank.{IsFound, all_entries, entries_of, new_bank}
 use Rattle.rl_indirect.proofs.Following.{peeked_believed}
 
 pub new_banks_agree : (s : Scene) (w : Window) (size index held : ℕ) → Agree s → IsModel s.model → w.index_reg < length s.model.chip.regs → w.data_reg < length s.model.chip.regs

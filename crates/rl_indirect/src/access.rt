@@ -1,5 +1,5 @@
 //! Accesses by index.
-ghost use Rattle.std.specs.Prelude.{◌≡◌, ◌<◌, map as each, length, if◌then◌else◌, IsTrue};
+ghost use Rattle.std.specs.Prelude.{◌≡◌, ◌<◌, ◌≤◌, map as each, length, if◌then◌else◌, IsTrue};
 ghost use Rattle.rl_access.specs.declared.event.Op.TheVariants as op;
 ghost use Rattle.rl_indirect.specs.Prelude.{BankAgree, EventFits, IndexedFits, IsBankOf, IsEntryStep, IsIndexed};
 ghost use Rattle.rl_indirect.specs.Prelude.{IsMapIn, IsModel, IsOverData, IsReady, IsSameBank, IsSameChip};
@@ -70,6 +70,8 @@ pub fn indexed_write<D: Device>(
         (scene_of standing D.errors D.state model.old adapters.old.items device.old)
         (scene_of standing D.errors D.state model.new adapters.new.items device.new) map k
         (op.Write bank.old.window.data_reg map value) result }
+    // Past the size any device is as it was, also one that tells nothing.
+    ensures refused { bank.old.size ≤ k → device.new ≡ device.old }
     ensures agree { BankAgree (scene_of standing D.errors D.state model.old adapters.old.items device.old) bank.old
         → IsEntryStep (scene_of standing D.errors D.state model.old adapters.old.items device.old)
         (scene_of standing D.errors D.state model.new adapters.new.items device.new) bank.old bank.new k
@@ -111,6 +113,8 @@ pub fn indexed_read<D: Device>(
         (scene_of standing D.errors D.state model.old adapters.old.items device.old)
         (scene_of standing D.errors D.state model.new adapters.new.items device.new) map k
         (if check then op.Check bank.old.window.data_reg map else op.Mirror bank.old.window.data_reg map) result }
+    // Past the size any device is as it was, also one that tells nothing.
+    ensures refused { bank.old.size ≤ k → device.new ≡ device.old }
     ensures found { IsTrue check → NamesDiffering bank.old model.old k result }
     ensures agree { BankAgree (scene_of standing D.errors D.state model.old adapters.old.items device.old) bank.old
         → IsEntryStep (scene_of standing D.errors D.state model.old adapters.old.items device.old)
@@ -119,7 +123,7 @@ pub fn indexed_read<D: Device>(
 {
     let _sound = model.chip(); // a model that is looked at is known to be sound
     if k >= bank.size() {
-        return Indexed::NoSuchEntry;
+        return Indexed::NoSuchEntry; // no device is touched
     }
     let index = select(bank, model, device, adapters, map, k);
     if !is_done(&index) {

@@ -44,10 +44,13 @@ use Rattle.std.specs.Io.KnownBytes.{Keeps, IsAtEnd, Consumes}
 use Rattle.std.proofs.KnownBytes.{prepend_known-read}
 use Rattle.rl_bus.specs.declared.op.Answer.{Answer}
 use Rattle.rl_report.specs.Lines.{first_line, after_line, whole_lines}
-use Rattle.rl_report.proofs.LineLemmas.{ends_whole, whole_first, first_of_more, after_of_more, longer, searched, line_front}
+use Rattle.rl_report.proofs.LineLemmas.{ends_whole, whole_first, whole_none, first_of_more, after_of_more, longer, searched, line_front}
 use Rattle.std.proofs.lemmas.List.{take_all, drop_all}
 use Rattle.memchr.specs.Find.{IsFirstByte, is_byte}
 use Rattle.rl_link.specs.declared.answer.Said.{Said}
+use Rattle.rl_link.specs.declared.answer.Cause.{Cause}
+use Rattle.rl_link.specs.declared.answer.Cause.TheVariants.{Unsent, Unread, Closed, TooLong, TooMany, Unasked, Unclear, TooWide, Backdoor, Memory}
+use Rattle.rl_link.specs.Causes.{IsCauseOfLine, IsCauseOfReading}
 use Rattle.rl_link.specs.Answers.{bare, is_passed, said_in, answer_to, done_by}
 use Rattle.rl_link.specs.Coming.{coming, HasLine, IsLine, behind_passed, answer_from, Skips, Takes, TakesLines, Hears, Answers, IsDone}
 
@@ -60,9 +63,16 @@ unfolding answer_from
 passes p h e = sym (ap (λ l. behind_passed l p) (lines_whole p h) ∙ ap (λ b. cond b (behind_passed (whole_lines (after_line p)) (after_line p)) p) e)
 
 -- and another one is the answer
-stays : (p : List ℕ) → HasLine p → is_passed (bare (first_line p)) ≡ false → answer_from p ≡ p
+pub stays : (p : List ℕ) → HasLine p → is_passed (bare (first_line p)) ≡ false → answer_from p ≡ p
 unfolding answer_from
 stays p h e = ap (λ l. behind_passed l p) (lines_whole p h) ∙ ap (λ b. cond b (behind_passed (whole_lines (after_line p)) (after_line p)) p) e
+
+-- and where there is no line, there is none
+pub none_here : (p : List ℕ) → first_line p ≡ p → HasLine (answer_from p) → ⊥
+unfolding answer_from
+none_here p h line =
+    let none : whole_lines p ≡ [] = whole_none p h in
+    omega (arith, ap length h, subst HasLine (ap (λ l. behind_passed l p) none) line)
 
 -- more bytes behind it
 whole_more : (p more : List ℕ) → HasLine p → HasLine (p ++ more)
@@ -190,10 +200,12 @@ answers_here None held left said write width answer h line e = tt
 answers_here (Some bytes) held left said write width answer h line e =
     record { rest = taken held left _ h.rest line; whole = h.whole; says = ap (answer_to write width) (sym h.says) ∙ e }
 
-pub done_here : (a : Option (List ℕ)) (held : List ℕ) (left : Option (List ℕ)) (said : Said) → IfSome a (λ bytes. Hears bytes said (coming held left)) → HasLine held
-    → done_by said ≡ Ok tt → IfSome a (λ bytes. IsDone bytes (coming (after_line held) left))
-done_here None held left said h line e = tt
-done_here (Some bytes) held left said h line e = record { rest = taken held left _ h.rest line; whole = h.whole; says = ap done_by (sym h.says) ∙ e }
+pub done_here : (a : Option (List ℕ)) (held : List ℕ) (left : Option (List ℕ)) (said : Said) (done : Bool)
+    → IfSome a (λ bytes. Hears bytes said (coming held left)) → HasLine held
+    → done_by said ≡ Ok done → IfSome a (λ bytes. IsDone bytes done (coming (after_line held) left))
+done_here None held left said done h line e = tt
+done_here (Some bytes) held left said done h line e =
+    record { rest = taken held left _ h.rest line; whole = h.whole; says = ap done_by (sym h.says) ∙ e }
 
 -- ---- what a source that goes by lines gives
 
@@ -233,7 +245,24 @@ pub end_none : (p : List ℕ) (at : Option ℕ) → IsFirstByte (is_byte 10) p a
 end_none p None h = sym (line_front p (length p) (searched p None h)) ∙ take_all (length p) p (omega arith)
 end_none p (Some k) h = tt
 
+-- ---- why it wasn't read
+
+pub line_reads : (cause : Cause) → IsCauseOfLine cause → IsCauseOfReading cause
+line_reads Unsent is = absurd is
+line_reads Unread is = tt
+line_reads Closed is = tt
+line_reads TooLong is = tt
+line_reads TooMany is = absurd is
+line_reads Unasked is = absurd is
+line_reads Unclear is = absurd is
+line_reads TooWide is = absurd is
+line_reads Backdoor is = absurd is
+line_reads Memory is = absurd is
+
+pub line_isnt_many : (cause : Cause) → IsCauseOfLine cause → cause ≡ TooMany → ⊥
+line_isnt_many cause is e = subst IsCauseOfLine e is
+
 -- For `grind`: what was skipped and taken until a line stood in front, and until it was heard.
-pub ruleset by_reading = (skips_more, skips_kept, has_line, takes_more, takes_kept)
+pub ruleset by_reading = (line_reads, line_isnt_many, skips_more, skips_kept, has_line, takes_more, takes_kept)
 
 pub ruleset by_hearing = (skips_more, skips_none, heard_after, takes_more)

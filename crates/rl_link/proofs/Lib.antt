@@ -1,3 +1,5 @@
+mod BackdoorLemmas
+mod BreakLemmas
 mod ComingLemmas
 mod NameLemmas
 mod SaidLemmas

@@ -1,5 +1,6 @@
 -- Lines that are put together piece by piece.
-use Rattle.std.proofs.Common.{◌≡◌, ℕ, suc, ◌+◌, ◌/◌, ◌%◌, ◌^◌, List, [], ◌∷◌, ◌++◌, ap, sym, ◌∙◌, append_assoc, append-nil}
+use Rattle.std.proofs.Common.{◌≡◌, ℕ, zero, suc, min, take, length, arith, ◌+◌, ◌/◌, ◌%◌, ◌^◌, List, [], ◌∷◌, ◌++◌, ap, sym, ◌∙◌, append_assoc, append-nil}
+use Rattle.std.proofs.lemmas.List.{take_all}
 use Rattle.rl_report.specs.Numbers.{lanes_text}
 use Rattle.rl_report.specs.Pieces.{joined}
 
@@ -40,3 +41,18 @@ pub lanes_more : (text t1 t2 : List ℕ) (bytes low lanes d : ℕ) → bytes ≡
 lanes_more text t1 t2 bytes low lanes d h e p q =
     q ∙ ap (λ l. l ++ lanes_text low lanes) p ∙ append_assoc text (d ∷ []) (lanes_text low lanes) ∙ ap (λ x. text ++ x ∷ lanes_text low lanes) e
     ∙ ap (λ b. text ++ lanes_text b lanes) (sym h)
+
+-- at most so many
+most_of : (m : ℕ) (l : List ℕ) → take (min (length l) m) l ≡ take m l
+most_of m [] =
+    let none : min 0 m ≡ 0 = omega arith in
+    ap (λ k. take {A = ℕ} k []) none ∙ sym (take_all m [] (omega arith))
+most_of zero (x ∷ l) =
+    let none : min (length (x ∷ l)) 0 ≡ 0 = omega arith in
+    ap (λ k. take k (x ∷ l)) none
+most_of (suc m) (x ∷ l) =
+    let more : min (length (x ∷ l)) (suc m) ≡ suc (min (length l) m) = omega arith in
+    ap (λ k. take k (x ∷ l)) more ∙ ap (λ t. x ∷ t) (most_of m l)
+
+pub take_most : (n m : ℕ) (l : List ℕ) → n ≡ min (length l) m → take n l ≡ take m l
+take_most n m l e = ap (λ k. take k l) e ∙ most_of m l

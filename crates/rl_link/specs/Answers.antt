@@ -1,11 +1,11 @@
 -- What a line of the peer says, and what it answers.
-use Rattle.std.specs.Prelude.{ℕ, ◌-◌, ◌^◌, ◌==◌, ◌&&◌, ◌||◌, Bool, true, false, if◌then◌else◌, List, [], ◌∷◌, codes, length, take, drop, nat_lt, slice_index, Result, Ok, Err}
-use Rattle.std.specs.List.{prefix_len, suffix_len}
-use Rattle.std.specs.Char.{is_ascii_whitespace}
+use Rattle.std.specs.Prelude.{ℕ, ◌-◌, ◌^◌, ◌==◌, ◌&&◌, ◌||◌, not, Bool, true, false, if◌then◌else◌, List, [], ◌∷◌, codes, length, take, drop, nat_lt, Result, Ok, Err}
+use Rattle.std.specs.List.{prefix_len, suffix_len, position_or_len, list_any, list_all}
+use Rattle.std.specs.Char.{is_ascii_whitespace, is_digit}
 use Rattle.std.specs.Str.{bytes_eq}
 use Rattle.rl_policy.specs.declared.number.NumberText.{NumberText}
 use Rattle.rl_policy.specs.declared.number.NumberText.TheVariants as text
-use Rattle.rl_policy.specs.Numbers.{number_of}
+use Rattle.rl_policy.specs.Numbers.{number_of, has_hex_prefix}
 use Rattle.rl_bus.specs.declared.op.Answer.{Answer}
 use Rattle.rl_link.specs.declared.answer.Said.{Said}
 use Rattle.rl_link.specs.declared.answer.Said.TheVariants as says
@@ -22,29 +22,54 @@ bare_end text = take (length text - suffix_len is_ascii_whitespace text) text
 abbrev pub bare : List ℕ → List ℕ
 bare line = bare_end (drop (prefix_len is_ascii_whitespace line) line)
 
--- `ok ` and something behind it
-abbrev pub begins_ok : List ℕ → Bool
-begins_ok text = nat_lt 3 (length text) && slice_index text 0 == 111 && slice_index text 1 == 107 && slice_index text 2 == 32
+-- the bytes before the first white space
+abbrev pub first_word : List ℕ → List ℕ
+first_word text = take (position_or_len is_ascii_whitespace text) text
 
-abbrev pub word_said : NumberText → Said
-word_said (text.Value word) = says.Word word
-word_said text.Bad = says.Unclear
-word_said text.TooLarge = says.Unclear
+-- a digit as simulators print it where a bit is unknown (`x`), or isn't driven (`z`)
+abbrev pub is_unknown_digit : ℕ → Bool
+is_unknown_digit c = c == 120 || (c == 88 || (c == 122 || c == 90))
 
--- it is blank, or begins with `#`
-abbrev pub is_passed : List ℕ → Bool
-is_passed text = length text == 0 || slice_index text 0 == 35
+abbrev pub is_any_digit : ℕ → Bool
+is_any_digit c = is_unknown_digit c || is_digit c 16
 
-abbrev pub said_behind_ok : List ℕ → Said
-said_behind_ok text = if begins_ok text then word_said (number_of (bare (drop 3 text))) else says.Unclear
+-- one digit at least is such a one, and the others are hexadecimal
+abbrev pub is_unknown_numeral : List ℕ → Bool
+is_unknown_numeral ds = list_any is_unknown_digit ds && list_all is_any_digit ds
+
+abbrev pub digits_in : List ℕ → List ℕ
+digits_in text = if has_hex_prefix text then drop 2 text else text
+
+abbrev pub is_unknown_text : List ℕ → Bool
+is_unknown_text text = is_unknown_numeral (digits_in text)
+
+abbrev pub word_said : NumberText → (unknown : Bool) → Said
+word_said (text.Value word) unknown = says.Word word
+word_said text.Bad unknown = if unknown then says.Unknown else says.Unclear
+word_said text.TooLarge unknown = if unknown then says.Unknown else says.Unclear
+
+-- behind `ok`
+abbrev pub value_said : List ℕ → Said
+value_said text = word_said (number_of text) (is_unknown_text text)
+
+-- nothing may stand behind the word
+abbrev pub sole : Said → (rest : List ℕ) → Said
+sole said rest = if length rest == 0 then said else says.Unclear
+
+-- a word of an answer, and what stands behind it; any other word says nothing
+abbrev pub said_behind : (word rest : List ℕ) → Said
+said_behind word rest =
+    if bytes_eq word (codes "ok") then (if length rest == 0 then says.Done else value_said rest)
+    else if bytes_eq word (codes "error") then sole says.Error rest
+    else if bytes_eq word (codes "none") then sole says.Unable rest
+    else says.Nothing
 
 abbrev pub said_by : List ℕ → Said
-said_by text =
-    if is_passed text then says.Nothing
-    else if bytes_eq text (codes "ok") then says.Done
-    else if bytes_eq text (codes "error") then says.Error
-    else if bytes_eq text (codes "none") then says.Unable
-    else said_behind_ok text
+said_by text = said_behind (first_word text) (bare (drop (length (first_word text)) text))
+
+-- it begins with none of these words
+abbrev pub is_passed : List ℕ → Bool
+is_passed text = not (bytes_eq (first_word text) (codes "ok") || (bytes_eq (first_word text) (codes "error") || bytes_eq (first_word text) (codes "none")))
 
 -- what a line says
 unfoldable pub said_in : List ℕ → Said
@@ -54,9 +79,14 @@ abbrev pub is_nothing : Said → Bool
 is_nothing says.Nothing = true
 is_nothing says.Done = false
 is_nothing (says.Word word) = false
+is_nothing says.Unknown = false
 is_nothing says.Error = false
 is_nothing says.Unable = false
 is_nothing says.Unclear = false
+
+abbrev pub is_unknown : Said → Bool
+is_unknown says.Unknown = true
+is_unknown _ = false
 
 -- ---- what it answers
 
@@ -73,11 +103,13 @@ written_by says.Error = Ok failure
 written_by says.Unable = Ok failure
 written_by says.Nothing = Err cause.Unclear
 written_by (says.Word word) = Err cause.Unclear
+written_by says.Unknown = Err cause.Unclear
 written_by says.Unclear = Err cause.Unclear
 
 -- to a read on a bus of this width
 abbrev pub read_by : ℕ → Said → Result Answer Cause
 read_by bytes (says.Word word) = if nat_lt word (256 ^ bytes) then Ok (success word) else Err cause.TooWide
+read_by bytes says.Unknown = Ok failure
 read_by bytes says.Error = Ok failure
 read_by bytes says.Unable = Ok failure
 read_by bytes says.Nothing = Err cause.Unclear
@@ -89,11 +121,12 @@ abbrev pub answer_to : (write : Bool) (bytes : ℕ) → Said → Result Answer C
 answer_to true bytes said = written_by said
 answer_to false bytes said = read_by bytes said
 
--- to anything else
-abbrev pub done_by : Said → Result (Unit {0}) Cause
-done_by says.Done = Ok tt
-done_by says.Error = Err cause.NotDone
-done_by says.Unable = Err cause.NotDone
+-- to anything else: whether it was done
+abbrev pub done_by : Said → Result Bool Cause
+done_by says.Done = Ok true
+done_by says.Error = Ok false
+done_by says.Unable = Ok false
 done_by says.Nothing = Err cause.Unclear
 done_by (says.Word word) = Err cause.Unclear
+done_by says.Unknown = Err cause.Unclear
 done_by says.Unclear = Err cause.Unclear

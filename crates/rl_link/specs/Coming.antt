@@ -29,6 +29,10 @@ behind_passed (line ∷ lines) bytes = if is_passed (bare line) then behind_pass
 unfoldable pub answer_from : List ℕ → List ℕ
 answer_from bytes = behind_passed (whole_lines bytes) bytes
 
+-- A whole line that is an answer is among these.
+abbrev pub HoldsAnswer : List ℕ → Type 0
+HoldsAnswer bytes = HasLine (answer_from bytes)
+
 -- Lines that say nothing were passed over, or none.
 abbrev pub Skips : (old new : Option (List ℕ)) → Type 0
 Skips old new = IfSome old (λ bytes. (rest : List ℕ) × (new ≡ Some rest) × (answer_from rest ≡ answer_from bytes))
@@ -57,8 +61,8 @@ pub record Answers (write : Bool) (width : ℕ) (bytes : List ℕ) (answer : Ans
   pub whole : HasLine (answer_from bytes)
   pub says : answer_to write width (said_in (first_line (answer_from bytes))) ≡ Ok answer
 
--- The line that tells that something else was done was taken.
-pub record IsDone (bytes : List ℕ) (new : Option (List ℕ)) : Type 0 where
+-- The line that tells whether something else was done was taken.
+pub record IsDone (bytes : List ℕ) (done : Bool) (new : Option (List ℕ)) : Type 0 where
   pub rest : new ≡ Some (after_line (answer_from bytes))
   pub whole : HasLine (answer_from bytes)
-  pub says : done_by (said_in (first_line (answer_from bytes))) ≡ Ok tt
+  pub says : done_by (said_in (first_line (answer_from bytes))) ≡ Ok done

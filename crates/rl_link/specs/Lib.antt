@@ -2,6 +2,9 @@ pub mod Answers
 pub mod Causes
 pub mod Coming
 pub mod Message
+pub mod Opening
 pub mod Peer
 pub mod Prelude
+pub mod Refusals
 pub mod Requests
+pub mod Session

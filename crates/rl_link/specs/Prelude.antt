@@ -6,3 +6,4 @@ pub use Rattle.rl_bus.specs.Lanes.{IsWidth}
 pub use Rattle.rl_bus.specs.State.{poked, reset_by, hw_set}
 pub use Rattle.rl_bus.specs.Wire.{carried_by, tag_of, IsWellFormed, IsReplyTo, answered_by}
 pub use Rattle.rl_report.specs.Pieces.{AppendsFront, Puts}
+pub use Rattle.rl_session_run.specs.Prelude.{LeavesEnded, kinds_of}

@@ -1,7 +1,11 @@
 // What a line of the peer says, and what it answers.
-ghost use Rattle.std.specs.Prelude.{◌≡◌, ◌<◌, ◌^◌, nat_lt, IfOk, false};
+ghost use Rattle.std.specs.Prelude.{◌≡◌, ◌<◌, ◌≤◌, ◌^◌, nat_lt, length, IfOk, false};
 ghost use Rattle.rl_bus.specs.Lanes.{IsWidth};
-ghost use Rattle.rl_link.specs.Answers.{bare, begins_ok, said_in, said_by, said_behind_ok, is_nothing, word_said};
+ghost use Rattle.std.specs.Char.{is_ascii_whitespace};
+ghost use Rattle.std.specs.List.{position_or_len, list_any, list_all};
+ghost use Rattle.rl_policy.specs.Numbers.{has_hex_prefix};
+ghost use Rattle.rl_link.specs.Answers.{bare, first_word, said_in, said_by, said_behind, is_nothing, value_said};
+ghost use Rattle.rl_link.specs.Answers.{is_unknown_digit, is_any_digit, digits_in, is_unknown_text, is_unknown, sole};
 ghost use Rattle.rl_link.specs.Answers.{written_by, read_by, answer_to, done_by};
 
 use rl_bus::Answer;
@@ -11,17 +15,19 @@ use std::alloc::AllocError;
 /// What a line of the peer says.
 #[derive(Clone, Copy, Debug, PartialEq, Eq)]
 pub enum Said {
-    /// It is blank, or begins with `#`: the peer may write such lines at any time.
+    /// It doesn't begin with the word `ok`, `error` or `none`: the peer may write such lines at any time.
     Nothing,
     /// `ok`
     Done,
     /// `ok WORD`
     Word(u64),
+    /// `ok` and a word with digits that are `x` or `z`, as simulators print them: bits of it are unknown.
+    Unknown,
     /// `error`
     Error,
     /// `none`: the peer has nothing that does this.
     Unable,
-    /// Anything else.
+    /// Anything else that begins with the word `ok`, `error` or `none`.
     Unclear,
 }
 
@@ -36,16 +42,14 @@ pub enum Cause {
     Closed,
     /// A line has more than 4,096 bytes.
     TooLong,
-    /// There were 2^64 - 1 lines that say nothing.
+    /// Behind a request there were 10,000 lines that are no answer.
     TooMany,
     /// An answer came to nothing that was asked.
     Unasked,
-    /// The line is none that answers the request.
+    /// The answer is none that the request can have.
     Unclear,
     /// The word read is wider than the bus.
     TooWide,
-    /// The peer didn't do a reset or a change by the hardware.
-    NotDone,
     /// Something was asked of the backdoor, and a link has none.
     Backdoor,
     /// Memory was wanting.
@@ -63,12 +67,72 @@ impl From<AllocError> for Cause {
     }
 }
 
-fn word_said(number: NumberText) -> Said
-    ensures { result ≡ word_said number }
+// Whether it is a digit as simulators print it where a bit is unknown, or isn't driven.
+fn is_unknown_digit(digit: u8) -> bool
+    ensures { result ≡ is_unknown_digit digit }
 {
-    match number {
+    matches!(digit, b'x' | b'X' | b'z' | b'Z')
+}
+
+fn has_hex_prefix(text: &[u8]) -> bool
+    ensures { result ≡ has_hex_prefix text.now }
+{
+    text.len() > 1 && text[0] == b'0' && (text[1] == b'x' || text[1] == b'X')
+}
+
+// The digits of a word, without `0x` before them.
+fn digits_in(text: &[u8]) -> &[u8]
+    ensures { result.now ≡ digits_in text.now }
+{
+    if has_hex_prefix(text) {
+        &text[2..]
+    } else {
+        text
+    }
+}
+
+// Whether a digit is an unknown one, or hexadecimal.
+fn is_any_digit(digit: u8) -> bool
+    ensures { result ≡ is_any_digit digit }
+{
+    is_unknown_digit(digit) || char::from(digit).is_digit(16)
+}
+
+// Whether one of the digits is unknown.
+fn has_unknown(digits: &[u8]) -> bool
+    ensures { result ≡ list_any is_unknown_digit digits.now }
+{
+    digits.iter().any(|digit| is_unknown_digit(*digit))
+}
+
+// Whether each is an unknown one, or hexadecimal.
+fn are_digits(digits: &[u8]) -> bool
+    ensures { result ≡ list_all is_any_digit digits.now }
+{
+    digits.iter().all(|digit| is_any_digit(*digit))
+}
+
+// Whether a text is a word with unknown bits.
+fn is_unknown_text(text: &[u8]) -> bool
+    ensures { result ≡ is_unknown_text text.now }
+{
+    let digits = digits_in(text);
+    has_unknown(digits) && are_digits(digits)
+}
+
+// What stands behind `ok`, where something does.
+fn value_said(text: &[u8]) -> Said
+    ensures { result ≡ value_said text.now }
+{
+    match read_number(text) {
         NumberText::Value(word) => Said::Word(word),
-        NumberText::Bad | NumberText::TooLarge => Said::Unclear,
+        NumberText::Bad | NumberText::TooLarge => {
+            if is_unknown_text(text) {
+                Said::Unknown
+            } else {
+                Said::Unclear
+            }
+        }
     }
 }
 
@@ -79,20 +143,46 @@ fn bare(line: &[u8]) -> &[u8]
     line.trim_ascii()
 }
 
-fn begins_ok(text: &[u8]) -> bool
-    ensures { result ≡ begins_ok text.now }
+// How many bytes stand before the first white space.
+fn word_len(text: &[u8]) -> usize
+    ensures len { result ≡ position_or_len is_ascii_whitespace text.now }
+    ensures within { result ≤ length text.now }
 {
-    text.len() > 3 && text[0] == b'o' && text[1] == b'k' && text[2] == b' '
+    text.iter()
+        .position(|byte| byte.is_ascii_whitespace())
+        .unwrap_or(text.len())
 }
 
-// What a text says that is none of the fixed ones.
-fn said_behind_ok(text: &[u8]) -> Said
-    ensures { result ≡ said_behind_ok text.now }
+// The bytes before the first white space.
+fn first_word(text: &[u8]) -> &[u8]
+    ensures { result.now ≡ first_word text.now }
 {
-    if begins_ok(text) {
-        word_said(read_number(bare(&text[3..])))
+    &text[..word_len(text)]
+}
+
+// What a word says that nothing stands behind.
+fn sole(said: Said, rest: &[u8]) -> Said
+    ensures { result ≡ sole said rest.now }
+{
+    if rest.is_empty() { said } else { Said::Unclear }
+}
+
+// What a word says, with what stands behind it.
+fn said_behind(word: &[u8], rest: &[u8]) -> Said
+    ensures { result ≡ said_behind word.now rest.now }
+{
+    if word == b"ok".as_slice() {
+        if rest.is_empty() {
+            Said::Done
+        } else {
+            value_said(rest)
+        }
+    } else if word == b"error".as_slice() {
+        sole(Said::Error, rest)
+    } else if word == b"none".as_slice() {
+        sole(Said::Unable, rest)
     } else {
-        Said::Unclear
+        Said::Nothing
     }
 }
 
@@ -100,17 +190,8 @@ fn said_behind_ok(text: &[u8]) -> Said
 fn said_by(text: &[u8]) -> Said
     ensures { result ≡ said_by text.now }
 {
-    if text.is_empty() || text[0] == b'#' {
-        Said::Nothing
-    } else if text == b"ok".as_slice() {
-        Said::Done
-    } else if text == b"error".as_slice() {
-        Said::Error
-    } else if text == b"none".as_slice() {
-        Said::Unable
-    } else {
-        said_behind_ok(text)
-    }
+    let word = first_word(text);
+    said_behind(word, bare(&text[word.len()..]))
 }
 
 /// Whether it is a line that says nothing.
@@ -118,6 +199,13 @@ pub(crate) fn is_nothing(said: Said) -> bool
     ensures { result ≡ is_nothing said }
 {
     matches!(said, Said::Nothing)
+}
+
+/// Whether it is a word with unknown bits.
+pub(crate) fn is_unknown(said: Said) -> bool
+    ensures { result ≡ is_unknown said }
+{
+    matches!(said, Said::Unknown)
 }
 
 // What a line says.
@@ -161,7 +249,7 @@ fn written_by(said: Said) -> Result<Answer, Cause>
     match said {
         Said::Done => Ok(read(0)),
         Said::Error | Said::Unable => Ok(FAILED),
-        Said::Nothing | Said::Word(_) | Said::Unclear => Err(Cause::Unclear),
+        Said::Nothing | Said::Word(_) | Said::Unknown | Said::Unclear => Err(Cause::Unclear),
     }
 }
 
@@ -173,7 +261,7 @@ fn read_by(bytes: u8, said: Said) -> Result<Answer, Cause>
     match said {
         Said::Word(word) if fits(bytes, word) => Ok(read(word)),
         Said::Word(_) => Err(Cause::TooWide),
-        Said::Unable | Said::Error => Ok(FAILED),
+        Said::Unknown | Said::Unable | Said::Error => Ok(FAILED),
         Said::Nothing | Said::Done | Said::Unclear => Err(Cause::Unclear),
     }
 }
@@ -192,12 +280,12 @@ pub(crate) fn answer_to(write: bool, bytes: u8, said: Said) -> Result<Answer, Ca
 }
 
 // Whether what was asked, and is no transfer, was done.
-pub(crate) fn done_by(said: Said) -> Result<(), Cause>
+pub(crate) fn done_by(said: Said) -> Result<bool, Cause>
     ensures { result ≡ done_by said }
 {
     match said {
-        Said::Done => Ok(()),
-        Said::Error | Said::Unable => Err(Cause::NotDone),
-        Said::Nothing | Said::Word(_) | Said::Unclear => Err(Cause::Unclear),
+        Said::Done => Ok(true),
+        Said::Error | Said::Unable => Ok(false),
+        Said::Nothing | Said::Word(_) | Said::Unknown | Said::Unclear => Err(Cause::Unclear),
     }
 }

@@ -1,5 +1,5 @@
 // A source that gives a line at a time.
-ghost use Rattle.std.specs.Prelude.{◌≡◌, ◌<◌, ◌≤◌, length, OnOk};
+ghost use Rattle.std.specs.Prelude.{◌≡◌, ◌<◌, ◌≤◌, [], length, IfOk, OnOk};
 ghost use Rattle.std.specs.Io.KnownBytes.{IsAtEnd, Keeps};
 ghost use Rattle.rl_bus.specs.Causes.{HasCause};
 ghost use Rattle.rl_link.specs.Coming.{coming};
@@ -17,8 +17,10 @@ pub struct ByLine<S: Source> {
 }
 
 impl<S: Source + Drop> ByLine<S> {
-    /// Before this source.
-    pub fn build(alloc: Global, source: S) -> Result<ByLine<S>, AllocError> {
+    /// Before this source, with nothing read yet.
+    pub fn build(alloc: Global, source: S) -> Result<ByLine<S>, AllocError>
+        ensures { IfOk result (λ it. (it.source ≡ source) × (it.held ≡ [])) }
+    {
         Ok(ByLine {
             source,
             held: Held::build(alloc)?,

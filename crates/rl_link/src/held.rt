@@ -90,3 +90,13 @@ fn end_of_line(bytes: &[u8]) -> Option<usize>
 {
     memchr(b'\n', bytes)
 }
+
+/// The first line of some bytes, without its end.
+pub(crate) fn first_line(bytes: &[u8]) -> &[u8]
+    ensures { result.now ≡ first_line bytes.now }
+{
+    match end_of_line(bytes) {
+        Some(len) => &bytes[..len],
+        None => bytes,
+    }
+}

@@ -2,21 +2,29 @@
 //!
 //! What stands at the other end, as the bench of an RTL simulator, is the peer. The lines of both directions are this
 //! project's own.
+//!
+//! Runs a session on a device over a link: refuses what a link can't have, plays the script, and says how it broke.
 #![tactic(auto)]
 
 mod answer;
 mod by_line;
 mod held;
+mod host;
 mod link;
 mod message;
 mod names;
+mod ran;
+mod refusal;
 mod request;
+mod session;
 mod talk;
 
 pub use answer::{Cause, Said};
 pub use by_line::ByLine;
 pub use held::Held;
-pub use link::{Break, Link};
-pub use message::put_break;
+pub use link::{Break, Link, Streams};
 pub use names::Names;
+pub use ran::Ran;
+pub use refusal::{Refusal, put_refusal, refusal_of};
+pub use session::run_linked;
 pub use talk::Talk;

@@ -6,15 +6,19 @@ ghost use Rattle.rl_bus.specs.Causes.{Rose};
 ghost use Rattle.rl_report.specs.Lines.{first_line, after_line};
 ghost use Rattle.rl_report.specs.Pieces.{Puts};
 ghost use Rattle.rl_link.specs.Answers.{said_in};
-ghost use Rattle.rl_link.specs.Causes.{IsCauseOfReading, IsCauseOfAsking};
-ghost use Rattle.rl_link.specs.Coming.{coming, Skips, Takes, Hears, HasLine, IsLine};
+ghost use Rattle.rl_link.specs.Causes.{IsCauseOfLine, IsCauseOfReading, IsCauseOfAsking};
+ghost use Rattle.rl_link.specs.Coming.{coming, Skips, Takes, Hears, HasLine, HoldsAnswer, IsLine};
 
 use crate::answer::{Cause, Said, is_nothing, says};
 use crate::held::Held;
+use crate::message::put_chatter;
 use rl_report::{Failed, Sink, Source, put_all};
 use std::alloc::{AllocError, Global};
 
 const MOST: usize = 4096;
+
+// A peer that writes so many lines behind a request, none of which is an answer, doesn't answer.
+const MOST_CHATTER: u64 = 10_000;
 
 /// Two streams to a peer: requests go to the sink, and answers come from the source.
 #[derive(Drop)]
@@ -52,7 +56,7 @@ fn next_line<S: Source>(held: &mut Held, source: &mut S) -> Result<usize, Cause>
         (λ bytes. 4096 < length (first_line bytes)) }
     ensures unread { result ≡ Err Cause.Unread → Rose (S.faults source.old) (S.faults source.new) }
     ensures later { S.faults source.old ≤ S.faults source.new }
-    ensures cause { IfErr result IsCauseOfReading }
+    ensures cause { IfErr result IsCauseOfLine }
 {
     loop {
         if let Some(len) = front_len(held)? {
@@ -84,24 +88,43 @@ fn pass_line(held: &mut Held, lines: &mut u64, len: usize)
     *lines = lines.saturating_add(1);
 }
 
-// Passes over what is held already. What says something there was asked for by nobody.
-fn skim(held: &mut Held, lines: &mut u64) -> Result<(), Cause>
+// Drops the line in front, which is no answer, and passes it on.
+fn pass_on<M: Sink>(held: &mut Held, lines: &mut u64, messages: &mut M, len: usize)
+    requires { IsLine held.old len }
+    ensures held { held.new ≡ after_line held.old }
+    ensures lines { lines.new ≡ min (lines.old + 1) (2 ^ 64 - 1) }
+{
+    // Where it can't be told, the session goes on all the same.
+    let _ = put_chatter(messages, &held.bytes()[..len]);
+    pass_line(held, lines, len);
+}
+
+// Passes over what is held already. What is an answer there was asked for by nobody.
+fn skim<M: Sink>(held: &mut Held, lines: &mut u64, messages: &mut M) -> Result<(), Cause>
     ensures skips { (left : _) → Skips (coming held.old left) (coming held.new left) }
     ensures lines { (left : _) → Takes lines.old lines.new (coming held.old left) (coming held.new left) }
+    ensures later { min lines.old (2 ^ 64 - 1) ≤ lines.new }
+    ensures quiet { OnOk result (HoldsAnswer held.old → ⊥) }
+    ensures unasked { OnErr result (HoldsAnswer held.old) }
     ensures fault { IfErr result (λ cause. cause ≡ Cause.Unasked) }
 {
     while let Some(len) = held.line_len() {
         if !is_nothing(front_says(held, len)) {
             return Err(Cause::Unasked);
         }
-        pass_line(held, lines, len);
+        pass_on(held, lines, messages, len);
     }
     Ok(())
 }
 
-// Reads until a line that says something stands in front.
+// Reads until a line that is an answer stands in front.
 #[tactic(auto, using(crate::proofs::ComingLemmas::by_reading))]
-fn hear<S: Source>(held: &mut Held, lines: &mut u64, source: &mut S) -> Result<Said, Cause>
+fn hear<S: Source, M: Sink>(
+    held: &mut Held,
+    lines: &mut u64,
+    source: &mut S,
+    messages: &mut M,
+) -> Result<Said, Cause>
     ensures skips { Skips (coming held.old (S.left source.old)) (coming held.new (S.left source.new)) }
     ensures lines { Takes lines.old lines.new
         (coming held.old (S.left source.old)) (coming held.new (S.left source.new)) }
@@ -112,17 +135,18 @@ fn hear<S: Source>(held: &mut Held, lines: &mut u64, source: &mut S) -> Result<S
         (λ bytes. first_line bytes ≡ bytes) }
     ensures too_long { result ≡ Err Cause.TooLong → IfSome (coming held.new (S.left source.new))
         (λ bytes. 4096 < length (first_line bytes)) }
+    ensures too_many { result ≡ Err Cause.TooMany → min (lines.old + 10000) (2 ^ 64 - 1) ≤ lines.new }
     ensures cause { IfErr result IsCauseOfReading }
     ensures unread { result ≡ Err Cause.Unread → Rose (S.faults source.old) (S.faults source.new) }
     ensures later { S.faults source.old ≤ S.faults source.new }
 {
-    for _ in 0..u64::MAX {
+    for passed in 0..MOST_CHATTER {
         let len = next_line(held, source)?;
         let said = front_says(held, len);
         if !is_nothing(said) {
             return Ok(said);
         }
-        pass_line(held, lines, len);
+        pass_on(held, lines, messages, len);
     }
     Err(Cause::TooMany)
 }
@@ -143,9 +167,10 @@ impl<S: Source + Drop, K: Sink + Drop> Talk<S, K> {
 }
 
 impl<S: Source, K: Sink> Talk<S, K> {
-    /// Sends a request, and then reads the line that answers it, which stays in front.
+    /// Sends a request, and then reads the line that answers it, which stays in front. Lines before it that are no
+    /// answer are passed on.
     #[tactic(auto, using(crate::proofs::SentLemmas::by_sending, crate::proofs::ComingLemmas::by_hearing))]
-    pub fn ask(&mut self, request: &[u8]) -> Result<Said, Cause>
+    pub fn ask<M: Sink>(&mut self, request: &[u8], messages: &mut M) -> Result<Said, Cause>
         ensures sent { Puts (K.written self.old.sink) (K.written self.new.sink) request.now result }
         ensures skips { Skips (coming self.old.held (S.left self.old.source))
             (coming self.new.held (S.left self.new.source)) }
@@ -157,35 +182,42 @@ impl<S: Source, K: Sink> Talk<S, K> {
         ensures lines { Takes self.old.lines self.new.lines (coming self.old.held (S.left self.old.source))
             (coming self.new.held (S.left self.new.source)) }
 
-        // Nothing is read before the request is out, and nothing is sent where an answer came that wasn't asked for.
+        // Nothing is read before the request is out. Nothing is sent, and the call fails, where an answer is held
+        // that nothing was asked for.
         ensures out_first { result ≡ Err Cause.Unsent → self.new.source ≡ self.old.source }
         ensures unasked { result ≡ Err Cause.Unasked
             → (self.new.source ≡ self.old.source) × (self.new.sink ≡ self.old.sink) }
+        ensures fresh { OnOk result (HoldsAnswer self.old.held → ⊥) }
 
-        // No fault is made up.
+        // It fails for a cause alone, and no fault is made up.
+        ensures held { result ≡ Err Cause.Unasked → HoldsAnswer self.old.held }
         ensures unsent { result ≡ Err Cause.Unsent → Rose (K.faults self.old.sink) (K.faults self.new.sink) }
         ensures unread { result ≡ Err Cause.Unread → Rose (S.faults self.old.source) (S.faults self.new.source) }
         ensures closed { result ≡ Err Cause.Closed → IfSome (coming self.new.held (S.left self.new.source))
             (λ bytes. first_line bytes ≡ bytes) }
         ensures too_long { result ≡ Err Cause.TooLong → IfSome (coming self.new.held (S.left self.new.source))
             (λ bytes. 4096 < length (first_line bytes)) }
+        ensures too_many { result ≡ Err Cause.TooMany
+            → min (self.old.lines + 10000) (2 ^ 64 - 1) ≤ self.new.lines }
         ensures cause { IfErr result IsCauseOfAsking }
     {
-        skim(&mut self.held, &mut self.lines)?;
+        skim(&mut self.held, &mut self.lines, messages)?;
         if put_all(&mut self.sink, request).is_err() {
             return Err(Cause::Unsent);
         }
-        hear(&mut self.held, &mut self.lines, &mut self.source)
+        hear(&mut self.held, &mut self.lines, &mut self.source, messages)
     }
 
-    /// Passes over the lines that are held already, none of which may say something.
-    pub fn skim(&mut self) -> Result<(), Cause>
+    /// Passes over the lines that are held already, none of which may be an answer.
+    pub fn skim<M: Sink>(&mut self, messages: &mut M) -> Result<(), Cause>
+        ensures quiet { OnOk result (HoldsAnswer self.old.held → ⊥) }
+        ensures unasked { OnErr result (HoldsAnswer self.old.held) }
         ensures cause { IfErr result (λ cause. cause ≡ Cause.Unasked) }
         ensures lines { (left : _) → Takes self.old.lines self.new.lines
             (coming self.old.held left) (coming self.new.held left) }
         ensures streams { (self.new.source ≡ self.old.source) × (self.new.sink ≡ self.old.sink) }
     {
-        skim(&mut self.held, &mut self.lines)
+        skim(&mut self.held, &mut self.lines, messages)
     }
 
     /// Takes the line in front.

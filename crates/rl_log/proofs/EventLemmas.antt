@@ -245,11 +245,11 @@ every_event_lawful number w lines = All-from_recursion IsLawful (events_from num
 
 -- ---- counted
 
-counted_steps : (m : ModelData) (steps : List Step) (counts : Counts) → with_events counts (map told_of steps) ≡ counted_on counts (happened m steps)
+pub counted_steps : (m : ModelData) (steps : List Step) (counts : Counts) → with_events counts (map told_of steps) ≡ counted_on counts (happened m steps)
 counted_steps m [] counts = refl
 counted_steps m (s ∷ steps) counts = counted_steps s.world.model steps (with_event counts s.event)
 
-counted_more : (xs ys : List Happened) (counts : Counts) → counted_on counts (xs ++ ys) ≡ counted_on (counted_on counts xs) ys
+pub counted_more : (xs ys : List Happened) (counts : Counts) → counted_on counts (xs ++ ys) ≡ counted_on (counted_on counts xs) ys
 counted_more [] ys counts = refl
 counted_more (x ∷ xs) ys counts = counted_more xs ys (with_event counts x.event)
 

@@ -5,6 +5,7 @@ pub mod Endings
 pub mod Entry
 pub mod Events
 pub mod Laws
+pub mod Lines
 pub mod Log
 pub mod Named
 pub mod Recording

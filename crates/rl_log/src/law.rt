@@ -2,6 +2,7 @@
 ghost use Rattle.rl_log.specs.Events.{EveryEventCounted, EveryEventLawful};
 ghost use Rattle.rl_log.specs.Laws.{CodesTell, EntriesTellSteps, EveryBurstStops, EveryLogEnds, LinesAreLimited};
 ghost use Rattle.rl_log.specs.Laws.{PassesWhereClean};
+ghost use Rattle.rl_log.specs.Lines.{EveryLogTellsItsEvents};
 
 /// Each event of a script, whatever its lines and the device: one that ended by a bus error left what is believed, and
 /// a check names exactly the compared fields that differ from what was mirrored before it.
@@ -17,6 +18,12 @@ pub fn each_event_is_counted()
 /// The log of a script is that of its lines, and one last line: of the counts, or of the line that is refused.
 pub fn each_log_has_one_last_line()
     ensures { EveryLogEnds }
+{}
+
+/// The log of a script is the text of its events in order, with the two lines of a sequence round its own, and one last
+/// line: what is said of the events is said of the log.
+pub fn each_log_tells_its_events()
+    ensures { EveryLogTellsItsEvents }
 {}
 
 /// A script passed where nothing differed and nothing failed on the bus; the exit statuses tell the endings apart.

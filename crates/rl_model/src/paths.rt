@@ -1,43 +1,35 @@
 //! Texts, each with the number of its place.
-ghost use Rattle.std.specs.Prelude.{◌≡◌, position, bytes_eq};
-ghost use Rattle.rl_model.specs.Paths.{hash_of};
-
-use crate::name::Name;
+use indexmap::IndexSet;
 use std::alloc::{AllocError, Global};
-use std::collections::HashMap;
-use std::hash::{FoldHasher, Hasher};
 use std::marker::Model;
 
 /// Texts that differ, in the order in which they came.
 #[derive(Drop)]
 pub struct Paths {
-    texts: Vec<Name>,
-    // Under each hash the place of the last text that has it.
-    numbers: HashMap<u64, usize>,
+    index: IndexSet<Vec<u8>>,
 }
 
 impl Model for Paths {
     ghost use Rattle.std.specs.Prelude.{List, ℕ};
-    ghost use Rattle.rl_model.specs.Paths.{AreNumbered};
+    ghost use Rattle.rl_model.specs.Paths.{texts, AreDistinct};
 
     ghost Value = { List (List ℕ) };
 
-    ghost view = { λ p. p.texts.items };
+    ghost view = { λ p. texts p.index.keys };
 
-    ghost invariant = { λ p. AreNumbered p.texts.items p.numbers };
+    ghost invariant = { λ p. AreDistinct (texts p.index.keys) };
 }
 
 impl Paths {
     ghost use Rattle.std.specs.Prelude.{◌≡◌, ◌↔◌, ◌<◌, ◌^◌, ◌+◌, ◌++◌, ◌∷◌, ℕ, Some, [], not, length, position};
-    ghost use Rattle.std.specs.Prelude.{slice_get, take, IfOk, OnErr, bytes_eq, None};
+    ghost use Rattle.std.specs.Prelude.{slice_get, take, IfOk, OnErr, bytes_eq};
     ghost use Rattle.rl_model.specs.Paths.{is_among, with_text, number_in};
 
     pub fn new(alloc: Global) -> Paths
         ensures { result ≡ [] }
     {
         Paths {
-            texts: Vec::new(alloc),
-            numbers: HashMap::new(alloc),
+            index: IndexSet::new(alloc),
         }
     }
 
@@ -45,7 +37,7 @@ impl Paths {
         ensures len { result ≡ length self.now }
         ensures small { result < 2 ^ 63 }
     {
-        self.texts.len()
+        self.index.len()
     }
 
     /// Adds a text at the end, if it is new, and says which number it has.
@@ -53,10 +45,8 @@ impl Paths {
         ensures number { IfOk result (λ i. i ≡ number_in self.old text.items) }
         ensures added { IfOk result (λ _. self.new ≡ with_text self.old text.items) }
     {
-        match self.number(&text) {
-            Some(number) => Ok(number),
-            None => self.push(text),
-        }
+        let (number, _) = self.index.insert_full(text)?;
+        Ok(number)
     }
 
     /// The number of a text, which goes to the end if it is new. Only a new one is copied.
@@ -66,23 +56,8 @@ impl Paths {
     {
         match self.number(text) {
             Some(number) => Ok(number),
-            None => self.push(Vec::from_slice(alloc, text)?),
+            None => self.add(Vec::from_slice(alloc, text)?),
         }
-    }
-
-    /// Adds a new text at the end. It changes nothing where there is no memory for it.
-    fn push(&mut self, text: Vec<u8>) -> Result<usize, AllocError>
-        requires { position (bytes_eq text.items) self.old ≡ None }
-        ensures number { IfOk result (λ i. i ≡ number_in self.old text.items) }
-        ensures added { IfOk result (λ _. self.new ≡ with_text self.old text.items) }
-    {
-        let number = self.texts.len();
-        self.texts.reserve(1)?;
-        self.numbers.insert(hash_of(&text), number)?;
-        if self.texts.push(Name::of(text)).is_err() {
-            unreachable!();
-        }
-        Ok(number)
     }
 
     /// The number of a text.
@@ -90,12 +65,7 @@ impl Paths {
         ensures exact { (i : ℕ) → (result ≡ Some i) ↔ (slice_get self.now i ≡ Some text.now) }
         ensures first { result ≡ position (bytes_eq text.now) self.now }
     {
-        match self.numbers.get(&hash_of(text)) {
-            None => None,
-            Some(number) if self.texts[*number].text() == text => Some(*number),
-            // Two texts with one hash are all but unheard of.
-            Some(_) => place_among(&self.texts, text),
-        }
+        self.index.get_index_of(text)
     }
 
     /// Whether a text is one of the first `count`.
@@ -119,21 +89,6 @@ impl Paths {
         requires { number < length self.now }
         ensures { slice_get self.now number ≡ Some result.now }
     {
-        self.texts[number].text()
+        self.index[number].as_slice()
     }
-}
-
-fn place_among(texts: &[Name], text: &[u8]) -> Option<usize>
-    ensures { result ≡ position (bytes_eq text.now) texts.now }
-{
-    texts.iter().position(|name| text == name.text())
-}
-
-// Taken of a text in one piece: a map whose keys are bytes takes it byte by byte.
-fn hash_of(text: &[u8]) -> u64
-    ensures { result ≡ hash_of text.now }
-{
-    let mut hasher = FoldHasher::default();
-    hasher.write(text);
-    hasher.finish()
 }

@@ -20,6 +20,7 @@ use Rattle.rl_play.specs.Leaves.{CutsLine, NotByCounts, stop_of}
 use Rattle.rl_play.specs.Played.{Ends, PlaysLine, to_come}
 use Rattle.rl_play.specs.Work.{asked}
 use Rattle.rl_play.proofs.AnyLemmas.{plays_cut, plays_end, plays_next, plays_stop}
+use Rattle.rl_play.proofs.CutLemmas.{next_here, next_later}
 use Rattle.rl_play.proofs.DoneLemmas.{does_none, does_next, does_stop}
 use Rattle.rl_play.proofs.EndingLemmas.{counted_none}
 use Rattle.rl_play.proofs.FaultLemmas.{breaks_here, breaks_later, no_source}
@@ -44,6 +45,8 @@ line_untaken number p new old reading before left is_out status early kept cuts 
       at_fault = λ is. let cut = cuts (stopped status SourceFault is) in
           breaks_here number s.model s.adapters s.device input left p.text new reading cut.none_lost (cut.none_whole, cut.still) kept;
       later_fault = λ is. absurd (stop_is_no_next status is);
+      cut = λ is. let cut = cuts (stopped status SourceFault is) in next_here input left reading cut.none_lost cut.none_whole cut.still;
+      later_cut = λ is. absurd (stop_is_no_next status is);
       done_next = λ is. absurd (stop_is_no_next status is);
       done_stop = λ last is. does_none number s.model s.adapters s.device input p.counts;
       last = λ is. absurd (stop_is_no_next status is);
@@ -67,6 +70,8 @@ line_ended number p flushed new input g reading left old now status end handed k
           p.text flushed new end (stopped status last is) handed kept tells;
       at_fault = λ is. absurd (no_source status old now cause (stopped status SourceFault is));
       later_fault = λ is. absurd (stop_is_no_next status is);
+      cut = λ is. absurd (no_source status old now cause (stopped status SourceFault is));
+      later_cut = λ is. absurd (stop_is_no_next status is);
       done_next = λ is. absurd (stop_is_no_next status is);
       done_stop = λ last is. does_none number s.model s.adapters s.device input p.counts;
       last = λ is. absurd (stop_is_no_next status is);
@@ -98,6 +103,8 @@ line_taken number before flushed after input g line reading left old now Next no
       later_fault = λ e going rest final f. breaks_later number before.counts after.counts s.model n.model s.adapters n.adapters
           s.device n.device input g line reading left says before.text flushed after.text rest final
           not_end (short e) handed is refl kept judged going f;
+      cut = λ e. absurd (stop_is_no_next SourceFault (sym e));
+      later_cut = λ e going next others k. next_later input g reading left not_end (short e) handed going next others k;
       done_next = λ e total final standings state f. does_next number before.counts after.counts total s.model n.model final
           s.adapters n.adapters standings s.device n.device state input g line reading left says flushed after.text
           not_end (short e) handed is refl judged f;
@@ -122,6 +129,8 @@ line_taken number before flushed after input g line reading left old now (Stop s
       stop = λ last e. subst (Ends number (moment_at before) input (moment_at after)) (stopped status last e) ends;
       at_fault = λ e. absurd (no_source status old now cause (stopped status SourceFault e));
       later_fault = λ e. absurd (stop_is_no_next status e);
+      cut = λ e. absurd (no_source status old now cause (stopped status SourceFault e));
+      later_cut = λ e. absurd (stop_is_no_next status e);
       done_next = λ e. absurd (stop_is_no_next status e);
       done_stop = λ last e. does_stop number before.counts after.counts s.model n.model s.adapters n.adapters s.device n.device
           input g line reading left says status flushed after.text not_end handed is refl judged;

@@ -50,14 +50,14 @@ ends_written (Some e) status result old told new kept counts m a st same keeps h
 
 -- a script that was played through a buffer, once that is settled
 pub through_written : (s n : Scene) (counts now : Counts) (old earlier first told new : Option (List ℕ)) (kept : List ℕ)
-    (input left : Option (List ℕ)) (status result : Status) → old ≡ earlier → first ≡ old
+    (input next left : Option (List ℕ)) (status result : Status) → old ≡ earlier → first ≡ old
     → (result ≢ SinkFault → result ≡ status) → KeepsEarlier earlier new → Keeps told (append_known new kept)
     → (is_complete result ≡ true → Keeps told new) → (status ≡ SourceFault → Keeps told new)
-    → PlaysThrough (point s first counts) input left (point n told now) status
-    → PlaysThrough (point s old counts) input left (point n new now) result
-through_written s n counts now old earlier first told new kept input left status result before same is keeps held whole fault p =
+    → PlaysThrough (point s first counts) input next left (point n told now) status
+    → PlaysThrough (point s old counts) input next left (point n new now) result
+through_written s n counts now old earlier first told new kept input next left status result before same is keeps held whole fault p =
     let keeps_old = subst (λ text. KeepsEarlier text new) (sym before) keeps in
-    let q = subst (λ text. PlaysThrough (point s text counts) input left (point n told now) status) same p in
+    let q = subst (λ text. PlaysThrough (point s text counts) input next left (point n told now) status) same p in
     let at_fault : result ≡ SourceFault → Keeps told new = λ f. fault (same_status status result is f) in
     record {
       on_any_device = plays_written 1 (point s old counts) input (point n told now) new kept status result is keeps_old held whole
@@ -67,6 +67,7 @@ through_written s n counts now old earlier first told new kept input left status
       at_fault = λ f. breaks_written 1 s.model s.adapters s.device input left old told new
           (q.at_fault (same_status status result is f)) (at_fault f);
       done = q.done;
+      none_lost = λ f. q.none_lost (same_status status result is f);
       counted = counted_kept status result now is q.counted;
     }
 
@@ -82,11 +83,11 @@ played_written (Some e) status old new before counts now m a st risen h = record
 }
 
 -- a whole script that was counted from nothing, once its counts were added to those before
-module _ (s n : Scene) (old new : Option (List ℕ)) (own counts total now : Counts) (input left : Option (List ℕ)) (status : Status)
+module _ (s n : Scene) (old new : Option (List ℕ)) (own counts total now : Counts) (input next left : Option (List ℕ)) (status : Status)
     (fresh : own ≡ no_counts) (risen : now ≡ added counts total)
-    (p : PlaysThrough (point s old own) input left (point n new total) status) where
-  whole : PlaysThrough (point s old no_counts) input left (point n new total) status
-  whole = subst (λ own. PlaysThrough (point s old own) input left (point n new total) status) fresh p
+    (p : PlaysThrough (point s old own) input next left (point n new total) status) where
+  whole : PlaysThrough (point s old no_counts) input next left (point n new total) status
+  whole = subst (λ own. PlaysThrough (point s old own) input next left (point n new total) status) fresh p
 
   pub script_written : PlaysScript (moment_at (point s old counts)) input (moment_at (point n new now)) status
   script_written =

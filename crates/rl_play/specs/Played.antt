@@ -1,10 +1,10 @@
 -- What was written and done of a line, and of a script, against what they come to.
-use Rattle.std.specs.Prelude.{◌≡◌, ℕ, ◌+◌, ◌≤◌, List, ◌++◌, true, false, Option, Some, None, IfSome, Result, Ok, Err, Bool}
+use Rattle.std.specs.Prelude.{◌≡◌, ℕ, ◌+◌, ◌≤◌, List, [], ◌∷◌, ◌++◌, true, false, Option, Some, None, IfSome, Result, Ok, Err, Bool}
 use Rattle.std.specs.Io.KnownBytes.{Appends, Keeps}
 use Rattle.rl_access.specs.Model.{ModelData}
 use Rattle.rl_bus.specs.Standing.{Standing}
 use Rattle.rl_bus.specs.State.{State}
-use Rattle.rl_report.specs.Lines.{lines_of, whole_lines}
+use Rattle.rl_report.specs.Lines.{first_line, lines_of, whole_lines}
 use Rattle.rl_report.specs.Pieces.{AppendsFront}
 use Rattle.rl_log.specs.declared.counts.Counts.{Counts}
 use Rattle.rl_play.specs.declared.playing.Turn.{Turn}
@@ -127,6 +127,26 @@ pub record LinesBreak (log : List (List ℕ) → List ℕ) (bytes : List ℕ) (l
   pub is_left : left ≡ Some others
   pub text : Appends old new (log (whole_lines taken))
 
+-- lines, each with the 10 that ends it
+abbrev pub with_ends : List (List ℕ) → List ℕ
+with_ends [] = []
+with_ends (line ∷ lines) = line ++ 10 ∷ with_ends lines
+
+-- An input was taken up to the midst of a line: some lines whole, and then some bytes of the next one. What comes next are these
+-- bytes, and then those that the source has left.
+pub record CutsBehind (bytes : List ℕ) (next left : Option (List ℕ)) : Type 0 where
+  pub whole : List (List ℕ)
+  pub cut : List ℕ
+  pub others : List ℕ
+  pub split : with_ends whole ++ (cut ++ others) ≡ bytes
+  pub midst : first_line cut ≡ cut
+  pub is_next : next ≡ Some (cut ++ others)
+  pub is_left : left ≡ Some others
+
+-- where the source tells its bytes
+abbrev pub KeepsCut : (input next left : Option (List ℕ)) → Type 0
+KeepsCut input next left = IfSome input (λ bytes. CutsBehind bytes next left)
+
 -- of the lines of a script, from that number on
 abbrev pub BreaksAfter : (number : ℕ) → World → (bytes : List ℕ) → (left old new : Option (List ℕ)) → Type 0
 BreaksAfter number w bytes left old new = LinesBreak (lines_text number w) bytes left old new
@@ -165,6 +185,9 @@ pub record PlaysLine (number : ℕ) (before : Point) (input : Option (List ℕ))
   pub stop : (status : Status) → turn ≡ Stop status → Ends number (moment_at before) input (moment_at after) status
   pub at_fault : turn ≡ Stop SourceFault → BreaksFrom number (moment_at before) input left after.text
   pub later_fault : turn ≡ Next → ended ≡ false → BreaksAsRest number (moment_at before) input (moment_at after) rest
+  -- after a source that failed the reader has the line that was cut
+  pub cut : turn ≡ Stop SourceFault → KeepsCut input rest left
+  pub later_cut : turn ≡ Next → ended ≡ false → (next others : Option (List ℕ)) → KeepsCut rest next others → KeepsCut input next others
   pub done_next : turn ≡ Next → DoesWithRest number (moment_at before) input (moment_at after) rest
   pub done_stop : (status : Status) → turn ≡ Stop status → DoesFrom number (moment_at before) input (moment_at after)
   -- at most so many lines are run, and a status that goes by the counts goes by these
@@ -173,12 +196,14 @@ pub record PlaysLine (number : ℕ) (before : Point) (input : Option (List ℕ))
 
 -- ---- the lines that are left
 
--- They were played from one moment to the other, and this is left of the input.
-pub record PlaysThrough (before : Point) (input left : Option (List ℕ)) (after : Point) (status : Status) : Type 0 where
+-- They were played from one moment to the other. This is next of the input, and this is what its source has left.
+pub record PlaysThrough (before : Point) (input next left : Option (List ℕ)) (after : Point) (status : Status) : Type 0 where
   pub on_any_device : PlaysInput 1 before input after status
   -- where the device tells its state
   pub log : Ends 1 (moment_at before) input (moment_at after) status
   pub at_fault : status ≡ SourceFault → BreaksFrom 1 (moment_at before) input left after.text
   pub done : DoesFrom 1 (moment_at before) input (moment_at after)
+  -- after a source that failed no byte is lost behind the lines that were taken whole
+  pub none_lost : status ≡ SourceFault → KeepsCut input next left
   -- a status that goes by the counts goes by these
   pub counted : IsCounted status after.counts

@@ -16,7 +16,7 @@ pub use Rattle.rl_play.specs.Heard.{heard}
 pub use Rattle.rl_play.specs.Job.{job_work, JobHasNumbers}
 pub use Rattle.rl_play.specs.Leaves.{stop_of, fault_of, NotByCounts, StaysReady, Leaves, LeavesLines, CutsLine}
 pub use Rattle.rl_play.specs.Moment.{moment_of}
-pub use Rattle.rl_play.specs.Played.{BreaksFrom, PlaysLine, PlaysScript, PlaysThrough}
+pub use Rattle.rl_play.specs.Played.{BreaksFrom, KeepsCut, PlaysLine, PlaysScript, PlaysThrough}
 pub use Rattle.rl_play.specs.Told.{told}
 pub use Rattle.rl_report.specs.Got.{Hands}
 pub use Rattle.rl_report.specs.Pieces.{SinkStays}

@@ -3,7 +3,8 @@ ghost use Rattle.std.specs.Prelude.{◌≡◌, ◌<◌, ◌≤◌, ◌-◌, ◌+
 ghost use Rattle.std.specs.Prelude.{drop, min};
 ghost use Rattle.std.specs.Io.KnownBytes.{WriteAppends, Keeps, append_known};
 ghost use Rattle.std.proofs.Props.{props};
-ghost use Rattle.rl_bus.specs.Causes.{HasCause, Rose};
+ghost use Rattle.rl_bus.specs.Causes.{HasCause};
+ghost use Rattle.rl_report.specs.Ends.{EndedOnce};
 ghost use Rattle.rl_log.specs.Earlier.{KeepsEarlier};
 
 use crate::log::Log;
@@ -131,7 +132,7 @@ impl<'a, K: Sink, E: Earlier> Buffered<'a, K, E> {
         ensures told { Keeps (told K.written self.old) (told K.written self.new) }
         ensures whole { OnOk result (Keeps (told K.written self.old) (K.written self.new.sink.now)) }
         ensures cause { HasCause (K.faults self.old.sink.now) (K.faults self.new.sink.now) result }
-        ensures ended { OnOk result (Rose (K.ends self.old.sink.now) (K.ends self.new.sink.now)) }
+        ensures ended { OnOk result (EndedOnce (K.ends self.old.sink.now) (K.ends self.new.sink.now)) }
         ensures ends_kept { OnErr result (K.ends self.new.sink.now ≡ K.ends self.old.sink.now) }
         ensures same_sink { self.new.sink.ghost_name ≡ self.old.sink.ghost_name }
     {

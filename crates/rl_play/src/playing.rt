@@ -4,7 +4,7 @@ ghost use Rattle.std.specs.Prelude.{Some};
 ghost use Rattle.std.specs.Io.KnownBytes.{Keeps};
 ghost use Rattle.rl_play.specs.Prelude.{Rose, IsReady, IsSameChip, IsCaused, NoneFailed, DoesFirstEvents};
 ghost use Rattle.rl_play.specs.Prelude.{KeepsEarlier, end_status, IsCounted, PlayEnds, said_by, moment_of};
-ghost use Rattle.rl_play.specs.Prelude.{BreaksFrom, PlaysLine, PlaysScript, PlaysThrough, asked, spot, Turns};
+ghost use Rattle.rl_play.specs.Prelude.{BreaksFrom, KeepsCut, PlaysLine, PlaysScript, PlaysThrough, asked, spot, Turns};
 ghost use Rattle.rl_play.specs.Prelude.{PlaysOnAnyDevice, heard, is_complete, Tells, refused_text};
 ghost use Rattle.rl_play.specs.Prelude.{end_text, told, Hands, read_of, line_said, input_of, HoldsLine};
 ghost use Rattle.rl_play.specs.Prelude.{stop_of, fault_of, NotByCounts, StaysReady, Leaves, LeavesLines, CutsLine};
@@ -243,7 +243,7 @@ pub fn play_lines<S: Source, D: Device, L: Log>(
     ensures parts { IsSameChip model.old model.new }
     ensures plays { PlaysThrough
         (spot standing D.errors D.state L.written model.old adapters.old.items device.old out.old counts.old)
-        (input_of lines.old (S.left source.old)) (S.left source.new)
+        (input_of lines.old (S.left source.old)) (input_of lines.new (S.left source.new)) (S.left source.new)
         (spot standing D.errors D.state L.written model.new adapters.new.items device.new out.new counts.new) result }
     ensures leaves { LeavesLines L.Sink (L.is_out out.new)
         lines.old lines.new (S.faults source.old) (S.faults source.new) out.old out.new (Turn.Stop result) }
@@ -303,7 +303,7 @@ fn play_through<S: Source, K: Sink, D: Device, E: Earlier>(
     ensures parts { IsSameChip model.old model.new }
     ensures plays { PlaysThrough
         (spot standing D.errors D.state K.written model.old adapters.old.items device.old sink.old counts.old)
-        (input_of lines.old (S.left source.old)) (S.left source.new)
+        (input_of lines.old (S.left source.old)) (input_of lines.new (S.left source.new)) (S.left source.new)
         (spot standing D.errors D.state K.written model.new adapters.new.items device.new sink.new counts.new) result }
     ensures found { lines.new.found ≡ true }
     ensures again { result ≡ Status.SourceFault → lines.new.refused ≡ false }
@@ -351,9 +351,12 @@ pub fn play<S: Source, K: Sink, D: Device>(
     ensures at_fault { result ≡ Status.SourceFault → BreaksFrom 1
         (moment_of standing D.state K.written model.old adapters.old.items device.old sink.old counts.old)
         (input_of lines.old (S.left source.old)) (S.left source.new) (K.written sink.new) }
-    // The reader can then be handed to the next call, which goes on with the line that was cut.
+    // The reader can then be handed to the next call, which goes on with the line that was cut: the reader has what was
+    // taken of it, and no byte is lost behind the lines that were taken whole.
     ensures found { lines.new.found ≡ true }
     ensures again { result ≡ Status.SourceFault → lines.new.refused ≡ false }
+    ensures none_lost { result ≡ Status.SourceFault → KeepsCut
+        (input_of lines.old (S.left source.old)) (input_of lines.new (S.left source.new)) (S.left source.new) }
     // However it ends, the sink keeps the bytes that it had before.
     ensures keeps_earlier { KeepsEarlier (K.written sink.old) (K.written sink.new) }
     // However it ends: model, adapters and device are as after the first events of the script, as many as the count

@@ -1,3 +1,4 @@
+pub mod Ends
 pub mod Event
 pub mod Got
 pub mod Item

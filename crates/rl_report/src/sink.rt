@@ -2,7 +2,8 @@
 ghost use Rattle.std.specs.Prelude.{◌≡◌, ℕ, ◌<◌, ◌≤◌, List, length, IfOk, OnOk, OnErr};
 ghost use Rattle.std.specs.declared.option.Option.{Option};
 ghost use Rattle.std.specs.Io.KnownBytes.{Keeps, WriteAppends};
-ghost use Rattle.rl_bus.specs.Causes.{HasCause, Rose};
+ghost use Rattle.rl_bus.specs.Causes.{HasCause};
+ghost use Rattle.rl_report.specs.Ends.{EndedOnce};
 
 use crate::Failed;
 
@@ -30,11 +31,11 @@ pub trait Sink {
         ensures ends_kept { ends self.new ≡ ends self.old }
         ensures same_target { target self.new ≡ target self.old };
 
-    /// Ends the output. What was written stays, whatever the answer.
+    /// Ends the output, and counts that once. What was written stays, whatever the answer.
     fn finish(&mut self) -> Result<(), Failed>
         ensures kept { Keeps (written self.old) (written self.new) }
         ensures cause { HasCause (faults self.old) (faults self.new) result }
-        ensures ended { OnOk result (Rose (ends self.old) (ends self.new)) }
+        ensures ended { OnOk result (EndedOnce (ends self.old) (ends self.new)) }
         ensures ends_kept { OnErr result (ends self.new ≡ ends self.old) }
         ensures same_target { target self.new ≡ target self.old };
 }

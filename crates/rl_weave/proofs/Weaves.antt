@@ -15,7 +15,7 @@ use Rattle.rl_weave.specs.declared.woven.Woven.{Woven}
 use Rattle.rl_access.specs.Event.{ItemFits}
 use Rattle.rl_access.specs.Model.{ModelData}
 use Rattle.rl_weave.specs.Access.{no_woven, woven_at, IsWovenOn}
-use Rattle.rl_weave.specs.Weave.{WeaveData, IsWeave, IsLeft, appended, is_over, without, stepped}
+use Rattle.rl_weave.specs.Weave.{WeaveData, HasSentNothing, IsWeave, IsLeft, appended, is_over, without, stepped}
 
 abbrev pub weave : List Woven → List ℕ → WeaveData
 weave accesses left = record { accesses = accesses; still_open = left; fresh = false }
@@ -48,9 +48,19 @@ still_left accesses v k h = record {
   short = subst (λ (u : Woven). length u.items < u.words) (sym (get_or_append_left accesses (v ∷ []) no_woven k h.inside)) h.short;
 }
 
+unsent_appended : (w : WeaveData) (v : Woven) → HasSentNothing w → length v.items ≡ 0 → HasSentNothing (appended w v)
+unsent_appended w v none empty = record {
+  all_open = length_push w.still_open (length w.accesses) ∙ ap (λ n. n + 1) none.all_open ∙ sym (length_push w.accesses v);
+  no_items = All-push (λ u. length u.items ≡ 0) w.accesses v none.no_items empty;
+}
+
+-- nothing of a weave that isn't fresh
+not_fresh : {P : Type 0} → false ≡ true → P
+not_fresh e = absurd (cc)
+
 pub weave_appended : (w : WeaveData) (v : Woven) → IsWeave w → length w.accesses < 64 → All (λ u. u.access.reg ≡ v.access.reg → ⊥) w.accesses →
-    length v.items < v.words → IsWeave (appended w v)
-weave_appended w v ok room apart short = record {
+    length v.items < v.words → length v.items ≡ 0 → IsWeave (appended w v)
+weave_appended w v ok room apart short empty = record {
   few = omega (arith, length_push w.accesses v, room);
   apart = all_pairs_push (λ u x. u.access.reg ≡ x.access.reg → ⊥) w.accesses v ok.apart apart;
   few_open = omega (arith, length_push w.accesses v, length_push w.still_open (length w.accesses), ok.few_open);
@@ -61,6 +71,7 @@ weave_appended w v ok room apart short = record {
         inside = omega (arith, length_push w.accesses v);
         short = subst (λ (u : Woven). length u.items < u.words) (sym (get_or_push w.accesses v no_woven (length w.accesses) refl)) short;
       });
+  unsent = λ fresh. unsent_appended w v (ok.unsent fresh) empty;
 }
 
 -- ---- a step
@@ -92,7 +103,7 @@ set_here accesses which v inside short = record {
   short = subst (λ (u : Woven). length u.items < u.words) (sym (get_or-set_same accesses which v no_woven inside)) short;
 }
 
-reg_kept : (accesses : List Woven) (which : ℕ) (v : Woven) (k : ℕ) (d : Woven) → which < length accesses →
+pub reg_kept : (accesses : List Woven) (which : ℕ) (v : Woven) (k : ℕ) (d : Woven) → which < length accesses →
     v.access.reg ≡ (woven_at accesses which).access.reg → k < length accesses →
     (get_or (set accesses which v) k d).access.reg ≡ (get_or accesses k d).access.reg
 reg_kept accesses which v k d inside same low =
@@ -127,6 +138,7 @@ weave_kept w which v ok inside same short = record {
         | inl here ↦ subst (IsLeft (set w.accesses which v)) (sym here) (set_here w.accesses which v inside short)
         | inr other ↦ set_left w.accesses which v (get_or w.still_open k d) (ok.left k d low) other
       ];
+  unsent = not_fresh;
 }
 
 -- it is over
@@ -141,6 +153,7 @@ weave_closed w which v ok inside same = record {
   left = λ k d low.
       set_left w.accesses which v (get_or (without which w.still_open) k d)
       (All-filter (λ i. not (i == which)) (IsLeft w.accesses) w.still_open ok.left k d low) (apart_from which w.still_open k d low);
+  unsent = not_fresh;
 }
 
 -- ---- what a step leaves, by whether it was the last one of its access

@@ -30,12 +30,19 @@ pub record IsLeft (accesses : List Woven) (k : ℕ) : Type 0 where
   pub inside : k < length accesses
   pub short : length (woven_at accesses k).items < (woven_at accesses k).words
 
+-- nothing was sent: each access is open, and none has an item
+pub record HasSentNothing (w : WeaveData) : Type 0 where
+  pub all_open : length w.still_open ≡ length w.accesses
+  pub no_items : All (λ v. length v.items ≡ 0) w.accesses
+
 pub record IsWeave (w : WeaveData) : Type 0 where
   pub few : length w.accesses ≤ 64
   pub apart : AllPairs (λ v u. v.access.reg ≡ u.access.reg → ⊥) w.accesses
   pub few_open : length w.still_open ≤ length w.accesses
   pub in_order : AllPairs (λ i k. i < k) w.still_open
   pub left : All (IsLeft w.accesses) w.still_open
+  -- a fresh weave has sent nothing
+  pub unsent : w.fresh ≡ true → HasSentNothing w
 
 -- each access is as a model has it
 abbrev pub IsWeaveOn : ModelData → WeaveData → Type 0

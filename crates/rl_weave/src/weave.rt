@@ -1,8 +1,8 @@
 //! A weave: which accesses are open, and the next word of one of them.
 ghost use Rattle.std.specs.Prelude.{◌≡◌, ◌<◌, ◌≤◌, ◌==◌, true, map as each, length, slice_get, position, Some};
 ghost use Rattle.std.specs.Prelude.{Contains, All, IfOk, IfSome, IfNone, IsTrue, OnOk, OnErr};
-ghost use Rattle.rl_weave.specs.Prelude.{EventFits, IsNumbered, IsReady, IsSameChip, IsStepOf, IsWeave, IsWeaveOn};
-ghost use Rattle.rl_weave.specs.Prelude.{IsWovenOn, ItemFits, adding, appended, empty, end_of, event_told, number_of};
+ghost use Rattle.rl_weave.specs.Prelude.{EventFits, HasSentNothing, IsNumbered, IsReady, IsSameChip, IsStepOf, IsWeave};
+ghost use Rattle.rl_weave.specs.Prelude.{IsWeaveOn, IsWovenOn, ItemFits, adding, appended, empty, end_of, event_told, number_of};
 ghost use Rattle.rl_weave.specs.Prelude.{place_used, same_register, scene_of, step_told, stepped, words_left, woven_at};
 ghost use Rattle.rl_weave.specs.Prelude.{woven_of};
 
@@ -87,9 +87,10 @@ impl Weave {
         Ok(self.append(woven(model, access, place)))
     }
 
-    /// Whether no step was made since `build` or the last `clear`.
+    /// Whether no step was made since `build` or the last `clear`: then nothing was sent.
     pub fn fresh(&self) -> bool
-        ensures { result ≡ self.now.fresh }
+        ensures fresh { result ≡ self.now.fresh }
+        ensures unsent { IsTrue result → HasSentNothing self.now }
     {
         self.fresh
     }
@@ -210,6 +211,7 @@ impl Weave {
         requires room { length self.old.accesses < 64 }
         requires apart { All (λ v. v.access.reg ≡ woven.access.reg → ⊥) self.old.accesses }
         requires short { length woven.items < woven.words }
+        requires unsent { length woven.items ≡ 0 }
         ensures number { result ≡ length self.old.accesses }
         ensures appended { self.new ≡ appended self.old woven }
     {
@@ -258,6 +260,7 @@ fn woven(model: &Model, access: Access, place: u32) -> Woven
     requires used { place_used model.now access ≡ place }
     ensures woven { result ≡ woven_of model.now access }
     ensures some { 0 < result.words }
+    ensures unsent { length result.items ≡ 0 }
 {
     Woven {
         access,

@@ -2,9 +2,9 @@ use Rattle.std.proofs.Common.{None, Err, refl, ap, ◌∙◌}
 use Rattle.rl_play.proofs.FaultLemmas.{no_source}
 use Rattle.rl_play.proofs.LeavesLemmas.{leaves_written}
 use Rattle.regrun.proofs.JudgedLemmas.{maps_stopped, maps_opened}
-use Rattle.rl_opening.proofs.OpeningLemmas.{opens_as}
-use Rattle.rl_opening.proofs.StaysLemmas.{keeps_same}
-use Rattle.rl_running.proofs.LeavesLemmas.{ended_leaves, opened_leaves}
+use Rattle.rl_session_run.proofs.OpeningLemmas.{opens_as}
+use Rattle.rl_session_run.proofs.StaysLemmas.{keeps_same}
+use Rattle.rl_session_run.proofs.LeavesLemmas.{ended_leaves, opened_leaves}
 use Rattle.regrun.proofs.RunLemmas.{no_error, same_error}
 use Rattle.regrun.proofs.showing.show_layout.Goals as goal
 

@@ -1,9 +1,10 @@
 use Rattle.std.proofs.Common.{refl}
 use Rattle.rl_play.proofs.FaultLemmas.{no_source}
-use Rattle.rl_opening.proofs.StaysLemmas.{still_out}
-use Rattle.rl_running.proofs.LeavesLemmas.{unread_leaves}
+use Rattle.rl_session_run.proofs.StaysLemmas.{still_out}
+use Rattle.rl_session_run.proofs.LeavesLemmas.{unread_leaves}
 use Rattle.regrun.specs.declared.words.Task.TheVariants.{Run, Map, Soak, Weave}
 use Rattle.regrun.proofs.TaskLemmas.{one_task, run_does, task_does}
+use Rattle.regrun.proofs.WovenLemmas.{woven_written}
 use Rattle.regrun.proofs.tasks.perform_task.Goals as goal
 
 pub returns-in-Run-clause-does : goal.returns-in-Run-clause-does
@@ -24,7 +25,11 @@ returns-in-Soak-clause-does g c =
 pub returns-in-Weave-clause-does : goal.returns-in-Weave-clause-does
 returns-in-Weave-clause-does g c =
     let e = c.weave.ensures in
-    task_does _ (Weave _) _ _ _ _ _ c.in-Weave.is (record { weave = e.runs.tells; weave_at_fault = e.runs.at_fault }) e.kinds
+    task_does _ (Weave _) _ _ _ _ _ c.in-Weave.is (record {
+      weave = e.runs.tells;
+      plain = λ whole. woven_written _ _ _ _ _ _ _ whole e.runs.tells (e.plain whole);
+      weave_at_fault = e.runs.at_fault;
+    }) e.kinds
 
 pub returns-in-Map-clause-flushed : goal.returns-in-Map-clause-flushed
 returns-in-Map-clause-flushed g c = λ is out. still_out g.L.Log.is_out _ _ (c.show_layout.ensures.unwritten is) out

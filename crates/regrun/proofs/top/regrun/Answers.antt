@@ -1,6 +1,6 @@
 use Rattle.std.proofs.Common.{refl, sym, ◌∙◌}
 use Rattle.std.proofs.lemmas.Bool.{false≢true}
-use Rattle.rl_opening.proofs.StaysLemmas.{earlier_same}
+use Rattle.rl_session_run.proofs.StaysLemmas.{earlier_same}
 use Rattle.regrun.proofs.TaskLemmas.{is_asked, none_asked, some_asked, words_no_sink, words_no_source}
 use Rattle.regrun.proofs.top.regrun.Goals as goal
 

@@ -1,6 +1,6 @@
-use Rattle.std.proofs.Common.{ap, ◌∙◌}
+use Rattle.std.proofs.Common.{◌≡◌, true, false, ap, ◌∙◌}
 use Rattle.rl_play.specs.declared.playing.Turn.TheVariants.{Stop}
-use Rattle.rl_running.proofs.RunLemmas.{runs_memory}
+use Rattle.rl_session_run.proofs.RunLemmas.{runs_memory}
 use Rattle.regrun.proofs.BreakLemmas.{weave_breaks}
 use Rattle.regrun.proofs.JudgedLemmas.{weave_told}
 use Rattle.regrun.proofs.RunLemmas.{opened_ready}
@@ -29,3 +29,9 @@ pub returns-clause-kinds : goal.returns-clause-kinds
 returns-clause-kinds g c =
     let e = c.weave_lines.ensures in
     e.ready.kinds ∙ ap (λ l. l.kinds) (e.parts.layout ∙ c.in-Ok.ensures.opened.layout) ∙ c.requires.awaits.runnable.same_kinds
+
+pub returns-in_default-clause-sound : goal.returns-in_default-clause-sound
+returns-in_default-clause-sound g c = λ whole. let no : false ≡ true = whole in absurd (cc)
+
+pub returns-clause-sound : goal.returns-clause-sound
+returns-clause-sound g c = λ whole. c.in-Ok.ensures.sound

@@ -9,13 +9,16 @@ returns-clause-ends g c = record {
 }
 
 pub returns-clause-log : goal.returns-clause-log
-returns-clause-log g c = script_written _ _ _ _ _ _ _ _ _ _ _ c.new-own.ensures c.add.ensures c.play_through-status.ensures.plays
+returns-clause-log g c = script_written _ _ _ _ _ _ _ _ _ _ _ _ c.new-own.ensures c.add.ensures c.play_through-status.ensures.plays
 
 pub returns-clause-any_device : goal.returns-clause-any_device
-returns-clause-any_device g c = script_played _ _ _ _ _ _ _ _ _ _ _ c.new-own.ensures c.add.ensures c.play_through-status.ensures.plays
+returns-clause-any_device g c = script_played _ _ _ _ _ _ _ _ _ _ _ _ c.new-own.ensures c.add.ensures c.play_through-status.ensures.plays
 
 pub returns-clause-done : goal.returns-clause-done
-returns-clause-done g c = script_done _ _ _ _ _ _ _ _ _ _ _ c.new-own.ensures c.add.ensures c.play_through-status.ensures.plays
+returns-clause-done g c = script_done _ _ _ _ _ _ _ _ _ _ _ _ c.new-own.ensures c.add.ensures c.play_through-status.ensures.plays
 
 pub returns-clause-at_fault : goal.returns-clause-at_fault
 returns-clause-at_fault g c = c.play_through-status.ensures.plays.at_fault
+
+pub returns-clause-none_lost : goal.returns-clause-none_lost
+returns-clause-none_lost g c = c.play_through-status.ensures.plays.none_lost

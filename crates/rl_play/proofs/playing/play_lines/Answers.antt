@@ -17,6 +17,7 @@ loop-number-init g c = record {
   leaves = leaves_none g.L.Sink _ _;
   going_on = passes_first _ _ _ (Appends-nil _);
   breaking = λ ended left last h. h;
+  cutting = λ ended next others k. k;
   doing = λ total last standings state h. h;
   playing = λ last status p. p;
 }
@@ -37,6 +38,8 @@ loop-number-preserved g c =
       going_on = passes_both _ _ _ _ _ _ i.going_on (e.plays.next c.in-Next.is);
       breaking = λ ended left last h. i.breaking (still_going _ _ e.leaves.reads.ended ended) left last
           (e.plays.later_fault c.in-Next.is ended left last h);
+      cutting = λ ended next others k. i.cutting (still_going _ _ e.leaves.reads.ended ended) next others
+          (e.plays.later_cut c.in-Next.is ended next others k);
       doing = λ total last standings state h. i.doing total last standings state
           (e.plays.done_next c.in-Next.is total last standings state h);
       playing = λ last status p. i.playing last status (e.plays.plays_next c.in-Next.is last status p);
@@ -52,6 +55,7 @@ returns-in-Stop-clause-plays g c =
       at_fault = λ is. let stop = c.in-Stop.is ∙ ap Stop is in
           i.breaking (e.leaves.goes_on stop).unended _ _ (e.plays.at_fault stop);
       done = i.doing _ _ _ _ (e.plays.done_stop _ c.in-Stop.is);
+      none_lost = λ is. let stop = c.in-Stop.is ∙ ap Stop is in i.cutting (e.leaves.goes_on stop).unended _ _ (e.plays.cut stop);
       counted = rw c.in-Stop.is at e.plays.counted;
     }
 

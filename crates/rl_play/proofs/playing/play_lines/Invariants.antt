@@ -12,7 +12,7 @@ use Rattle.rl_access.specs.Call.{scene}
 use Rattle.rl_play.specs.AnyDevice.{Point, PlaysInput}
 use Rattle.rl_play.specs.Done.{Does}
 use Rattle.rl_play.specs.Leaves.{Leaves}
-use Rattle.rl_play.specs.Played.{coming, Breaks, PassesTo}
+use Rattle.rl_play.specs.Played.{coming, Breaks, KeepsCut, PassesTo}
 use Rattle.rl_play.proofs.playing.play_lines.Given as goal
 
 abbrev pub invariant-loop-number : goal.invariant-loop-number
@@ -40,6 +40,9 @@ invariant-loop-number g l =
           (map (λ b. (goal.Adapter-dyn g (b.vtable, b.value)).standing b.value) l.initial.adapters.items)
           (g.D.Device.state l.initial.device) (input_of l.initial.lines (g.S.Source.left l.initial.source)) left
           (g.L.Sink.written l.initial.out) last;
+      cutting : l.lines.ended ≡ false → (next others : Option (List ℕ))
+          → KeepsCut (input_of l.lines (g.S.Source.left l.source)) next others
+          → KeepsCut (input_of l.initial.lines (g.S.Source.left l.initial.source)) next others;
       doing : (total : Counts) (last : ModelData) (standings : List Standing) (state : Option State)
           → Does l.number l.model
           (map (λ b. (goal.Adapter-dyn g (b.vtable, b.value)).standing b.value) l.adapters.items)

@@ -13,7 +13,7 @@ pub returns-clause-plays : goal.returns-clause-plays
 returns-clause-plays g c =
     let s = c.settle.ensures in
     let p = c.play_lines-status.ensures in
-    let through = through_written _ _ _ _ _ _ _ _ _ _ _ _ _ _ c.requires.earlier c.new-out.ensures.told s.kept
+    let through = through_written _ _ _ _ _ _ _ _ _ _ _ _ _ _ _ c.requires.earlier c.new-out.ensures.told s.kept
     c.settle.new.out.keeps_earlier s.told s.whole
     (λ fault. s.at_fault fault (p.leaves.goes_on (ap Stop fault)).out) p.plays in
     search (rules, through)

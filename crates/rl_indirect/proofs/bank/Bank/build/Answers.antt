@@ -1,8 +1,6 @@
-use Rattle.std.proofs.Common.{◌≡◌, None, sym, ap, ◌∙◌, subst}
-use Rattle.rl_model.specs.Chip.{bytes_of}
+use Rattle.std.proofs.Common.{sym, ap, ◌∙◌, subst}
 use Rattle.rl_model.specs.Fields.{size_of}
 use Rattle.rl_model.specs.Rows.{ChipData}
-use Rattle.rl_model.specs.declared.rows.Item.TheVariants as item
 use Rattle.rl_mirror.specs.Mirror.{MirrorData, mirrored_of}
 use Rattle.rl_mirror.proofs.FieldLemmas.{row_answer}
 use Rattle.rl_access.specs.Call.{scene}

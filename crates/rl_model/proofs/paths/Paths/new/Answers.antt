@@ -1,5 +1,5 @@
-use Rattle.rl_model.proofs.PathLemmas.{none_numbered}
+use Rattle.rl_model.proofs.PathLemmas.{distinct-texts}
 use Rattle.rl_model.proofs.paths.Paths.new.Goals as goal
 
 pub invariant_of-result : goal.invariant_of-result
-invariant_of-result c = none_numbered _ _ c.new.ensures.items c.new-2.ensures.empty
+invariant_of-result c = distinct-texts _ c.new.ensures.unique

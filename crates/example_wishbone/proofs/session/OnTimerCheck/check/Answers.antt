@@ -1,0 +1,14 @@
+use Rattle.std.proofs.Common.{◌≡◌, Ok, refl, ap, sym, ◌∙◌}
+use Rattle.rl_session_run.proofs.StopLemmas.{check_passes, check_refuses}
+use Rattle.example_wishbone.specs.Session.{on_timer, unless_flawed}
+use Rattle.example_wishbone.proofs.session.OnTimerCheck.check.Goals as goal
+
+pub returns-then-not-has_flaws : goal.returns-then-not-has_flaws
+returns-then-not-has_flaws g c =
+    record { checks = check_passes g.Q.Sink on_timer c.args.desc.now _ _ (ap (unless_flawed c.args.desc.now) (sym c.has_flaws.ensures ∙ c.if-not-has_flaws.true)) }
+
+pub returns : goal.returns
+returns g c =
+    let refuses = check_refuses g.Q.Sink on_timer c.args.desc.now _ _ _ _ _ (ap (unless_flawed c.args.desc.now) (sym c.has_flaws.ensures ∙ c.if-not-has_flaws.false))
+    c.refused.ensures c.put_all.ensures.bytes c.put_all.ensures.stays.cause c.put_all.ensures.stays.ends in
+    record { checks = refuses }

@@ -1,9 +1,0 @@
-//! Tests of calls that no command makes by themselves: accesses by index and words that are sent alone, over the device
-//! model with and without flaws and over a device that doesn't tell its state; values that are adopted; and over the
-//! device model accesses through regions of a memory, and woven accesses.
-//!
-//! They stand apart from the crates that they test, since a crate with tests is proved twice.
-#![tactic(auto)]
-
-#[cfg(test)]
-mod tests;

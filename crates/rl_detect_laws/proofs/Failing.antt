@@ -1,0 +1,138 @@
+-- An access to a place with an address that answers errors ends by a bus error.
+use Rattle.std.proofs.Common.{◌≡◌, ℕ, zero, suc, ◌<◌, Bool, true, false, ◌||◌, if◌then◌else◌, List, [], ◌∷◌, length, map, get_or, Option, None, Some, Ok, refl, sym, ap, ◌∙◌, subst, arith}
+use Rattle.std.proofs.lemmas.List.{get_or-map, length-map}
+use Rattle.rl_bus.specs.declared.op.Answer.{Answer}
+use Rattle.rl_bus.specs.declared.op.BusOp.{BusOp}
+use Rattle.rl_bus.specs.declared.table.WordRow.{WordRow}
+use Rattle.rl_bus.specs.Setup.{Setup, is_named}
+use Rattle.rl_bus.specs.Standing.{Standing, standing_at}
+use Rattle.rl_bus.specs.State.{State, counted, is_faulty, word_at, answer_at, answer_of, state_after}
+use Rattle.rl_model.specs.Rows.{ChipData}
+use Rattle.rl_map.specs.Layout.{LayoutData, place_at, words_of, IsSound}
+use Rattle.rl_map.specs.Words.{no_word}
+use Rattle.rl_split.specs.Access.{all_bytes, op_of, sent_of, ops_of}
+use Rattle.rl_split.specs.Seats.{no_op}
+use Rattle.rl_split.proofs.Sending.{is_here, whole_sent}
+use Rattle.rl_access.specs.declared.event.Event.{Event}
+use Rattle.rl_access.specs.declared.event.Op.{Op}
+use Rattle.rl_access.specs.declared.trace.TraceItem.{TraceItem}
+use Rattle.rl_access.specs.Call.{Scene, Performs}
+use Rattle.rl_access.specs.Items.{item_of, took_item, items_of, has_failed, failed_at, port_for, adapter_for}
+use Rattle.rl_access.specs.Model.{ModelData}
+use Rattle.rl_access.specs.Operation.{register_of}
+use Rattle.rl_access.specs.Rules.{grant, named, sends, Outcome, or_error, outcome, event_at}
+use Rattle.rl_access.specs.Tally.{is_bus_error}
+use Rattle.rl_access.proofs.Setups.{setup-state_after}
+use Rattle.rl_access.proofs.Traces.{quiet_where_none}
+use Rattle.rl_plain.proofs.Answered.{done_of}
+use Rattle.rl_detect_laws.specs.Errors.{is_error_at, HasError, EndsByError}
+use Rattle.rl_detect_laws.proofs.Standing.{Stands}
+
+-- ---- one item
+
+pub or_left : (a b : Bool) → a ≡ true → (a || b) ≡ true
+or_left true b so = refl
+or_left false b so = absurd (cc)
+
+pub or_right : (a b : Bool) → b ≡ true → (a || b) ≡ true
+or_right true b so = refl
+or_right false b so = so
+
+faulty_fails : (b : Bool) (x y : Answer) → b ≡ true → x.failed ≡ true → (if b then x else y).failed ≡ true
+faulty_fails true x y so h = h
+faulty_fails false x y so h = absurd (cc)
+
+pub at_fails : (d : State) (port : ℕ) (op : BusOp) (w : Option WordRow) → is_faulty d port op ≡ true → (answer_at d port op w).failed ≡ true
+at_fails d port op None faulty = refl
+at_fails d port op (Some w) faulty = faulty_fails (is_faulty d port op) _ _ faulty refl
+
+is_fault : (d : State) (port : ℕ) (op : BusOp) → is_error_at d.setup port op.address ≡ true → is_faulty d port op ≡ true
+is_fault d port op error = or_right _ (is_named d.setup port op.address d.items) (or_left (is_error_at d.setup port op.address) _ error)
+
+answer_fails : (d : State) (port : ℕ) (op : BusOp) → is_error_at d.setup port op.address ≡ true → (answer_of d port op).failed ≡ true
+unfolding answer_of
+answer_fails d port op error = at_fails (counted d) port op (word_at d port op) (is_fault (counted d) port op error)
+
+-- ---- items one after another
+
+goes_on : (b : Bool) (rest : List TraceItem) → has_failed rest ≡ true → (b || has_failed (if b then [] else rest)) ≡ true
+goes_on true rest h = refl
+goes_on false rest h = h
+
+some_fails : (a : Standing) (t : Setup) (d : State) (port address k : ℕ) (ops : List BusOp) → d.setup ≡ t → is_error_at t port address ≡ true → k < length ops
+    → (get_or ops k no_op).address ≡ address → has_failed (items_of a d port ops) ≡ true
+some_fails a t d port address k [] setup error low at = absurd (omega (arith, low))
+some_fails a t d port address zero (op ∷ ops) setup error low at =
+    or_left (answer_of d port op).failed _
+    (answer_fails d port op (subst (λ (u : Setup). is_error_at u port op.address ≡ true) (sym setup) (subst (λ n. is_error_at t port n ≡ true) (sym at) error)))
+some_fails a t d port address (suc k) (op ∷ ops) setup error low at =
+    let item = item_of a port op (answer_of d port op) in
+    goes_on item.answer.failed (items_of (took_item a item) (state_after d port op) port ops)
+    (some_fails (took_item a item) t (state_after d port op) port address k ops (setup-state_after d port op ∙ setup) error (omega (arith, low)) at)
+
+-- ---- the operations of a whole access
+
+-- each word of the location is sent
+record IsSent (l : LayoutData) (place index value : ℕ) (write : Bool) (k : ℕ) : Type 0 where
+  low : k < length (ops_of l place index (all_bytes (place_at l place).bytes) value write)
+  address : (get_or (ops_of l place index (all_bytes (place_at l place).bytes) value write) k no_op).address
+      ≡ (get_or (words_of l place index) k no_word).address
+
+all_sent : (l : LayoutData) (place index value : ℕ) (write : Bool) (t : Setup) → IsSound l → HasError l t place index
+    → ops_of l place index (all_bytes (place_at l place).bytes) value write ≡ map (op_of l place (all_bytes (place_at l place).bytes) value write) (words_of l place index)
+unfolding ops_of sent_of
+all_sent l place index value write t sound e =
+    ap (map (op_of l place (all_bytes (place_at l place).bytes) value write)) (whole_sent l place index (is_here l place index sound e.stands.location))
+
+is_sent : (l : LayoutData) (place index value : ℕ) (write : Bool) (t : Setup) → IsSound l → (e : HasError l t place index) → IsSent l place index value write e.stands.number
+is_sent l place index value write t sound e =
+    let bytes = all_bytes (place_at l place).bytes in
+    let words = words_of l place index in
+    let k = e.stands.number in
+    let sent = all_sent l place index value write t sound e in
+    record {
+      low = subst (λ (ops : List BusOp). k < length ops) (sym sent) (subst (λ n. k < n) (sym (length-map words (op_of l place bytes value write))) e.stands.number_in);
+      address = ap (λ (ops : List BusOp). (get_or ops k no_op).address) sent
+          ∙ ap (λ (o : BusOp). o.address) (get_or-map (op_of l place bytes value write) words k no_word no_op e.stands.number_in);
+    }
+
+-- ---- an operation that is such an access
+
+-- it is granted this place from any model of the chip and the layout, sends all words of the location there, and ends by a bus
+-- error where one of them failed
+pub record IsAccessAt (c : ChipData) (l : LayoutData) (place index : ℕ) (op : Op) : Type 0 where
+  pub granted : (m : ModelData) → m.chip ≡ c → m.layout ≡ l → grant m op ≡ Ok place
+  pub value : ℕ
+  pub write : Bool
+  pub sent : (m : ModelData) → m.chip ≡ c → m.layout ≡ l → sends m op place ≡ ops_of l place index (all_bytes (place_at l place).bytes) value write
+  pub ends : (m : ModelData) (sampled : ℕ) (items : List TraceItem) → (failed_at items ≡ None → ⊥) → is_bus_error (outcome m op place sampled items).end ≡ true
+
+pub error_end : (o : Option ℕ) (m : ModelData) (good : Outcome) → (o ≡ None → ⊥) → is_bus_error (or_error o m good).end ≡ true
+error_end None m good some = absurd (some refl)
+error_end (Some k) m good some = refl
+
+pub end_is : (r : Option ℕ) (op : Op) (items : List TraceItem) (o : Outcome) → (event_at r op items o).end ≡ o.end
+end_is None op items o = refl
+end_is (Some reg) op items o = refl
+
+pub access_fails : (c : ChipData) (l : LayoutData) (t : Setup) (place index : ℕ) → IsSound l → HasError l t place index → (s new : Scene) (op : Op) (e : Event)
+    → IsAccessAt c l place index op → Stands c l t s → Performs s new op e → EndsByError e
+access_fails c l t place index sound error s new op e a st performs =
+    let done = done_of s new op place e (a.granted s.model st.chip st.layout) performs in
+    let port = (place_at l place).port in
+    let adapter = standing_at s.adapters (adapter_for s.model.layout place) in
+    let here = is_sent l place index a.value a.write t sound error in
+    let same : port_for s.model.layout place ≡ port = ap (λ (x : LayoutData). port_for x place) st.layout in
+    let failed : has_failed (items_of adapter st.device port (ops_of l place index (all_bytes (place_at l place).bytes) a.value a.write)) ≡ true =
+    some_fails adapter t st.device port error.address error.stands.number _ st.setup error.fails here.low (here.address ∙ error.stands.address_is) in
+    let trace : e.trace ≡ items_of adapter st.device port (ops_of l place index (all_bytes (place_at l place).bytes) a.value a.write) =
+    done.answers st.device st.told
+    ∙ ap (λ p. items_of adapter st.device p (sends s.model op place)) same
+    ∙ ap (items_of adapter st.device port) (a.sent s.model st.chip st.layout) in
+    let some : failed_at e.trace ≡ None → ⊥ =
+    λ none. let quiet : has_failed e.trace ≡ false = quiet_where_none e.trace none in
+    let both : true ≡ false = sym failed ∙ sym (ap has_failed trace) ∙ quiet in absurd (cc) in
+    let ended : e.end ≡ (outcome s.model op place done.sampled e.trace).end =
+    ap (λ (x : Event). x.end) done.event_is
+    ∙ end_is (register_of s.model.chip (named s.model op)) (named s.model op) e.trace (outcome s.model op place done.sampled e.trace) in
+    ap is_bus_error ended ∙ a.ends s.model done.sampled e.trace some

@@ -1,0 +1,5 @@
+use Rattle.rl_detect_laws.proofs.HwReset.{wrong_reset_is_named}
+use Rattle.rl_detect_laws.proofs.law.wrong_reset_is_named.Goals as goal
+
+pub returns : goal.returns
+returns c = wrong_reset_is_named

@@ -1,0 +1,103 @@
+-- Which sequence finds a deaf memory: `mem_walk`; and a deaf register: `access_test`.
+use Rattle.std.specs.Prelude.{◌≡◌, ◌≢◌, ℕ, ◌+◌, ◌^◌, ◌<◌, Bool, true, false, not, All, List, [], ◌∷◌, length, slice_index, sum_by, Option, Some}
+use Rattle.rl_policy.specs.Bits.{bit}
+use Rattle.rl_policy.specs.Table.{after_write}
+use Rattle.rl_policy.specs.declared.policy.Policy.{Policy}
+use Rattle.rl_policy.specs.declared.policy.Policy.TheVariants.{Rw, Wrc, Wrs, Wc, Ws, Wsrc, Wcrs, W1s, W1t, W0c, W0t, W1src, W0crs, W1}
+use Rattle.rl_bus.specs.declared.table.Cell.TheVariants.{Reg, Loc}
+use Rattle.rl_bus.specs.declared.table.ItemRow.{ItemRow}
+use Rattle.rl_bus.specs.Setup.{Flaws, location, is_deaf}
+use Rattle.rl_bus.specs.State.{State, first_state}
+use Rattle.rl_model.specs.Rows.{ChipData}
+use Rattle.rl_model.specs.Chip.{IsSound}
+use Rattle.rl_model.specs.Fields.{field_of}
+use Rattle.rl_model.specs.declared.rows.Item.TheVariants.{Mem}
+use Rattle.rl_map.specs.Layout.{LayoutData}
+use Rattle.rl_map.specs.Tables.{setup_of}
+use Rattle.rl_split.specs.Law.{no_flaws}
+use Rattle.rl_mirror.specs.Mirror.{MirrorData, mirrored_of, is_spent}
+use Rattle.rl_mirror.specs.Prediction.{fresh}
+use Rattle.rl_access.specs.Call.{Scene}
+use Rattle.rl_access.specs.HandsOver.{Told}
+use Rattle.rl_access.specs.Laws.{IsComparedField}
+use Rattle.rl_access.specs.Model.{IsModel}
+use Rattle.rl_access.specs.Operation.{location_size, reg_of}
+use Rattle.rl_seq.specs.declared.sequence.Sequence.TheVariants.{Access, MemWalk}
+use Rattle.rl_seq.specs.Choice.{turned_round}
+use Rattle.rl_plain.specs.Agree.{HasNoVolatile}
+use Rattle.rl_detect_laws.specs.Devices.{IsSetUp}
+use Rattle.rl_detect_laws.specs.Resets.{IsNamedBy}
+use Rattle.rl_detect_laws.specs.Visited.{RunsAll, HasEvent, IsVisited}
+
+abbrev pub deaf_items : List ItemRow → Flaws
+deaf_items deaf = record no_flaws { deaf = deaf }
+
+-- a device of this chip and this layout, whose only flaws are deaf registers and memories, with all beats 0
+pub record HasDeafItems (c : ChipData) (l : LayoutData) (d : State) : Type 0 where
+  pub deaf : List ItemRow
+  pub set_up : IsSetUp c (setup_of c l (deaf_items deaf)) d
+  pub open set_up use *
+  pub locations : length d.locations ≡ sum_by (λ m. m.size) c.mems
+
+-- the memory is deaf, and its first location doesn't hold what the walk writes there: 1 in each bit
+pub record IsDeafTo (c : ChipData) (d : State) (mem : ℕ) : Type 0 where
+  pub deaf : is_deaf d.setup (Loc mem 0) ≡ true
+  pub fits : slice_index d.locations (location d.setup mem 0) < 256 ^ location_size c mem
+  pub other : slice_index d.locations (location d.setup mem 0) ≢ turned_round c (Mem mem) 0
+
+-- Where a visited memory is deaf, some check of a location is marked.
+abbrev pub DeafMemoryIsFound : Type 0
+DeafMemoryIsFound =
+    (s new : Scene) (d : State) (block : Option ℕ) (told : List Told) (mem place : ℕ)
+    → IsModel s.model → s.device ≡ Some d → HasDeafItems s.model.chip s.model.layout d → IsDeafTo s.model.chip d mem
+    → IsVisited MemWalk s.model.chip s.model.layout block mem place → RunsAll MemWalk block s told new
+    → HasEvent (λ e. e.differ ≡ 1) told
+
+-- a write of the other value is believed to change a bit that is believed to have this one, as its field's mark stands
+abbrev pub IsTurned : Policy → (value spent : Bool) → Type 0
+IsTurned p value spent = after_write p value (not value) spent ≢ value
+
+-- a deaf register, and a bit of a compared field of it that is believed as it is held, at a value from which the field's policy
+-- turns it
+pub record IsDeafBit (c : ChipData) (d : State) (m : MirrorData) (field i : ℕ) : Type 0 where
+  pub deaf : is_deaf d.setup (Reg (reg_of c field)) ≡ true
+  pub field_in : field < length c.fields
+  pub bit_in : i < (field_of c field).shape.width
+  pub compared : IsComparedField (field_of c field).shape
+  pub value : Bool
+  pub held : bit (slice_index d.bits (reg_of c field)) ((field_of c field).shape.lsb + i) ≡ value
+  pub believed : bit (mirrored_of m (reg_of c field)) ((field_of c field).shape.lsb + i) ≡ value
+  pub turned : IsTurned (field_of c field).shape.policy value (is_spent m field)
+
+-- Where a visited register is deaf and has such a bit, some check names the bit's field.
+abbrev pub DeafRegisterIsNamed : Type 0
+DeafRegisterIsNamed =
+    (s new : Scene) (d : State) (block : Option ℕ) (told : List Told) (field i place : ℕ)
+    → IsModel s.model → s.device ≡ Some d → HasDeafItems s.model.chip s.model.layout d → IsDeafBit s.model.chip d s.model.mirror field i
+    → IsVisited Access s.model.chip s.model.layout block (reg_of s.model.chip field) place → RunsAll Access block s told new
+    → HasEvent (IsNamedBy s.model.chip field) told
+
+-- ---- the policies
+
+-- which turn a bit that holds 0, or 1, whatever was written before
+abbrev pub turned_from_0 : List Policy
+turned_from_0 = Rw ∷ Wrc ∷ Wrs ∷ Ws ∷ Wsrc ∷ W1s ∷ W1t ∷ W1src ∷ []
+
+abbrev pub turned_from_1 : List Policy
+turned_from_1 = Rw ∷ Wrc ∷ Wrs ∷ Wc ∷ Wcrs ∷ W0c ∷ W0t ∷ W0crs ∷ []
+
+-- and W1 turns either, where the first write is still to come
+abbrev pub PoliciesTurn : Type 0
+PoliciesTurn =
+    All (λ p. (spent : Bool) → IsTurned p false spent) turned_from_0 × All (λ p. (spent : Bool) → IsTurned p true spent) turned_from_1
+    × ((value : Bool) → IsTurned W1 value false)
+
+-- No field is spent in new beliefs.
+abbrev pub NoneSpent : Type 0
+NoneSpent = (c : ChipData) (field : ℕ) → is_spent (fresh c) field ≡ false
+
+-- A new device with deaf items and new beliefs of the same chip agree on each register, where no field is volatile.
+abbrev pub NewOnesAgreeOnBits : Type 0
+NewOnesAgreeOnBits =
+    (c : ChipData) (l : LayoutData) (deaf : List ItemRow) (count reg : ℕ) → IsSound c → HasNoVolatile c → reg < length c.regs
+    → mirrored_of (fresh c) reg ≡ slice_index (first_state (setup_of c l (deaf_items deaf)) count).bits reg

@@ -1,0 +1,79 @@
+//! What the sequences find. Each function does nothing; its contract is the law.
+ghost use Rattle.rl_detect_laws.specs.Deaf.{DeafMemoryIsFound, DeafRegisterIsNamed, NewOnesAgreeOnBits, NoneSpent};
+ghost use Rattle.rl_detect_laws.specs.Deaf.{PoliciesTurn};
+ghost use Rattle.rl_detect_laws.specs.Errors.{NthErrorIsFound, SharedErrorIsFound, VisitedErrorIsFound};
+ghost use Rattle.rl_detect_laws.specs.Named.{NoLocationDiffers, NothingIsNamed};
+ghost use Rattle.rl_detect_laws.specs.Resets.{WrongResetIsNamed};
+ghost use Rattle.rl_detect_laws.specs.Stuck.{NewOneHasStuckBit, PoliciesShowBeside, PoliciesShowTurned};
+ghost use Rattle.rl_detect_laws.specs.Stuck.{StuckBitBesideIsNamed, StuckBitIsNamed, StuckResetIsNamed};
+
+/// Where a device without flaws and a model without a volatile field agree, as new ones do, no event of a sequence
+/// names a field.
+pub fn nothing_is_named()
+    ensures { NothingIsNamed }
+{}
+
+/// And no check of a location in `mem_walk` finds another value than was written there.
+pub fn no_location_differs()
+    ensures { NoLocationDiffers }
+{}
+
+/// Each sequence finds an address that answers errors, by a flaw of a range: where a word of a register or a location
+/// stands there, in a place that the sequence visits, some event ends by a bus error.
+pub fn visited_error_is_found()
+    ensures { VisitedErrorIsFound }
+{}
+
+/// `shared_access` finds it at each place of a register that it visits, also at one that may only be read.
+pub fn shared_error_is_found()
+    ensures { SharedErrorIsFound }
+{}
+
+/// Each finds an item that fails by its number, where the device took that item while the sequence ran.
+pub fn nth_error_is_found()
+    ensures { NthErrorIsFound }
+{}
+
+/// `hw_reset` finds a wrong reset value: where a compared field of a register that it visits takes another value at a
+/// HARD reset than the description says, some check names the field.
+pub fn wrong_reset_is_named()
+    ensures { WrongResetIsNamed }
+{}
+
+/// `mem_walk` finds a deaf memory: where a memory that it visits takes no write, and its first location doesn't hold 1
+/// in each bit, some check of a location is marked.
+pub fn deaf_memory_is_found()
+    ensures { DeafMemoryIsFound }
+{}
+
+/// `bit_bash` finds a stuck bit: where one bit of a compared field of a register that it visits is stuck, and
+/// nothing else is wrong with the device, some check names the field. The field is RW, or has another policy by which
+/// a write of the other value, after a read, is believed to leave something else than the stuck value.
+pub fn stuck_bit_is_named()
+    ensures named { StuckBitIsNamed }
+    ensures policies { PoliciesShowTurned }
+    ensures first { NewOneHasStuckBit }
+{}
+
+/// Where the register has another compared bit, so it is by a policy where a write of the same value does that: with
+/// the law before, RW, WRC, WRS, W1T, W0T, W1SRC, W1CRS, W0SRC and W0CRS are found either way.
+pub fn stuck_bit_beside_is_named()
+    ensures named { StuckBitBesideIsNamed }
+    ensures policies { PoliciesShowBeside }
+{}
+
+/// `hw_reset` finds a stuck bit of a compared field of a register that it visits, where the description says another
+/// value for it at a HARD reset, and nothing else is wrong with the device.
+pub fn stuck_reset_is_named()
+    ensures { StuckResetIsNamed }
+{}
+
+/// `access_test` finds a deaf register: where a register that it visits takes no write over the bus, and a bit of a
+/// compared field of it is believed as it is held, some check names the field, if it is RW, W1 before its first write,
+/// or has another policy that turns the bit.
+pub fn deaf_register_is_named()
+    ensures named { DeafRegisterIsNamed }
+    ensures policies { PoliciesTurn }
+    ensures first { NewOnesAgreeOnBits }
+    ensures unspent { NoneSpent }
+{}

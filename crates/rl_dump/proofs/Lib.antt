@@ -1,2 +1,0 @@
-mod DumpLemmas
-mod LabelLemmas

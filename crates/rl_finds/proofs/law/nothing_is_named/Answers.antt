@@ -1,5 +1,0 @@
-use Rattle.rl_finds.proofs.Quiet.{nothing_is_named}
-use Rattle.rl_finds.proofs.law.nothing_is_named.Goals as goal
-
-pub returns : goal.returns
-returns c = nothing_is_named

@@ -1,5 +1,0 @@
-use Rattle.rl_finds.proofs.NthError.{nth_error_is_found}
-use Rattle.rl_finds.proofs.law.nth_error_is_found.Goals as goal
-
-pub returns : goal.returns
-returns c = nth_error_is_found

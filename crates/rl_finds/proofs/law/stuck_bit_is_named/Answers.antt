@@ -1,6 +1,0 @@
-use Rattle.rl_finds.proofs.BitBash.{stuck_bit_is_named}
-use Rattle.rl_finds.proofs.Turned.{new_one_has_stuck_bit, policies_show_turned}
-use Rattle.rl_finds.proofs.law.stuck_bit_is_named.Goals as goal
-
-pub returns : goal.returns
-returns c = record { named = stuck_bit_is_named; policies = policies_show_turned; first = new_one_has_stuck_bit }

@@ -1,5 +1,0 @@
-use Rattle.rl_finds.proofs.StuckReset.{stuck_reset_is_named}
-use Rattle.rl_finds.proofs.law.stuck_reset_is_named.Goals as goal
-
-pub returns : goal.returns
-returns c = stuck_reset_is_named

@@ -1,0 +1,7 @@
+mod EachOnce
+mod Flaws
+pub mod Parts
+mod PlaceLemmas
+mod Placed
+mod SessionLemmas
+mod WordLemmas

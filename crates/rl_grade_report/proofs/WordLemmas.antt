@@ -1,0 +1,10 @@
+-- Words that ask for nothing.
+use Rattle.std.proofs.Common.{◌≡◌, ◌≤◌, List, [], ◌∷◌, None, length, map, String, string_bytes, refl, arith}
+use Rattle.std.specs.declared.alloc.Global.{Global}
+use Rattle.rl_grade_report.specs.Asked.{asked_of}
+
+pub too_many : (words : List (String Global)) → 3 ≤ length words → None ≡ asked_of (map string_bytes words)
+too_many [] h = absurd (omega arith)
+too_many (a ∷ []) h = absurd (omega arith)
+too_many (a ∷ b ∷ []) h = absurd (omega arith)
+too_many (a ∷ b ∷ c ∷ rest) h = refl

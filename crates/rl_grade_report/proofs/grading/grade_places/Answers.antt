@@ -1,0 +1,41 @@
+use Rattle.std.proofs.Common.{arith, ◌∙◌}
+use Rattle.rl_grade_report.specs.Progress.{base_shown}
+use Rattle.rl_grade_report.proofs.Placed.{place_done, place_stopped, places_done}
+use Rattle.rl_grade_report.proofs.grading.grade_places.Goals as goal
+
+pub grade_next-requires-clause-built_with : goal.grade_next-requires-clause-built_with
+grade_next-requires-clause-built_with g c = rw c.loop-place.invariant.desc_is c.requires.built_with
+
+pub grade_next-requires-clause-kinds : goal.grade_next-requires-clause-kinds
+grade_next-requires-clause-kinds g c = rw c.loop-place.invariant.desc_is c.requires.kinds
+
+pub grade_next-requires-clause-fits : goal.grade_next-requires-clause-fits
+grade_next-requires-clause-fits g c = rw c.loop-place.invariant.desc_is c.requires.fits
+
+pub grade_next-requires-clause-place : goal.grade_next-requires-clause-place
+grade_next-requires-clause-place g c =
+    rw c.loop-place.invariant.desc_is (c.requires.places c.loop-place.place-index _ c.loop-place-test.true)
+
+pub loop-place-preserved : goal.loop-place-preserved
+loop-place-preserved g c =
+    let i = c.loop-place.invariant in
+    let e = c.in_ok-progress.ensures in
+    record {
+      desc_is = e.next.desc_is ∙ i.desc_is;
+      put = place_done c.args.asked (base_shown c.args.tasks.now c.args.shown.now) c.args.desc _ _ _ _ _ _ _ _ _ _ c.args.places.now
+          c.loop-place.place-index _ c.loop-place-test.true i.desc_is i.put e.bytes.whole e.next;
+      later = omega (arith, e.stays.later);
+      ends_kept = e.stays.ends_kept ∙ i.ends_kept;
+      same_target = e.stays.same_target ∙ i.same_target;
+    }
+
+pub returns-in_err-progress-clause-bytes : goal.returns-in_err-progress-clause-bytes
+returns-in_err-progress-clause-bytes g c =
+    let i = c.loop-place.invariant in
+    place_stopped c.args.asked (base_shown c.args.tasks.now c.args.shown.now) c.args.desc _ _ _ _ _ _ _ c.args.places.now
+    c.loop-place.place-index _ _ c.loop-place-test.true i.desc_is i.put c.from_residual.ensures.0 c.in_err-progress.ensures.bytes.part
+
+pub returns-clause-bytes : goal.returns-clause-bytes
+returns-clause-bytes g c =
+    places_done c.args.asked (base_shown c.args.tasks.now c.args.shown.now) c.args.desc _ _ _ _ _ _ c.args.places.now
+    c.loop-place.place-index _ (omega arith) c.loop-place.invariant.put c.put_last.ensures.bytes

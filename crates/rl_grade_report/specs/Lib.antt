@@ -1,0 +1,15 @@
+pub mod Asked
+pub mod Counts
+pub mod Grading
+pub mod Groups
+pub mod Kinds
+pub mod Lines
+pub mod Members
+pub mod Opening
+pub mod Places
+pub mod Prelude
+pub mod Progress
+pub mod Refusal
+pub mod Row
+pub mod Totals
+pub mod Whole

@@ -1,0 +1,14 @@
+-- The words that the contracts of this crate use, passed on from one place. Declares nothing.
+pub use Rattle.rl_play.specs.Prelude.{Tells, refused_text}
+pub use Rattle.rl_session_run.specs.Prelude.{AwaitsScript, IsBuiltWith, IsCaused, LeavesEnded, LeavesOpen, Rose, Stays, StaysOpen, input_of, is_complete, kinds_of}
+pub use Rattle.rl_report.specs.Lines.{lines_of}
+pub use Rattle.rl_report.specs.Pieces.{Puts}
+pub use Rattle.rl_grade.specs.Prelude.{IsReady, world, bench_state, IsPlaceIn, TasksFit, fresh_standings, heard_by}
+pub use Rattle.rl_grade.specs.Reading.{refused_line}
+pub use Rattle.rl_grade_report.specs.Lines.{AreGraded}
+pub use Rattle.rl_grade_report.specs.Asked.{share_of}
+pub use Rattle.rl_grade_report.specs.Grading.{graded_at, grading_of, last_text, no_totals, place_text, places_text, report, script_graded}
+pub use Rattle.rl_grade_report.specs.Opening.{unflawed}
+pub use Rattle.rl_grade_report.specs.Places.{mems_places, places_of, reg_places, regs_places}
+pub use Rattle.rl_grade_report.specs.Progress.{IsNext, TellsGraded, base_shown, desc_of, status_of}
+pub use Rattle.rl_grade_report.specs.Refusal.{EndsUnread}

@@ -1,0 +1,238 @@
+// A session that is graded.
+ghost use Rattle.std.specs.Prelude.{◌≡◌, ◌≢◌, ◌<◌, ◌^◌, [], Some, false, map, length, All, IfErr, IfOk, IfSome};
+ghost use Rattle.rl_grade_report.specs.Prelude.{AwaitsScript, IsBuiltWith, IsCaused, IsNext, IsPlaceIn, IsReady};
+ghost use Rattle.rl_grade_report.specs.Prelude.{LeavesEnded, LeavesOpen, Puts, Stays, TasksFit, Tells, TellsGraded};
+ghost use Rattle.rl_grade_report.specs.Prelude.{base_shown, bench_state, desc_of, fresh_standings, graded_at, grading_of};
+ghost use Rattle.rl_grade_report.specs.Prelude.{heard_by, input_of, is_complete, kinds_of, lines_of, no_totals, place_text};
+ghost use Rattle.rl_grade_report.specs.Prelude.{places_of, places_text, report, script_graded, share_of, status_of, world};
+
+use crate::asked::Asked;
+use crate::meter::Meter;
+use crate::places::places_of;
+use crate::refusal::{Unflawed, end_unread};
+use crate::totals::Totals;
+use crate::writing::{put_last, put_place};
+use rl_access::Model;
+use rl_bench::Bench;
+use rl_bus::{Adapter, Adapters};
+use rl_desc::Desc;
+use rl_grade::{Place, Shown, Task, grade_place, read_script, show};
+use rl_log::Status;
+use rl_report::{LineReader, Sink, Source};
+use rl_session::open;
+use rl_session_run::{end_log, open_checked};
+use std::alloc::Global;
+
+// How far the places are done.
+#[derive(Drop)]
+struct Progress {
+    desc: Desc,
+    // How many flaws stand before the next place.
+    number: u64,
+    totals: Totals,
+}
+
+// Tries the flaws of a place, and writes what was found.
+fn grade_next<K: Sink>(
+    alloc: Global,
+    asked: Asked,
+    tasks: &[Task],
+    shown: &Shown,
+    place: Place,
+    progress: Progress,
+    log: &mut K,
+) -> Result<Progress, Status>
+    requires built_with { IsBuiltWith progress.desc.layout progress.desc.chip }
+    requires kinds { progress.desc.layout.kinds ≡ kinds_of fresh_standings }
+    requires fits { TasksFit progress.desc.chip (length progress.desc.layout.maps) tasks.now }
+    requires place { IsPlaceIn progress.desc.chip place }
+    requires every { 0 < (share_of asked).every }
+    ensures bytes { Puts (K.written log.old) (K.written log.new) (place_text asked progress.desc place
+        (graded_at asked progress.desc (base_shown tasks.now shown.now) progress.number place)) result }
+    ensures next { IfOk result (λ next. IsNext asked (base_shown tasks.now shown.now) place
+        progress.desc progress.number progress.totals next.desc next.number next.totals) }
+    ensures broken { IfErr result (λ status. is_complete status ≡ false) }
+    ensures cause { IfErr result (λ status. IsCaused status 0 0 (K.faults log.old) (K.faults log.new)) }
+    ensures stays { Stays K.faults K.ends K.target log.old log.new }
+{
+    let Progress {
+        desc,
+        number,
+        totals,
+    } = progress;
+    let Ok(grade) = grade_place(alloc, desc, tasks, shown, place, number, asked.share()) else {
+        return Err(Status::Memory);
+    };
+    put_place(alloc, asked, &grade.desc, place, &grade.graded, log)?;
+    Ok(Progress {
+        desc: grade.desc,
+        number: number.saturating_add(grade.flaws),
+        totals: totals.with(&grade.graded),
+    })
+}
+
+// Tries the flaws of the places, and writes what was found.
+fn grade_places<K: Sink, M: Meter>(
+    alloc: Global,
+    asked: Asked,
+    desc: Desc,
+    tasks: &[Task],
+    shown: &Shown,
+    places: &[Place],
+    log: &mut K,
+    meter: &mut M,
+) -> Result<(), Status>
+    requires built_with { IsBuiltWith desc.layout desc.chip }
+    requires kinds { desc.layout.kinds ≡ kinds_of fresh_standings }
+    requires fits { TasksFit desc.chip (length desc.layout.maps) tasks.now }
+    requires places { All (IsPlaceIn desc.chip) places.now }
+    requires every { 0 < (share_of asked).every }
+    ensures bytes { Puts (K.written log.old) (K.written log.new)
+        (places_text asked desc (base_shown tasks.now shown.now) 0 no_totals places.now) result }
+    ensures broken { IfErr result (λ status. is_complete status ≡ false) }
+    ensures cause { IfErr result (λ status. IsCaused status 0 0 (K.faults log.old) (K.faults log.new)) }
+    ensures stays { Stays K.faults K.ends K.target log.old log.new }
+{
+    let mut progress = Progress {
+        desc,
+        number: 0,
+        totals: Totals::NONE,
+    };
+    for place in places {
+        progress = grade_next(alloc, asked, tasks, shown, *place, progress, log)?;
+        meter.show(progress.number);
+    }
+    put_last(alloc, asked, progress.totals, log)
+}
+
+// Tries the flaws of a description without flaws of its own, where this is what the tasks show.
+fn grade_shown<K: Sink, M: Meter>(
+    alloc: Global,
+    asked: Asked,
+    desc: Desc,
+    tasks: &[Task],
+    shown: &Shown,
+    log: &mut K,
+    meter: &mut M,
+) -> Result<(), Status>
+    requires built_with { IsBuiltWith desc.layout desc.chip }
+    requires kinds { desc.layout.kinds ≡ kinds_of fresh_standings }
+    requires fits { TasksFit desc.chip (length desc.layout.maps) tasks.now }
+    requires every { 0 < (share_of asked).every }
+    ensures bytes { Puts (K.written log.old) (K.written log.new)
+        (places_text asked desc (base_shown tasks.now shown.now) 0 no_totals (places_of desc.chip)) result }
+    ensures broken { IfErr result (λ status. is_complete status ≡ false) }
+    ensures cause { IfErr result (λ status. IsCaused status 0 0 (K.faults log.old) (K.faults log.new)) }
+    ensures stays { Stays K.faults K.ends K.target log.old log.new }
+{
+    let Ok(places) = places_of(alloc, &desc.chip) else {
+        return Err(Status::Memory);
+    };
+    grade_places(alloc, asked, desc, tasks, shown, &places, log, meter)
+}
+
+// Does the tasks without a flaw, and then tries the flaws.
+fn grade_tasks<K: Sink, M: Meter>(
+    alloc: Global,
+    asked: Asked,
+    model: Model,
+    bench: Bench,
+    adapters: &mut Adapters,
+    tasks: &[Task],
+    log: &mut K,
+    meter: &mut M,
+) -> Result<(), Status>
+    requires ready { IsReady model (map standing adapters.old.items) (Some (bench_state bench)) }
+    requires kinds { model.layout.kinds ≡ kinds_of fresh_standings }
+    requires fits { TasksFit model.chip (length model.layout.maps) tasks.now }
+    requires every { 0 < (share_of asked).every }
+    ensures bytes { Puts (K.written log.old) (K.written log.new) (report asked (desc_of model) tasks.now
+        (heard_by (world model (map standing adapters.old.items) (bench_state bench)) tasks.now)) result }
+    ensures broken { IfErr result (λ status. is_complete status ≡ false) }
+    ensures cause { IfErr result (λ status. IsCaused status 0 0 (K.faults log.old) (K.faults log.new)) }
+    ensures stays { Stays K.faults K.ends K.target log.old log.new }
+{
+    let mut model = model;
+    let mut bench = bench;
+    let Ok(shown) = show(alloc, &mut model, &mut bench, adapters, tasks) else {
+        return Err(Status::Memory);
+    };
+    let (chip, layout) = model.into_parts();
+    let desc = Desc {
+        chip,
+        layout,
+        flaws: Vec::new(alloc),
+    };
+    grade_shown(alloc, asked, desc, tasks, &shown, log, meter)
+}
+
+// How a grading ends that wrote its text, or a front of it.
+fn status_of(written: Result<(), Status>) -> Status
+    ensures { result ≡ status_of written }
+{
+    match written {
+        Ok(()) => Status::Passed,
+        Err(status) => status,
+    }
+}
+
+// Grades what is left of a session behind its head.
+fn grade_script<S: Source, K: Sink, M: Meter>(
+    alloc: Global,
+    asked: Asked,
+    desc: Desc,
+    lines: &mut LineReader,
+    source: &mut S,
+    log: &mut K,
+    adapters: &mut Adapters,
+    meter: &mut M,
+) -> Status
+    requires awaits { AwaitsScript desc lines.old (kinds_of (map standing adapters.old.items)) }
+    requires none { desc.flaws ≡ [] }
+    requires fresh { map standing adapters.old.items ≡ fresh_standings }
+    requires every { 0 < (share_of asked).every }
+    ensures tells { IfSome (input_of lines.old (S.left source.old)) (λ bytes.
+        TellsGraded (script_graded asked desc (lines_of bytes)) result (K.written log.old) (K.written log.new)) }
+    ensures leaves { LeavesOpen K.Sink result (S.faults source.old) (S.faults source.new) log.old log.new }
+{
+    let Ok((model, bench)) = open(alloc, desc) else {
+        return Status::Memory;
+    };
+    match read_script(alloc, &model, lines, source) {
+        Ok(tasks) => status_of(grade_tasks(
+            alloc, asked, model, bench, adapters, &tasks, log, meter,
+        )),
+        Err(fault) => end_unread(fault, log),
+    }
+}
+
+/// Grades a session: tries which single flaws of its device its script finds, and writes for each place what was found,
+/// or each flaw that is missed as a row. The adapters are a plain and an APB adapter that have sent nothing.
+///
+/// Nothing is written before the whole script was read. The log is finished once, where its last line was written.
+pub fn run_grade<S: Source, K: Sink, M: Meter>(
+    alloc: Global,
+    asked: Asked,
+    source: &mut S,
+    log: &mut K,
+    adapters: &mut Adapters,
+    meter: &mut M,
+) -> Status
+    requires fresh { map standing adapters.old.items ≡ fresh_standings }
+    requires every { 0 < (share_of asked).every }
+
+    // Which sessions are refused and in what words, what is written of the others, and the statuses.
+    ensures tells { IfSome (S.left source.old) (λ bytes.
+        TellsGraded (grading_of asked bytes) result (K.written log.old) (K.written log.new)) }
+
+    // However it ends, the log keeps the bytes that it had before, and is ended exactly where its last line was
+    // written. No fault is made up, and the status is never that of other words.
+    ensures leaves { LeavesEnded K.Sink result (S.faults source.old) (S.faults source.new) log.old log.new }
+{
+    let (desc, mut lines) = match open_checked(alloc, source, log, adapters, &Unflawed {}) {
+        Ok(opened) => opened,
+        Err(status) => return end_log(status, log),
+    };
+    let graded = grade_script(alloc, asked, desc, &mut lines, source, log, adapters, meter);
+    end_log(graded, log)
+}

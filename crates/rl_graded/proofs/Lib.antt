@@ -1,2 +1,0 @@
-mod Flaws
-pub mod Parts

@@ -1,5 +1,0 @@
-mod EachOnce
-mod Placed
-mod PlaceLemmas
-mod SessionLemmas
-mod WordLemmas

@@ -1,5 +1,0 @@
-use Rattle.rl_grading.proofs.EachOnce.{every_graded}
-use Rattle.rl_grading.proofs.law.each_flaw_is_graded.Goals as goal
-
-pub returns : goal.returns
-returns c = every_graded

@@ -1,5 +1,0 @@
-use Rattle.rl_grading.proofs.EachOnce.{none_twice}
-use Rattle.rl_grading.proofs.law.no_flaw_is_graded_twice.Goals as goal
-
-pub returns : goal.returns
-returns c = none_twice

@@ -1,4 +1,0 @@
-pub mod Opening
-pub mod Prelude
-pub mod Refusals
-pub mod Session

@@ -1,4 +1,0 @@
-pub mod JudgedLemmas
-pub mod OpeningLemmas
-pub mod StaysLemmas
-pub mod StopLemmas

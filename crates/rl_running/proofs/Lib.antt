@@ -1,4 +1,0 @@
-pub mod JudgedLemmas
-pub mod LeavesLemmas
-pub mod RunLemmas
-pub mod ScriptLemmas

@@ -1,0 +1,10 @@
+pub mod JudgedLemmas
+pub mod LeavesLemmas
+pub mod OpeningLemmas
+pub mod PlayedLemmas
+pub mod RunLemmas
+pub mod ScriptLemmas
+pub mod SoakLemmas
+pub mod SoakTextLemmas
+pub mod StaysLemmas
+pub mod StopLemmas

@@ -1,0 +1,237 @@
+-- What a session does on a device that tells nothing, part by part.
+use Rattle.std.proofs.Common.{◌≡◌, ◌≢◌, ℕ, true, false, List, [], Result, Ok, Err, Some, None, IfSome, refl, sym, ap, subst, ◌∙◌, inl, inr}
+use Rattle.std.specs.Prelude.{unwrap_or}
+use Rattle.std.specs.declared.option.Option.{Option}
+use Rattle.std.specs.Io.KnownBytes.{Keeps}
+use Rattle.rl_access.specs.Call.{scene}
+use Rattle.rl_access.specs.Model.{ModelData}
+use Rattle.rl_bus.specs.Standing.{Standing}
+use Rattle.rl_bus.specs.State.{State}
+use Rattle.rl_desc.specs.Data.{DescData}
+use Rattle.rl_report.specs.Lines.{lines_of}
+use Rattle.rl_report.specs.Opening.{separator_at}
+use Rattle.rl_report.specs.Reading.{Reading, input_of}
+use Rattle.rl_log.specs.declared.counts.Counts.{Counts}
+use Rattle.rl_log.specs.declared.status.Status.{Status}
+use Rattle.rl_log.specs.declared.status.Status.TheVariants.{Refused, SinkFault}
+use Rattle.rl_log.specs.Recording.{no_counts}
+use Rattle.rl_log.specs.Statuses.{is_complete}
+use Rattle.rl_log.specs.Telling.{Tells}
+use Rattle.rl_play.specs.AnyDevice.{Point, Plays, PlaysOnAnyDevice}
+use Rattle.rl_log.specs.Earlier.{KeepsEarlier}
+use Rattle.rl_play.proofs.AnyLemmas.{plays_cut, plays_written}
+use Rattle.std.proofs.KnownBytes.{Appends-kept, Keeps-refl, Keeps-trans}
+use Rattle.std.proofs.lemmas.Bool.{cases_Bool}
+use Rattle.rl_log.proofs.TellingLemmas.{not_sink_fault}
+use Rattle.rl_play.proofs.EndingLemmas.{append_none}
+use Rattle.rl_session.specs.Judged.{first_world}
+use Rattle.rl_session.specs.Session.{behind, script_of}
+use Rattle.rl_session_run.specs.Opening.{OpensAs}
+use Rattle.rl_session_run.specs.Script.{first_point, IsUnreached, PlaysLines, PlaysRest, RunsSession}
+use Rattle.rl_session_run.specs.Telling.{Stops}
+
+-- ---- a script
+
+-- nothing was played
+cut_plays : (desc : DescData) (bytes : List ℕ) (status : Status) (old new : Option (List ℕ)) (adapters : List Standing) (errors : ℕ)
+    → errors ≡ 0 → is_complete status ≡ false → Keeps old new → PlaysLines desc (lines_of bytes) status old new adapters adapters errors
+cut_plays desc bytes status old new adapters errors none broken kept = record {
+  last = record (first_point desc adapters old) { text = new };
+  plays = plays_cut 1 (first_point desc adapters old) new (Some bytes) status status refl broken kept;
+  text_is = refl;
+  adapters_are = refl;
+  errors_are = sym none;
+}
+
+pub rest_cut : (desc : DescData) (input : Option (List ℕ)) (status : Status) (old : Option (List ℕ)) (adapters : List Standing) (errors : ℕ)
+    → errors ≡ 0 → is_complete status ≡ false → PlaysRest desc input status old old adapters adapters errors
+rest_cut desc None status old adapters errors none broken = tt
+rest_cut desc (Some bytes) status old adapters errors none broken =
+    cut_plays desc bytes status old old adapters errors none broken (Keeps-refl old)
+
+abbrev point_of : ModelData → List Standing → (errors : ℕ) → Option State → (text : Option (List ℕ)) → Counts → Point
+point_of m adapters errors state text counts = record { scene = scene m adapters errors state; text = text; counts = counts }
+
+first_is : (desc : DescData) (m : ModelData) (errors : ℕ) (state : Option State) (adapters : List Standing) (text : Option (List ℕ))
+    → m ≡ (first_world desc adapters).model → errors ≡ 0 → state ≡ None
+    → point_of m adapters errors state text no_counts ≡ first_point desc adapters text
+first_is desc m errors state adapters text model none silent =
+    ap (λ m. point_of m adapters errors state text no_counts) model
+    ∙ ap (λ e. point_of (first_world desc adapters).model adapters e state text no_counts) none
+    ∙ ap (λ s. point_of (first_world desc adapters).model adapters 0 s text no_counts) silent
+
+pub plays_rest : (desc : DescData) (input : Option (List ℕ)) (status : Status) (m : ModelData) (errors : ℕ) (state : Option State)
+    (counts : Counts) (adapters : List Standing) (old : Option (List ℕ)) (after : Point)
+    → m ≡ (first_world desc adapters).model → errors ≡ 0 → state ≡ None
+    → PlaysOnAnyDevice (point_of m adapters errors state old counts) input after status
+    → PlaysRest desc input status old after.text adapters after.scene.adapters after.scene.errors
+plays_rest desc None status m errors state counts adapters old after model none silent p = tt
+plays_rest desc (Some bytes) status m errors state counts adapters old after model none silent p = record {
+  last = record after { counts = p.own };
+  plays = subst (λ b. Plays 1 b (lines_of bytes) (record after { counts = p.own }) status)
+      (first_is desc m errors state adapters old model none silent) p.plays;
+  text_is = refl;
+  adapters_are = refl;
+  errors_are = refl;
+}
+
+-- ---- a session
+
+runs_by : (opening : Result DescData (List ℕ)) (bytes : List ℕ) (status : Status) (old new : Option (List ℕ)) (adapters : List Standing)
+    → Stops opening status old new → RunsSession opening bytes status old new adapters adapters None
+runs_by opening bytes status old new adapters s = record {
+  refused = λ line e. subst (λ o. Stops o status old new) e s;
+  untouched = λ line e. refl;
+  played = λ desc e.
+      let cut = subst (λ o. Stops o status old new) e s in
+      cut_plays desc (behind (separator_at bytes) bytes) status old new adapters 0 refl cut.0 cut.1;
+  unreached = λ desc e none.
+      let cut = subst (λ o. Stops o status old new) e s in
+      record { broken = cut.0; unwritten = cut.1; untouched = refl };
+}
+
+pub runs_stopped : (input : Option (List ℕ)) (opening : List ℕ → Result DescData (List ℕ)) (status : Status) (old new : Option (List ℕ))
+    (adapters : List Standing) → IfSome input (λ bytes. Stops (opening bytes) status old new)
+    → IfSome input (λ bytes. RunsSession (opening bytes) bytes status old new adapters adapters None)
+runs_stopped None opening status old new adapters s = tt
+runs_stopped (Some bytes) opening status old new adapters s = runs_by (opening bytes) bytes status old new adapters s
+
+ok-err : {X E : Type 0} {x : X} {e : E} (r : Result X E) → r ≡ Ok x → r ≡ Err e → ⊥
+ok-err r a b = cc
+
+same_ok : {X E : Type 0} {x y : X} (r : Result X E) → r ≡ Ok x → r ≡ Ok y → x ≡ y
+same_ok r a b = cc
+
+runs_after : {K : Type 0} (opening : Result DescData (List ℕ)) (written : K → Option (List ℕ)) (bytes : List ℕ) (desc : DescData)
+    (lines : Reading) (left : Option (List ℕ)) (status : Status) (old mid new : K) (adapters now : List Standing) (errors : Option ℕ)
+    → OpensAs opening bytes desc lines left → mid ≡ old
+    → PlaysRest desc (input_of lines left) status (written mid) (written new) adapters now (unwrap_or errors 0)
+    → (errors ≡ None → IsUnreached status (written mid) (written new) adapters now)
+    → RunsSession opening bytes status (written old) (written new) adapters now errors
+runs_after opening written bytes desc lines left status old mid new adapters now errors opens same p none =
+    let n = unwrap_or errors 0 in
+    let script : PlaysRest desc (Some (behind (separator_at bytes) bytes)) status (written mid) (written new) adapters now n =
+    subst (λ i. PlaysRest desc i status (written mid) (written new) adapters now n) opens.rest p in
+    let here : PlaysLines desc (script_of bytes) status (written old) (written new) adapters now n =
+    subst (λ k. PlaysLines desc (script_of bytes) status (written k) (written new) adapters now n) same script in
+    record {
+      refused = λ line e. absurd (ok-err opening opens.opening e);
+      untouched = λ line e. absurd (ok-err opening opens.opening e);
+      played = λ d e. subst (λ d. PlaysLines d (script_of bytes) status (written old) (written new) adapters now n)
+          (same_ok opening opens.opening e) here;
+      unreached = λ d e is. subst (λ k. IsUnreached status (written k) (written new) adapters now) same (none is);
+    }
+
+runs_behind : {K : Type 0} (written : K → Option (List ℕ)) (input : Option (List ℕ)) (opening : List ℕ → Result DescData (List ℕ))
+    (desc : DescData) (lines : Reading) (left : Option (List ℕ)) (status : Status) (old mid new : K) (adapters now : List Standing) (errors : Option ℕ)
+    → IfSome input (λ bytes. OpensAs (opening bytes) bytes desc lines left) → mid ≡ old
+    → PlaysRest desc (input_of lines left) status (written mid) (written new) adapters now (unwrap_or errors 0)
+    → (errors ≡ None → IsUnreached status (written mid) (written new) adapters now)
+    → IfSome input (λ bytes. RunsSession (opening bytes) bytes status (written old) (written new) adapters now errors)
+runs_behind written None opening desc lines left status old mid new adapters now errors opens same p none = tt
+runs_behind written (Some bytes) opening desc lines left status old mid new adapters now errors opens same p none =
+    runs_after (opening bytes) written bytes desc lines left status old mid new adapters now errors opens same p none
+
+-- its script was played on a device that has failed so often then
+pub runs_played : {K : Type 0} (written : K → Option (List ℕ)) (input : Option (List ℕ)) (opening : List ℕ → Result DescData (List ℕ))
+    (desc : DescData) (lines : Reading) (left : Option (List ℕ)) (status : Status) (old mid new : K) (adapters now : List Standing) (errors : ℕ)
+    → IfSome input (λ bytes. OpensAs (opening bytes) bytes desc lines left) → mid ≡ old
+    → PlaysRest desc (input_of lines left) status (written mid) (written new) adapters now errors
+    → IfSome input (λ bytes. RunsSession (opening bytes) bytes status (written old) (written new) adapters now (Some errors))
+runs_played written input opening desc lines left status old mid new adapters now errors opens same p =
+    runs_behind written input opening desc lines left status old mid new adapters now (Some errors) opens same p (λ none. absurd (cc))
+
+-- it had no device
+pub runs_unmade : {K : Type 0} (written : K → Option (List ℕ)) (input : Option (List ℕ)) (opening : List ℕ → Result DescData (List ℕ))
+    (desc : DescData) (lines : Reading) (left : Option (List ℕ)) (status : Status) (old mid : K) (adapters : List Standing)
+    → IfSome input (λ bytes. OpensAs (opening bytes) bytes desc lines left) → mid ≡ old → is_complete status ≡ false
+    → IfSome input (λ bytes. RunsSession (opening bytes) bytes status (written old) (written mid) adapters adapters None)
+runs_unmade written input opening desc lines left status old mid adapters opens same broken =
+    runs_behind written input opening desc lines left status old mid mid adapters adapters None opens same
+    (rest_cut desc (input_of lines left) status (written mid) adapters 0 refl broken)
+    (λ none. record { broken = broken; unwritten = Keeps-refl (written mid); untouched = refl })
+
+-- what holds holds where the session is refused
+pub unsent : (input : Option (List ℕ)) (opening : List ℕ → Result DescData (List ℕ)) (P : Type 0) → P
+    → IfSome input (λ bytes. (line : List ℕ) → opening bytes ≡ Err line → P)
+unsent None opening P h = tt
+unsent (Some bytes) opening P h = λ line e. h
+
+-- and so does what it comes to
+pub unsent_then : (input : Option (List ℕ)) (opening : List ℕ → Result DescData (List ℕ)) (P Q : Type 0) → (P → Q)
+    → IfSome input (λ bytes. (line : List ℕ) → opening bytes ≡ Err line → P)
+    → IfSome input (λ bytes. (line : List ℕ) → opening bytes ≡ Err line → Q)
+unsent_then None opening P Q f h = tt
+unsent_then (Some bytes) opening P Q f h = λ line e. f (h line e)
+
+-- and of one that opened anything is said where it is refused
+pub never_refused : (input : Option (List ℕ)) (opening : List ℕ → Result DescData (List ℕ)) (desc : DescData) (lines : Reading)
+    (left : Option (List ℕ)) (P : Type 0) → IfSome input (λ bytes. OpensAs (opening bytes) bytes desc lines left)
+    → IfSome input (λ bytes. (line : List ℕ) → opening bytes ≡ Err line → P)
+never_refused None opening desc lines left P opens = tt
+never_refused (Some bytes) opening desc lines left P opens = λ line e. absurd (ok-err (opening bytes) opens.opening e)
+
+-- ---- the end of the log
+
+tells_finished : (status result : Status) (old mid new : Option (List ℕ)) (text : List ℕ) → (result ≢ SinkFault → result ≡ status)
+    → Keeps mid new → Tells status Refused old mid text → Tells result Refused old new text
+tells_finished status result old mid new text same kept t = record {
+  whole = λ c. let is : result ≡ status = same (not_sink_fault result c) in
+      let w = t.whole (subst (λ s. is_complete s ≡ true) is c) in
+      (is ∙ w.0, Appends-kept old mid new text w.1 kept);
+  part = record {
+    front = t.part.front;
+    rest = t.part.rest;
+    split = t.part.split;
+    appended = Appends-kept old mid new t.part.front t.part.appended kept;
+  };
+}
+
+plays_finished : (desc : DescData) (bytes : List ℕ) (status result : Status) (old mid new : Option (List ℕ)) (adapters now : List Standing)
+    (errors : ℕ) → (result ≢ SinkFault → result ≡ status) → KeepsEarlier old new → Keeps mid new
+    → PlaysLines desc (lines_of bytes) status old mid adapters now errors → PlaysLines desc (lines_of bytes) result old new adapters now errors
+plays_finished desc bytes status result old mid new adapters now errors same earlier kept p =
+    let held : Keeps p.last.text new = subst (λ t. Keeps t new) (sym p.text_is) kept in
+    record {
+      last = record p.last { text = new };
+      plays = plays_written 1 (first_point desc adapters old) (Some bytes) p.last new [] status result same earlier
+          (subst (Keeps p.last.text) (sym (append_none new)) held) (λ c. held) (λ f. held) p.plays;
+      text_is = refl;
+      adapters_are = p.adapters_are;
+      errors_are = p.errors_are;
+    }
+
+still_broken : (status result : Status) → (result ≢ SinkFault → result ≡ status) → is_complete status ≡ false → is_complete result ≡ false
+still_broken status result same broken = elim (cases_Bool (is_complete result)) [
+  | inl whole ↦
+      let no : true ≡ false = sym whole ∙ ap is_complete (same (not_sink_fault result whole)) ∙ broken in
+      absurd (cc)
+  | inr broken ↦ broken
+]
+
+unreached_finished : (status result : Status) (old mid new : Option (List ℕ)) (adapters now : List Standing)
+    → (result ≢ SinkFault → result ≡ status) → Keeps mid new → IsUnreached status old mid adapters now → IsUnreached result old new adapters now
+unreached_finished status result old mid new adapters now same kept u = record {
+  broken = still_broken status result same u.broken;
+  unwritten = Keeps-trans old mid new u.unwritten kept;
+  untouched = u.untouched;
+}
+
+runs_ended : (opening : Result DescData (List ℕ)) (bytes : List ℕ) (status result : Status) (old mid new : Option (List ℕ))
+    (adapters now : List Standing) (errors : Option ℕ) → (result ≢ SinkFault → result ≡ status) → KeepsEarlier old new → Keeps mid new
+    → RunsSession opening bytes status old mid adapters now errors → RunsSession opening bytes result old new adapters now errors
+runs_ended opening bytes status result old mid new adapters now errors same earlier kept r = record {
+  refused = λ line e. tells_finished status result old mid new line same kept (r.refused line e);
+  untouched = r.untouched;
+  played = λ desc e. plays_finished desc (behind (separator_at bytes) bytes) status result old mid new adapters now (unwrap_or errors 0) same earlier kept
+      (r.played desc e);
+  unreached = λ desc e none. unreached_finished status result old mid new adapters now same kept (r.unreached desc e none);
+}
+
+pub runs_finished : (input : Option (List ℕ)) (opening : List ℕ → Result DescData (List ℕ)) (status result : Status)
+    (old mid new : Option (List ℕ)) (adapters now : List Standing) (errors : Option ℕ) → (result ≢ SinkFault → result ≡ status)
+    → KeepsEarlier old new → Keeps mid new → IfSome input (λ bytes. RunsSession (opening bytes) bytes status old mid adapters now errors)
+    → IfSome input (λ bytes. RunsSession (opening bytes) bytes result old new adapters now errors)
+runs_finished None opening status result old mid new adapters now errors same earlier kept r = tt
+runs_finished (Some bytes) opening status result old mid new adapters now errors same earlier kept r =
+    runs_ended (opening bytes) bytes status result old mid new adapters now errors same earlier kept r

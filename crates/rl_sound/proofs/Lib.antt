@@ -1,5 +1,0 @@
-pub mod Maps
-pub mod Places
-pub mod Shares
-pub mod Layouts
-pub mod Openings

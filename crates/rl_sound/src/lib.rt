@@ -1,7 +1,0 @@
-//! What a description without a fault describes is sound, and so the log of every session is the plain machine's.
-//!
-//! The functions of this crate do nothing; their contracts are the laws, of the definitions alone: they hold of each
-//! session, whether it was run or not.
-#![tactic(auto)]
-
-pub mod law;

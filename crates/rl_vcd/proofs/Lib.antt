@@ -1,0 +1,3 @@
+mod DumpLemmas
+mod LabelLemmas
+mod TextLemmas

@@ -1,4 +1,0 @@
-use Rattle.rl_wave.proofs.text.+push_binary.Given as goal
-
-abbrev pub decreases-push_binary : goal.decreases-push_binary
-decreases-push_binary l = l.digits

@@ -1,6 +1,0 @@
-use Rattle.std.proofs.Common.{◌≡◌, ◌++◌}
-use Rattle.rl_wave.specs.Dump.{access_text}
-use Rattle.rl_wave.proofs.wave.Drawn.push_access.Given as goal
-
-abbrev pub invariant-loop-k : goal.invariant-loop-k
-invariant-loop-k l = l.text.items ≡ l.initial.text.items ++ access_text l.self.bus l.self.transfer.now l.self.response.now l.n l.k

@@ -1,0 +1,52 @@
+-- The words of a group are steps of its weave.
+use Rattle.std.proofs.Common.{ℕ, ◌+◌, ◌<◌, is_some, unwrap_or, length, refl, arith}
+use Rattle.std.proofs.lemmas.Option.{slice_get-get_or}
+use Rattle.rl_bus.specs.State.{State}
+use Rattle.rl_access.specs.Model.{IsModel}
+use Rattle.rl_access.specs.Observed.{word_ops}
+use Rattle.rl_access.specs.World.{scene_at}
+use Rattle.rl_access.proofs.Whole.{whole_count, first_of_place}
+use Rattle.rl_plain.specs.Machine.{Machine}
+use Rattle.rl_weave.specs.declared.weave.Step.{Step}
+use Rattle.rl_weave.specs.declared.woven.Woven.{Woven}
+use Rattle.rl_weave.specs.Access.{woven_at}
+use Rattle.rl_weave.specs.Step.{IsStepOf, end_of}
+use Rattle.rl_weave.specs.Weave.{IsWeave}
+use Rattle.rl_weave.proofs.Weaves.{at_open}
+use Rattle.rl_weave_laws.specs.Half.{IsHalf, IsOpen}
+use Rattle.rl_weave_laws.proofs.Moves.{half_granted}
+use Rattle.rl_weave_log.specs.WeaveLog.{Weaving, no_op}
+use Rattle.rl_weave_laws.proofs.Open.{item_at, which_at, word_at}
+
+abbrev pub woven_now : Weaving → Woven
+woven_now g = woven_at g.weave.accesses (which_at g)
+
+-- the word that is drawn, and the event that it ends
+abbrev pub step_at : Weaving → Step
+step_at g = record { item = item_at g; end = end_of (word_at g).after.world.model (woven_now g) (item_at g) }
+
+-- its device's count of errors rises whatever it answers
+pub word_is_step : (g : Weaving) (errors : ℕ) (begun : State) (p : Machine) → IsModel g.world.model → IsWeave g.weave
+    → IsOpen g.weave (which_at g) → IsHalf begun p g.world.model g.world.device g.weave
+    → IsStepOf (scene_at g.world errors) (scene_at (word_at g).after.world (errors + 1)) (woven_now g) (step_at g)
+word_is_step g errors begun p model ok there half =
+    let v = woven_now g in
+    let l = g.world.model.layout in
+    let ops = word_ops l v.place v.access.value in
+    let mine = half.open_ones (which_at g) there in
+    let at = half_granted g.world.model v mine.granted in
+    let count = whole_count l v.place 0 (unwrap_or v.access.value 0) (is_some v.access.value) model.layout
+    (first_of_place l v.place model.layout at.there.inside) in
+    let short = (at_open g.weave (which_at g) ok there).short in
+    let low : length v.items < length ops = omega (arith, short, mine.words, count) in
+    record {
+      sent = record {
+        op = slice_get-get_or ops (length v.items) no_op low;
+        item_is = refl;
+        adapters = refl;
+        cause = record { later = omega arith; failed = λ f. omega arith };
+        step = record { goes = refl; answers = λ s is. cc };
+        model = refl;
+      };
+      end = refl;
+    }

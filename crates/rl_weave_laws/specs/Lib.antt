@@ -1,0 +1,7 @@
+pub mod AnyDevice
+pub mod Endings
+pub mod Groups
+pub mod Half
+pub mod Order
+pub mod Runs
+pub mod Scripts

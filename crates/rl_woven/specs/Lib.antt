@@ -1,3 +1,0 @@
-pub mod Half
-pub mod Runs
-pub mod Order
