@@ -1,5 +1,6 @@
 #!/usr/bin/env python3
-"""detection.py GRADE: which flaws each sequence finds for each access policy, as the tables of docs/DETECTION.md.
+"""detection.py GRADE [memories]: which flaws each sequence finds for each access policy, as the tables of docs/DETECTION.md.
+With the word `memories` the last table alone.
 
 Each register of a chip has a field of one policy, one width and one reset value; a sequence over the chip is graded by the
 built program regrun_grade, and what was found is told by policy and kind of flaw: always, never, or by the first condition
@@ -207,10 +208,10 @@ def tell_memories(program):
 
 
 def main():
-    if len(sys.argv) != 2:
-        print("detection.py GRADE", file=sys.stderr)
+    if len(sys.argv) < 2 or sys.argv[2:] not in ([], ["memories"]):
+        print("detection.py GRADE [memories]", file=sys.stderr)
         return 6
-    for sequence in SEQUENCES:
+    for sequence in SEQUENCES if len(sys.argv) == 2 else ():
         tell(sys.argv[1], sequence)
     tell_memories(sys.argv[1])
     return 0

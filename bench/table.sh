@@ -1,5 +1,5 @@
 #!/usr/bin/env bash
-# table.sh BIN: instructions of the built program indirect_table (crates/indirect_table/out/indirect_table) for 100,000 and
+# table.sh BIN: instructions of the built program example_indirect (crates/example_indirect/out/example_indirect) for 100,000 and
 # 200,000 accesses by index, at several numbers of entries. The difference of the two, over 100,000, is what an access takes:
 # opening the chip and making the entries is in both. What the first 100,000 take, less a run without any, stands beside it: the
 # time grows with the accesses alone where the two are alike. Needs valgrind. ENTRIES=.. takes other numbers of entries.

@@ -1,9 +1,11 @@
 #!/usr/bin/env bash
-# rows/check.sh BIN: runs a built regrun on every session of this folder, on the large ones made here, and on each
-# example and its log as a script, and compares the whole output and the status. The last line is 'N passed, M failed'.
+# rows/check.sh BIN [sessions|limits]: runs a regrun on every row, and on each example and its log as a
+# script; and on the largest sessions, which are made here, and on faults of input and output; or on one of these two alone.
+# It compares the whole output and the status. The last line is 'N passed, M failed'.
 #
-# NAME.session is standard input and NAME.log the output that it must give; NAME.status has the exit status (absent: 0)
-# and NAME.words the command's words, one a line (absent: run). An example's log stands beside it as NAME.log.
+# The rows stand in crates/test_rows/data, where a proved program runs them too: rows.txt has for each its name, its status and
+# the command's words; NAME.session is standard input, and NAME.log the output that it must give. An example NAME.regrun has
+# its log as NAME.log, its status as NAME.status (absent: 0) and its words, one a line, as NAME.words (absent: run).
 set -u
 bin=$(realpath "$1")
 if [ ! -x "$bin" ]; then
@@ -12,6 +14,7 @@ if [ ! -x "$bin" ]; then
     exit 1
 fi
 here=$(dirname "$(realpath "$0")")
+rows=$here/../crates/test_rows/data
 tmp=$(mktemp -d)
 trap 'rm -rf "$tmp"' EXIT
 passed=0
@@ -21,7 +24,7 @@ failed=0
 check() {
     local name=$1 input=$2 log=$3 status=$4
     shift 4
-    timeout 120 "$bin" "$@" < "$input" > "${output:-$tmp/out}" 2> "$tmp/err"
+    timeout 600 "$bin" "$@" < "$input" > "${output:-$tmp/out}" 2> "$tmp/err"
     local code=$?
     [ -z "${output:-}" ] || : > "$tmp/out"
     if [ "$code" = "$status" ] && cmp -s "$log" "$tmp/out" && [ ! -s "$tmp/err" ]; then
@@ -34,58 +37,85 @@ check() {
     head -2 "$tmp/err"
 }
 
-for session in "$here"/*.session "$here"/../examples/*.regrun; do
-    name=${session%.*}
-    words=(run)
-    [ -e "$name.words" ] && mapfile -t words < "$name.words"
-    status=0
-    [ -e "$name.status" ] && status=$(cat "$name.status")
-    check "$(basename "$name")" "$session" "$name.log" "$status" "${words[@]}"
-done
+# sessions: those that are kept.
+sessions() {
+    local session name words status count
+    while read -r name status words <&3; do
+        case $name in '' | '#'*) continue ;; esac
+        # shellcheck disable=SC2086
+        check "$name" "$rows/$name.session" "$rows/$name.log" "$status" $words
+    done 3< "$rows/rows.txt"
 
-# The log of an example of run, run again as a script: without the lines of sequences and refused bursts it is the same.
-for session in "$here"/../examples/*.regrun; do
-    name=${session%.*}
-    [ -e "$name.words" ] && continue
-    sed -f "$here/../examples/replay.sed" "$name.log" > "$tmp/script"
-    { sed '/^---$/q' "$session"; cat "$tmp/script"; } > "$tmp/in"
-    count=$(wc -l < "$tmp/script")
-    sed "/^seq /d; /^burst-/d; s/^end: [0-9]* events/end: $count events/" "$name.log" > "$tmp/want"
-    status=0
-    [ -e "$name.status" ] && status=$(cat "$name.status")
-    check "$(basename "$name") again" "$tmp/in" "$tmp/want" "$status" run
-done
+    for session in "$rows"/*/*.session; do
+        name=${session#"$rows"/}
+        grep -q "^${name%.session} " "$rows/rows.txt" && continue
+        failed=$((failed + 1))
+        echo "$name: rows.txt doesn't name it"
+    done
 
-# The limits of a session, met and passed by one.
-smallest=$here/smallest-session.session
-description=$(sed '/^---$/,$d' "$smallest"; echo .)
-description=${description%.}
+    for session in "$here"/../examples/*.regrun; do
+        name=${session%.*}
+        words=(run)
+        [ -e "$name.words" ] && mapfile -t words < "$name.words"
+        status=0
+        [ -e "$name.status" ] && status=$(cat "$name.status")
+        check "$(basename "$name")" "$session" "$name.log" "$status" "${words[@]}"
+    done
+
+    # The log of an example of run, run again as a script: without the lines of sequences and refused bursts it is the same.
+    for session in "$here"/../examples/*.regrun; do
+        name=${session%.*}
+        [ -e "$name.words" ] && continue
+        sed -f "$here/../examples/replay.sed" "$name.log" > "$tmp/script"
+        { sed '/^---$/q' "$session"; cat "$tmp/script"; } > "$tmp/in"
+        count=$(wc -l < "$tmp/script")
+        sed "/^seq /d; /^burst-/d; s/^end: [0-9]* events/end: $count events/" "$name.log" > "$tmp/want"
+        status=0
+        [ -e "$name.status" ] && status=$(cat "$name.status")
+        check "$(basename "$name") again" "$tmp/in" "$tmp/want" "$status" run
+    done
+}
+
 # padded SIZE: the description with a comment that makes it so many bytes long.
 padded() {
     printf '%s' "$description"
     head -c $(($1 - ${#description} - 1)) /dev/zero | tr '\0' '#'
     printf '\n---\nread a\n'
 }
-read_zero='read a @bus: ok 0x00000000 mirror 0x00000000\n  bus r 0x0 0x00000000 1111 #0 ok\nend: 1 events, 0 differences, 0 bus errors\n'
-printf "$read_zero" > "$tmp/want"
-padded 1048576 > "$tmp/in"
-check longest-description "$tmp/in" "$tmp/want" 0 run
-{ printf '%s---\n' "$description"; yes '                              ' | head -n 900000; echo 'read a'; } > "$tmp/in"
-check blank-lines "$tmp/in" "$tmp/want" 0 run
-printf 'refused session: description too long\n' > "$tmp/want"
-padded 1048577 > "$tmp/in"
-check description-too-long "$tmp/in" "$tmp/want" 2 run
-printf 'end: 0 events, 0 differences, 0 bus errors\n' > "$tmp/want"
-{ printf '%s---\n' "$description"; yes '' | head -n 1000000; } > "$tmp/in"
-check most-lines "$tmp/in" "$tmp/want" 0 run
-printf 'refused line 1000001: too many lines\n' > "$tmp/want"
-{ printf '%s---\n' "$description"; yes '' | head -n 1000001; } > "$tmp/in"
-check too-many-lines "$tmp/in" "$tmp/want" 2 run
 
-# An input that can't be read, and an output that is full.
-: > "$tmp/want"
-check unreadable-input / "$tmp/want" 3 run
-output=/dev/full check full-output "$smallest" "$tmp/want" 4 run
+# limits: those of a session, met and passed by one; an input that can't be read, and an output that is full.
+limits() {
+    smallest=$rows/rows/smallest-session.session
+    description=$(sed '/^---$/,$d' "$smallest"; echo .)
+    description=${description%.}
+    read_zero='read a @bus: ok 0x00000000 mirror 0x00000000\n  bus r 0x0 0x00000000 1111 #0 ok\nend: 1 events, 0 differences, 0 bus errors\n'
+    printf "$read_zero" > "$tmp/want"
+    padded 1048576 > "$tmp/in"
+    check longest-description "$tmp/in" "$tmp/want" 0 run
+    { printf '%s---\n' "$description"; yes '                              ' | head -n 900000; echo 'read a'; } > "$tmp/in"
+    check blank-lines "$tmp/in" "$tmp/want" 0 run
+    printf 'refused session: description too long\n' > "$tmp/want"
+    padded 1048577 > "$tmp/in"
+    check description-too-long "$tmp/in" "$tmp/want" 2 run
+    printf 'end: 0 events, 0 differences, 0 bus errors\n' > "$tmp/want"
+    { printf '%s---\n' "$description"; yes '' | head -n 1000000; } > "$tmp/in"
+    check most-lines "$tmp/in" "$tmp/want" 0 run
+    printf 'refused line 1000001: too many lines\n' > "$tmp/want"
+    { printf '%s---\n' "$description"; yes '' | head -n 1000001; } > "$tmp/in"
+    check too-many-lines "$tmp/in" "$tmp/want" 2 run
 
+    # An input that can't be read, and an output that is full.
+    : > "$tmp/want"
+    check unreadable-input / "$tmp/want" 3 run
+    output=/dev/full check full-output "$smallest" "$tmp/want" 4 run
+}
+
+case ${2:-} in
+    sessions | limits) "$2" ;;
+    *)
+        sessions
+        limits
+        ;;
+esac
 echo "$passed passed, $failed failed"
 [ "$failed" = 0 ]

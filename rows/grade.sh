@@ -7,10 +7,14 @@ grade=$(realpath "$1")
 program=$(realpath "$2")
 here=$(dirname "$(realpath "$0")")
 top=$here/..
+rows=$top/crates/test_rows/data/rows
 room=$(mktemp -d "${TMPDIR:-/tmp}/regrun-grade.XXXXXX") || exit 73
 trap 'rm -rf "$room"' EXIT
 cd "$room" || exit 73
 passed=0 failed=0 skipped=0
+# With each flaw alone, but on a trial (TRIAL in the environment) many flaws a run.
+alone=yes
+[ -z "${TRIAL:-}" ] || alone=''
 
 # judge NAME COMMAND..: counts what the command comes to, and shows what it says where it fails.
 judge() {
@@ -32,7 +36,7 @@ grades() {
 
 # beside WORD SESSION: the same beside bench/grade.py, with each flaw alone.
 beside() {
-    ALONE=1 python3 "$top/bench/grade.py" "$program" "$1" < "$2" > want && grades "$1" "$2" want
+    ALONE=$alone python3 "$top/bench/grade.py" "$program" "$1" < "$2" > want && grades "$1" "$2" want
 }
 
 # adds SESSION: three shares together count what the whole does.
@@ -59,42 +63,43 @@ asks() {
 
 # shows_nothing SESSION: with each missed flaw alone, the program's log ends as without it.
 shows_nothing() {
-    local end rows=0
+    local end count=0
     end=$("$program" run < "$1" | tail -n 1)
     rm -f row*
     "$grade" missed < "$1" | awk '/^\[\[flaw\]\]/ { n++ } { print > ("row" n) }' || return
     for row in row*; do
-        rows=$((rows + 1))
+        count=$((count + 1))
         { sed '/^---$/,$d' "$1"; cat "$row"; sed -n '/^---$/,$p' "$1"; } > flawed
         [ "$("$program" run < flawed | tail -n 1)" = "$end" ] || { cat "$row"; return 1; }
     done
-    [ "$rows" = "$("$grade" run < "$1" | sed -n 's/^end: .* found, \([0-9]*\) missed.*/\1/p')" ]
+    [ "$count" = "$("$grade" run < "$1" | sed -n 's/^end: .* found, \([0-9]*\) missed.*/\1/p')" ]
 }
 
 for name in uart uart-plan; do
     judge "$name" grades run "$top/examples/$name.regrun" "$top/examples/$name.grade"
 done
 
+# Sessions to be graded beside the other grader; of these a trial takes the small ones.
+small=("$rows"/{access-test,memory-walk,pair-at-one-address,shared-access,write-only-is-not-compared,empty-session}.session
+    "$top/examples/map-tree.regrun")
+large=("$rows"/{bit-bash-without-flaw,bursts,byte-map-in-word-map,session-over-three-roots,session-over-word-addressed-maps-1}.session
+    "$rows"/{session-with-pairs-1,whole-session-2,whole-session-4}.session "$top"/examples/{memories,second-master,uart}.regrun)
+[ -z "$alone" ] || small+=("${large[@]}")
+[ -n "$alone" ] || skipped=$((2 * ${#large[@]}))
 if python3 -c 'import tomllib' 2> /dev/null; then
-    for name in access-test bit-bash-without-flaw bursts byte-map-in-word-map memory-walk pair-at-one-address \
-        session-over-three-roots session-over-word-addressed-maps-1 session-with-pairs-1 shared-access whole-session-2 \
-        whole-session-4 write-only-is-not-compared empty-session; do
+    for session in "${small[@]}"; do
         for word in run missed; do
-            judge "$name, $word" beside "$word" "$here/$name.session"
-        done
-    done
-    for name in map-tree memories second-master uart; do
-        for word in run missed; do
-            judge "$name, $word" beside "$word" "$top/examples/$name.regrun"
+            judge "$(basename "$session"), $word" beside "$word" "$session"
         done
     done
 else
-    skipped=$((skipped + 36))
+    skipped=$((skipped + 2 * ${#small[@]}))
+    echo 'Python 3.11 or later is not installed'
 fi
 
 judge 'shares of uart' adds "$top/examples/uart.regrun"
-judge 'shares of three roots' adds "$here/session-over-three-roots.session"
-judge 'shares of nothing' adds "$here/empty-session.session"
+[ -z "$alone" ] || judge 'shares of three roots' adds "$rows/session-over-three-roots.session"
+judge 'shares of nothing' adds "$rows/empty-session.session"
 judge 'a share of a whole' grades 'run 1/1' "$top/examples/uart.regrun" "$top/examples/uart.grade"
 
 printf -- '---\nread\n' > line
@@ -104,8 +109,8 @@ judge 'a flaw of its own' refuses 2 'refused session: the description has flaws 
 judge 'a flaw of its own, missed' refuses 2 'refused session: the description has flaws of its own' own missed
 judge 'a refused line' refuses 2 'refused line 1: wrong count' line run
 judge 'a refused line before others' refuses 2 'refused line 1: wrong count' late missed
-judge 'no separator' refuses 2 'refused session: no separator' "$here/no-separator.session" run
-judge 'a refused description' refuses 2 'refused description map 1: bad bytes' "$here/refused-bad-bytes-of-a-map.session" run 1/2
+judge 'no separator' refuses 2 'refused session: no separator' "$rows/no-separator.session" run
+judge 'a refused description' refuses 2 'refused description map 1: bad bytes' "$rows/refused-bad-bytes-of-a-map.session" run 1/2
 
 judge 'no words' asks
 judge 'another word' asks walk
@@ -125,6 +130,5 @@ for name in uart second-master; do
     judge "$name, the rows of missed flaws" shows_nothing "$top/examples/$name.regrun"
 done
 
-[ "$skipped" = 0 ] || echo "$skipped skipped: Python 3.11 or later is not installed"
-echo "$passed passed, $failed failed"
+echo "$passed passed, $failed failed, $skipped skipped"
 [ "$failed" = 0 ]

@@ -1,8 +1,10 @@
 #!/usr/bin/env bash
 # link.sh PROGRAM: what regrun_link does where something goes wrong: the peer's answers, the files, the words. Each case has
-# what is answered, the status, and what the message or the log says.
+# what is answered, the status, and what the message or the log says. Then a session of 1,000 lines over a block that behaves
+# badly (link/rough.v, link/rough.vhd), on each of Icarus Verilog, GHDL and Verilator that is installed.
 set -u
 program=$(realpath "$1")
+here=$(cd "$(dirname "$(realpath "$0")")" && pwd)
 room=$(mktemp -d "${TMPDIR:-/tmp}/regrun-link.XXXXXX") || exit 73
 trap 'rm -rf "$room"' EXIT
 cd "$room" || exit 73
@@ -46,22 +48,54 @@ refused() {
 
 answer 'the peer ends' 7 'line 1 of the peer'\''s output: the output ended before an answer' ''
 answer 'half an answer' 7 'the output ended before an answer' 'ok 0x1'
-answer 'letters' 7 'a line that doesn'\''t answer the request: `ok 0xzz`; the request was `r bus 0x0 0x0 1111 #0`' '# hello\nok 0xzz\n'
-answer 'an unknown value' 7 '`ok 0x0000xxxx`' 'ok 0x0000xxxx\n'
+answer 'letters' 7 'a line that doesn'\''t answer the request: `ok 0xgg`; the request was `r bus 0x0 0x0 1111 #0`' '# hello\nok 0xgg\n'
+answer 'a break is in the log' 7 '# the link broke at line 2 of the peer'\''s output: a line that doesn'\''t answer the request: `ok 0xgg`; the request was `r bus 0x0 0x0 1111 #0`' '# hello\nok 0xgg\n' log
+answer 'an unknown value' 1 'an unknown value at line 2 of the peer'\''s output: `ok 0x0000xxxx`; the request was `r bus 0x0 0x0 1111 #0`' '\nok 0x0000xxxx\n'
+answer 'an unknown value fails the item' 1 'read ctrl @bus: bus error at word 0' 'ok 0xX\n' log
+answer 'nothing drives it' 1 'an unknown value at line 1' 'ok zzzzzzzz\n'
 answer 'too wide a word' 7 'a word that is wider than the bus: `ok 0x100000000`' 'ok 0x100000000\n'
 answer 'an answer of a write' 7 'a line that doesn'\''t answer' 'ok\n'
 answer 'an answer twice' 7 'an answer that nothing was asked for: `ok 2`' 'ok 1\nok 2\n'
 answer 'no line end' 7 'a line of more than 4096 bytes' "$(head -c 10000 /dev/zero | tr '\0' o)"
 answer 'a bus error' 1 'read ctrl @bus: bus error at word 0' 'error\n' log
 answer 'nothing there' 1 'read ctrl @bus: bus error at word 0' 'none\n' log
-answer 'chatter' 0 'read ctrl @bus: ok 0x00000012' '\n# a\n \t\r\n  ok  0x12 \r\n# b\n' log
+answer 'white space' 0 'read ctrl @bus: ok 0x00000012' '\n# a\n \t\r\n  ok  0x12 \r\n# b\n' log
+answer 'chatter' 0 'peer: UVM_INFO @ 156: okay' 'okay\nUVM_INFO @ 156: okay\nerrors: none\nok 0x12\n'
+answer 'much chatter' 0 'read ctrl @bus: ok 0x00000012' "$(yes chatter | head -n 9999)\nok 0x12\n" log
+answer 'too much chatter' 7 'line 10001 of the peer'\''s output: 10000 lines that are no answer' "$(yes chatter | head -n 10000)\nok 0x12\n"
+
+# peer ANSWER..: answers each request by the next of these. Then it only reads.
+peer() {
+    local answer line
+    : > requests
+    for answer in "$@"; do
+        IFS= read -r line || return
+        printf '%s\n' "$line" >> requests
+        printf '%b\n' "$answer"
+    done
+    cat >> requests
+}
+
+# converse ANSWER..: the session with such a peer.
+converse() {
+    mkfifo answers
+    timeout 20 "$program" session log < answers 2> messages | peer "$@" > answers
+    status=${PIPESTATUS[0]}
+    rm answers
+}
 
 describe false '---\nreset SOFT\nread ctrl\n' > session
-printf 'none\n' | "$program" session log > requests 2> messages
-status=$?
-judge 'a reset that is not done' 7 'this wasn'\''t done: `none`; the request was `reset SOFT`' messages
+converse none 'ok 1'
+judge 'a reset that is not done' 1 '# not done: `reset SOFT`; the answer was `none`' log
+judge 'an item behind it' 1 'read ctrl @bus: ok 0x00000001' log
+describe false '---\nhw ctrl.value 0x1f\nread ctrl\n' > session
+converse none 'ok 1'
+judge 'a change that is not done' 1 '# not done: `hw ctrl.value 0x1f`; the answer was `none`' log
+describe false '---\nread ctrl\nread ctrl\nread ctrl\n' > session
+converse 'ok 1' 'error 7' ok
 judge 'items after a break' 7 'bus error at word 0' log
-judge 'nothing sent after a break' 7 'reset SOFT' requests
+judge 'the last request' 7 '#1' requests
+judge 'nothing sent after a break' 7 'the request was `r bus 0x0 0x0 1111 #1`' messages
 
 describe false '---\nhw ctrl.value 0x1f\n' > session
 printf 'ok\n' | "$program" session log > requests 2> messages
@@ -88,6 +122,59 @@ describe false '---\nread ctrl\n' > session
 printf 'ok 1\n' | "$program" session /dev/full > requests 2> messages
 status=$?
 judge 'a full disk' 4 'r bus' requests
+
+# rough_session: a session of 1,000 lines.
+rough_session() {
+    local name offset=0 k
+    for name in plain unset slow hung unsure; do
+        printf '[[reg]]\nname = "%s"\nbytes = 4\nbackdoor = false\n' "$name"
+        printf 'field = [{ name = "value", lsb = 0, width = 32, policy = "RW", reset = 0, volatile = true, compare = true }]\n'
+    done
+    printf '[[map]]\nname = "apb"\nbytes = 4\nadapter = "apb"\n'
+    for name in plain unset slow hung unsure; do
+        printf '[[place]]\nmap = "apb"\nitem = "%s"\noffset = %d\n' "$name" "$offset"
+        offset=$((offset + 4))
+    done
+    printf -- '---\nreset HARD\n'
+    for k in $(seq 199); do
+        printf 'write plain %d\ncheck plain\nread unset\nread slow\ncheck plain\n' "$k"
+    done
+    printf 'read hung\nread unsure\nhw plain.value 1\nreset SOFT\n'
+}
+
+# rough TOOL ERRORS COMMAND..: runs it over a simulation, and judges what the log and the messages say.
+rough() {
+    mkfifo answers
+    timeout 100 "$program" session log < answers 2> messages | timeout 100 "${@:3}" > answers
+    status=${PIPESTATUS[0]}
+    rm answers
+    judge "$1: the session" 1 "0 differences, $2 bus errors" log
+    judge "$1: what is printed" 1 'peer: UVM_INFO @ ' messages
+    judge "$1: a slow block" 1 'read slow @apb: ok 0x00000005' log
+    judge "$1: a hanging block" 1 'read hung @apb: bus error at word 0' log
+    judge "$1: why it hangs" 1 'peer: # PREADY is ' messages
+    judge "$1: a change that is not done" 1 '# not done: `hw plain.value 0x1`; the answer was `none`' log
+    judge "$1: a reset that is not done" 1 '# not done: `reset SOFT`; the answer was `none`' log
+    if [ "$2" = 201 ]; then
+        judge "$1: unknown values" 1 'of the peer'\''s output: `ok 0x' messages
+        judge "$1: an unknown PSLVERR" 1 'peer: # PSLVERR is ' messages
+    fi
+}
+
+bench=$here/../examples/rtl
+rough_session > session
+if command -v iverilog > /dev/null && iverilog -g2005 -o rough.vvp "$bench/bench.v" "$here/link/rough.v"; then
+    rough 'Icarus Verilog' 201 vvp -n rough.vvp
+    judge 'Icarus Verilog: its dump' 1 'peer: VCD info: dumpfile rough.vcd opened for output.' messages
+fi
+if command -v ghdl > /dev/null && ghdl -a --std=08 "$here/link/rough.vhd" "$bench/bench.vhd" && ghdl -e --std=08 bench; then
+    rough GHDL 201 ghdl -r --std=08 bench --vcd=rough.vcd
+fi
+# Verilator has no unknown values: what has none here is 0.
+if command -v verilator > /dev/null && verilator --binary --trace -Wno-fatal --top-module bench -Mdir rough.dir -o "$room/rough" \
+    "$bench/bench.v" "$here/link/rough.v" > said 2>&1; then
+    rough Verilator 1 ./rough
+fi
 
 echo "$passed passed, $failed failed"
 [ "$failed" = 0 ]

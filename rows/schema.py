@@ -1,5 +1,5 @@
 #!/usr/bin/env python3
-"""schema.py: holds docs/regrun.schema.json beside the logs of the sessions of rows/ and examples/.
+"""schema.py: holds docs/regrun.schema.json beside the logs of the rows and the examples.
 
 A description that its log doesn't refuse must pass the schema. One that is refused for the shape of a row (unknown key,
 missing key, wrong type, bad value) must fail it at that row and key. Others, refused for what they say, aren't asked.
@@ -9,6 +9,7 @@ all where the package jsonschema isn't found (Debian: python3-jsonschema).
 import json, pathlib, re, sys
 
 HERE = pathlib.Path(__file__).resolve().parent
+ROWS = HERE.parent / "crates" / "test_rows" / "data"
 SHAPE = re.compile(r"refused description(?: (\w+) (\d+)(?: field (\d+))?)?: (unknown key|missing key|wrong type of|bad value of)(?: (\S+))?$")
 
 
@@ -42,7 +43,7 @@ def is_there(error, path, reason, key):
 
 
 def main():
-    files = sorted(HERE.glob("*.session")) + sorted((HERE.parent / "examples").glob("*.regrun"))
+    files = sorted(ROWS.glob("*/*.session")) + sorted((HERE.parent / "examples").glob("*.regrun"))
     try:
         import tomllib
         from jsonschema import Draft202012Validator

@@ -1,11 +1,12 @@
 #!/usr/bin/env bash
-# waves.sh PROGRAM: runs regrun_waves on each session of rows/ and examples/ that is one of `run`, and compares the log and the
+# waves.sh PROGRAM [LINK]: runs regrun_waves on each row and each example that is a session of `run`, and compares the log and the
 # status, and the dump with the item lines of the log, by rows/waves.py. Where GTKWave's tools are installed, vcd2fst reads each
 # dump, and what it read is compared the same way; where sigrok-cli is, it reads the pins of one bit; where Icarus Verilog is, a
 # session runs over the RTL of examples/rtl too, and its own dump must have the same pins in each cycle of a transfer.
 set -u
 program=$(realpath "$1")
 here=$(dirname "$(realpath "$0")")
+rows=$here/../crates/test_rows/data
 room=$(mktemp -d "${TMPDIR:-/tmp}/regrun-waves.XXXXXX") || exit 73
 trap 'rm -rf "$room"' EXIT
 cd "$room" || exit 73
@@ -40,19 +41,28 @@ ran() {
     [ $? = "$3" ] && cmp "$2" log && [ ! -s messages ]
 }
 
-for session in "$here"/*.session "$here"/../examples/*.regrun; do
+# dumped NAME SESSION LOG STATUS: a session, and its dump where it has one.
+dumped() {
+    judge "$1" ran "$2" "$3" "$4"
+    [ -s waves.vcd ] || return
+    judge "$1, the dump" agrees waves.vcd log "$2"
+    if command -v vcd2fst > tools && command -v fst2vcd > tools; then
+        judge "$1, read by vcd2fst" converted waves.vcd log "$2"
+    else
+        skipped=$((skipped + 1))
+    fi
+}
+
+while read -r name status words <&3; do
+    case "$name $words" in rows/*' run') dumped "$name" "$rows/$name.session" "$rows/$name.log" "$status" ;; esac
+done 3< "$rows/rows.txt"
+
+for session in "$here"/../examples/*.regrun; do
     name=${session%.*}
     [ ! -e "$name.words" ] || continue
     status=0
     [ ! -e "$name.status" ] || status=$(cat "$name.status")
-    judge "$(basename "$name")" ran "$session" "$name.log" "$status"
-    [ -s waves.vcd ] || continue
-    judge "$(basename "$name"), the dump" agrees waves.vcd log "$session"
-    if command -v vcd2fst > tools && command -v fst2vcd > tools; then
-        judge "$(basename "$name"), read by vcd2fst" converted waves.vcd log "$session"
-    else
-        skipped=$((skipped + 1))
-    fi
+    dumped "$(basename "$name")" "$session" "$name.log" "$status"
 done
 
 # channels: sigrok reads each pin of one bit.
@@ -81,7 +91,7 @@ if command -v sigrok-cli > tools; then
 else
     skipped=$((skipped + 1))
 fi
-link=$(dirname "$program")/../../regrun_link/out/regrun_link
+link=${2:-$(dirname "$program")/../../regrun_link/out/regrun_link}
 if command -v iverilog > tools && [ -x "$link" ]; then
     judge 'Icarus Verilog' simulated
 else

@@ -1,0 +1,74 @@
+#!/usr/bin/env python3
+"""where.py: checks the tables of "Where to add what" in docs/ARCHITECTURE.md: each file that they name exists, and each file
+that lists all policies, flaws or commands is named in the table of its kind. The last line has the counts."""
+import pathlib
+import re
+import subprocess
+import sys
+
+TOP = pathlib.Path(__file__).resolve().parent.parent
+# A file that has all these words, whatever their case and without - and _, lists all of the kind.
+LISTS = {
+    'A field access policy': 'w1src w0crs wsrc wos wo1',
+    'A kind of flaw': 'errornth errorrange deaf stuck reset policy',
+    'A command of the script': 'mempeek backcheck otherread burstwrite',
+}
+# Lists that follow from others, and that no one writes by hand.
+MADE = re.compile(r'(rows/|examples/|python/|docs/index\.html|docs/PROFILE\.md|docs/ARCHITECTURE\.md|crates/test_rows/|docs/where\.py|CHANGELOG)')
+
+
+def tables():
+    """The rows of each table below a heading of the third level: pairs of a crate or folder and a file."""
+    found, heading, crate = {}, '', ''
+    text = open(TOP / 'docs' / 'ARCHITECTURE.md', encoding='utf-8').read().partition('## Where to add what')[2]
+    for line in text.splitlines():
+        if line.startswith('### '):
+            heading = line[4:]
+        cells = [it.strip() for it in line.strip('|').split('|')] if line.startswith('| ') else []
+        if len(cells) == 3 and heading and cells[0] != '---':
+            crate = (re.findall(r'`([^`]*)`', cells[0]) or [crate])[0] if cells[0] else crate
+            found.setdefault(heading, []).extend((crate, it) for it in re.findall(r'`([^`]*)`', cells[1]))
+    return found
+
+
+def path_of(crate, name):
+    """Where a file of a row is: below the crate, below the folder, or as it is written."""
+    for place in (TOP / 'crates' / crate / name, TOP / crate / name, TOP / name):
+        if place.is_file():
+            return place
+    return None
+
+
+def listing(words):
+    """The files of the repository that have all the words."""
+    names = subprocess.run(['git', 'ls-files'], cwd=TOP, capture_output=True, text=True, check=True).stdout.split('\n')
+    for name in names:
+        if name and not MADE.match(name) and (TOP / name).is_file():
+            text = (TOP / name).read_bytes().decode('utf-8', 'replace').lower().replace('-', '').replace('_', '')
+            if all(re.search(rf'(?<![a-z]){word}', text) for word in words.split()):
+                yield TOP / name
+
+
+def main():
+    passed, wrong = 0, []
+    named = {}
+    for heading, rows in tables().items():
+        for crate, name in rows:
+            place = path_of(crate, name)
+            if place is None:
+                wrong.append(f'{heading}: {crate}: no file {name}')
+            else:
+                passed += 1
+                named.setdefault(heading, set()).add(place)
+    for heading, words in LISTS.items():
+        for place in listing(words):
+            if place in named.get(heading, ()):
+                passed += 1
+            else:
+                wrong.append(f'{heading}: {place.relative_to(TOP)} lists them all, and no row names it')
+    print(*wrong, sep='\n', end='\n' if wrong else '')
+    print(f'{passed} passed, {len(wrong)} failed')
+    return 1 if wrong else 0
+
+
+sys.exit(main())
