@@ -9,7 +9,7 @@
 # be written or has a crate NAME.
 set -eu
 top=$(cd "$(dirname "$(realpath "$0")")/../.." && pwd)
-from=wishbone_example
+from=example_wishbone
 
 fail() {
     printf 'examples/adapter/copy.sh: %s\n' "$2" >&2

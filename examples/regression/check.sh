@@ -34,6 +34,16 @@ want wrong-wire-page 0 '<tr><td>uart.ctrl<td>baud<td>' cat "$tmp/wrong/failing.h
 echo 'read nosuch' > "$tmp/typo.script"
 want refused-line 1 'typo: the session is refused: refused line 1: no such name' "$here/run.sh" -o "$tmp/typo" "$tmp/typo.script"
 
+# Nothing passes by accident: refused operations, a sequence that makes no step, and no operation at all.
+printf 'reset HARD\nwrite uart.txd 0x1ffffffff\n' > "$tmp/refuses.script"
+printf 'reset HARD\nseq shared *\n' > "$tmp/idle.script"
+printf '# nothing\n' > "$tmp/empty.script"
+each=("$tmp/refuses.script" "$tmp/idle.script" "$tmp/empty.script")
+want refused-operation 1 'refuses: 1 failing, first line 2: write uart.txd' "$here/run.sh" -o "$tmp/accident" "${each[@]}"
+want no-step 1 'idle: 1 failing, first line 3: seq shared *: 0 steps' "$here/run.sh" -o "$tmp/accident" "${each[@]}"
+want no-operation 1 'empty: it has no operation' "$here/run.sh" -o "$tmp/accident" "${each[@]}"
+want allowed-by-name 0 '3 passed, 0 failed' "$here/run.sh" -a refused:refuses -a no-steps:idle -a 'empty:emp*' -o "$tmp/accident" "${each[@]}"
+
 # alter NAME COMMAND: the outcome of one good session, altered.
 alter() {
     mkdir -p "$tmp/$1"
@@ -48,6 +58,8 @@ alter another-version 'sed -i "1i regrun 9.0" bring-up.log'
 alter no-status 'rm bring-up.status'
 alter status-of-a-difference 'echo 1 > bring-up.status'
 alter status-of-a-full-output 'echo 4 > bring-up.status'
+alter status-of-a-broken-link 'echo 7 > bring-up.status'
+want broken-link-words 1 'bring-up: the link to the device broke' python3 "$here/junit.py" "$tmp/status-of-a-broken-link"
 alter difference-not-counted 'sed -i "s/^\(check.*\)$/\1 differ baud/" bring-up.log'
 
 printf '#!/bin/sh\nsleep 20\n' > "$tmp/sleeps"

@@ -4,12 +4,17 @@
 #
 #     bash examples/rtl/run.sh [PROGRAM]
 #
-# PROGRAM is the built regrun_link; without it the launcher ./regrun-link is called, which builds it. The simulator is Icarus
-# Verilog; with TOOL=verilator it is Verilator 5, and with TOOL=ghdl GHDL, over the block and the bench in VHDL. The last line
-# counts. Where the simulator isn't installed, the script says what to install and ends with 77.
+# PROGRAM is a built regrun_link; without it that is regrun-link of this checkout, of where this was installed, or on PATH.
+# The simulator is Icarus Verilog; with TOOL=verilator it is Verilator 5, and with TOOL=ghdl GHDL, over the block and the
+# bench in VHDL. The last line counts. Where the simulator isn't installed, the script says what to install and ends with 77.
 set -u
 here=$(cd "$(dirname "$(realpath "$0")")" && pwd)
-program=$(realpath -s "${1:-$here/../../regrun-link}")
+program=${1:-}
+for each in "$here/../../regrun-link" "$here/../../../../bin/regrun-link" regrun-link; do
+    [ -n "$program" ] || ! command -v "$each" > /dev/null || program=$(command -v "$each")
+done
+[ -x "$program" ] || { echo "examples/rtl/run.sh: ${program:-regrun-link} is not found" >&2; exit 69; }
+program=$(realpath -s "$program")
 tool=${TOOL:-iverilog}
 if ! command -v "$tool" > /dev/null; then
     echo "examples/rtl/run.sh: $tool is not found; install the Debian package $tool" >&2
