@@ -7,13 +7,13 @@ use Rattle.rl_access.specs.Model.{ModelData}
 use Rattle.rl_access.specs.Operation.{location_size}
 use Rattle.rl_access.specs.Rules.{owned_of, low_bytes, back_left, back_outcome}
 
--- the bits of a register that belong to a field
+-- The bits of a register that belong to a field, found by the backdoor (uvm_reg::peek, IEEE 1800.2-2017, 18.4).
 pub record IsFound (m : ModelData) (told : Option State) (reg value : ℕ) : Type 0 where
   pub sampled : ℕ
   pub found : (d : State) → told ≡ Some d → sampled ≡ peeked d (cell.Reg reg)
   pub value_is : value ≡ owned_of m reg sampled
 
--- the bytes of a location
+-- The bytes of a location, found by the backdoor (uvm_mem::peek, IEEE 1800.2-2017, 18.6).
 pub record IsFoundAt (m : ModelData) (told : Option State) (mem index value : ℕ) : Type 0 where
   pub sampled : ℕ
   pub found : (d : State) → told ≡ Some d → sampled ≡ peeked d (cell.Loc mem index)

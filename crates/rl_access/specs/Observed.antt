@@ -35,6 +35,7 @@ abbrev pub register_there : LayoutData → Option Here → Option ℕ
 register_there l None = None
 register_there l (Some here) = as_register (place_at l here.place).item here.place
 
+-- The place of an item that a predictor watches (uvm_reg_predictor, IEEE 1800.2-2017, 19.3).
 abbrev pub watched_place : LayoutData → (port : ℕ) → BusOp → Option ℕ
 watched_place l port op = if (port_at l port).explicit then register_there l (found l port op.address op.write) else None
 
@@ -55,13 +56,13 @@ abbrev pub reg_in : Item → ℕ
 reg_in (item.Reg reg) = reg
 reg_in (item.Mem mem) = 0
 
--- a write, or a read, of all fields of the place's register
+-- A write, or a read, of all fields of the place's register is predicted (uvm_reg_predictor, IEEE 1800.2-2017, 19.3).
 abbrev pub predicted : ChipData → LayoutData → (place : ℕ) → Gathered → MirrorData → MirrorData
 predicted c l place g m =
     let reg = reg_in (place_at l place).item in
     if g.write then predict_write c reg (value_gathered l place g) every_field m else predict_read c reg (value_gathered l place g) every_field m
 
--- a list with all words is predicted, and is then empty
+-- A list with all words is predicted once, and is then empty. How words are gathered is this project's own.
 abbrev pub taken_in : ChipData → LayoutData → (place : ℕ) → Gathered → List Gathered → MirrorData → Seen
 taken_in c l place g gathered m =
     if is_whole l place g then seen (slice_set gathered place no_words) (predicted c l place g m) else seen (slice_set gathered place g) m
@@ -74,6 +75,7 @@ observed_at c l (Some place) op answer gathered m =
     if answer.failed then seen (slice_set gathered place no_words) m
     else taken_in c l place (gathered_with l place op (word_told op answer) (gathered_at gathered place)) gathered m
 
+-- What a predictor makes of a bus item that it sees (uvm_reg_predictor, IEEE 1800.2-2017, 19.3).
 abbrev pub observed : ChipData → LayoutData → (port : ℕ) → BusOp → Answer → List Gathered → MirrorData → Seen
 observed c l port op answer gathered m = observed_at c l (watched_place l port op) op answer gathered m
 

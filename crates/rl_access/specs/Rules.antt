@@ -63,7 +63,8 @@ abbrev pub placed : Option ℕ → Grant
 placed None = Err NotPlaced
 placed (Some place) = Ok place
 
--- the place has the right of the direction
+-- The place has the right of the direction (uvm_reg_map::add_reg and add_mem, IEEE 1800.2-2017, 18.2). That a missing
+-- right refuses the access is this project's own.
 abbrev pub with_right : LayoutData → Bool → Grant → Grant
 with_right l write (Ok place) = only_where (Ok place) (has_right (place_at l place).rights write) NoRight
 with_right l write (Err first) = Err first
@@ -97,6 +98,7 @@ at_locations m mem first count grant = only_where grant (nat_le (first + count) 
 abbrev pub writable : ModelData → ℕ → Grant → Grant
 writable m mem grant = only_where grant (is_writable m.chip mem) NotWritable
 
+-- The place of an operation, or the first cause of its refusal. Causes and their order are this project's own.
 abbrev pub grant : ModelData → Op → Grant
 grant m (op.Write reg map value) = fitting m (item.Reg reg) value (way m (item.Reg reg) map true)
 grant m (op.Read reg map) = way m (item.Reg reg) map false
@@ -199,6 +201,8 @@ or_error (Some k) m good = record { end = end.BusError k; model = m; differ = 0 
 abbrev pub quiet : End → ModelData → Outcome
 quiet e m = record { end = e; model = m; differ = 0 }
 
+-- A write of a register over the bus (uvm_reg::write, IEEE 1800.2-2017, 18.4). Unless an item failed, it is predicted
+-- (uvm_reg_field::predict with UVM_PREDICT_WRITE, 18.5).
 abbrev pub write_outcome : ModelData → End → Access → List TraceItem → Outcome
 write_outcome m good a items =
     or_error (failed_at items) m (quiet good (record m { mirror = predict_write m.chip a.reg a.value a.fields m.mirror }))
@@ -206,7 +210,8 @@ write_outcome m good a items =
 abbrev pub value_of : ModelData → Access → List TraceItem → ℕ
 value_of m a items = joined m.layout a.place 0 a.chosen (words_answered items)
 
--- a check compares with what was mirrored before the read
+-- A read of a register over the bus (uvm_reg::read and mirror, IEEE 1800.2-2017, 18.4). A check compares with what was
+-- mirrored before the read (uvm_reg::mirror with UVM_CHECK).
 abbrev pub read_outcome : ModelData → Bool → Access → List TraceItem → Outcome
 read_outcome m check a items =
     let value = value_of m a items in
@@ -233,12 +238,14 @@ in_field c field o = record o { end = end_in_field (field_of c field).shape o.en
 abbrev pub is_alone : ModelData → (field place : ℕ) → Bool → Bool
 is_alone m field place write = is_narrow m.chip m.layout field place write
 
--- a field write that isn't narrow has the neutral word in each other field
+-- A field write (uvm_reg_field::write, IEEE 1800.2-2017, 18.5): narrow, or with the neutral word in each other field,
+-- which is this project's own.
 abbrev pub field_written : ModelData → (field place value : ℕ) → Access
 field_written m field place value =
     if is_alone m field place true then field_alone m field place value
     else whole m (reg_of m.chip field) place (neutral_around m.chip field value m.mirror)
 
+-- A field read (uvm_reg_field::read, IEEE 1800.2-2017, 18.5): narrow, or of the whole register.
 abbrev pub field_read : ModelData → (field place : ℕ) → Access
 field_read m field place = if is_alone m field place false then field_alone m field place 0 else whole m (reg_of m.chip field) place 0
 
@@ -254,10 +261,11 @@ location_bytes m mem = all_bytes (location_size m.chip mem)
 abbrev pub outgoing_at : ModelData → (mem place index value : ℕ) → (write : Bool) → Outgoing
 outgoing_at m mem place index value write = record { place = place; index = index; chosen = location_bytes m mem; value = value; write = write }
 
+-- What a read of a location brings (uvm_mem::read, IEEE 1800.2-2017, 18.6).
 abbrev pub location_value : ModelData → (mem place index : ℕ) → List TraceItem → ℕ
 location_value m mem place index items = joined m.layout place index (location_bytes m mem) (words_answered items)
 
--- a value was read that isn't the given one
+-- A value was read that isn't the given one. The check of a location is this project's own.
 abbrev pub value_differs : End → ℕ → ℕ
 value_differs end.Done value = 0
 value_differs (end.Value read) value = if read == value then 0 else 1
@@ -280,13 +288,16 @@ low_bytes bytes value = from_bits (8 * bytes) (λ i. bit value (0 + i))
 abbrev pub owned_of : ModelData → ℕ → ℕ → ℕ
 owned_of m reg sampled = owned (fields_of m.chip reg) sampled
 
--- each field's write effect, with the mirror's spent mark
+-- A backdoor write (uvm_reg::write, IEEE 1800.2-2017, 18.4). That each field takes its write effect, with the mirror's
+-- spent mark, is this project's own.
 abbrev pub back_written : ModelData → (reg value sampled : ℕ) → ℕ
 back_written m reg value sampled = written (fields_of m.chip reg) (marks_in m.chip m.mirror.spent reg) (owned_of m reg sampled) value
 
+-- What a backdoor read answers (uvm_reg::read, IEEE 1800.2-2017, 18.4).
 abbrev pub back_value : ModelData → (reg sampled : ℕ) → ℕ
 back_value m reg sampled = shown (fields_of m.chip reg) (owned_of m reg sampled)
 
+-- The bits after a backdoor read (uvm_reg::read, IEEE 1800.2-2017, 18.4), each by the policy of its field.
 abbrev pub back_left : ModelData → (reg sampled : ℕ) → ℕ
 back_left m reg sampled = left_by_read (fields_of m.chip reg) (owned_of m reg sampled)
 
@@ -299,6 +310,7 @@ back_outcome m check reg sampled =
       differ = if check then differ m.chip reg value m.mirror else 0;
     }
 
+-- A peek or a poke makes these bits mirrored and desired (uvm_reg::peek and poke, IEEE 1800.2-2017, 18.4).
 abbrev pub taking_raw : ModelData → (reg value : ℕ) → ModelData
 taking_raw m reg value = record m { mirror = predict_raw m.chip reg value m.mirror }
 
@@ -336,6 +348,8 @@ sends m (op.Reset kind) place = []
 
 -- ---- what becomes of it: of its items, and of the bits that the device was found to have
 
+-- Each operation of uvm_reg (IEEE 1800.2-2017, 18.4), uvm_reg_field (18.5) and uvm_mem (18.6). `OtherWrite`,
+-- `OtherRead`, `Hw` and `MemCheck` are this project's own.
 abbrev pub outcome : ModelData → Op → (place sampled : ℕ) → List TraceItem → Outcome
 outcome m (op.Write reg map value) place sampled items = write_outcome (forgetting m place) end.Done (whole m reg place value) items
 outcome m (op.Read reg map) place sampled items = read_outcome (forgetting m place) false (whole m reg place 0) items
@@ -403,6 +417,7 @@ found_by d (op.Peek reg) = peeked d (cell.Reg reg)
 found_by d (op.MemPeek mem index) = peeked d (cell.Loc mem index)
 found_by d _ = 0
 
+-- The device after an operation, where it tells its state. The device's steps are this project's own.
 abbrev pub device_after : ModelData → Op → (sampled : ℕ) → List TraceItem → State → State
 device_after m (op.BackWrite reg value) sampled items d = poked d (cell.Reg reg) (back_written m reg value sampled)
 device_after m (op.BackRead reg) sampled items d = poked d (cell.Reg reg) (back_left m reg sampled)

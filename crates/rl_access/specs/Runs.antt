@@ -68,11 +68,12 @@ IsBurst takes breaks old rec s new granted op ops r = MatchResult granted (λ pl
 abbrev pub write_grant : ModelData → (mem : ℕ) → Option ℕ → (first : ℕ) → List ℕ → Grant
 write_grant m mem map first values = only_where (grant m (op.BurstWrite mem map first (length values))) (list_all (λ v. nat_lt v (256 ^ location_size m.chip mem)) values) TooWide
 
--- one write for each value, at consecutive locations
+-- A burst write: one write for each value, at consecutive locations (uvm_mem::burst_write, IEEE 1800.2-2017, 18.6).
 abbrev pub writes_of : (mem : ℕ) → Option ℕ → (first : ℕ) → List ℕ → List Op
 writes_of mem map first [] = []
 writes_of mem map first (v ∷ values) = op.MemWrite mem map first v ∷ writes_of mem map (first + 1) values
 
+-- A burst read: one read for each of consecutive locations (uvm_mem::burst_read, IEEE 1800.2-2017, 18.6).
 abbrev pub reads_of : (mem : ℕ) → Option ℕ → (first count : ℕ) → List Op
 reads_of mem map first zero = []
 reads_of mem map first (suc count) = op.MemRead mem map first ∷ reads_of mem map (first + 1) count

@@ -22,21 +22,25 @@ pub record IsShapeOf (r : RegOf) (s : Shape) : Type 0 where
 abbrev pub ForRegOf : Shape → (RegOf → Type 0) → Type 0
 ForRegOf s P = (r : RegOf) → IsShapeOf r s → P r
 
--- a write of a word in these lanes: the bits of the register after it, and its marks
+-- A write of a word in these lanes: the bits of the register after it, by the policies of its fields (uvm_reg_field,
+-- IEEE 1800.2-2017, 18.5).
 abbrev pub reg_written : RegOf → Lanes → (bits marks word : ℕ) → ℕ
 reg_written r lanes bits marks word =
     let word = spread_bit lanes (bit word) in
     held r.setup r.reg (λ b. bit_written (policy_at r.setup r.reg b) (bit bits b) (bit marks b) (word b) (lane_bit lanes b))
 
+-- The bits of the register whose first write is spent, after a write in these lanes.
 abbrev pub reg_marked : RegOf → Lanes → (marks : ℕ) → ℕ
 reg_marked r lanes marks =
     from_bits 64 (λ b. mark_written (policy_at r.setup r.reg b) (bit marks b) (lane_bit lanes b))
 
--- a read in these lanes: the word that it answers, and the bits of the register after it
+-- The word that a read in these lanes answers.
 abbrev pub reg_answered : RegOf → Lanes → (bits : ℕ) → ℕ
 reg_answered r lanes bits =
     from_bits 64 (gathered_bit lanes (λ b. bit_answered (policy_at r.setup r.reg b) (bit bits b)))
 
+-- The bits of the register after a read in these lanes, by the policies of its fields (uvm_reg_field, IEEE 1800.2-2017,
+-- 18.5).
 abbrev pub reg_left : RegOf → Lanes → (bits : ℕ) → ℕ
 reg_left r lanes bits =
     held r.setup r.reg (λ b. bit_left (policy_at r.setup r.reg b) (bit bits b) (lane_bit lanes b))

@@ -9,6 +9,7 @@ use Rattle.rl_bench.specs.Beats.{beats_of}
 use Rattle.rl_bench.specs.Board.{state_of}
 use Rattle.rl_bench.specs.Tables.{setup_held}
 
+-- The state of the device model, which is this project's own.
 abbrev pub bench_state : Bench → State
 bench_state b = state_of (setup_held b.board.tables) b.cells (beats_of (setup_held b.board.tables).words b.beats.items) b.items
 

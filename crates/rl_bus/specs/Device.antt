@@ -7,7 +7,7 @@ use Rattle.rl_bus.specs.declared.table.Cell.TheVariants.{Reg, Loc}
 use Rattle.rl_bus.specs.Setup.{Setup, mem_of}
 use Rattle.rl_bus.specs.State.{State, state_after, answer_of}
 
--- one item as the definition has it, where the state is told
+-- One item as the definition has it, where the state is told. The device's steps are this project's own.
 pub record IsStep (before after : Option State) (port : ℕ) (op : BusOp) (answer : Answer) : Type 0 where
   pub goes : after ≡ option_map (λ s. state_after s port op) before
   pub answers : (s : State) → before ≡ Some s → answer ≡ answer_of s port op

@@ -17,7 +17,7 @@ use Rattle.rl_bus.specs.declared.table.RangeRow.{RangeRow}
 use Rattle.rl_bus.specs.declared.table.ItemRow.{ItemRow}
 use Rattle.rl_bus.specs.declared.table.ItemRow.TheVariants as item
 
--- each sort of flaw in the order of the description
+-- Each sort of flaw in the order of the description. Flaws are this project's own.
 pub record Flaws : Type 0 where
   pub policies : List PolicyRow
   pub resets : List ResetRow
@@ -92,6 +92,8 @@ held t reg bits = from_bits 64 (λ b. or_else (stuck_at t reg b) (bits b))
 abbrev pub value_in : List ResetRow → ℕ → ℕ → Option ℕ
 value_in rows field kind = option_map (λ r. r.value) (find (λ r. r.field == field && r.kind == kind) rows)
 
+-- The value that a field takes at a reset of this kind: that of the first flaw, or else the declared one
+-- (uvm_reg_field::set_reset, IEEE 1800.2-2017, 18.5).
 abbrev pub reset_of : Setup → ℕ → ℕ → Option ℕ
 reset_of t field kind = option_or (value_in t.flaws.resets field kind) (value_in t.resets field kind)
 

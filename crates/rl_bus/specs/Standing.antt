@@ -4,6 +4,8 @@ use Rattle.rl_bus.specs.declared.op.AdapterKind.{AdapterKind}
 use Rattle.rl_bus.specs.declared.op.Answer.{Answer}
 use Rattle.rl_bus.specs.declared.op.BusOp.{BusOp}
 
+-- An adapter as its callers see it (uvm_reg_adapter, IEEE 1800.2-2017, 19.2). The tag and the trail are this project's
+-- own.
 pub record Standing : Type 0 where
   pub kind : AdapterKind
   pub tag : ℕ
@@ -28,11 +30,11 @@ answer_taken trail answer = taken (taken trail answer.word) (bit_of answer.faile
 
 -- ---- one adapter
 
--- after an operation went out
+-- After an operation went out (uvm_reg_adapter::reg2bus, IEEE 1800.2-2017, 19.2).
 abbrev pub asked : Standing → BusOp → Standing
 asked s op = record s { tag = (s.tag + 1) % 2 ^ 64; trail = op_taken s.trail op }
 
--- after its answer came in
+-- After its answer came in (uvm_reg_adapter::bus2reg, IEEE 1800.2-2017, 19.2).
 abbrev pub told : Standing → Answer → Standing
 told s answer = record s { trail = answer_taken s.trail answer }
 

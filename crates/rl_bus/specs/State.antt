@@ -13,6 +13,7 @@ use Rattle.rl_policy.specs.Access.{bit_written, mark_written, bit_answered, bit_
 use Rattle.rl_bus.specs.Setup.{Setup, field_of, mem_of, field_at, policy_at, held, reset_of, location, is_deaf, words_at, is_of_place, is_named}
 use Rattle.rl_bus.specs.Spread.{spread_bit, lane_bit, gathered_bit, lanes_in}
 
+-- What a device holds at a moment. The device model is this project's own.
 pub record State : Type 0 where
   pub setup : Setup
   -- the bits of each register, and a spent mark for each bit, as numbers
@@ -47,14 +48,14 @@ shown_bit s (Loc mem index) b = bit (slice_index s.locations (location s.setup m
 abbrev pub word_shown : State → BusOp → WordRow → ℕ
 word_shown s op w = from_bits 64 (gathered_bit (lanes_in w.lanes op.lanes) (shown_bit s w.cell))
 
--- a read of the bits in these lanes
+-- A read of the bits in these lanes, by each field's policy (uvm_reg_field, IEEE 1800.2-2017, 18.5).
 abbrev pub after_reading : State → (lanes : ℕ → Bool) → Cell → State
 after_reading s lanes (Reg r) = record s {
   bits = slice_set s.bits r (held s.setup r (λ b. bit_left (policy_at s.setup r b) (bit (slice_index s.bits r) b) (lanes b)));
 }
 after_reading s lanes (Loc mem index) = s
 
--- a write of the bits in these lanes
+-- A write of the bits in these lanes, by each field's policy (uvm_reg_field, IEEE 1800.2-2017, 18.5).
 abbrev pub after_writing : State → (word lanes : ℕ → Bool) → Cell → State
 after_writing s word lanes (Reg r) =
     let x = slice_index s.bits r in
@@ -102,7 +103,7 @@ answer_at s port op (Some w) =
     if is_faulty s port op then record { word = 0; failed = true }
     else record { word = (if op.write then 0 else word_shown s op w); failed = false }
 
--- the state after an item
+-- The state after a bus item. The steps of the device are this project's own.
 unfoldable pub state_after : State → ℕ → BusOp → State
 state_after s port op = after_touch (counted s) port op (word_at s port op)
 
@@ -112,12 +113,13 @@ answer_of s port op = answer_at (counted s) port op (word_at s port op)
 
 -- ---- the other calls
 
--- the stored bits of a cell
+-- The stored bits of a cell (uvm_reg::peek, IEEE 1800.2-2017, 18.4; uvm_mem::peek, 18.6).
 unfoldable pub peeked : State → Cell → ℕ
 peeked s (Reg r) = slice_index s.bits r
 peeked s (Loc mem index) = slice_index s.locations (location s.setup mem index)
 
--- a deposit of the bits that belong to a field, or of the bytes of a location
+-- A deposit of the bits that belong to a field (uvm_reg::poke, IEEE 1800.2-2017, 18.4), or of the bytes of a location
+-- (uvm_mem::poke, 18.6).
 unfoldable pub poked : State → Cell → ℕ → State
 poked s (Reg r) value = record s {
   bits = slice_set s.bits r (held s.setup r (λ b. if is_some (field_at s.setup r b) then bit value b else bit (slice_index s.bits r) b));
@@ -126,7 +128,7 @@ poked s (Loc mem index) value = record s {
   locations = slice_set s.locations (location s.setup mem index) (value % 256 ^ (mem_of s.setup mem).bytes);
 }
 
--- a deposit of the bits of one field
+-- A deposit of the bits of one field, which the hardware changes by itself: this project's own.
 unfoldable pub hw_set : State → ℕ → ℕ → State
 hw_set s field value =
     let f = field_of s.setup field in
@@ -144,6 +146,8 @@ reset_bit t kind (Some field) b x = value_bit (reset_of t field kind) (b - (fiel
 abbrev pub reg_reset : State → ℕ → ℕ → ℕ
 reg_reset s kind reg = held s.setup reg (λ b. reset_bit s.setup kind (field_at s.setup reg b) b (bit (slice_index s.bits reg) b))
 
+-- After a reset of this kind, by the values of the fields (uvm_reg_field::reset, IEEE 1800.2-2017, 18.5). Kind 0 is
+-- HARD, which makes each first write possible again.
 unfoldable pub reset_by : State → ℕ → State
 reset_by s kind = record s {
   bits = map (reg_reset s kind) (range_with_len 0 (length s.bits));
@@ -162,6 +166,6 @@ empty_state t count = record {
   items = 0;
 }
 
--- the same after a hard reset
+-- the device after a hard reset: no item so far, and these many locations, which hold 0
 unfoldable pub first_state : Setup → ℕ → State
 first_state t count = reset_by (empty_state t count) 0

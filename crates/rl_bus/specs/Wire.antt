@@ -9,7 +9,8 @@ use Rattle.rl_bus.specs.declared.transfer.Response.{Response}
 use Rattle.rl_bus.specs.declared.transfer.Response.TheVariants as reply
 use Rattle.rl_bus.specs.Lanes.{all_lanes, IsWord}
 
--- the operation in a transfer
+-- The operation in a transfer (uvm_reg_adapter::reg2bus, IEEE 1800.2-2017, 19.2). Over APB it is by PWRITE, PADDR,
+-- PWDATA and PSTRB of ARM IHI 0024.
 abbrev pub carried_by : Transfer → BusOp
 carried_by (form.Plain plain) = plain.op
 carried_by (form.Apb apb) = record {
@@ -37,17 +38,19 @@ IsReplyTo (form.Plain plain) (reply.Apb response) = ⊥
 IsReplyTo (form.Apb apb) (reply.Plain response) = ⊥
 IsReplyTo (form.Apb apb) (reply.Apb response) = response.serial ≡ apb.serial
 
--- a response without wait cycles: PREADY is high in the first cycle of the access phase
+-- A response without wait cycles: PREADY is high in the first cycle of the access phase (ARM IHI 0024).
 abbrev pub IsAtOnce : Response → Type 0
 IsAtOnce (reply.Plain response) = Unit {0}
 IsAtOnce (reply.Apb response) = response.waits ≡ 0
 
--- what a response answers
+-- What a response answers (uvm_reg_adapter::bus2reg, IEEE 1800.2-2017, 19.2). Over APB it is by PRDATA and PSLVERR of
+-- ARM IHI 0024.
 abbrev pub answered_by : Response → Answer
 answered_by (reply.Plain response) = record { word = response.word; failed = response.failed }
 answered_by (reply.Apb response) = record { word = response.prdata; failed = response.pslverr }
 
--- an operation that a kind carries
+-- An operation that a kind carries. Whether it has byte enables is uvm_reg_adapter::supports_byte_enable (IEEE
+-- 1800.2-2017, 19.2), here one answer for writes and one for reads; the limits are this project's own.
 pub record Fits (kind : AdapterKind) (op : BusOp) : Type 0 where
   pub word : IsWord op.bytes op.lanes op.word
   pub wide : op.bytes ≤ kind.most_bytes

@@ -45,6 +45,7 @@ abbrev pub deaf_row : Flaw → Option ItemRow
 deaf_row (Deaf i) = Some (item_row i)
 deaf_row _ = None
 
+-- The flaws by their sorts, which are this project's own.
 abbrev pub flaws_of : List Flaw → Flaws
 flaws_of flaws = record {
   policies = filter_map policy_row flaws;

@@ -31,7 +31,7 @@ pub record Drives {R T E : Type 0} (takes breaks : R → ModelData → Event →
 abbrev pub told_of : List Heard → List Told
 told_of heard = map (λ h. h.told) heard
 
--- the same, at an event of the line of that number
+-- a recorder took the events before one of the line of that number, and broke at this one
 pub record BrokeIn {R : Type 0} (takes breaks : R → ModelData → Event → R → Type 0) (old new : R) (heard : List Heard) (line : ℕ) : Type 0 where
   pub done : List Heard
   pub last : Heard

@@ -52,7 +52,8 @@ moved e index = if selects_other e index then Some (slice_index e.kept index) el
 
 -- ---- a bank
 
--- its window, how many entries there are, the bytes of the data register, and the entries of either side
+-- Its window, how many entries there are behind it (uvm_reg_indirect_data, IEEE 1800.2-2017, 18.7), the bytes of the
+-- data register, and the entries of either side. What is kept of them is this project's own.
 pub record BankData : Type 0 where
   pub window : Window
   pub size : ℕ

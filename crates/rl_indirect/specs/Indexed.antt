@@ -36,8 +36,8 @@ pub record Reaches (b new : BankData) (s t : Scene) (map : Option ℕ) (k : ℕ)
   pub selects : Selects b new s selected map k index
   pub performs : Performs selected t on_data access
 
--- Past the size nothing is done. Elsewhere the index register is written, and only where that was done the data register is
--- accessed.
+-- An access by index (uvm_reg_indirect_data, IEEE 1800.2-2017, 18.7). Past the size nothing is done. Elsewhere the
+-- index register is written, and only where that was done the data register is accessed.
 abbrev pub IsIndexed : (b new : BankData) → (s t : Scene) → (map : Option ℕ) → (k : ℕ) → (on_data : Op) → Indexed → Type 0
 IsIndexed b new s t map k on_data NoSuchEntry = (b.size ≤ k) × (new ≡ b) × (t ≡ s)
 IsIndexed b new s t map k on_data (AtIndex index) = (k < b.size) × (is_done index.end ≡ false) × Selects b new s t map k index

@@ -19,7 +19,8 @@ is_rw _ = false
 abbrev pub is_index_field : Field → Bool
 is_index_field f = f.lsb == 0 && is_rw f.policy && not f.volatile
 
--- the register has one field alone, which is such a one
+-- The index register of an indirect data register (uvm_reg_indirect_data, IEEE 1800.2-2017, 18.7). That it has one
+-- field alone, a plain one at bit 0, is this project's own.
 abbrev pub is_index : ChipData → (reg : ℕ) → Bool
 is_index c reg = length (fields_of c reg) == 1 && is_index_field (field_in (fields_of c reg) 0).shape
 
@@ -27,6 +28,8 @@ is_index c reg = length (fields_of c reg) == 1 && is_index_field (field_in (fiel
 abbrev pub is_data_field : Field → Bool
 is_data_field f = not (spends_mark f.policy) && not f.volatile
 
+-- The data register of a window (uvm_reg_indirect_data, IEEE 1800.2-2017, 18.7). Which policies its fields may have is
+-- this project's own.
 abbrev pub is_data : ChipData → (reg : ℕ) → Bool
 is_data c reg = list_all (λ f. is_data_field f.shape) (fields_of c reg)
 
@@ -34,7 +37,7 @@ is_data c reg = list_all (λ f. is_data_field f.shape) (fields_of c reg)
 abbrev pub is_size : ChipData → (index_reg size : ℕ) → Bool
 is_size c index_reg size = nat_lt 0 size && nat_le size 65536 && nat_le size (2 ^ (field_in (fields_of c index_reg) 0).shape.width)
 
--- the first condition of a window that fails
+-- The first condition of a window that fails. The conditions and their order are this project's own.
 abbrev pub window_fault : ChipData → Window → (size : ℕ) → Option WindowFault
 window_fault c w size =
     if w.index_reg == w.data_reg then Some SameRegister

@@ -7,6 +7,7 @@ use Rattle.rl_mam.specs.declared.region.MamFault.TheVariants.{Empty, OutOfRange,
 use Rattle.rl_mam.specs.declared.region.RegionFault.{RegionFault}
 use Rattle.rl_mam.specs.declared.region.RegionFault.TheVariants.{NoSuchRegion, OutsideRegion}
 
+-- Consecutive locations of a memory (uvm_mem_region, IEEE 1800.2-2017, 18.12).
 abbrev pub region : (first len : ℕ) → Region
 region first len = record { first = first; len = len }
 
@@ -30,7 +31,8 @@ pub record IsFree (size : ℕ) (regions : List Region) (first len : ℕ) : Type 
   pub inside : first + len ≤ size
   pub free : (x : ℕ) → first ≤ x → x < first + len → ¬ IsTaken regions x
 
--- the place of a request: the lowest one where it fits
+-- The place of a request (uvm_mem_mam::request_region, IEEE 1800.2-2017, 18.12). That it is the lowest one where it
+-- fits is this project's own.
 pub record IsLowestFree (size : ℕ) (regions : List Region) (len first : ℕ) : Type 0 where
   pub fits : IsFree size regions first len
   pub lowest : (f : ℕ) → IsFree size regions f len → first ≤ f
@@ -68,7 +70,7 @@ pub record IsFirstMet (regions : List Region) (first len at : ℕ) : Type 0 wher
   pub met : Any (λ r. (r.first ≡ at) × Meets first len r) regions
   pub least : All (λ r. Meets first len r → at ≤ r.first) regions
 
--- why `reserve` refuses: no two of these hold, and want of memory comes last
+-- Why `reserve` refuses: no two of these hold, and want of memory comes last. The causes are this project's own.
 abbrev pub ReserveCause : (size : ℕ) → List Region → (first len : ℕ) → MamFault → Type 0
 ReserveCause size regions first len Empty = len ≡ 0
 ReserveCause size regions first len OutOfRange = (0 < len) × (size < first + len)
@@ -86,7 +88,8 @@ RequestCause size regions len Memory = (0 < len) × ((first : ℕ) × IsLowestFr
 
 -- ---- accesses
 
--- where `count` locations from location k of a region on begin, if it has them
+-- Where `count` locations from location k of a region on begin, if it has them (uvm_mem_region, IEEE 1800.2-2017,
+-- 18.12).
 abbrev pub location_of : Region → (k count : ℕ) → Result ℕ RegionFault
 location_of r k count = if nat_le (k + count) r.len then Ok (r.first + k) else Err (OutsideRegion r.len)
 
@@ -94,6 +97,6 @@ abbrev pub location_at : Option Region → (k count : ℕ) → Result ℕ Region
 location_at None k count = Err NoSuchRegion
 location_at (Some r) k count = location_of r k count
 
--- the same of the region that begins at `first`
+-- where they begin in the region that begins at `first`, if there is such a one and it has them
 abbrev pub location_in : List Region → (first k count : ℕ) → Result ℕ RegionFault
 location_in regions first k count = location_at (region_at regions first) k count

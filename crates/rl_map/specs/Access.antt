@@ -7,21 +7,23 @@ use Rattle.rl_map.specs.declared.path.Level.{Level}
 use Rattle.rl_map.specs.declared.seat.Access.{Access}
 use Rattle.rl_map.specs.Level.{stride_of}
 
--- how many of the `count` chunks go before chunk `i`
+-- How many of the `count` chunks go before chunk `i`. The order in time is this project's own.
 abbrev pub place_in_time : Kind → ℕ → ℕ → ℕ
 place_in_time Little count i = i
 place_in_time Big count i = count - 1 - i
 place_in_time LittleFifo count i = i
 place_in_time BigFifo count i = count - 1 - i
 
--- the address of chunk `i` of `count`, where words are `stride` apart
+-- The address of chunk `i` of `count`, where words are `stride` apart: UVM_LITTLE_ENDIAN, UVM_BIG_ENDIAN,
+-- UVM_LITTLE_FIFO and UVM_BIG_FIFO (uvm_reg_map, IEEE 1800.2-2017, 18.2).
 abbrev pub address_of : Kind → ℕ → ℕ → ℕ → ℕ → ℕ
 address_of Little start stride count i = start + stride * i
 address_of Big start stride count i = start + stride * (count - 1 - i)
 address_of LittleFifo start stride count i = start
 address_of BigFifo start stride count i = start
 
--- where the words of an access start in the map above it, before the offset
+-- Where the words of an access start in the map above it, before the offset. The scale between byte and word addresses
+-- is this project's own.
 abbrev pub carried : Access → Level → ℕ
 carried access level =
     let count = div_ceil access.bytes level.bytes in

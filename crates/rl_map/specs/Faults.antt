@@ -170,7 +170,7 @@ places_fault chip t earlier words (part ∷ parts) =
     or_else (first_of (row_at array.Place (length earlier)) (place_checks chip t earlier words part p))
     (places_fault chip t (earlier ++ p.row ∷ []) (words + word_count p) parts)
 
--- the first condition that fails
+-- The first condition that fails. The conditions and their order are this project's own.
 unfoldable pub layout_fault : ChipData → List MapNode → List PlacePart → List AdapterKind → Option MapFault
 layout_fault chip maps places kinds = or_else (maps_fault kinds no_tables maps) (places_fault chip (tables_of kinds maps) [] 0 places)
 

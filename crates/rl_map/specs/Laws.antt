@@ -26,7 +26,7 @@ EveryItemPartitioned =
 
 -- ---- byte addresses
 
--- the same by byte addresses alone: `offset` is that of the child, and nothing is scaled between two maps
+-- a seat by byte addresses alone: `offset` is that of the child, and nothing is scaled between two maps
 abbrev pub byte_climb : ℕ → List Level → ℕ → ℕ → ℕ → ℕ → ℕ → Seat
 byte_climb base [] offset address bytes byte order = record { order = order; address = base + address; lane = byte }
 byte_climb base (level ∷ up) offset address bytes byte order =

@@ -24,8 +24,9 @@ use Rattle.rl_map.specs.Seat.{seat_of, AddressesFit}
 use Rattle.rl_map.specs.Words.{seats_of, item_words, words_with, lanes_of, no_word}
 use Rattle.rl_map.specs.Partition.{have_bit, AreParts, IsPartition, IsWordOn}
 
--- Maps, places and ports in description order, the adapter kinds that the layout was built with, and the words of all
--- locations of all places by port and address; those of one address stand by place, location and order.
+-- Maps (uvm_reg_map, IEEE 1800.2-2017, 18.2), places and ports in description order, the adapter kinds that the layout
+-- was built with, and the words of all locations of all places by port and address. Those of one address stand by
+-- place, location and order.
 pub record LayoutData : Type 0 where
   pub maps : List MapRow
   pub places : List PlaceRow
@@ -58,7 +59,7 @@ place_at l p = slice_index_or l.places p no_place
 
 -- ---- seats and words
 
--- the right to read is bit 0, the right to write bit 1
+-- The rights of a place (uvm_reg_map::add_reg and add_mem, IEEE 1800.2-2017, 18.2): to read is bit 0, to write bit 1.
 abbrev pub has_right : Rights → Bool → Bool
 has_right rights write = bit rights.bits (if write then 1 else 0)
 

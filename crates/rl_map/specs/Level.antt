@@ -11,11 +11,12 @@ pub record IsPath (path : List Level) : Type 0 where
   pub short : length path ≤ 4
   pub widths : All (λ level. IsWidth level.bytes) path
 
--- how far apart two neighbouring words of a map are, in its own unit of addresses
+-- How far apart two neighbouring words of a map are, in its own unit of addresses: bytes or words (uvm_reg_map, IEEE
+-- 1800.2-2017, 18.2).
 abbrev pub stride_of : Level → ℕ
 stride_of level = if level.word then 1 else level.bytes
 
--- all words of an item go to one address
+-- All words of an item go to one address (UVM_LITTLE_FIFO and UVM_BIG_FIFO of uvm_reg_map, IEEE 1800.2-2017, 18.2).
 abbrev pub is_fifo : Kind → Bool
 is_fifo Little = false
 is_fifo Big = false

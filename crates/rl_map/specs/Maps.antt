@@ -31,7 +31,8 @@ map_with maps (Some n) = slice_index_or maps n no_map
 abbrev pub level_of : MapNode → Level
 level_of m = record { bytes = m.bytes; kind = m.kind; word = m.word; offset = m.offset }
 
--- a root is a path by itself; any other map stands before the path of its parent
+-- A root is a path by itself; any other map stands before the path of its parent (uvm_reg_map::add_submap, IEEE
+-- 1800.2-2017, 18.2).
 abbrev pub path_under : List MapRow → Option (List ℕ) → Level → List Level
 path_under earlier None level = level ∷ []
 path_under earlier (Some parent) level = level ∷ (map_with earlier (map_number earlier parent)).path
@@ -54,6 +55,8 @@ abbrev pub kind_with : List AdapterKind → Option ℕ → AdapterKind
 kind_with kinds None = no_kind
 kind_with kinds (Some n) = slice_index_or kinds n no_kind
 
+-- A root as a port, with its adapter and whether a predictor watches it (uvm_reg_map::set_auto_predict, IEEE
+-- 1800.2-2017, 18.2).
 abbrev pub port_row : List AdapterKind → ℕ → MapNode → PortRow
 port_row kinds number m =
     let adapter = kind_number kinds m.adapter in
@@ -97,6 +100,7 @@ abbrev pub item_size : ChipData → Item → ℕ
 item_size chip (item.Reg n) = 1
 item_size chip (item.Mem n) = unwrap_or (option_map (λ m. m.size) (slice_get chip.mems n)) 0
 
+-- A register or a memory in a map, with offset and rights (uvm_reg_map::add_reg and add_mem, IEEE 1800.2-2017, 18.2).
 abbrev pub place_row : ChipData → List MapRow → PlacePart → PlaceRow
 place_row chip maps p =
     let number = map_number maps p.map in

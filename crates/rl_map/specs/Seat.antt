@@ -12,7 +12,8 @@ use Rattle.rl_map.specs.Access.{climb, IsAligned}
 abbrev pub access_of : Location → ℕ → Access
 access_of item byte = record { bytes = item.bytes; word = true; offset = item.offset; address = item.index; byte = byte; order = 0 }
 
--- the order, the bus address and the lane of a byte
+-- The order, the bus address and the lane of a byte. That a narrower child map is right-justified is this project's
+-- own.
 abbrev pub seat_of : List Level → ℕ → Location → ℕ → Seat
 seat_of path base item byte =
     let top = climb (access_of item byte) path in

@@ -8,11 +8,13 @@ use Rattle.rl_model.specs.Fields.{fields_of, field_in}
 use Rattle.rl_mirror.specs.Fields.{part_of}
 use Rattle.rl_mirror.specs.Mirror.{MirrorData, mirrored_of}
 
--- a check compares the field
+-- A check compares the field (uvm_reg::mirror with UVM_CHECK, IEEE 1800.2-2017, 18.4). That it never compares a
+-- write-only field is this project's own.
 abbrev pub is_compared : Field → Bool
 is_compared f = f.compare && not (is_write_only f.policy)
 
--- it is compared, and the bits that were read aren't the mirrored ones
+-- It is compared, and the bits that were read aren't the mirrored ones (uvm_reg::mirror with UVM_CHECK, IEEE
+-- 1800.2-2017, 18.4).
 abbrev pub differs : Field → (read mirrored : ℕ) → Bool
 differs f read mirrored = is_compared f && not (part_of f read == part_of f mirrored)
 

@@ -4,15 +4,18 @@ use Rattle.rl_model.specs.Rows.{ChipData}
 use Rattle.rl_model.specs.Fields.{first_of, size_of, fields_of, field_in}
 use Rattle.rl_mirror.specs.Fields.{word_by_field, owned, part_of}
 
--- A mirrored and a desired value for each register, and a spent mark for each field, counted through all registers.
+-- A mirrored and a desired value for each register (uvm_reg_field, IEEE 1800.2-2017, 18.5), and a spent mark for each
+-- field, counted through all registers. The marks are this project's own.
 pub record MirrorData : Type 0 where
   pub mirrored : List ℕ
   pub desired : List ℕ
   pub spent : List Bool
 
+-- The mirrored value of a register (uvm_reg_field::get_mirrored_value, IEEE 1800.2-2017, 18.5).
 abbrev pub mirrored_of : MirrorData → ℕ → ℕ
 mirrored_of m reg = get_or m.mirrored reg 0
 
+-- The desired value of a register (uvm_reg_field::get, IEEE 1800.2-2017, 18.5).
 abbrev pub desired_of : MirrorData → ℕ → ℕ
 desired_of m reg = get_or m.desired reg 0
 

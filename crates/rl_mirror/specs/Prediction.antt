@@ -13,22 +13,23 @@ use Rattle.rl_mirror.specs.Mirror.{MirrorData, mirrored_of, desired_of, marks_in
 
 -- ---- words of a register, by its fields; `marks k` is the spent mark of the k-th field
 
--- the bits after a write of a word
+-- The bits after a write of a word, each by the policy of its field (uvm_reg_field, IEEE 1800.2-2017, 18.5).
 unfoldable pub written : List FieldSeen → (marks : ℕ → Bool) → (bits word : ℕ) → ℕ
 written fields marks bits word = word_by_field fields (λ k b. after_write (policy_in fields k) (bit bits b) (bit word b) (marks k))
 
--- what a read answers, and the bits after it
+-- What a read answers.
 unfoldable pub shown : List FieldSeen → ℕ → ℕ
 shown fields bits = word_by_field fields (λ k b. value_read (policy_in fields k) (bit bits b))
 
+-- The bits after a read, each by the policy of its field (uvm_reg_field, IEEE 1800.2-2017, 18.5).
 unfoldable pub left_by_read : List FieldSeen → ℕ → ℕ
 left_by_read fields bits = word_by_field fields (λ k b. after_read (policy_in fields k) (bit bits b))
 
--- the word that brings the mirrored bits to the desired ones
+-- The word that brings the mirrored bits to the desired ones, where their policies can reach them: this project's own.
 unfoldable pub update_word : List FieldSeen → (desired mirrored : ℕ) → ℕ
 update_word fields desired mirrored = word_by_field fields (λ k b. update_bit (policy_in fields k) (bit desired b) (bit mirrored b))
 
--- the word that leaves the fields as they are, where their policies allow that
+-- The word that leaves the fields as they are, where their policies allow that: this project's own.
 unfoldable pub neutral_word : List FieldSeen → ℕ → ℕ
 neutral_word fields mirrored = word_by_field fields (λ k b. neutral_bit (policy_in fields k) (bit mirrored b))
 
@@ -38,7 +39,7 @@ unfoldable pub learned_by_write : List FieldSeen → (chosen marks : ℕ → Boo
 learned_by_write fields chosen marks mirrored word kept =
     word_by_field fields (λ k b. if chosen k then after_write (policy_in fields k) (bit mirrored b) (bit word b) (marks k) else bit kept b)
 
--- a read tells nothing of a write-only field
+-- What is known of a bit after a read. That a read tells nothing of a write-only field is this project's own.
 abbrev pub learned_bit : Policy → (read kept : Bool) → Bool
 learned_bit p read kept = if is_write_only p then kept else after_read p read
 
@@ -55,7 +56,7 @@ learned_by_read fields chosen read kept =
 abbrev pub reset_bit : FieldSeen → (kind b : ℕ) → Bool → Bool
 reset_bit f kind b kept = option_map_or (λ v. bit v (b - f.shape.lsb)) (value_for kind f.resets) kept
 
--- each field with a value for the kind takes it
+-- Each field with a value for the kind takes it (uvm_reg_field::reset, IEEE 1800.2-2017, 18.5).
 unfoldable pub after_reset : List FieldSeen → (kind kept : ℕ) → ℕ
 after_reset fields kind kept = word_by_field fields (λ k b. reset_bit (field_in fields k) kind b (bit kept b))
 
@@ -74,23 +75,24 @@ is_spent_by c reg fields n =
 unfoldable pub spent_after : ChipData → (reg fields : ℕ) → List Bool → List Bool
 spent_after c reg fields spent = map (λ n. get_or spent n false || is_spent_by c reg fields n) (range_with_len 0 (length spent))
 
--- a write of a word to the chosen fields went through; bit k of `fields` stands for the k-th field of the register
+-- A write of a word to the chosen fields went through (uvm_reg_field::predict with UVM_PREDICT_WRITE, IEEE 1800.2-2017,
+-- 18.5); bit k of `fields` stands for the k-th field of the register.
 unfoldable pub predict_write : ChipData → (reg word fields : ℕ) → MirrorData → MirrorData
 predict_write c reg word fields m =
     let after = λ (kept : ℕ). learned_by_write (fields_of c reg) (bit fields) (marks_in c m.spent reg) (mirrored_of m reg) word kept in
     record (with_values m reg (after (mirrored_of m reg)) (after (desired_of m reg))) { spent = spent_after c reg fields m.spent }
 
--- a read of the chosen fields answered this
+-- A read of the chosen fields answered this (uvm_reg_field::predict with UVM_PREDICT_READ, IEEE 1800.2-2017, 18.5).
 unfoldable pub predict_read : ChipData → (reg read fields : ℕ) → MirrorData → MirrorData
 predict_read c reg read fields m =
     let after = λ (kept : ℕ). learned_by_read (fields_of c reg) (bit fields) read kept in
     with_values m reg (after (mirrored_of m reg)) (after (desired_of m reg))
 
--- the bits of the register are these
+-- The bits of the register are these (uvm_reg_field::predict with UVM_PREDICT_DIRECT, IEEE 1800.2-2017, 18.5).
 unfoldable pub predict_raw : ChipData → (reg value : ℕ) → MirrorData → MirrorData
 predict_raw c reg value m = with_values m reg (owned (fields_of c reg) value) (owned (fields_of c reg) value)
 
--- a reset, which clears all marks where it is the hard one
+-- A reset of this kind (uvm_reg_field::reset, IEEE 1800.2-2017, 18.5), which clears all marks where it is the hard one.
 unfoldable pub reset : ChipData → (kind : ℕ) → MirrorData → MirrorData
 reset c kind m =
     let after = λ (values : List ℕ). map (λ reg. after_reset (fields_of c reg) kind (get_or values reg 0)) (range_with_len 0 (length values)) in
@@ -112,7 +114,8 @@ blank c = record {
 unfoldable pub fresh : ChipData → MirrorData
 fresh c = reset c 0 (blank c)
 
--- the field is to become v
+-- The field is to become v (uvm_reg_field::set, IEEE 1800.2-2017, 18.5). That its desired value is the write effect on
+-- the desired value is this project's own.
 unfoldable pub set : ChipData → (field v : ℕ) → MirrorData → MirrorData
 set c field v m =
     let f = field_of c field in
@@ -121,14 +124,17 @@ set c field v m =
 
 -- ---- words to send
 
--- some field of the register has another desired value than its mirrored one
+-- Some field of the register has another desired value than its mirrored one, so an update writes (uvm_reg::update,
+-- IEEE 1800.2-2017, 18.4). That a volatile field is no reason to write is this project's own.
 abbrev pub needs_update : MirrorData → (reg : ℕ) → Bool
 needs_update m reg = not (desired_of m reg == mirrored_of m reg)
 
+-- The word that an update writes (uvm_reg::update, IEEE 1800.2-2017, 18.4). That it is one word for the whole register
+-- is this project's own.
 unfoldable pub update_word_of : ChipData → (reg : ℕ) → MirrorData → ℕ
 update_word_of c reg m = update_word (fields_of c reg) (desired_of m reg) (mirrored_of m reg)
 
--- the word with v in the field, and the neutral word in each other field of its register
+-- The word with v in the field, and the neutral word in each other field of its register: this project's own.
 unfoldable pub neutral_around : ChipData → (field v : ℕ) → MirrorData → ℕ
 neutral_around c field v m =
     let f = field_of c field in

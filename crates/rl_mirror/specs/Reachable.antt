@@ -27,7 +27,7 @@ pub record IsReachable (c : ChipData) (m : MirrorData) : Type 0 where
   pub reached : (n : ℕ) → n < length c.fields → is_one_sided (field_of c n).shape.policy ≡ false → IsReached c m n
   pub one_sided : (n : ℕ) → n < length c.fields → is_one_sided (field_of c n).shape.policy ≡ true → IsSettled c m n ⊎ IsReached c m n
 
--- the mirror after the update word was written to all fields
+-- The mirror after the update word was written to all fields (uvm_reg::update, IEEE 1800.2-2017, 18.4).
 abbrev pub after_update : ChipData → (reg : ℕ) → MirrorData → MirrorData
 after_update c reg m = predict_write c reg (update_word_of c reg m) (2 ^ 64 - 1) m
 
@@ -36,7 +36,7 @@ pub record IsBrought (c : ChipData) (old new : MirrorData) (n : ℕ) : Type 0 wh
   pub mirrored : part_of (field_of c n).shape (mirrored_of new (field_of c n).shape.reg) ≡ part_of (field_of c n).shape (desired_of old (field_of c n).shape.reg)
   pub desired : part_of (field_of c n).shape (desired_of new (field_of c n).shape.reg) ≡ part_of (field_of c n).shape (desired_of old (field_of c n).shape.reg)
 
--- the law of updates
+-- The law of updates, by this project's own update words.
 abbrev pub UpdateBrings : ChipData → Type 0
 UpdateBrings c =
     (m : MirrorData) (n : ℕ) → IsMirrorOf c m → n < length c.fields → IsReached c m n

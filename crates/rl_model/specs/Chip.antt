@@ -27,6 +27,7 @@ abbrev pub backdoor_of : ChipData → Item → Option Bool
 backdoor_of c (Reg n) = option_map (λ r. r.backdoor) (slice_get c.regs n)
 backdoor_of c (Mem n) = option_map (λ m. m.backdoor) (slice_get c.mems n)
 
+-- The sequences that leave the item out, by the names of their resources (IEEE 1800.2-2017, Annex E).
 abbrev pub skip_of : ChipData → Item → Option Skip
 skip_of c (Reg n) = option_map (λ r. r.skip) (slice_get c.regs n)
 skip_of c (Mem n) = option_map (λ m. m.skip) (slice_get c.mems n)
@@ -39,10 +40,11 @@ place_of c (Mem n) = c.scopes + length c.regs + n
 abbrev pub path_at : ChipData → ℕ → List ℕ
 path_at c i = unwrap_or (slice_get c.paths i) []
 
+-- The hierarchical name, its names joined by dots (uvm_reg_block, IEEE 1800.2-2017, 18.1; uvm_reg_file, 18.3).
 abbrev pub path_of_item : ChipData → Item → List ℕ
 path_of_item c item = path_at c (place_of c item)
 
--- the value for a kind
+-- The value for a kind of reset (uvm_reg_field::set_reset, IEEE 1800.2-2017, 18.5).
 abbrev pub value_for : ℕ → List Reset → Option ℕ
 value_for kind [] = None
 value_for kind (r ∷ rs) = if r.kind == kind then Some r.value else value_for kind rs

@@ -29,7 +29,7 @@ count_of c reg = option_map_or (λ r. r.count) (slice_get c.regs reg) 0
 abbrev pub size_of : ChipData → ℕ → ℕ
 size_of c reg = option_map_or (λ r. r.bytes) (slice_get c.regs reg) 0
 
--- the fields of a register
+-- The fields of a register (uvm_reg, IEEE 1800.2-2017, 18.4), each of them a uvm_reg_field (18.5).
 unfoldable pub fields_of : ChipData → ℕ → List FieldSeen
 fields_of c reg = take (count_of c reg) (drop (first_of c reg) c.fields)
 

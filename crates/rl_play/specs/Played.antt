@@ -112,7 +112,7 @@ abbrev pub Ends : (number : ℕ) → (before : Moment) → (input : Option (List
 Ends number before input after status = IfSome (to_come number before input) (λ e.
     EndsAs e status before.text after.text after.counts after.model after.adapters after.device)
 
--- the same of a whole script, whose counts were added to those before
+-- a whole script ended, with its whole log or a front of it, and its counts were added to those before
 abbrev pub PlaysScript : (before : Moment) → (input : Option (List ℕ)) → (after : Moment) → Status → Type 0
 PlaysScript before input after status = IfSome (coming 1 no_counts before.model before.adapters before.device input) (λ e.
     IsWrittenOut e status before.text after.text before.counts after.counts after.model after.adapters after.device)

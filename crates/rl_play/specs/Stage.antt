@@ -23,7 +23,7 @@ spot_of d k adapters stage = record {
   counts = stage.counts.now;
 }
 
--- the same, where a recorder writes and counts
+-- where it stands, where a recorder writes and counts
 abbrev pub recorded : {A D K : Type 0} → (A → Standing) → (D → ℕ) → (D → Option State) → (K → Option (List ℕ))
     → ModelData → List A → D → Writing K → Point
 recorded standing errors state written model adapters device rec =

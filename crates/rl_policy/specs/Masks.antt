@@ -19,6 +19,7 @@ owned_test test (Some p) = test p
 abbrev pub IsMaskOf : (ℕ → Option Policy) → (Policy → Bool) → ℕ → Type 0
 IsMaskOf own test mask = (b : ℕ) → b < 64 → bit mask b ≡ owned_test test (own b)
 
+-- One mask for each effect that a write or a read can have on a bit. The masks are this project's own.
 pub record AreEffectsOf (own : ℕ → Option Policy) (e : Effects) : Type 0 where
   pub owned : IsMaskOf own (λ p. true) e.owned
   pub spending : IsMaskOf own spends_mark e.spending
@@ -44,17 +45,19 @@ more_owned own seat p b = more_owned_bit (own b) (seat b) p
 abbrev pub ForPoliciesOf : Effects → ((ℕ → Option Policy) → Type 0) → Type 0
 ForPoliciesOf e P = (own : ℕ → Option Policy) → AreEffectsOf own e → P own
 
--- a write of a word with these lanes: the bits after it, and the spent marks
+-- The bits after a write of a word with these lanes, by their policies (uvm_reg_field, IEEE 1800.2-2017, 18.5).
 abbrev pub bits_written : (ℕ → Option Policy) → (bits marks word lanes : ℕ) → ℕ
 bits_written own bits marks word lanes =
     from_bits 64 (λ b. bit_written (own b) (bit bits b) (bit marks b) (bit word b) (bit lanes b))
 
+-- The bits whose first write is spent, after a write with these lanes.
 abbrev pub marks_written : (ℕ → Option Policy) → (marks lanes : ℕ) → ℕ
 marks_written own marks lanes = from_bits 64 (λ b. mark_written (own b) (bit marks b) (bit lanes b))
 
--- a read with these lanes: what it answers, and the bits after it
+-- What a read answers.
 abbrev pub bits_answered : (ℕ → Option Policy) → (bits : ℕ) → ℕ
 bits_answered own bits = from_bits 64 (λ b. bit_answered (own b) (bit bits b))
 
+-- The bits after a read with these lanes, by their policies (uvm_reg_field, IEEE 1800.2-2017, 18.5).
 abbrev pub bits_left : (ℕ → Option Policy) → (bits lanes : ℕ) → ℕ
 bits_left own bits lanes = from_bits 64 (λ b. bit_left (own b) (bit bits b) (bit lanes b))

@@ -19,7 +19,7 @@ is_numeral radix ds = nat_lt 0 (length ds) && list_all (λ c. is_digit c radix) 
 abbrev pub fitting_option : ℕ → Option ℕ
 fitting_option n = if nat_lt n (2 ^ 64) then Some n else None
 
--- the same as what a text says
+-- what a text says that writes this number: it must fit 64 bits
 abbrev pub fitting : ℕ → NumberText
 fitting n = if nat_lt n (2 ^ 64) then Value n else TooLarge
 

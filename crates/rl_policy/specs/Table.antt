@@ -9,6 +9,7 @@ abbrev pub either_alone : Bool → Bool → Bool
 either_alone true b = not b
 either_alone false b = b
 
+-- A write's effect on one bit of a field, by its policy (uvm_reg_field, IEEE 1800.2-2017, 18.5).
 abbrev pub after_write : Policy → Bool → Bool → Bool → Bool
 after_write Ro c w s = c
 after_write Rw c w s = w
@@ -36,6 +37,7 @@ after_write Wos c w s = true
 after_write W1 c w s = if s then c else w
 after_write Wo1 c w s = if s then c else w
 
+-- A read's effect on one bit of a field, by its policy (uvm_reg_field, IEEE 1800.2-2017, 18.5).
 abbrev pub after_read : Policy → Bool → Bool
 after_read Ro c = c
 after_read Rw c = c
@@ -63,7 +65,7 @@ after_read Wos c = c
 after_read W1 c = c
 after_read Wo1 c = c
 
--- the policies whose fields read as 0
+-- The policies whose fields read as 0. That a write-only field does is this project's own.
 abbrev pub is_write_only : Policy → Bool
 is_write_only Wo = true
 is_write_only Woc = true
@@ -71,15 +73,18 @@ is_write_only Wos = true
 is_write_only Wo1 = true
 is_write_only _ = false
 
+-- What a read answers of one bit of a field: the stored bit, or 0 of a write-only field, which is this project's own.
 abbrev pub value_read : Policy → Bool → Bool
 value_read p c = if is_write_only p then false else c
 
--- the policies that take the first write alone
+-- The policies that take the first write after a hard reset alone (W1 and WO1 of uvm_reg_field, IEEE 1800.2-2017,
+-- 18.5).
 abbrev pub spends_mark : Policy → Bool
 spends_mark W1 = true
 spends_mark Wo1 = true
 spends_mark _ = false
 
+-- The bit to write so that the desired one results, where the policy can reach it: this project's own.
 abbrev pub update_bit : Policy → Bool → Bool → Bool
 update_bit W1c d m = not d
 update_bit W1t d m = either_alone d m
@@ -89,6 +94,7 @@ update_bit W1crs d m = not d
 update_bit W0src d m = not d
 update_bit _ d m = d
 
+-- The bit to write so that a field stays as it is, where its policy allows that: this project's own.
 abbrev pub neutral_bit : Policy → Bool → Bool
 neutral_bit Rw m = m
 neutral_bit Wrc m = m

@@ -15,11 +15,11 @@ use Rattle.rl_access.specs.Rules.{is_writable, item_size}
 use Rattle.rl_seq.specs.declared.sequence.Sequence.{Sequence}
 use Rattle.rl_seq.specs.declared.sequence.Sequence.TheVariants.{HwReset, BitBash, Access, Shared, MemWalk}
 
--- the exclusion from every sequence, as a bit
+-- The exclusion from every sequence of registers, as a bit (the resource NO_REG_TESTS, IEEE 1800.2-2017, Annex E).
 abbrev pub no_reg_tests : ℕ
 no_reg_tests = 1
 
--- and the one from each
+-- The exclusion from each sequence, as a bit, by the name of its resource (IEEE 1800.2-2017, Annex E).
 abbrev pub exclusion_from : Sequence → ℕ
 exclusion_from HwReset = 2
 exclusion_from BitBash = 4

@@ -51,7 +51,7 @@ pub record Walks {R T E : Type 0} (takes breaks : R → ModelData → Event → 
   pub counts : OnOk r (after ≡ counted_all before told)
   pub run : MatchResult r (λ x. Runs p s told new) (λ e. Breaks p s told new)
 
--- the same of a sequence, which answers what it counted
+-- a sequence followed the plan, each event was handed over, and it answers what it counted
 pub record IsSequence {R E : Type 0} (takes breaks : R → ModelData → Event → R → Type 0) (old rec : R) (s new : Scene)
     (p : Plan) (r : Result Tally E) : Type 0 where
   pub told : List Told

@@ -19,6 +19,7 @@ map_at l place = (place_at l place).map
 
 -- ---- hardware reset: a check at each place that may be read
 
+-- uvm_reg_hw_reset_seq (IEEE 1800.2-2017, Annex E) checks a register at a place. The steps are this project's own.
 abbrev pub check_at : LayoutData → (reg place : ℕ) → Plan
 check_at l reg place = step (op.Check reg (Some (map_at l place))) stop
 
@@ -29,6 +30,7 @@ bash_once reg map bit = look (λ m.
     step (op.Write reg (Some map) (bit_xor (mirrored_of m.mirror reg) (2 ^ bit)))
     (step (op.Check reg (Some map)) stop))
 
+-- uvm_reg_bit_bash_seq (IEEE 1800.2-2017, Annex E) turns a compared bit round twice. The steps are this project's own.
 abbrev pub bash_bit : ChipData → (reg map bit : ℕ) → Plan
 bash_bit c reg map bit = only_if (is_bit_compared c reg bit) (followed_by (bash_once reg map bit) (bash_once reg map bit))
 
@@ -41,6 +43,8 @@ access_with c reg map value =
     (step (op.BackWrite reg value)
     (step (op.Check reg (Some map)) stop)))
 
+-- uvm_reg_access_seq (IEEE 1800.2-2017, Annex E) writes and checks a register over the bus and by the backdoor. The
+-- steps are this project's own.
 abbrev pub access_at : ChipData → (reg map : ℕ) → Plan
 access_at c reg map = look (λ m. access_with c reg map (mirrored_of m.mirror reg))
 
@@ -53,6 +57,8 @@ abbrev pub check_other : LayoutData → (reg written place : ℕ) → Plan
 check_other l reg written place =
     only_if (not (place == written) && (is_of l place (Reg reg) && may_read l place)) (check_at l reg place)
 
+-- uvm_reg_shared_access_seq (IEEE 1800.2-2017, Annex E) writes a register at a place and checks it at each other one.
+-- The steps are this project's own.
 abbrev pub share_at : ChipData → LayoutData → (reg place : ℕ) → Plan
 share_at c l reg place = look (λ m.
     write_turned c l reg place (mirrored_of m.mirror reg) (each_below (length l.places) (check_other l reg place)))
@@ -76,6 +82,8 @@ settle_before c mem map (suc k) = followed_by (check_filled c mem map k) (write_
 abbrev pub check_last : ChipData → (mem map k : ℕ) → Plan
 check_last c mem map k = only_if (k + 1 == memory_size c mem) (check_filled c mem map k)
 
+-- uvm_mem_walk_seq (IEEE 1800.2-2017, Annex E) fills a location of a memory and goes back to the one before it. The
+-- steps are this project's own.
 abbrev pub walk_location : ChipData → (mem map k : ℕ) → Plan
 walk_location c mem map k = followed_by (fill c mem map k) (followed_by (settle_before c mem map k) (check_last c mem map k))
 

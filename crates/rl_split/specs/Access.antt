@@ -30,13 +30,14 @@ lanes_for chosen w = record { enabled = chosen_lanes chosen w; bytes = w.bytes }
 abbrev pub has_chosen : ℕ → Word → Bool
 has_chosen chosen w = not (chosen_lanes chosen w == 0)
 
--- the words with a chosen byte, in order
+-- The words with a chosen byte, in order. Their order in time is this project's own.
 abbrev pub sent_words : ℕ → List Word → List Word
 sent_words chosen words = filter (has_chosen chosen) words
 
 -- ---- the operation of a word
 
--- without enables in its direction an operation has all lanes
+-- Without byte enables in its direction an operation has all lanes (uvm_reg_adapter::supports_byte_enable, IEEE
+-- 1800.2-2017, 19.2).
 abbrev pub enabled_lanes : Bool → (bus_bytes chosen : ℕ) → Word → ℕ
 enabled_lanes carried bus_bytes chosen w = if carried then chosen_lanes chosen w else all_lanes bus_bytes
 
@@ -47,6 +48,7 @@ word_of chosen value w = from_bits 64 (gathered_bit (lanes_for chosen w) (bit va
 abbrev pub carries_lanes : AdapterKind → Bool → Bool
 carries_lanes kind write = if write then kind.write_lanes else kind.read_lanes
 
+-- The operation of a word: kind, address, data and byte enables (uvm_reg_bus_op, IEEE 1800.2-2017, 19.1).
 abbrev pub op_for : AdapterKind → (bus_bytes chosen value : ℕ) → (write : Bool) → Word → BusOp
 op_for kind bus_bytes chosen value write w = record {
   write = write;

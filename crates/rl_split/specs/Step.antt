@@ -34,17 +34,17 @@ shown_bit fields chosen (Some k) x = chosen k && value_read (policy_in fields k)
 
 -- ---- the whole register
 
--- a write of a word to the chosen fields
+-- A write of a word to the chosen fields, each by its policy (uvm_reg_field, IEEE 1800.2-2017, 18.5).
 unfoldable pub wstep : List FieldSeen → (chosen : ℕ → Bool) → ℕ → Register → Register
 wstep fields chosen word r = record {
   bits = from_bits 64 (λ b. written_bit fields chosen r.spent (place_at fields b) (bit r.bits b) (bit word b));
   spent = λ k. r.spent k || (chosen k && spends_mark (policy_in fields k));
 }
 
--- a read of the chosen fields
+-- A read of the chosen fields, each by its policy (uvm_reg_field, IEEE 1800.2-2017, 18.5).
 unfoldable pub rstep : List FieldSeen → (chosen : ℕ → Bool) → Register → Register
 rstep fields chosen r = record r { bits = from_bits 64 (λ b. left_bit fields chosen (place_at fields b) (bit r.bits b)) }
 
--- and what it answers
+-- What a read of the chosen fields answers.
 unfoldable pub ranswer : List FieldSeen → (chosen : ℕ → Bool) → Register → ℕ
 ranswer fields chosen r = from_bits 64 (λ b. shown_bit fields chosen (place_at fields b) (bit r.bits b))

@@ -31,12 +31,12 @@ pub record CanWeave {D K X : Type 0} {V : X → Type 0} (d : Device D) (adapters
   pub ready : IsReady stage.model.now adapters (d.state stage.device.now)
   pub weave : IsWeaveOn stage.model.now script.weave
 
--- the same, and no access of the group has sent a word
+-- adapters and device belong to the model, and no access of the group has sent a word
 pub record CanGather {D K X : Type 0} {V : X → Type 0} (d : Device D) (adapters : List Standing) (script : WovenScript) (stage : Stage D K X V) : Type 0 where
   pub ready : IsReady stage.model.now adapters (d.state stage.device.now)
   pub group : IsGathering stage.model.now script.weave
 
--- the same, and the next line can be read
+-- no access of the group has sent a word, and the next line can be read
 pub record CanTake {D K X : Type 0} {V : X → Type 0} (d : Device D) (adapters : List Standing) (script : WovenScript) (stage : Stage D K X V)
     (lines : Reading) : Type 0 where
   pub gathering : CanGather d adapters script stage
