@@ -4,8 +4,8 @@ ghost use Rattle.rl_access.specs.Prelude.{IsAccessOn, IsOutgoingOn, ModelData, o
 
 use rl_split::Outgoing;
 
-/// An access to a register: its place, the bytes that take part, the fields that it concerns, and the
-/// value to write, which is 0 in a read.
+/// An access to a register (`uvm_reg::write` or `read`, IEEE 1800.2-2017, 18.4): its place, the bytes that take part,
+/// the fields that it concerns, and the value to write, which is 0 in a read.
 ///
 /// Bit `j` of `chosen` stands for byte `j`, bit `i` of `fields` for the register's `i`-th field.
 #[derive(Clone, Copy)]

@@ -192,7 +192,7 @@ impl Model {
         (self.map_used(place, map), self.way(place, write))
     }
 
-    // The same for another master, which a predictor has to watch.
+    // For another master's access, the map that an event names, and the place where a predictor watches.
     fn watched(&self, reg: u32, map: Option<u32>, write: bool) -> (Option<u32>, Grant)
         requires reg { reg < length self.now.chip.regs }
         requires map { IsMapIn (length self.now.layout.maps) map }

@@ -67,7 +67,9 @@ fn refuse_burst<R: Recorder>(
     Ok(tally)
 }
 
-/// Writes values to consecutive locations of a memory, in ascending order, and hands each event to the recorder.
+/// Writes values to consecutive locations of a memory, in ascending order, and hands each event to the recorder:
+/// `uvm_mem::burst_write` (IEEE 1800.2-2017, 18.6).
+///
 /// It ends after the first bus error. A burst of which any value is too wide is refused before its first location.
 pub fn burst_write<D: Device, R: Recorder>(
     model: &mut Model,
@@ -164,8 +166,8 @@ fn write_locations<D: Device, R: Recorder>(
     Ok(tally)
 }
 
-/// Reads consecutive locations of a memory, in ascending order, and hands each event to the recorder. It ends
-/// after the first bus error.
+/// Reads consecutive locations of a memory, in ascending order, and hands each event to the recorder:
+/// `uvm_mem::burst_read` (IEEE 1800.2-2017, 18.6). It ends after the first bus error.
 pub fn burst_read<D: Device, R: Recorder>(
     model: &mut Model,
     device: &mut D,

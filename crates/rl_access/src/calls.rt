@@ -14,7 +14,7 @@ use crate::wishes::{set_into, show_into};
 use rl_bus::{Adapter, Adapters, Device};
 use rl_mirror::law::update_brings;
 
-/// Writes a register over the bus.
+/// Writes a register over the bus: `uvm_reg::write` (IEEE 1800.2-2017, 18.4).
 pub fn front_write<D: Device>(
     model: &mut Model,
     device: &mut D,
@@ -33,7 +33,7 @@ pub fn front_write<D: Device>(
     perform(model, device, adapters, Op::Write { reg, map, value })
 }
 
-/// Reads a register over the bus.
+/// Reads a register over the bus: `uvm_reg::read` (IEEE 1800.2-2017, 18.4).
 pub fn front_read<D: Device>(
     model: &mut Model,
     device: &mut D,
@@ -51,8 +51,10 @@ pub fn front_read<D: Device>(
     perform(model, device, adapters, Op::Read { reg, map })
 }
 
-/// Reads a register over the bus to learn its value. With `check` the event names the compared fields whose
-/// bits aren't those that were mirrored before the read.
+/// Reads a register over the bus to learn its value: `uvm_reg::mirror` (IEEE 1800.2-2017, 18.4).
+///
+/// With `check`, which is `UVM_CHECK`, the event names the compared fields whose bits aren't those that were mirrored
+/// before the read.
 pub fn mirror<D: Device>(
     model: &mut Model,
     device: &mut D,
@@ -76,7 +78,9 @@ pub fn mirror<D: Device>(
     }
 }
 
-/// Writes a field over the bus: its own bytes alone where the access may be narrow, else the whole register
+/// Writes a field over the bus: `uvm_reg_field::write` (IEEE 1800.2-2017, 18.5).
+///
+/// It reaches the field's own bytes alone where the access may be narrow, else the whole register
 /// with the neutral word in each other field. When an access may be narrow, and the neutral word, are this
 /// project's own.
 pub fn field_write<D: Device>(
@@ -103,7 +107,9 @@ pub fn field_write<D: Device>(
     )
 }
 
-/// Reads a field over the bus: its own bytes alone where the access may be narrow, else the whole register.
+/// Reads a field over the bus: `uvm_reg_field::read` (IEEE 1800.2-2017, 18.5).
+///
+/// It reaches the field's own bytes alone where the access may be narrow, else the whole register.
 pub fn field_read<D: Device>(
     model: &mut Model,
     device: &mut D,
@@ -121,8 +127,9 @@ pub fn field_read<D: Device>(
     perform(model, device, adapters, Op::FieldRead { field, map })
 }
 
-/// Gives a field a desired value: what a write of the value would leave of the desired one. That rule is this
-/// project's own.
+/// Gives a field a desired value: `uvm_reg_field::set` (IEEE 1800.2-2017, 18.5).
+///
+/// It is what a write of the value would leave of the desired one. That rule is this project's own.
 pub fn set(model: &mut Model, field: u32, value: u64) -> Event
     requires field { field < length model.old.chip.fields }
     ensures fits { EventFits model.new result }
@@ -134,7 +141,8 @@ pub fn set(model: &mut Model, field: u32, value: u64) -> Event
     event
 }
 
-/// Tells the mirrored and the desired value of a register.
+/// Tells the mirrored and the desired value of a register: `uvm_reg_field::get_mirrored_value` and `get` of its fields
+/// (IEEE 1800.2-2017, 18.5).
 pub fn show(model: &Model, reg: u32) -> Event
     requires reg { reg < length model.now.chip.regs }
     ensures fits { EventFits model.now result }
@@ -145,9 +153,10 @@ pub fn show(model: &Model, reg: u32) -> Event
     event
 }
 
-/// Brings a register to its desired value by one write of the whole register, where some field has another
-/// desired value than its mirrored one. The word that it writes, and that it looks at these values alone, are
-/// this project's own.
+/// Brings a register to its desired value: `uvm_reg::update` (IEEE 1800.2-2017, 18.4).
+///
+/// It is one write of the whole register, where some field has another desired value than its mirrored one. The word
+/// that it writes, and that it looks at these values alone, are this project's own.
 pub fn update<D: Device>(
     model: &mut Model,
     device: &mut D,
@@ -177,7 +186,7 @@ fn law_of_update(model: &Model)
     update_brings();
 }
 
-/// Writes a location of a memory over the bus.
+/// Writes a location of a memory over the bus: `uvm_mem::write` (IEEE 1800.2-2017, 18.6).
 pub fn mem_write<D: Device>(
     model: &mut Model,
     device: &mut D,
@@ -209,7 +218,7 @@ pub fn mem_write<D: Device>(
     )
 }
 
-/// Reads a location of a memory over the bus.
+/// Reads a location of a memory over the bus: `uvm_mem::read` (IEEE 1800.2-2017, 18.6).
 pub fn mem_read<D: Device>(
     model: &mut Model,
     device: &mut D,
@@ -229,7 +238,7 @@ pub fn mem_read<D: Device>(
     perform_on_memory(model, device, adapters, Op::MemRead { mem, map, index })
 }
 
-/// Reads a location of a memory over the bus, and compares it with a value.
+/// Reads a location of a memory over the bus, and compares it with a value: this project's own.
 pub fn mem_check<D: Device>(
     model: &mut Model,
     device: &mut D,
@@ -261,7 +270,7 @@ pub fn mem_check<D: Device>(
     )
 }
 
-/// Samples a location of a memory by the backdoor.
+/// Samples a location of a memory by the backdoor: `uvm_mem::peek` (IEEE 1800.2-2017, 18.6).
 pub fn mem_peek<D: Device>(model: &mut Model, device: &mut D, mem: u32, index: u64) -> Event
     requires device { IsDeviceOf model.old (D.state device.old) }
     requires mem { mem < length model.old.chip.mems }
@@ -276,7 +285,7 @@ pub fn mem_peek<D: Device>(model: &mut Model, device: &mut D, mem: u32, index: u
     event
 }
 
-/// Deposits a value in a location of a memory by the backdoor.
+/// Deposits a value in a location of a memory by the backdoor: `uvm_mem::poke` (IEEE 1800.2-2017, 18.6).
 pub fn mem_poke<D: Device>(
     model: &mut Model,
     device: &mut D,
@@ -299,7 +308,8 @@ pub fn mem_poke<D: Device>(
     event
 }
 
-/// Another master writes a register through an explicit root.
+/// Another master writes a register through an explicit root, and its predictor sees the items: this project's own
+/// over `uvm_reg_predictor` (IEEE 1800.2-2017, 19.3).
 pub fn other_write<D: Device>(
     model: &mut Model,
     device: &mut D,
@@ -319,7 +329,8 @@ pub fn other_write<D: Device>(
     perform(model, device, adapters, Op::OtherWrite { reg, map, value })
 }
 
-/// Another master reads a register through an explicit root.
+/// Another master reads a register through an explicit root, and its predictor sees the items: this project's own over
+/// `uvm_reg_predictor` (IEEE 1800.2-2017, 19.3).
 pub fn other_read<D: Device>(
     model: &mut Model,
     device: &mut D,
@@ -337,8 +348,10 @@ pub fn other_read<D: Device>(
     perform(model, device, adapters, Op::OtherRead { reg, map })
 }
 
-/// Writes a register by the backdoor: each field's declared write effect, with the mirror's spent mark, on the
-/// bits that the device has.
+/// Writes a register by the backdoor: `uvm_reg::write` (IEEE 1800.2-2017, 18.4).
+///
+/// It leaves each field's declared write effect, with the mirror's spent mark, on the bits that the device has. That is
+/// this project's own.
 pub fn back_write<D: Device>(model: &mut Model, device: &mut D, reg: u32, value: u64) -> Event
     requires device { IsDeviceOf model.old (D.state device.old) }
     requires reg { reg < length model.old.chip.regs }
@@ -350,8 +363,10 @@ pub fn back_write<D: Device>(model: &mut Model, device: &mut D, reg: u32, value:
     perform_off_bus(model, device, Op::BackWrite { reg, value })
 }
 
-/// Reads a register by the backdoor, with each field's declared read effect. With `check` the event names the
-/// compared fields whose bits aren't those that were mirrored before the read.
+/// Reads a register by the backdoor, with each field's declared read effect: `uvm_reg::read` (IEEE 1800.2-2017, 18.4).
+///
+/// With `check`, which is `uvm_reg::mirror` with `UVM_CHECK`, the event names the compared fields whose bits aren't
+/// those that were mirrored before the read.
 pub fn back_read<D: Device>(model: &mut Model, device: &mut D, reg: u32, check: bool) -> Event
     requires device { IsDeviceOf model.old (D.state device.old) }
     requires reg { reg < length model.old.chip.regs }
@@ -367,7 +382,8 @@ pub fn back_read<D: Device>(model: &mut Model, device: &mut D, reg: u32, check: 
     }
 }
 
-/// Samples the bits of a register, and takes them as mirrored and desired value.
+/// Samples the bits of a register, and takes them as mirrored and desired value: `uvm_reg::peek` (IEEE 1800.2-2017,
+/// 18.4).
 pub fn peek<D: Device>(model: &mut Model, device: &mut D, reg: u32) -> Event
     requires device { IsDeviceOf model.old (D.state device.old) }
     requires reg { reg < length model.old.chip.regs }
@@ -380,7 +396,7 @@ pub fn peek<D: Device>(model: &mut Model, device: &mut D, reg: u32) -> Event
     event
 }
 
-/// Deposits bits in a register, and takes them as mirrored and desired value.
+/// Deposits bits in a register, and takes them as mirrored and desired value: `uvm_reg::poke` (IEEE 1800.2-2017, 18.4).
 pub fn poke<D: Device>(model: &mut Model, device: &mut D, reg: u32, value: u64) -> Event
     requires device { IsDeviceOf model.old (D.state device.old) }
     requires reg { reg < length model.old.chip.regs }
@@ -392,7 +408,7 @@ pub fn poke<D: Device>(model: &mut Model, device: &mut D, reg: u32, value: u64) 
     perform_off_bus(model, device, Op::Poke { reg, value })
 }
 
-/// The hardware changes a volatile field by itself. The model learns nothing of it.
+/// The hardware changes a volatile field by itself, and the model learns nothing of it: this project's own.
 pub fn hw<D: Device>(model: &mut Model, device: &mut D, field: u32, value: u64) -> Event
     requires device { IsDeviceOf model.old (D.state device.old) }
     requires field { field < length model.old.chip.fields }
@@ -404,7 +420,8 @@ pub fn hw<D: Device>(model: &mut Model, device: &mut D, field: u32, value: u64) 
     perform_off_bus(model, device, Op::Hw { field, value })
 }
 
-/// Resets the device and the model. Kind 0 is HARD, kind 1 is SOFT.
+/// Resets the model, by `uvm_reg_field::reset` of each field (IEEE 1800.2-2017, 18.5), and the device in the same step,
+/// which is this project's own. Kind 0 is HARD, kind 1 is SOFT.
 pub fn reset<D: Device>(model: &mut Model, device: &mut D, kind: u32) -> Event
     requires device { IsDeviceOf model.old (D.state device.old) }
     requires kind { kind < length model.old.chip.kinds }

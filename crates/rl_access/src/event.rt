@@ -45,138 +45,146 @@ pub enum End {
 ///
 /// `map` in an event is the map of the place that was used, or the one that was asked for where there is no such
 /// place.
+///
+/// Each names the method that it stands for, of `uvm_reg` (IEEE 1800.2-2017, 18.4), of `uvm_reg_field` (18.5) or of
+/// `uvm_mem` (18.6), or says that it is this project's own.
 #[derive(Clone, Copy, Debug, PartialEq, Eq)]
 pub enum Op {
-    /// Writes a register over the bus.
+    /// Writes a register over the bus: `uvm_reg::write`.
     Write {
         reg: u32,
         map: Option<u32>,
         value: u64,
     },
-    /// Reads a register over the bus.
+    /// Reads a register over the bus: `uvm_reg::read`.
     Read {
         reg: u32,
         map: Option<u32>,
     },
-    /// Reads a register over the bus to learn its value.
+    /// Reads a register over the bus to learn its value: `uvm_reg::mirror`.
     Mirror {
         reg: u32,
         map: Option<u32>,
     },
-    /// The same, and compares what was read with what was mirrored.
+    /// Reads a register over the bus, and compares what was read with what was mirrored: `uvm_reg::mirror` with
+    /// `UVM_CHECK`.
     Check {
         reg: u32,
         map: Option<u32>,
     },
-    /// Writes a field over the bus.
+    /// Writes a field over the bus: `uvm_reg_field::write`.
     FieldWrite {
         field: u32,
         map: Option<u32>,
         value: u64,
     },
-    /// Reads a field over the bus.
+    /// Reads a field over the bus: `uvm_reg_field::read`.
     FieldRead {
         field: u32,
         map: Option<u32>,
     },
-    /// Gives a field a desired value.
+    /// Gives a field a desired value: `uvm_reg_field::set`.
     Set {
         field: u32,
         value: u64,
     },
-    /// Tells the mirrored and the desired value of a register.
+    /// Tells the mirrored and the desired value of a register: `uvm_reg_field::get_mirrored_value` and `get` of its
+    /// fields.
     Show {
         reg: u32,
     },
-    /// Brings a register to its desired value, by a write over the bus where one is needed.
+    /// Brings a register to its desired value, by a write over the bus where one is needed: `uvm_reg::update`.
     Update {
         reg: u32,
         map: Option<u32>,
     },
-    /// Writes a register by the backdoor, with each field's write effect.
+    /// Writes a register by the backdoor, with each field's write effect: `uvm_reg::write`.
     BackWrite {
         reg: u32,
         value: u64,
     },
-    /// Reads a register by the backdoor, with each field's read effect.
+    /// Reads a register by the backdoor, with each field's read effect: `uvm_reg::read`.
     BackRead {
         reg: u32,
     },
-    /// The same, and compares what was read with what was mirrored.
+    /// Reads a register by the backdoor, and compares what was read with what was mirrored: `uvm_reg::mirror` with
+    /// `UVM_CHECK`.
     BackCheck {
         reg: u32,
     },
-    /// Samples the bits of a register.
+    /// Samples the bits of a register: `uvm_reg::peek`.
     Peek {
         reg: u32,
     },
-    /// Deposits bits in a register.
+    /// Deposits bits in a register: `uvm_reg::poke`.
     Poke {
         reg: u32,
         value: u64,
     },
-    /// Writes a location of a memory over the bus.
+    /// Writes a location of a memory over the bus: `uvm_mem::write`.
     MemWrite {
         mem: u32,
         map: Option<u32>,
         index: u64,
         value: u64,
     },
-    /// Reads a location of a memory over the bus.
+    /// Reads a location of a memory over the bus: `uvm_mem::read`.
     MemRead {
         mem: u32,
         map: Option<u32>,
         index: u64,
     },
-    /// The same, and compares what was read with the value.
+    /// Reads a location of a memory over the bus, and compares what was read with the value: this project's own.
     MemCheck {
         mem: u32,
         map: Option<u32>,
         index: u64,
         value: u64,
     },
-    /// Writes `count` locations from `first` on. As an event it is one that was refused as a whole.
+    /// Writes `count` locations from `first` on: `uvm_mem::burst_write`. As an event it is one that was refused as a
+    /// whole.
     BurstWrite {
         mem: u32,
         map: Option<u32>,
         first: u64,
         count: u64,
     },
-    /// Reads `count` locations from `first` on. As an event it is one that was refused as a whole.
+    /// Reads `count` locations from `first` on: `uvm_mem::burst_read`. As an event it is one that was refused as a
+    /// whole.
     BurstRead {
         mem: u32,
         map: Option<u32>,
         first: u64,
         count: u64,
     },
-    /// Samples a location of a memory.
+    /// Samples a location of a memory: `uvm_mem::peek`.
     MemPeek {
         mem: u32,
         index: u64,
     },
-    /// Deposits a value in a location of a memory.
+    /// Deposits a value in a location of a memory: `uvm_mem::poke`.
     MemPoke {
         mem: u32,
         index: u64,
         value: u64,
     },
-    /// Another master writes a register over the bus.
+    /// Another master writes a register over the bus: this project's own.
     OtherWrite {
         reg: u32,
         map: Option<u32>,
         value: u64,
     },
-    /// Another master reads a register over the bus.
+    /// Another master reads a register over the bus: this project's own.
     OtherRead {
         reg: u32,
         map: Option<u32>,
     },
-    /// The hardware changes a volatile field.
+    /// The hardware changes a volatile field: this project's own.
     Hw {
         field: u32,
         value: u64,
     },
-    /// Resets the chip. Kind 0 is HARD, kind 1 is SOFT.
+    /// Resets the chip: `uvm_reg_field::reset` of each field. Kind 0 is HARD, kind 1 is SOFT.
     Reset {
         kind: u32,
     },

@@ -21,7 +21,8 @@ use rl_policy::word::window;
 use rl_split::narrow;
 use std::alloc::{AllocError, Global};
 
-/// A chip with its layout, what is believed of its registers, and a predictor.
+/// A chip with its layout, what is believed of its registers, and a predictor (`uvm_reg_predictor`, IEEE 1800.2-2017,
+/// 19.3) for its explicit roots.
 pub struct Model {
     chip: Chip,
     layout: Layout,

@@ -233,7 +233,7 @@ fn reach_location<D: Device>(
     }
 }
 
-/// The same as [`perform`] for one that goes to a location of a memory over the bus.
+/// Performs an operation that goes to a location of a memory over the bus.
 pub(crate) fn perform_on_memory<D: Device>(
     model: &mut Model,
     device: &mut D,
@@ -271,7 +271,7 @@ pub(crate) fn perform_on_memory_into<D: Device>(
     perform_over_bus(model, device, adapters, op, event)
 }
 
-/// The same as [`perform`] for one that goes round the bus.
+/// Performs an operation that goes round the bus.
 pub(crate) fn perform_off_bus<D: Device>(model: &mut Model, device: &mut D, op: Op) -> Event
     requires device { IsDeviceOf model.old (D.state device.old) }
     requires numbers { HasNumbers model.old.chip (length model.old.layout.maps) op }

@@ -23,9 +23,10 @@ pub(crate) struct Gathered {
     pub(crate) words: Answers,
 }
 
-/// What a predictor has gathered of each place. That it predicts from the items that it sees on a bus is the
-/// explicit prediction of IEEE 1800.2. This project's own is how it gathers: it takes the words of a register
-/// in order, and predicts once, at the last one.
+/// What a predictor has gathered of each place: `uvm_reg_predictor` (IEEE 1800.2-2017, 19.3), which predicts from the
+/// items that it sees on a bus.
+///
+/// This project's own is how it gathers: it takes the words of a register in order, and predicts once, at the last one.
 #[derive(Drop)]
 pub struct Predictor {
     lists: Vec<Gathered>,
@@ -248,7 +249,7 @@ impl Predictor {
         );
     }
 
-    /// The same, for an item of which the place is known, where a predictor watches it.
+    /// Takes an item that was seen, where its place is known. No place means that no predictor watches it.
     pub(crate) fn see(
         &mut self,
         chip: &Chip,
@@ -280,7 +281,7 @@ impl Predictor {
         }
     }
 
-    // The same, with what the layout tells of the place.
+    // Forgets what was gathered of a place of the layout.
     fn forget_at(&mut self, layout: &Layout, place: u32)
         requires predictor { IsPredictorOf layout.now self.old }
         requires place { IsRegisterPlace layout.now place }

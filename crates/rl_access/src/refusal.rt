@@ -59,7 +59,7 @@ impl Model {
         }
     }
 
-    /// The same for another master, which a predictor has to watch.
+    /// The place for another master's access: a predictor watches it, and it has the right of the direction.
     pub(crate) fn watched_way(&self, place: Option<u32>, write: bool) -> Grant
         requires { IfSome place (λ p. p < length self.now.layout.places) }
         ensures grant { result ≡ with_right self.now.layout write (with_watch self.now.layout (placed place)) }

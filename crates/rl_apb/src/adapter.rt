@@ -8,7 +8,7 @@ use rl_bus::{
     trail_of_answer, trail_of_operation,
 };
 
-/// The adapter of an APB bus (ARM IHI 0024, with the signals of APB4).
+/// The adapter of an APB bus (ARM IHI 0024, with the signals of APB4): a `uvm_reg_adapter` (IEEE 1800.2-2017, 19.2).
 ///
 /// Of the standard are the byte enables of a write, which are PSTRB, that a read has none, and that
 /// PSLVERR is the failure of a transfer. This project's own are the kind's limits, which are words of

@@ -36,6 +36,17 @@ pub struct Pins {
 /// PREADY low, and PSTRB of 0 in a read are those of the standard. Where it leaves a value open, the one
 /// here is this project's own: PPROT is always 0, PWDATA is 0 in a read, PREADY is low in the setup
 /// phase, PRDATA and PSLVERR are 0 before the last cycle, and PRDATA of a write is the response's.
+///
+/// # Examples
+///
+/// A transfer without wait cycles takes two: the setup phase, and the one cycle of the access phase.
+///
+/// ```text
+/// let setup = cycles(&transfer, &response, 0);
+/// (setup.psel, setup.penable, setup.pready) == (true, false, false)
+/// let access = cycles(&transfer, &response, 1);
+/// (access.psel, access.penable, access.pready) == (true, true, true)
+/// ```
 pub fn cycles(transfer: &ApbTransfer, response: &ApbResponse, k: u32) -> Pins
     requires in_range { k ≤ response.now.waits + 1 }
     ensures selected { result.psel ≡ true }

@@ -25,7 +25,7 @@ use rl_map::Layout;
 use rl_model::Chip;
 use std::alloc::{AllocError, Global};
 
-/// A device that does what its tables say, with each register in two words.
+/// A device that does what its tables say, with each register in two words: this project's own.
 pub struct Bench {
     board: Board,
     cells: Cells,

@@ -72,7 +72,8 @@ fn search(words: &[WordRow], port: u32, address: u64) -> usize
     words.partition_point(|word| is_before(word, port, address))
 }
 
-// The same, if it is a row from the one before the words near to the second one behind them.
+// The first word that doesn't stand before an address, if it is a row from the one before the words near to the
+// second one behind them.
 fn first_beside(words: &[WordRow], near: Stretch, port: u32, address: u64) -> Option<usize>
     requires { AreOrdered words.now }
     ensures within { IfSome result (λ first. first ≤ length words.now) }
@@ -95,7 +96,8 @@ fn first_beside(words: &[WordRow], near: Stretch, port: u32, address: u64) -> Op
     None
 }
 
-// The same, which mostly is the row behind the words near, or another one beside them.
+// The first word that doesn't stand before an address. Mostly it is the row behind the words near, or another one
+// beside them.
 fn first_from(words: &[WordRow], near: Stretch, port: u32, address: u64) -> usize
     requires { AreOrdered words.now }
     ensures within { result ≤ length words.now }

@@ -32,12 +32,14 @@ pub trait Device {
         ensures cause { AnswerHasCause (errors self.old) (errors self.new) (answered_by result) }
         ensures step { IsStep (state self.old) (state self.new) port (carried_by transfer.now) (answered_by result) };
 
-    /// The stored bits of a register or a location, read by the backdoor.
+    /// The stored bits of a register or a location, read by the backdoor: `uvm_reg::peek` (IEEE 1800.2-2017, 18.4) and
+    /// `uvm_mem::peek` (18.6) come down to it.
     fn peek(&self, cell: Cell) -> u64
         requires cell { IsCellOf (state self.now) cell }
         ensures step { (s : State) → state self.now ≡ Some s → result ≡ peeked s cell };
 
-    /// Deposits bits into a register or a location by the backdoor.
+    /// Deposits bits into a register or a location by the backdoor: `uvm_reg::poke` (IEEE 1800.2-2017, 18.4) and
+    /// `uvm_mem::poke` (18.6) come down to it.
     fn poke(&mut self, cell: Cell, value: u64)
         requires cell { IsCellOf (state self.old) cell }
         ensures step { state self.new ≡ option_map (λ s. poked s cell value) (state self.old) }
@@ -48,7 +50,7 @@ pub trait Device {
         ensures step { state self.new ≡ option_map (λ s. reset_by s kind) (state self.old) }
         ensures later { errors self.old ≤ errors self.new };
 
-    /// A change of a volatile field by the hardware itself.
+    /// A change of a volatile field by the hardware itself: this project's own.
     fn hw(&mut self, field: u32, value: u64)
         requires field { IsFieldOf (state self.old) field }
         ensures step { state self.new ≡ option_map (λ s. hw_set s field value) (state self.old) }

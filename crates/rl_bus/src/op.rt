@@ -2,7 +2,8 @@
 
 use crate::ShortName;
 
-/// One word that is read or written at an address, as `uvm_reg_bus_op` of IEEE 1800.2.
+/// One word that is read or written at an address: kind, address, data and byte enables of `uvm_reg_bus_op`
+/// (IEEE 1800.2-2017, 19.1).
 ///
 /// `bytes` is the width of the bus in bytes. Bit `l` of `lanes` enables byte `l` of `word`, counted
 /// from the lowest.
@@ -15,7 +16,8 @@ pub struct BusOp {
     pub bytes: u8,
 }
 
-/// What came back for an operation: the word read, and whether the operation failed.
+/// What came back for an operation: the word read, and whether the operation failed, which are data and status of
+/// `uvm_reg_bus_op` (IEEE 1800.2-2017, 19.1).
 #[derive(Clone, Copy, Debug, PartialEq, Eq)]
 pub struct Answer {
     pub word: u64,
@@ -24,9 +26,10 @@ pub struct Answer {
 
 /// Which operations an adapter carries.
 ///
-/// `most_bytes` and `most_address` are the widest word and the last address. With `aligned` an
-/// address is a multiple of the word's bytes. `write_lanes` and `read_lanes` say whether a write and
-/// a read carry byte enables; without them all lanes are enabled.
+/// `most_bytes` and `most_address` are the widest word and the last address. With `aligned` an address is a multiple
+/// of the word's bytes. `write_lanes` and `read_lanes` say whether a write and a read carry byte enables
+/// (`uvm_reg_adapter::supports_byte_enable`, IEEE 1800.2-2017, 19.2); without them all lanes are enabled. The limits
+/// are this project's own.
 #[derive(Clone, Copy, Debug, PartialEq, Eq)]
 pub struct AdapterKind {
     /// By this name a root map chooses its adapter.

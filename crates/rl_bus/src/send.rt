@@ -20,8 +20,19 @@ pub struct Exchanged {
     pub answer: Answer,
 }
 
-/// Sends an operation through the adapter of that number to a port of the device, and takes the
-/// answer back through the adapter.
+/// Sends an operation through the adapter of that number to a port of the device (`uvm_reg_adapter::reg2bus`,
+/// IEEE 1800.2-2017, 19.2), and takes the answer back through the adapter (`bus2reg`).
+///
+/// # Examples
+///
+/// Byte 0 of a word of four bytes is written at 0x10, by the first of the adapters and port 0:
+///
+/// ```text
+/// let op = BusOp { write: true, address: 0x10, word: 0x03, lanes: 0b0001, bytes: 4 };
+/// let sent = exchange(&mut device, &mut adapters, 0, 0, &op);
+/// // Where the device model took it:
+/// sent.answer == Answer { word: 0, failed: false }
+/// ```
 #[tactic(auto, using(crate::proofs::Moves::moved_one, crate::proofs::Moves::read_kind))]
 pub fn exchange<D: Device>(
     device: &mut D,

@@ -35,9 +35,11 @@ pub struct PlainResponse {
 pub struct ApbTransfer {
     /// PWRITE: a write, and otherwise a read.
     pub write: bool,
+    /// PADDR.
     pub paddr: u32,
+    /// PWDATA.
     pub pwdata: u32,
-    /// Bit `l` enables byte `l` of PWDATA. APB has no strobes in a read: there this is no signal, and
+    /// PSTRB: bit `l` enables byte `l` of PWDATA. APB has no strobes in a read: there this is no signal, and
     /// the transfer reads all bytes.
     pub pstrb: u8,
     /// The width of the data bus in bytes: 1, 2 or 4.
@@ -46,13 +48,13 @@ pub struct ApbTransfer {
     pub serial: u64,
 }
 
-/// The completer's side of one APB transfer: PRDATA and PSLVERR in its last cycle, and how many wait
+/// The completer's side of one APB transfer: PRDATA and PSLVERR of ARM IHI 0024 in its last cycle, and how many wait
 /// cycles came before.
 #[derive(Clone, Copy, Debug, PartialEq, Eq)]
 pub struct ApbResponse {
-    /// The word read. APB says nothing of it in a write: that a write has one is this project's own.
+    /// PRDATA: the word read. APB says nothing of it in a write: that a write has one is this project's own.
     pub prdata: u32,
-    /// The transfer failed.
+    /// PSLVERR: the transfer failed.
     pub pslverr: bool,
     /// In how many cycles of the access phase PREADY is low.
     pub waits: u8,

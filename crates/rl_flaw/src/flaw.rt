@@ -2,7 +2,8 @@
 use rl_model::Item;
 use rl_policy::Policy;
 
-/// A flaw of a device. Where two flaws of one sort name the same field, bit or kind, the first counts.
+/// A flaw of a device: this project's own. Where two flaws of one sort name the same field, bit or kind, the first
+/// counts.
 #[derive(Clone, Copy, Debug, PartialEq, Eq)]
 pub enum Flaw {
     /// The field has this access policy.

@@ -139,7 +139,7 @@ fn job_of(model: &Model, line: LineRef<'_>) -> Result<Option<Job>, LineRefusal>
     }
 }
 
-// The same of its bytes.
+// What the bytes of a line ask for, if anything.
 fn job_read(alloc: Global, model: &Model, line: &[u8]) -> Result<Option<Job>, Unread>
     ensures answers { Answers (job_asked model.now (said_by (read_of line.now))) result }
     ensures fits { IfOk result (λ job. IfSome job (JobFits model.now.chip (length model.now.layout.maps))) }
@@ -156,7 +156,7 @@ fn job_read(alloc: Global, model: &Model, line: &[u8]) -> Result<Option<Job>, Un
     }
 }
 
-// The same of the line of that number, as it was handed out.
+// What the line of that number asks for, if anything, as it was handed out.
 fn job_taken(
     alloc: Global,
     model: &Model,

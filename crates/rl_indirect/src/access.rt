@@ -47,7 +47,8 @@ fn select<D: Device>(
     index
 }
 
-/// Writes entry `k`, counted from 0: the index register gets `k`, and then the data register the value.
+/// Writes entry `k`, counted from 0: the index register gets `k`, and then the data register the value
+/// (`uvm_reg_indirect_data`, IEEE 1800.2-2017, 18.7).
 pub fn indexed_write<D: Device>(
     bank: &mut Bank,
     model: &mut Model,
@@ -89,7 +90,8 @@ pub fn indexed_write<D: Device>(
     Indexed::At { index, access }
 }
 
-/// Reads entry `k`, counted from 0: the index register gets `k`, and then the data register is read. With `check` the
+/// Reads entry `k`, counted from 0: the index register gets `k`, and then the data register is read
+/// (`uvm_reg_indirect_data`, IEEE 1800.2-2017, 18.7). With `check` the
 /// event of the data register names the compared fields whose bits aren't those of the model's entry `k`.
 pub fn indexed_read<D: Device>(
     bank: &mut Bank,

@@ -16,7 +16,7 @@ use rl_bus::{Cell, Device};
 use rl_model::Item;
 use std::alloc::Global;
 
-/// The entries behind a window, as the device has them and as the model believes them to be.
+/// The entries behind a window, as the device has them and as the model believes them to be: this project's own.
 ///
 /// It is for the model and the device with which it was built, and their data register changes with the index. A
 /// reset isn't followed: after one a new bank is built.

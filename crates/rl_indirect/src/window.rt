@@ -10,8 +10,8 @@ use rl_policy::policy::spends;
 use rl_policy::{Policy, mask};
 use std::alloc::AllocError;
 
-/// A window: the register that selects an entry, and the one that holds the selected entry. Both are named by
-/// their numbers in the chip.
+/// A window (`uvm_reg_indirect_data`, IEEE 1800.2-2017, 18.7): the register that selects an entry, and the one that
+/// holds the selected entry. Both are named by their numbers in the chip.
 #[derive(Clone, Copy, Debug, PartialEq, Eq)]
 pub struct Window {
     pub index_reg: u32,

@@ -10,7 +10,7 @@ use crate::search::{first_met, lowest_free, place_of, region_at};
 use rl_model::Chip;
 use std::alloc::Global;
 
-/// The regions of one memory that are given out: `uvm_mem_mam`.
+/// The regions of one memory that are given out: `uvm_mem_mam` (IEEE 1800.2-2017, 18.12).
 #[derive(Drop)]
 pub struct Mam {
     mem: u32,
@@ -77,8 +77,8 @@ impl Mam {
         found
     }
 
-    /// Gives out the lowest place where a region of this length fits: `uvm_mem_mam::request_region`, whose place
-    /// is a random one.
+    /// Gives out the lowest place where a region of this length fits: `uvm_mem_mam::request_region`, whose place is a
+    /// random one. That it is the lowest is this project's own.
     pub fn request(&mut self, len: u64) -> Result<Region, MamFault>
         ensures some { OnOk result (0 < len) }
         ensures len { IfOk result (λ r. r.len ≡ len) }

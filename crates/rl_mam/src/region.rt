@@ -5,7 +5,8 @@ ghost use Rattle.rl_mam.specs.declared.region.MamFault.TheVariants.{Memory};
 
 use std::alloc::AllocError;
 
-/// Consecutive locations of a memory: `uvm_mem_region`, whose start and end offset these give.
+/// Consecutive locations of a memory: `uvm_mem_region` (IEEE 1800.2-2017, 18.12), whose start and end offset these
+/// give.
 #[derive(Clone, Copy, Debug, PartialEq, Eq)]
 pub struct Region {
     /// The number of its first location, which names it.

@@ -18,7 +18,8 @@ use std::alloc::AllocError;
 use std::marker::Model;
 use std::rc::Rc;
 
-/// The address maps of a chip, and where its registers and memories stand in them.
+/// The address maps of a chip (`uvm_reg_map`, IEEE 1800.2-2017, 18.2), and where its registers and memories stand in
+/// them.
 ///
 /// Maps, places and ports are numbered in description order. A port is a root map. A layout keeps the
 /// kinds of adapters that it was built with, and the bytes and sizes of its items.
@@ -198,7 +199,8 @@ impl Layout {
         self.places[place as usize].map
     }
 
-    /// What the bus may do with the item at a place.
+    /// What the bus may do with the item at a place: its rights in the map (`uvm_reg_map::add_reg` and `add_mem`,
+    /// IEEE 1800.2-2017, 18.2).
     pub fn rights(&self, place: u32) -> Rights
         requires { place < length self.now.places }
         ensures { result ≡ (place_at self.now place).rights }
@@ -248,7 +250,8 @@ impl Layout {
         self.ports[port as usize].map
     }
 
-    /// Whether a predictor watches the port, in place of implicit prediction.
+    /// Whether a predictor watches the port, in place of implicit prediction (`uvm_reg_map::set_auto_predict`,
+    /// IEEE 1800.2-2017, 18.2).
     pub fn explicit(&self, port: u32) -> bool
         requires { port < length self.now.ports }
         ensures { result ≡ (port_at self.now port).explicit }

@@ -2,7 +2,7 @@
 use crate::path::Kind;
 use rl_model::{Name, Rights};
 
-/// An address map.
+/// An address map (`uvm_reg_map`, IEEE 1800.2-2017, 18.2).
 ///
 /// `base`, `adapter` and `explicit` are used in a root alone, and `offset` in a map with a parent.
 #[derive(Debug, Drop)]
@@ -17,17 +17,17 @@ pub struct MapNode {
     pub kind: Kind,
     /// Whether addresses count words of the map's own width, and not bytes.
     pub word: bool,
-    /// The name of an earlier map in which this one stands, or none for a root.
+    /// The name of an earlier map in which this one stands (`uvm_reg_map::add_submap`), or none for a root.
     pub parent: Option<Name>,
     /// Where the map starts in its parent, in the parent's unit of addresses.
     pub offset: u64,
     /// The name of the kind of adapter that carries the root's operations.
     pub adapter: Name,
-    /// Whether a predictor watches the root's bus, in place of implicit prediction.
+    /// Whether a predictor watches the root's bus, in place of implicit prediction (`uvm_reg_map::set_auto_predict`).
     pub explicit: bool,
 }
 
-/// A register or a memory in a map.
+/// A register or a memory in a map (`uvm_reg_map::add_reg` and `add_mem`, IEEE 1800.2-2017, 18.2).
 #[derive(Debug, Drop)]
 pub struct PlacePart {
     /// The name of the map.

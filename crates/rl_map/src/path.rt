@@ -6,19 +6,20 @@ ghost use Rattle.std.specs.Prelude.{◌≡◌, ℕ, ◌+◌, ◌*◌, ◌<◌, �
 
 use std::marker::Model;
 
-/// Where the words of an item that is wider than the map stand: the endian kinds of IEEE 1800.2.
+/// Where the words of an item that is wider than the map stand: the endian kinds of `uvm_reg_map` (IEEE 1800.2-2017,
+/// 18.2).
 ///
 /// The order of the words in time, which is that of ascending addresses without a FIFO, and the same rule at
 /// each map of a path are this project's own.
 #[derive(Clone, Copy, Debug, PartialEq, Eq)]
 pub enum Kind {
-    /// The least significant word first, at ascending addresses.
+    /// `UVM_LITTLE_ENDIAN`: the least significant word first, at ascending addresses.
     Little,
-    /// The most significant word first, at ascending addresses.
+    /// `UVM_BIG_ENDIAN`: the most significant word first, at ascending addresses.
     Big,
-    /// The least significant word first, all at one address.
+    /// `UVM_LITTLE_FIFO`: the least significant word first, all at one address.
     LittleFifo,
-    /// The most significant word first, all at one address.
+    /// `UVM_BIG_FIFO`: the most significant word first, all at one address.
     BigFifo,
 }
 

@@ -163,7 +163,7 @@ impl Location {
         has_word_map(path) && self.meets_askew(path, byte)
     }
 
-    // The same, level by level.
+    // Whether some level stands so on the way, level by level.
     fn meets_askew(&self, path: &[Level], byte: u64) -> bool
         requires path { IsPath path.now }
         requires byte_in { byte < self.now.bytes }

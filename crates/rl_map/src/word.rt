@@ -28,7 +28,7 @@ pub struct Word {
 impl Word {
     ghost use Rattle.rl_map.specs.Locations.{further};
 
-    /// The same word so many steps further.
+    /// The word of another location of its item: this one, so many steps further.
     pub(crate) fn further(&self, index: u32, step: u64) -> Word
         requires { self.now.address + index * step < 2 ^ 64 }
         ensures { result ≡ further (index * step) self.now }

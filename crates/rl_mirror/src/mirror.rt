@@ -18,8 +18,8 @@ use rl_policy::word::{put, replaced, take};
 use std::alloc::{AllocError, Global};
 use std::marker::Model;
 
-/// What the register model believes of a chip: a mirrored and a desired value for each register, and a
-/// spent mark for each field.
+/// What the register model believes of a chip: a mirrored and a desired value for each register (`uvm_reg_field`,
+/// IEEE 1800.2-2017, 18.5), and a spent mark for each field, which is this project's own.
 ///
 /// A call that takes a chip is for the chip with which the mirror was built.
 #[derive(Debug)]
@@ -69,11 +69,22 @@ impl Mirror {
         Ok(mirror)
     }
 
-    /// Takes a write of `value` to the fields of the set as done; bit `k` of `fields` stands for the
-    /// register's `k`-th field.
+    /// Takes a write of `value` to the fields of the set as done: `uvm_reg_field::predict` with `UVM_PREDICT_WRITE`
+    /// (IEEE 1800.2-2017, 18.5). Bit `k` of `fields` stands for the register's `k`-th field.
     ///
     /// The write changes mirrored and desired bits each by the policy, so a wish that it doesn't touch stays.
     /// That is this project's own.
+    ///
+    /// # Examples
+    ///
+    /// Register 0 has one compared field, `W1C` in its lowest four bits, mirrored as 0x5.
+    ///
+    /// ```text
+    /// mirror.predict_write(&chip, 0, 0x3, 0b1);
+    /// mirror.mirrored(0) == 0x4
+    /// mirror.differ(&chip, 0, 0x6) == 0b1
+    /// mirror.differ(&chip, 0, 0x4) == 0
+    /// ```
     pub fn predict_write(&mut self, chip: &Chip, reg: u32, value: u64, fields: u64)
         requires reg { reg < length chip.now.regs }
         requires built { IsMirrorOf chip.now self.old }
@@ -90,9 +101,11 @@ impl Mirror {
         spend(chip, reg, fields, places, &mut self.spent);
     }
 
-    /// Takes a read of the fields of the set as done, which answered `value`.
+    /// Takes a read of the fields of the set as done, which answered `value`: `uvm_reg_field::predict` with
+    /// `UVM_PREDICT_READ` (IEEE 1800.2-2017, 18.5).
     ///
-    /// It tells nothing of a write-only field. What it leaves becomes the mirrored and the desired bits.
+    /// What it leaves becomes the mirrored and the desired bits. That it tells nothing of a write-only field is this
+    /// project's own.
     pub fn predict_read(&mut self, chip: &Chip, reg: u32, value: u64, fields: u64)
         requires reg { reg < length chip.now.regs }
         requires built { IsMirrorOf chip.now self.old }
@@ -108,7 +121,8 @@ impl Mirror {
         self.desired[reg as usize] = replaced(desired, left, places);
     }
 
-    /// Takes the register's bits as known to be those of `value`.
+    /// Takes the register's bits as known to be those of `value`: `uvm_reg_field::predict` with `UVM_PREDICT_DIRECT`
+    /// (IEEE 1800.2-2017, 18.5).
     pub fn predict_raw(&mut self, chip: &Chip, reg: u32, value: u64)
         requires reg { reg < length chip.now.regs }
         requires built { IsMirrorOf chip.now self.old }
@@ -121,7 +135,8 @@ impl Mirror {
         self.desired[reg as usize] = bits;
     }
 
-    /// Takes a reset of this kind as done. Kind 0 is the hard one, which clears all spent marks.
+    /// Takes a reset of this kind as done: `uvm_reg_field::reset` of each field (IEEE 1800.2-2017, 18.5). Kind 0 is
+    /// the hard one, which clears all spent marks.
     pub fn reset(&mut self, chip: &Chip, kind: u32)
         requires kind { kind < length chip.now.kinds }
         requires built { IsMirrorOf chip.now self.old }
@@ -136,8 +151,9 @@ impl Mirror {
         }
     }
 
-    /// Asks for the value `v` in a field: its desired value becomes what a write of `v` over it would leave.
-    /// That is this project's own.
+    /// Asks for the value `v` in a field: `uvm_reg_field::set` (IEEE 1800.2-2017, 18.5).
+    ///
+    /// Its desired value becomes what a write of `v` over it would leave. That is this project's own.
     pub fn set(&mut self, chip: &Chip, field: u32, v: u64)
         requires field { field < length chip.now.fields }
         requires v { v < 2 ^ (field_of chip.now field).shape.width }
@@ -159,7 +175,7 @@ impl Mirror {
         self.desired[reg as usize] = put(desired, lsb, width, wish);
     }
 
-    /// The register's desired value.
+    /// The register's desired value: `uvm_reg_field::get` of its fields (IEEE 1800.2-2017, 18.5).
     pub fn desired(&self, reg: u32) -> u64
         requires { reg < length self.now.desired }
         ensures { result ≡ desired_of self.now reg }
@@ -167,7 +183,7 @@ impl Mirror {
         self.desired[reg as usize]
     }
 
-    /// The register's mirrored value.
+    /// The register's mirrored value: `uvm_reg_field::get_mirrored_value` of its fields (IEEE 1800.2-2017, 18.5).
     pub fn mirrored(&self, reg: u32) -> u64
         requires { reg < length self.now.mirrored }
         ensures { result ≡ mirrored_of self.now reg }
@@ -183,7 +199,8 @@ impl Mirror {
         self.spent[field as usize]
     }
 
-    /// Whether some field of the register has another desired value than its mirrored one.
+    /// Whether some field of the register has another desired value than its mirrored one, so that `uvm_reg::update`
+    /// (IEEE 1800.2-2017, 18.4) writes.
     pub fn needs_update(&self, chip: &Chip, reg: u32) -> bool
         requires reg { reg < length chip.now.regs }
         requires built { IsMirrorOf chip.now self.now }
@@ -193,8 +210,8 @@ impl Mirror {
         self.desired(reg) != self.mirrored(reg)
     }
 
-    /// The update word, this project's own: that to write so that the desired values result, as far as the
-    /// fields' policies can reach them.
+    /// The word of `uvm_reg::update` (IEEE 1800.2-2017, 18.4), this project's own: that to write so that the desired
+    /// values result, as far as the fields' policies can reach them.
     pub fn update_word_of(&self, chip: &Chip, reg: u32) -> u64
         requires reg { reg < length chip.now.regs }
         requires built { IsMirrorOf chip.now self.now }
@@ -229,8 +246,8 @@ impl Mirror {
         put(assembled(chip, reg, &self.spent, effect), lsb, width, v)
     }
 
-    /// The compared fields whose bits in `read` are others than the mirrored ones; bit `k` stands for the
-    /// register's `k`-th field.
+    /// The compared fields whose bits in `read` are others than the mirrored ones: `uvm_reg::mirror` with `UVM_CHECK`
+    /// (IEEE 1800.2-2017, 18.4). Bit `k` stands for the register's `k`-th field.
     pub fn differ(&self, chip: &Chip, reg: u32, read: u64) -> u64
         requires reg { reg < length chip.now.regs }
         requires built { IsMirrorOf chip.now self.now }

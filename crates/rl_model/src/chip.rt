@@ -151,7 +151,8 @@ impl Chip {
         &self.effects[reg as usize]
     }
 
-    /// The value that a field has after a reset of a kind, if it has one.
+    /// The value that a field has after a reset of a kind, if it has one (`uvm_reg_field::reset`, IEEE 1800.2-2017,
+    /// 18.5).
     pub fn reset_of(&self, field: u32, kind: u32) -> Option<u64>
         requires field { field < length self.now.fields }
         requires kind { kind < length self.now.kinds }

@@ -4,7 +4,7 @@ use crate::sets::Skip;
 use rl_policy::Policy;
 use std::marker::Model;
 
-/// A block or a register file: a scope of other items.
+/// A block (`uvm_reg_block`, IEEE 1800.2-2017, 18.1) or a register file (`uvm_reg_file`, 18.3): a scope of other items.
 #[derive(Debug, Drop)]
 pub struct ScopePart {
     /// One name, without dots.
@@ -13,7 +13,7 @@ pub struct ScopePart {
     pub of: Option<Name>,
 }
 
-/// A register of whole bytes with its fields.
+/// A register of whole bytes with its fields (`uvm_reg`, IEEE 1800.2-2017, 18.4).
 #[derive(Debug, Drop)]
 pub struct RegPart {
     /// One name, without dots.
@@ -45,7 +45,7 @@ impl Model for RegPart {
     } };
 }
 
-/// A field: bits of one register under one access policy.
+/// A field: bits of one register under one access policy (`uvm_reg_field`, IEEE 1800.2-2017, 18.5).
 #[derive(Debug, Drop)]
 pub struct FieldPart {
     /// One name, without dots.
@@ -83,7 +83,7 @@ impl Model for FieldPart {
     } };
 }
 
-/// The value of a field after a reset of a kind.
+/// The value of a field after a reset of a kind (`uvm_reg_field::set_reset`, IEEE 1800.2-2017, 18.5).
 #[derive(Debug, Drop)]
 pub struct ResetPart {
     /// One name, as `HARD` or `SOFT`.
@@ -92,7 +92,7 @@ pub struct ResetPart {
     pub value: u64,
 }
 
-/// A memory of `size` locations of `bytes` bytes each.
+/// A memory of `size` locations of `bytes` bytes each (`uvm_mem`, IEEE 1800.2-2017, 18.6).
 #[derive(Debug, Drop)]
 pub struct MemPart {
     /// One name, without dots.

@@ -4,7 +4,7 @@ use crate::sets::Skip;
 use rl_policy::Policy;
 use std::marker::Model;
 
-/// A field: where it lies in its register, and how it behaves.
+/// A field: where it lies in its register, and how it behaves (`uvm_reg_field`, IEEE 1800.2-2017, 18.5).
 #[derive(Clone, Copy, Debug, PartialEq, Eq)]
 pub struct Field {
     /// The number of its register.
@@ -23,7 +23,7 @@ pub struct Field {
     pub alone: bool,
 }
 
-/// A register or a memory, by its number among those of its sort.
+/// A register (`uvm_reg`, IEEE 1800.2-2017, 18.4) or a memory (`uvm_mem`, 18.6), by its number among those of its sort.
 #[derive(Clone, Copy, Debug, PartialEq, Eq)]
 pub enum Item {
     /// The register with this number.

@@ -5,8 +5,8 @@ use bitflags::{Flag, Flags};
 
 /// What the bus may do with an item at a place: read it, write it, or both.
 ///
-/// In IEEE 1800.2 an item is added to an address map with such rights. What follows from a right that is
-/// missing is this project's own.
+/// An item is added to an address map with such rights (`uvm_reg_map::add_reg` and `add_mem`, IEEE 1800.2-2017, 18.2).
+/// What follows from a right that is missing is this project's own.
 #[derive(Clone, Copy, PartialEq, Eq, Debug)]
 pub struct Rights {
     bits: u8,
@@ -55,9 +55,9 @@ impl Flags for Rights {
 
 /// The register and memory sequences that leave an item out.
 ///
-/// The names are those by which the sequences of IEEE 1800.2 are told to leave an item out; that there are
-/// these six, and the exact steps of the sequences, are this project's own. One that does not concern the
-/// item changes nothing.
+/// The names are those of the resources by which the sequences are told to leave an item out (IEEE 1800.2-2017,
+/// Annex E). That there are these six, and the exact steps of the sequences, are this project's own. One that does not
+/// concern the item changes nothing.
 #[derive(Clone, Copy, PartialEq, Eq, Debug)]
 pub struct Skip {
     bits: u8,

@@ -110,7 +110,7 @@ fn record_job<D: Device, K: Log>(
     }
 }
 
-// The same, to a sink.
+// Runs what a line asks for, and writes its events to a sink.
 #[tactic(auto, using(crate::proofs::ReadyLemmas::all_steady))]
 fn log_job<D: Device, K: Log>(stage: &mut Stage<'_, D, K>, job: Job<'_>) -> Result<Tally, Failed>
     requires ready { CanRun D.Device (each standing stage.old.adapters.now.items) stage.old }
@@ -258,7 +258,7 @@ pub(crate) fn run_line<D: Device, K: Log>(
     run_on(&mut stage, line)
 }
 
-// The same, on a stage.
+// Runs a line on a stage.
 fn run_on<D: Device, K: Log>(stage: &mut Stage<'_, D, K>, line: &LineRef<'_>) -> Ran
     requires ready { CanRun D.Device (each standing stage.old.adapters.now.items) stage.old }
     ensures run { RunsOn (asked stage.old.model.now (Ok (line_said line.now)))

@@ -72,7 +72,8 @@ impl Effects {
         }
     }
 
-    /// The bits and the spent marks of the register after a bus write of `word` with these lanes.
+    /// The bits and the spent marks of the register after a bus write of `word` with these lanes, by the write
+    /// effects of `uvm_reg_field` (IEEE 1800.2-2017, 18.5).
     pub fn write(&self, bits: u64, marks: u64, word: u64, lanes: u64) -> (u64, u64)
         ensures bits { ForPoliciesOf self.now (λ own. result.0 ≡ bits_written own bits marks word lanes) }
         ensures marks { ForPoliciesOf self.now (λ own. result.1 ≡ marks_written own marks lanes) }
@@ -88,7 +89,8 @@ impl Effects {
         )
     }
 
-    /// What a bus read answers, and the bits of the register after one with these lanes.
+    /// What a bus read answers, and the bits of the register after one with these lanes, by the read effects of
+    /// `uvm_reg_field` (IEEE 1800.2-2017, 18.5).
     pub fn read(&self, bits: u64, lanes: u64) -> (u64, u64)
         ensures answer { ForPoliciesOf self.now (λ own. result.0 ≡ bits_answered own bits) }
         ensures bits { ForPoliciesOf self.now (λ own. result.1 ≡ bits_left own bits lanes) }

@@ -10,7 +10,8 @@ ghost use Rattle.rl_policy.specs.Table.{spends_mark};
 
 use crate::word::{mask, repeated, replaced};
 
-/// What a bus write and a bus read do to the bits of a field: the field access policies of IEEE 1800.2.
+/// What a bus write and a bus read do to the bits of a field: the predefined access policies of `uvm_reg_field`
+/// (IEEE 1800.2-2017, 18.5).
 ///
 /// In the names `R` is a read and `W` a write; `C`, `S` and `T` clear, set and toggle. `W1` and `W0` before
 /// one of these letters act on the bits where a 1 or a 0 is written: `W1SRC` is "write 1 to set, read to
@@ -74,7 +75,7 @@ pub enum Policy {
     Wo1,
 }
 
-/// The policies in the order of IEEE 1800.2's table.
+/// The 25 predefined policies of `uvm_reg_field`, in the order of the standard's table (IEEE 1800.2-2017, 18.5).
 pub const POLICIES: [Policy; 25] = [
     Policy::Ro,
     Policy::Rw,
@@ -122,7 +123,7 @@ impl Policy {
         first_named(name)
     }
 
-    /// The policy's name, in capitals, as IEEE 1800.2 has it.
+    /// The policy's name, in capitals, as `uvm_reg_field` has it (IEEE 1800.2-2017, 18.5).
     pub fn name(self) -> &'static str
         ensures { result.now ≡ name_of self }
     {
@@ -155,7 +156,8 @@ impl Policy {
         }
     }
 
-    /// The bits after a write of `w`, with a spent mark for each bit.
+    /// The bits after a write of `w`: the write effect of `uvm_reg_field` (IEEE 1800.2-2017, 18.5). `spent` has a
+    /// mark for each bit, which is this project's own.
     #[tactic(auto, using(crate::proofs::BitLemmas::word_bits))]
     pub fn written(self, cur: u64, w: u64, spent: u64) -> u64
         ensures { (i : ℕ) → i < 64 → bit result i ≡ after_write self (bit cur i) (bit w i) (bit spent i) }
@@ -175,7 +177,7 @@ impl Policy {
         }
     }
 
-    /// The bits after a read.
+    /// The bits after a read: the read effect of `uvm_reg_field` (IEEE 1800.2-2017, 18.5).
     #[tactic(auto, using(crate::proofs::BitLemmas::word_bits))]
     pub fn left_by_read(self, cur: u64) -> u64
         ensures { (i : ℕ) → i < 64 → bit result i ≡ after_read self (bit cur i) }
@@ -187,7 +189,7 @@ impl Policy {
         }
     }
 
-    /// The bits that a read answers: those stored, or 0 for a write-only field.
+    /// The bits that a read answers: those stored, or 0 for a write-only field, which is this project's own.
     #[tactic(auto, using(crate::proofs::BitLemmas::word_bits))]
     pub fn answered(self, cur: u64) -> u64
         ensures { (i : ℕ) → i < 64 → bit result i ≡ value_read self (bit cur i) }
@@ -230,21 +232,32 @@ impl Policy {
     }
 }
 
-/// Whether a read of a field of this policy answers 0 in place of what is stored.
+/// Whether a read of a field of this policy answers 0 in place of what is stored, which is this project's own.
 pub fn write_only(p: Policy) -> bool
     ensures { result ≡ is_write_only p }
 {
     matches!(p, Policy::Wo | Policy::Woc | Policy::Wos | Policy::Wo1)
 }
 
-/// Whether only the first write after a hard reset takes effect; a field that took it is spent.
+/// Whether only the first write after a hard reset takes effect (`W1` and `WO1` of `uvm_reg_field`, IEEE 1800.2-2017,
+/// 18.5); a field that took it is spent.
 pub fn spends(p: Policy) -> bool
     ensures { result ≡ spends_mark p }
 {
     matches!(p, Policy::W1 | Policy::Wo1)
 }
 
-/// The value of a field of `width` bits after a write of `w`, where it held `cur`.
+/// The value of a field of `width` bits after a write of `w`, where it held `cur`: the write effect of `uvm_reg_field`
+/// (IEEE 1800.2-2017, 18.5).
+///
+/// # Examples
+///
+/// ```text
+/// write_effect(Policy::Rw, 4, 0x5, 0x3, false) == 0x3
+/// write_effect(Policy::W1c, 4, 0x5, 0x3, false) == 0x4
+/// write_effect(Policy::W1t, 4, 0x5, 0x3, false) == 0x6
+/// write_effect(Policy::W1, 4, 0x5, 0x3, true) == 0x5
+/// ```
 pub fn write_effect(p: Policy, width: u32, cur: u64, w: u64, spent: bool) -> u64
     requires some { 1 ≤ width }
     requires most { width ≤ 64 }
@@ -253,7 +266,8 @@ pub fn write_effect(p: Policy, width: u32, cur: u64, w: u64, spent: bool) -> u64
     p.written(cur, w, repeated(spent)) & mask(width)
 }
 
-/// The value of a field of `width` bits after a read, where it held `cur`.
+/// The value of a field of `width` bits after a read, where it held `cur`: the read effect of `uvm_reg_field`
+/// (IEEE 1800.2-2017, 18.5).
 pub fn read_effect(p: Policy, width: u32, cur: u64) -> u64
     requires some { 1 ≤ width }
     requires most { width ≤ 64 }
@@ -273,9 +287,9 @@ pub fn read_value(p: Policy, width: u32, cur: u64) -> u64
     p.answered(cur) & mask(width)
 }
 
-/// The desired value of a field after `v` was set: the value that a write of `v` over it would leave.
+/// The desired value of a field after `v` was set (`uvm_reg_field::set`, IEEE 1800.2-2017, 18.5).
 ///
-/// This rule is this project's own.
+/// That it is the value that a write of `v` over it would leave is this project's own.
 pub fn set_value(p: Policy, width: u32, desired: u64, v: u64, spent: bool) -> u64
     requires some { 1 ≤ width }
     requires most { width ≤ 64 }
@@ -284,7 +298,8 @@ pub fn set_value(p: Policy, width: u32, desired: u64, v: u64, spent: bool) -> u6
     write_effect(p, width, desired, v, spent)
 }
 
-/// The value to write to a field so that the desired value results, as far as the policy can reach it.
+/// The value to write to a field so that the desired value results, as far as the policy can reach it: this project's
+/// own.
 pub fn update_word(p: Policy, width: u32, desired: u64, mirrored: u64) -> u64
     requires some { 1 ≤ width }
     requires most { width ≤ 64 }
@@ -293,7 +308,8 @@ pub fn update_word(p: Policy, width: u32, desired: u64, mirrored: u64) -> u64
     p.updating(desired, mirrored) & mask(width)
 }
 
-/// The value to write to a field along with its neighbours, so that it stays as it is where its policy allows that.
+/// The value to write to a field along with its neighbours, so that it stays as it is where its policy allows that:
+/// this project's own.
 pub fn neutral_word(p: Policy, width: u32, mirrored: u64) -> u64
     requires some { 1 ≤ width }
     requires most { width ≤ 64 }

@@ -37,7 +37,7 @@ fn copy_long(bytes: &mut [u8], end: usize, piece: &[u8]) -> usize
     new_end
 }
 
-// The same of the first N bytes of a piece, in one move.
+// Copies the first N bytes of a piece behind a place, in one move. Answers where they end.
 #[inline(always)]
 fn copy_front<const N: usize>(bytes: &mut [u8], end: usize, piece: &[u8]) -> usize
     requires enough { N ≤ length piece.now }
@@ -50,7 +50,8 @@ fn copy_front<const N: usize>(bytes: &mut [u8], end: usize, piece: &[u8]) -> usi
     end + N
 }
 
-// The same of a piece of N to 2 N bytes: its first N and its last N, which may overlap.
+// Copies a piece of N to 2 N bytes behind a place: its first N and its last N, which may overlap. Answers where it
+// ends.
 #[inline(always)]
 fn copy_ends<const N: usize>(bytes: &mut [u8], end: usize, piece: &[u8]) -> usize
     requires enough { N ≤ length piece.now }
@@ -64,7 +65,7 @@ fn copy_ends<const N: usize>(bytes: &mut [u8], end: usize, piece: &[u8]) -> usiz
     copy_front::<N>(bytes, end + rest, &piece[rest..])
 }
 
-// The same of a piece of no more than eight bytes.
+// Copies a piece of no more than eight bytes behind a place. Answers where it ends.
 #[inline(always)]
 fn copy_few(bytes: &mut [u8], end: usize, piece: &[u8]) -> usize
     requires few { length piece.now ≤ 8 }
@@ -83,7 +84,7 @@ fn copy_few(bytes: &mut [u8], end: usize, piece: &[u8]) -> usize
     }
 }
 
-// The same of any piece: a short one takes two moves, and no call.
+// Copies any piece behind a place: a short one takes two moves, and no call. Answers where it ends.
 #[inline(always)]
 fn copy_behind(bytes: &mut [u8], end: usize, piece: &[u8]) -> usize
     requires room { end + length piece.now ≤ length bytes.old }

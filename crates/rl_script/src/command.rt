@@ -16,62 +16,67 @@ use crate::names::{Ident, Path};
 pub enum Command {
     /// A command on one register, field or memory.
     OnItem(Item),
-    /// `burst-write`: writes locations of a memory, one for each value.
+    /// `burst-write`: writes locations of a memory, one for each value (`uvm_mem::burst_write`, IEEE 1800.2-2017,
+    /// 18.6).
     BurstWrite,
-    /// `reset`: resets model and device.
+    /// `reset`: resets the model (`uvm_reg_field::reset`, IEEE 1800.2-2017, 18.5) and the device.
     Reset,
-    /// `seq`: a sequence of checks.
+    /// `seq`: a sequence of checks, one of the five (IEEE 1800.2-2017, Annex E).
     Seq,
 }
 
 /// A command on one register, field or memory: a path, up to two numbers, and maybe a map.
+///
+/// Each names the method that it stands for, of `uvm_reg` (IEEE 1800.2-2017, 18.4), of `uvm_reg_field` (18.5) or of
+/// `uvm_mem` (18.6), or says that it is this project's own.
 #[derive(Clone, Copy, Debug, PartialEq, Eq)]
 pub enum Item {
-    /// `write REG V`: writes through the frontdoor.
+    /// `write REG V`: writes through the frontdoor (`uvm_reg::write`).
     Write,
-    /// `read REG`: reads through the frontdoor.
+    /// `read REG`: reads through the frontdoor (`uvm_reg::read`).
     Read,
-    /// `mirror REG`: reads, and takes what was read as the mirrored value.
+    /// `mirror REG`: reads, and takes what was read as the mirrored value (`uvm_reg::mirror`).
     Mirror,
-    /// `check REG`: reads, and compares with the mirrored value.
+    /// `check REG`: reads, and compares with the mirrored value (`uvm_reg::mirror` with `UVM_CHECK`).
     Check,
-    /// `update REG`: writes the desired value where it differs from the mirrored one.
+    /// `update REG`: writes the desired value where it differs from the mirrored one (`uvm_reg::update`).
     Update,
-    /// `other-write REG V`: a write of another master.
+    /// `other-write REG V`: a write of another master, this project's own.
     OtherWrite,
-    /// `other-read REG`: a read of another master.
+    /// `other-read REG`: a read of another master, this project's own.
     OtherRead,
-    /// `field-write FIELD V`: writes one field through the frontdoor.
+    /// `field-write FIELD V`: writes one field through the frontdoor (`uvm_reg_field::write`).
     FieldWrite,
-    /// `field-read FIELD`: reads one field through the frontdoor.
+    /// `field-read FIELD`: reads one field through the frontdoor (`uvm_reg_field::read`).
     FieldRead,
-    /// `set FIELD V`: sets the desired value.
+    /// `set FIELD V`: sets the desired value (`uvm_reg_field::set`).
     Set,
-    /// `hw FIELD V`: the device itself changes a field.
+    /// `hw FIELD V`: the device itself changes a field, this project's own.
     Hw,
-    /// `show REG`: the desired and the mirrored value, with no access.
+    /// `show REG`: the desired and the mirrored value, with no access (`uvm_reg_field::get` and
+    /// `get_mirrored_value`).
     Show,
-    /// `back-read REG`: reads through the backdoor.
+    /// `back-read REG`: reads through the backdoor (`uvm_reg::read`).
     BackRead,
-    /// `back-check REG`: reads through the backdoor, and compares.
+    /// `back-check REG`: reads through the backdoor, and compares (`uvm_reg::mirror` with `UVM_CHECK`).
     BackCheck,
-    /// `peek REG`: samples the bits with no read effect.
+    /// `peek REG`: samples the bits with no read effect (`uvm_reg::peek`).
     Peek,
-    /// `back-write REG V`: writes through the backdoor.
+    /// `back-write REG V`: writes through the backdoor (`uvm_reg::write`).
     BackWrite,
-    /// `poke REG V`: deposits the bits with no write effect.
+    /// `poke REG V`: deposits the bits with no write effect (`uvm_reg::poke`).
     Poke,
-    /// `mem-write MEM K V`: writes location K of a memory.
+    /// `mem-write MEM K V`: writes location K of a memory (`uvm_mem::write`).
     MemWrite,
-    /// `mem-check MEM K V`: reads a location, and compares with V.
+    /// `mem-check MEM K V`: reads a location, and compares with V, this project's own.
     MemCheck,
-    /// `mem-read MEM K`: reads a location.
+    /// `mem-read MEM K`: reads a location (`uvm_mem::read`).
     MemRead,
-    /// `burst-read MEM K N`: reads N locations from K on.
+    /// `burst-read MEM K N`: reads N locations from K on (`uvm_mem::burst_read`).
     BurstRead,
-    /// `mem-peek MEM K`: samples a location through the backdoor.
+    /// `mem-peek MEM K`: samples a location through the backdoor (`uvm_mem::peek`).
     MemPeek,
-    /// `mem-poke MEM K V`: deposits a location through the backdoor.
+    /// `mem-poke MEM K V`: deposits a location through the backdoor (`uvm_mem::poke`).
     MemPoke,
 }
 

@@ -7,18 +7,18 @@ use crate::line_ref::ItemLine;
 use crate::names::{Ident, Path, name_ref};
 use crate::values::Values;
 
-/// A sequence of checks over the registers or memories of a block, as the test sequences of IEEE 1800.2.
+/// A sequence of checks over the registers or memories of a block: five predefined ones (IEEE 1800.2-2017, Annex E).
 #[derive(Clone, Copy, Debug, PartialEq, Eq)]
 pub enum Sequence {
-    /// `hw-reset`: the reset values.
+    /// `hw-reset`: the reset values (`uvm_reg_hw_reset_seq`).
     HwReset,
-    /// `bit-bash`: each bit both ways.
+    /// `bit-bash`: each bit both ways (`uvm_reg_bit_bash_seq`).
     BitBash,
-    /// `access`: frontdoor against backdoor.
+    /// `access`: frontdoor against backdoor (`uvm_reg_access_seq`).
     Access,
-    /// `shared`: a register through each of its maps.
+    /// `shared`: a register through each of its maps (`uvm_reg_shared_access_seq`).
     Shared,
-    /// `mem-walk`: a walk over each memory.
+    /// `mem-walk`: a walk over each memory (`uvm_mem_walk_seq`).
     MemWalk,
 }
 

@@ -26,7 +26,7 @@ pub(crate) fn is_tested(chip: &Chip, item: Item, block: Option<u32>, skip: Skip)
     inside && !chip.skips(item).contains(skip)
 }
 
-/// The same for a register, which NO_REG_TESTS excludes from every sequence.
+/// Whether the register is within the block, and neither this exclusion nor `NO_REG_TESTS` names it.
 pub(crate) fn is_reg_tested(chip: &Chip, reg: u32, block: Option<u32>, skip: Skip) -> bool
     requires reg { reg < length chip.now.regs }
     requires block { IfSome block (λ b. b < chip.now.blocks) }

@@ -6,18 +6,18 @@ use crate::choice::{is_accessed, is_of, is_reg_tested, is_shared, is_walked, may
 use rl_map::Layout;
 use rl_model::{Chip, Item, Skip};
 
-/// The five sequences, after those of the UVM library (IEEE 1800.2); their exact steps are this project's own.
+/// The five predefined sequences (IEEE 1800.2-2017, Annex E); their exact steps are this project's own.
 #[derive(Clone, Copy)]
 pub enum Sequence {
-    /// A HARD reset, and a check of each register at each place that may be read.
+    /// `uvm_reg_hw_reset_seq`: a HARD reset, and a check of each register at each place that may be read.
     HwReset,
-    /// Each compared bit of each register turned round twice, with a check each time.
+    /// `uvm_reg_bit_bash_seq`: each compared bit of each register turned round twice, with a check each time.
     BitBash,
-    /// Each register over the bus against the backdoor, and the other way round.
+    /// `uvm_reg_access_seq`: each register over the bus against the backdoor, and the other way round.
     Access,
-    /// Each register of several places written through one and checked through the others.
+    /// `uvm_reg_shared_access_seq`: each register of several places written through one and checked through the others.
     Shared,
-    /// Each location of each writable memory written, and checked once its neighbour was.
+    /// `uvm_mem_walk_seq`: each location of each writable memory written, and checked once its neighbour was.
     MemWalk,
 }
 

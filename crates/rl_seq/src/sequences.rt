@@ -12,8 +12,8 @@ use crate::walk::walk;
 use rl_access::{Model, Op, Recorder, Tally};
 use rl_bus::{Adapter, Adapters, Device, Failed};
 
-/// Resets the chip by HARD, and checks every register in each of its maps: `uvm_reg_hw_reset_seq`, with this
-/// project's own steps.
+/// Resets the chip by HARD, and checks every register in each of its maps: `uvm_reg_hw_reset_seq` (IEEE 1800.2-2017,
+/// Annex E), with this project's own steps.
 pub fn hw_reset<D: Device, R: Recorder>(
     model: &mut Model,
     device: &mut D,
@@ -31,8 +31,8 @@ pub fn hw_reset<D: Device, R: Recorder>(
 }
 
 /// Turns each compared bit of every register round, twice, and checks the register each time:
-/// `uvm_reg_bit_bash_seq`, which runs `uvm_reg_single_bit_bash_seq` on each register, with this project's own
-/// steps.
+/// `uvm_reg_bit_bash_seq` (IEEE 1800.2-2017, Annex E), which runs `uvm_reg_single_bit_bash_seq` on each register, with
+/// this project's own steps.
 pub fn bit_bash<D: Device, R: Recorder>(
     model: &mut Model,
     device: &mut D,
@@ -50,7 +50,7 @@ pub fn bit_bash<D: Device, R: Recorder>(
 }
 
 /// Writes every register over the bus and checks it by the backdoor, and the other way round:
-/// `uvm_reg_access_seq`, with this project's own steps.
+/// `uvm_reg_access_seq` (IEEE 1800.2-2017, Annex E), with this project's own steps.
 pub fn access_test<D: Device, R: Recorder>(
     model: &mut Model,
     device: &mut D,
@@ -68,7 +68,7 @@ pub fn access_test<D: Device, R: Recorder>(
 }
 
 /// Writes every register with several places in each of its maps, and checks it in each other one:
-/// `uvm_reg_shared_access_seq`, with this project's own steps.
+/// `uvm_reg_shared_access_seq` (IEEE 1800.2-2017, Annex E), with this project's own steps.
 pub fn shared_access<D: Device, R: Recorder>(
     model: &mut Model,
     device: &mut D,
@@ -86,7 +86,7 @@ pub fn shared_access<D: Device, R: Recorder>(
 }
 
 /// Walks over every memory: each location takes the inverse of its number, and then its number:
-/// `uvm_mem_walk_seq`, with this project's own steps.
+/// `uvm_mem_walk_seq` (IEEE 1800.2-2017, Annex E), with this project's own steps.
 pub fn mem_walk<D: Device, R: Recorder>(
     model: &mut Model,
     device: &mut D,

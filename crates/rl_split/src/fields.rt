@@ -9,7 +9,8 @@ use rl_bus::AdapterKind;
 use rl_map::Layout;
 use rl_model::{Chip, Field};
 
-/// Whether an access to a field in a direction reaches the bytes of the field alone.
+/// Whether an access to a field in a direction reaches the bytes of the field alone, as one to an individually
+/// accessible field (`uvm_reg_field::write` and `read`, IEEE 1800.2-2017, 18.5).
 ///
 /// So it is where the field is marked `alone`, no other field has a bit in its bytes, prediction is
 /// implicit, no map on the path is of a FIFO kind, and the adapter carries byte enables in the direction.

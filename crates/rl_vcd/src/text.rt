@@ -106,7 +106,7 @@ pub(crate) fn change_bit(
     }
 }
 
-// The same of a signal with so many digits.
+// Appends the new value of a signal with so many digits, where it changes.
 pub(crate) fn change_word(
     text: &mut Vec<u8>,
     letter: u8,

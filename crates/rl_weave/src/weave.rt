@@ -144,7 +144,8 @@ impl Weave {
         }
     }
 
-    /// The same, with the event told in one that the caller has, where the access is over.
+    /// Sends the next word of an open access. Where the word failed or was the last one the access is closed, and the
+    /// event is told in one that the caller has.
     pub fn step_into<D: Device>(
         &mut self,
         model: &mut Model,
