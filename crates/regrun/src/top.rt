@@ -18,6 +18,19 @@ use std::marker::Brand;
 /// that begins at the number. The device is made from the session, with the flaws that it declares. The adapter of each
 /// root map is the first of its name. A source that fails ends the call with `SourceFault`, and a sink that fails with
 /// `SinkFault`. The output is finished once, where the last line was written.
+///
+/// # Examples
+///
+/// The word is `run`, and the script of the session is `write ctrl 0x3` and `check ctrl`. Bit 2 of the field
+/// `mode` is stuck at 1. The status is `Status::Found`, and the sink has:
+///
+/// ```text
+/// write ctrl 0x3 @bus: ok mirror 0x03
+///   bus w 0x0 0x03 1 #0 ok
+/// check ctrl @bus: ok 0x07 mirror 0x07 differ mode
+///   bus r 0x0 0x07 1 #1 ok
+/// end: 2 events, 1 differences, 0 bus errors
+/// ```
 pub fn regrun<S: Source, K: Sink>(
     alloc: Global,
     words: &[String],

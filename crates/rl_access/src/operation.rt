@@ -21,6 +21,20 @@ use rl_policy::take;
 /// Performs an operation that is no burst.
 ///
 /// The calls of one operation each, as [`crate::front_write`], do the same for those who know which one they want.
+///
+/// # Examples
+///
+/// Register 0 has one byte, with a field `RW` of four bits, on a bus of one byte and a device as described.
+///
+/// ```text
+/// let event = perform(&mut model, &mut device, &mut adapters, Op::Write { reg: 0, map: None, value: 0x3 });
+/// event.end == End::Done
+/// event.mirrored == 0x3
+/// event.trace.len() == 1
+/// // Its lines in a log, where they are the first:
+/// write ctrl 0x3 @bus: ok mirror 0x03
+///   bus w 0x0 0x03 1 #0 ok
+/// ```
 pub fn perform<D: Device>(
     model: &mut Model,
     device: &mut D,

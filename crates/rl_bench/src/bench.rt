@@ -172,6 +172,18 @@ impl Bench {
     /// # Errors
     ///
     /// Want of memory.
+    ///
+    /// # Examples
+    ///
+    /// Register 0 has a field `RW`, its lowest four bits, which is 0x5 after HARD. Bit 1 of it is stuck at 1.
+    ///
+    /// ```text
+    /// let flaws = [Flaw::Stuck { field: 0, bit: 1, value: true }];
+    /// let mut bench = Bench::build(alloc, &chip, &layout, &flaws)?;
+    /// bench.peek(Cell::Reg { reg: 0 }) == 0x7
+    /// bench.poke(Cell::Reg { reg: 0 }, 0x0);
+    /// bench.peek(Cell::Reg { reg: 0 }) == 0x2
+    /// ```
     pub fn build(
         alloc: Global,
         chip: &Chip,

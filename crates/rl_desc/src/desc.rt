@@ -42,6 +42,27 @@ impl Model for Desc {
 /// # Errors
 ///
 /// The first condition that fails, with its place. Or want of memory.
+///
+/// # Examples
+///
+/// `text` has these lines. A `map = "buss"` in the place would be refused: no such map.
+///
+/// ```text
+/// [[reg]]
+/// name = "ctrl"
+/// bytes = 1
+/// field = [{ name = "mode", lsb = 0, width = 4, policy = "RW", reset = 0x5 }]
+/// [[map]]
+/// name = "bus"
+/// bytes = 1
+/// [[place]]
+/// map = "bus"
+/// item = "ctrl"
+///
+/// let desc = read_description(alloc, text, &kinds)?;
+/// desc.chip.reg_by_path(b"ctrl") == Some(0)
+/// desc.layout.place_of(Item::Reg(0), None) == Some(0)
+/// ```
 pub fn read_description(
     alloc: Global,
     bytes: &[u8],

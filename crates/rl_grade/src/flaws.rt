@@ -78,6 +78,17 @@ fn push_policies(flaws: &mut Vec<Flaw>, field: u32, own: Policy) -> Result<(), A
 
 /// The single flaws of a field: each bit stuck at 0 and at 1, each reset value that is wrong in one bit, and each other
 /// policy, in this order.
+///
+/// # Examples
+///
+/// Field 0 is `RW`, 4 bits wide, and has a reset value for HARD alone.
+///
+/// ```text
+/// let flaws = field_flaws(alloc, &chip, 0)?;
+/// // 4 bits stuck at 0 and 4 at 1, 4 wrong reset values, and 24 other policies:
+/// flaws.len() == 36
+/// flaws[0] == Flaw::Stuck { field: 0, bit: 0, value: false }
+/// ```
 pub fn field_flaws(alloc: Global, chip: &Chip, field: u32) -> Result<Vec<Flaw>, AllocError>
     requires { field < length chip.now.fields }
     ensures { IfOk result (λ flaws. flaws.items ≡ field_flaws chip.now field POLICIES) }

@@ -49,6 +49,19 @@ fn select<D: Device>(
 
 /// Writes entry `k`, counted from 0: the index register gets `k`, and then the data register the value
 /// (`uvm_reg_indirect_data`, IEEE 1800.2-2017, 18.7).
+///
+/// # Examples
+///
+/// A bank has 4 entries behind a data register of 2 bytes, with one field `RW`, and the device is as described.
+///
+/// ```text
+/// let indexed = indexed_write(&mut bank, &mut model, &mut device, &mut adapters, None, 1, 0x1234);
+/// // `Indexed::At`: the index register took 1, and then the data register 0x1234.
+/// bank.entry(&device, 1) == 0x1234
+/// bank.mirrored(&model, 1) == 0x1234
+/// // There is no entry 4, so this sends nothing and answers `Indexed::NoSuchEntry`:
+/// indexed_write(&mut bank, &mut model, &mut device, &mut adapters, None, 4, 0x1234)
+/// ```
 pub fn indexed_write<D: Device>(
     bank: &mut Bank,
     model: &mut Model,

@@ -28,6 +28,20 @@ fn closed<S: Source, K: Sink, N: Sink, M: Sink>(
 /// The description is read before anything is sent. Requests go to the sink, and answers come from the source. The log
 /// is finished once, where its last line was written. A link that breaks doesn't end the session: the answer's `code`
 /// tells of it.
+///
+/// # Examples
+///
+/// The script is `write ctrl 0x3` and `check ctrl`. The sink gets the lines on the left, and the source
+/// has those on the right.
+///
+/// ```text
+/// w bus 0x0 0x3 1 #0      ok
+/// r bus 0x0 0x0 1 #1      ok 0x7
+/// // The log:
+/// write ctrl 0x3 @bus: ok mirror 0x03
+///   bus w 0x0 0x03 1 #0 ok
+/// check ctrl @bus: ok 0x07 mirror 0x07 differ mode
+/// ```
 pub fn run_linked<
     P: Source,
     Q: Sink,

@@ -79,6 +79,19 @@ impl Mam {
 
     /// Gives out the lowest place where a region of this length fits: `uvm_mem_mam::request_region`, whose place is a
     /// random one. That it is the lowest is this project's own.
+    ///
+    /// # Examples
+    ///
+    /// Memory 0 has 8 locations.
+    ///
+    /// ```text
+    /// let mut mam = Mam::build(alloc, &chip, 0);
+    /// mam.reserve(2, 3) == Ok(Region { first: 2, len: 3 })
+    /// mam.request(2) == Ok(Region { first: 0, len: 2 })
+    /// mam.request(4) == Err(MamFault::NoRoom { longest: 3 })
+    /// mam.release(2) == Some(Region { first: 2, len: 3 })
+    /// mam.request(4) == Ok(Region { first: 2, len: 4 })
+    /// ```
     pub fn request(&mut self, len: u64) -> Result<Region, MamFault>
         ensures some { OnOk result (0 < len) }
         ensures len { IfOk result (λ r. r.len ≡ len) }

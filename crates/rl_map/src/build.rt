@@ -70,6 +70,18 @@ impl Layout {
     /// `Bad` is the first condition that fails: maps come before places, each in description order, and the
     /// conditions of a row in the order of its checks, for a place a shared address last. `Memory` is an
     /// allocation that failed.
+    ///
+    /// # Examples
+    ///
+    /// A register of 3 bytes is at 0x0 of a little-endian root of 2 bytes.
+    ///
+    /// ```text
+    /// let layout = Layout::build(alloc, &chip, &maps, &places, &kinds)?;
+    /// layout.words(0) == 2
+    /// layout.word(0, 0, 1) == Word { order: 1, address: 0x2, lanes: 0b01, bytes: [2, 0, 0, 0, 0, 0, 0, 0] }
+    /// layout.find(0, 0x2, false) == Some(Here { place: 0, index: 0, count: 1 })
+    /// layout.find(0, 0x4, false) == None
+    /// ```
     pub fn build(
         alloc: Global,
         chip: &Chip,

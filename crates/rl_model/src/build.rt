@@ -24,6 +24,18 @@ impl Chip {
     ///
     /// Blocks come first, then files, registers with their fields, and memories; the conditions of a row
     /// come in the order of its checks. Where the allocator has no memory left the answer is `Memory`.
+    ///
+    /// # Examples
+    ///
+    /// The parts have one register `a` with a field `v`, which is 0x5 after HARD.
+    ///
+    /// ```text
+    /// let chip = Chip::build(alloc, &parts)?;
+    /// chip.reg_by_path(b"a") == Some(0)
+    /// chip.field_by_path(b"a.v") == Some(0)
+    /// chip.reset_of(0, 0) == Some(0x5)
+    /// chip.mem_by_path(b"a") == None
+    /// ```
     #[tactic(auto, unfolding(crate::specs::Build::chip_of, crate::specs::Build::chip_fault))]
     pub fn build(alloc: Global, parts: &Parts) -> Result<Chip, ModelFault>
         ensures { Passes result (chip_fault parts.now) (λ chip. chip ≡ chip_of parts.now) }

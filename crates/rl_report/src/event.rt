@@ -34,6 +34,15 @@ pub fn write_event_line<K: Sink>(sink: &mut K, model: &Model, event: &Event) -> 
 }
 
 /// Writes an event: its line, and a line for each item that it sent. It takes no memory.
+///
+/// # Examples
+///
+/// The event of `write ctrl 0x3` over a bus of one byte, on a device as described:
+///
+/// ```text
+/// write ctrl 0x3 @bus: ok mirror 0x03
+///   bus w 0x0 0x03 1 #0 ok
+/// ```
 pub fn write_event<K: Sink>(sink: &mut K, model: &Model, event: &Event) -> Result<(), Failed>
     requires { EventFits model.now event.now }
     ensures { PutsText K.Sink sink.old sink.new (event_text model.now event.now) result }

@@ -202,6 +202,18 @@ impl LineReader {
     }
 
     /// Hands out the next line. A fault loses no byte, and the next call goes on with the same line.
+    ///
+    /// # Examples
+    ///
+    /// The source has the bytes `show a`, a line feed, and `show b`.
+    ///
+    /// ```text
+    /// reader.next_line(&mut source) == Ok(Got::Line)
+    /// reader.line() == b"show a"
+    /// reader.next_line(&mut source) == Ok(Got::Line)
+    /// reader.line() == b"show b"
+    /// reader.next_line(&mut source) == Ok(Got::End)
+    /// ```
     pub fn next_line<S: Source>(&mut self, source: &mut S) -> Result<Got, Failed>
         requires found { self.old.found ≡ true }
         requires going { self.old.refused ≡ false }

@@ -27,6 +27,15 @@ const MOST_BYTES: usize = 4096;
 /// Reads a line, without its line end: what it says, or the first condition that it fails.
 ///
 /// Memory is taken for the paths, names and values of the answer alone.
+///
+/// # Examples
+///
+/// ```text
+/// let line = read_line(alloc, b"write  a 5 @bus # once")?;
+/// write_line(alloc, &line)? == b"write a 0x5 @bus"
+/// read_line(alloc, b"write a") == Err(LineFault::WrongCount)
+/// read_line(alloc, b"write a 5x") == Err(LineFault::BadNumber)
+/// ```
 pub fn read_line(alloc: Global, bytes: &[u8]) -> Result<Line, LineFault>
     // Which line or which fault it is, unless memory runs out.
     ensures read { MatchResult result (λ line. read_of bytes.now ≡ Ok line)

@@ -117,6 +117,17 @@ impl Outgoing {
 /// The operations of an access to a location of a place, in the order in which they are sent.
 ///
 /// Each is that of a word which [`Outgoing::word`] tells of, in a list.
+///
+/// # Examples
+///
+/// A register of 3 bytes is at 0x0 of a little-endian root of 2 bytes, whose adapter carries byte enables.
+///
+/// ```text
+/// let words = split(&layout, 0, 0, 0b111, 0x332211, true);
+/// words.len() == 2
+/// words.op(0) == BusOp { write: true, address: 0x0, word: 0x2211, lanes: 0b11, bytes: 2 }
+/// words.op(1) == BusOp { write: true, address: 0x2, word: 0x0033, lanes: 0b01, bytes: 2 }
+/// ```
 pub fn split(layout: &Layout, place: u32, index: u32, chosen: u8, value: u64, write: bool) -> Words
     requires location { IsLocation layout.now place index }
     requires chosen { IsChoice (place_at layout.now place).bytes chosen }

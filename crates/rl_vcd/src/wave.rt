@@ -199,6 +199,17 @@ impl Wave {
 
     /// Draws a transfer and an idle cycle behind it. The label stands in the signal `op` from the setup phase to the
     /// end of the transfer.
+    ///
+    /// # Examples
+    ///
+    /// A transfer without wait cycles takes a setup cycle, an access cycle and an idle cycle. Here one begins in
+    /// cycle n.
+    ///
+    /// ```text
+    /// // In cycle n PSEL rises at 10 n + 1 ns, PENABLE 10 ns later, and both fall 10 ns after that.
+    /// wave.draw(bus, b"write ctrl 0x3 @bus: ok mirror 0x03", &transfer, &response)?;
+    /// // The next transfer's setup cycle is n + 3.
+    /// ```
     pub fn draw(
         &mut self,
         bus: Bus,

@@ -69,6 +69,18 @@ impl Weave {
     }
 
     /// Adds an access, which is then open, and answers its number, counted from 0.
+    ///
+    /// # Examples
+    ///
+    /// Both registers have a place with both rights under a root that a predictor watches.
+    ///
+    /// ```text
+    /// let mut weave = Weave::build(alloc)?;
+    /// weave.add(&model, Access { reg: 0, map: None, value: Some(0x1) }) == Ok(0)
+    /// weave.add(&model, Access { reg: 1, map: None, value: None }) == Ok(1)
+    /// weave.add(&model, Access { reg: 0, map: None, value: None }) == Err(WeaveFault::SameRegister { other: 0 })
+    /// weave.open_count() == 2
+    /// ```
     pub fn add(&mut self, model: &Model, access: Access) -> Result<u32, WeaveFault>
         requires fresh { self.old.fresh ≡ true }
         requires numbers { IsNumbered model.now access }
