@@ -3,4 +3,11 @@ use Rattle.std.specs.Prelude.{true, codes, false}
 use Rattle.rl_bus.specs.declared.op.AdapterKind.{AdapterKind}
 
 abbrev pub plain_kind : AdapterKind
-plain_kind = record { name = codes "plain"; most_bytes = 8; most_address = 0xffff_ffff_ffff_ffff; aligned = false; write_lanes = true; read_lanes = true }
+plain_kind = record {
+  name = codes "plain";
+  most_bytes = 8;
+  most_address = 0xffff_ffff_ffff_ffff;
+  aligned = false;
+  write_lanes = true;
+  read_lanes = true
+}
