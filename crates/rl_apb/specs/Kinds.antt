@@ -3,4 +3,11 @@ use Rattle.std.specs.Prelude.{true, false, codes}
 use Rattle.rl_bus.specs.declared.op.AdapterKind.{AdapterKind}
 
 abbrev pub apb_kind : AdapterKind
-apb_kind = record { name = codes "apb"; most_bytes = 4; most_address = 0xffff_ffff; aligned = true; write_lanes = true; read_lanes = false }
+apb_kind = record {
+  name = codes "apb";
+  most_bytes = 4;
+  most_address = 0xffff_ffff;
+  aligned = true;
+  write_lanes = true;
+  read_lanes = false
+}
