@@ -43,7 +43,9 @@ wstep fields chosen word r = record {
 
 -- a read of the chosen fields
 unfoldable pub rstep : List FieldSeen → (chosen : ℕ → Bool) → Register → Register
-rstep fields chosen r = record r { bits = from_bits 64 (λ b. left_bit fields chosen (place_at fields b) (bit r.bits b)) }
+rstep fields chosen r = record r {
+  bits = from_bits 64 (λ b. left_bit fields chosen (place_at fields b) (bit r.bits b))
+}
 
 -- and what it answers
 unfoldable pub ranswer : List FieldSeen → (chosen : ℕ → Bool) → Register → ℕ
