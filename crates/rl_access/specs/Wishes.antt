@@ -7,8 +7,9 @@ use Rattle.rl_access.specs.declared.event.End.{End}
 use Rattle.rl_access.specs.declared.event.End.TheVariants as end
 use Rattle.rl_access.specs.Model.{ModelData}
 
--- Where an update of the register was sent, and no item failed, each of its fields has its old desired value as mirrored and
--- as desired value. A field that each write sets or clears as a whole has it where an update could reach it.
+-- Where an update of the register was sent, and no item failed, each of its fields has its old desired value
+-- as mirrored and as desired value. A field that each write sets or clears as a whole has it where an update could
+-- reach it.
 abbrev pub BringsWishes : ModelData → ModelData → (reg : ℕ) → End → Type 0
 BringsWishes m new reg e =
     (word : ℕ) → e ≡ end.Sent word
