@@ -29,7 +29,13 @@ HasBytes bytes ops = All (λ op. op.bytes ≡ bytes) ops
 
 -- a write of an access, or a read, word by word
 abbrev pub outgoing_of : Access → Bool → Outgoing
-outgoing_of a write = record { place = a.place; index = 0; chosen = a.chosen; value = if write then a.value else 0; write = write }
+outgoing_of a write = record {
+  place = a.place;
+  index = 0;
+  chosen = a.chosen;
+  value = if write then a.value else 0;
+  write = write
+}
 
 -- what the answers to a read bring, where no item failed
 abbrev pub IsBrought : LayoutData → Outgoing → List TraceItem → ℕ → Type 0

@@ -20,7 +20,8 @@ pub record IsFoundAt (m : ModelData) (told : Option State) (mem index value : �
   pub value_is : value ≡ low_bytes (location_size m.chip mem) sampled
 
 -- a read that leaves its effects in the device and in the model
-pub record IsReadBehind (m new : ModelData) (told after : Option State) (check : Bool) (reg value differ : ℕ) : Type 0 where
+pub record IsReadBehind (m new : ModelData) (told after : Option State) (check : Bool)
+    (reg value differ : ℕ) : Type 0 where
   pub sampled : ℕ
   pub found : (d : State) → told ≡ Some d → sampled ≡ peeked d (cell.Reg reg)
   pub outcome : record { end = end.Value value; model = new; differ = differ } ≡ back_outcome m check reg sampled

@@ -11,7 +11,10 @@ use Rattle.rl_access.specs.declared.trace.TraceItem.{TraceItem}
 use Rattle.rl_access.specs.Items.{AreItemsOf, AreSent, HasCauses, items_of, moved_on_by_all, port_for, adapter_for}
 use Rattle.rl_access.specs.Event.{EventFits}
 use Rattle.rl_access.specs.Model.{ModelData, IsDeviceOf, IsReady, IsSameChip}
-use Rattle.rl_access.specs.Rules.{grant, named, sends, Outcome, outcome, event_of, refused_event, found_by, device_after, access_ops, register_event, write_outcome, read_outcome}
+use Rattle.rl_access.specs.Rules.{
+  grant, named, sends, Outcome, outcome, event_of, refused_event, found_by, device_after, access_ops, register_event,
+  write_outcome, read_outcome
+}
 
 -- what a call meets and leaves
 pub record Scene : Type 0 where
@@ -25,7 +28,8 @@ scene model adapters errors device = record { model = model; adapters = adapters
 
 -- a model, adapters as their callers see them, and a device with its count of errors and the state that it tells
 abbrev pub scene_of : {A D : Type 0} → (A → Standing) → (D → ℕ) → (D → Option State) → ModelData → List A → D → Scene
-scene_of standing errors state model adapters device = scene model (map standing adapters) (errors device) (state device)
+scene_of standing errors state model adapters device =
+    scene model (map standing adapters) (errors device) (state device)
 
 -- a refused operation changes nothing
 pub record IsRefused (s new : Scene) (op : Op) (why : Refused) (event : Event) : Type 0 where
@@ -37,7 +41,9 @@ pub record IsDone (s new : Scene) (op : Op) (place : ℕ) (event : Event) : Type
   -- the bits that the device was found to have, where the backdoor reads them
   pub sampled : ℕ
   -- the items are those of its operations, and each adapter moves by them
-  pub items : AreItemsOf (standing_at s.adapters (adapter_for s.model.layout place)) (port_for s.model.layout place) (sends s.model op place) event.trace
+  pub items :
+      AreItemsOf (standing_at s.adapters (adapter_for s.model.layout place)) (port_for s.model.layout place)
+        (sends s.model op place) event.trace
   pub adapters : new.adapters ≡ moved_on_by_all s.adapters (adapter_for s.model.layout place) event.trace
   pub cause : HasCauses s.errors new.errors event.trace
   -- the event and the model are what the rules make of these
@@ -45,7 +51,11 @@ pub record IsDone (s new : Scene) (op : Op) (place : ℕ) (event : Event) : Type
   pub model : new.model ≡ (outcome s.model op place sampled event.trace).model
   -- the device, where it tells its state
   pub found : (d : State) → s.device ≡ Some d → sampled ≡ found_by d op
-  pub answers : (d : State) → s.device ≡ Some d → event.trace ≡ items_of (standing_at s.adapters (adapter_for s.model.layout place)) d (port_for s.model.layout place) (sends s.model op place)
+  pub answers : (d : State)
+      → s.device ≡ Some d
+      → event.trace
+        ≡ items_of (standing_at s.adapters (adapter_for s.model.layout place)) d (port_for s.model.layout place)
+            (sends s.model op place)
   pub goes : new.device ≡ option_map (device_after s.model op sampled event.trace) s.device
 
 -- ---- one access to a register, in an operation that has this name
@@ -57,7 +67,8 @@ WereSent s new a write items =
     s.adapters new.adapters s.errors new.errors s.device new.device
 
 -- it was written, or read, and this was made of its items
-pub record IsAccessed (s new : Scene) (op : Op) (a : Access) (write : Bool) (o : List TraceItem → Outcome) (event : Event) : Type 0 where
+pub record IsAccessed (s new : Scene) (op : Op) (a : Access) (write : Bool) (o : List TraceItem → Outcome)
+    (event : Event) : Type 0 where
   pub sent : WereSent s new a write event.trace
   pub event_is : event ≡ register_event op a.reg event.trace (o event.trace)
   pub model : new.model ≡ (o event.trace).model
@@ -74,10 +85,11 @@ IsReadBy s new op a check event = IsAccessed s new op a false (read_outcome s.mo
 
 -- the operation is refused by its first cause, or done
 abbrev pub Performs : Scene → Scene → Op → Event → Type 0
-Performs s new op event = MatchResult (grant s.model op) (λ place. IsDone s new op place event) (λ why. IsRefused s new op why event)
+Performs s new op event =
+    MatchResult (grant s.model op) (λ place. IsDone s new op place event) (λ why. IsRefused s new op why event)
 
--- What a call over the bus does, and what it leaves for the next one: the next call may follow, the chip and the layout are the
--- same, and the event can be told of the model.
+-- What a call over the bus does, and what it leaves for the next one: the next call may follow,
+-- the chip and the layout are the same, and the event can be told of the model.
 pub record Does (s new : Scene) (op : Op) (event : Event) : Type 0 where
   pub performs : Performs s new op event
   pub ready : IsReady new.model new.adapters new.device
@@ -86,16 +98,22 @@ pub record Does (s new : Scene) (op : Op) (event : Event) : Type 0 where
 
 -- an operation that meets no adapter and no device, beside any of them
 abbrev pub PerformsAlone : ModelData → ModelData → Op → Event → Type 0
-PerformsAlone m new op event = (adapters : List Standing) (errors : ℕ) (device : Option State) → Performs (scene m adapters errors device) (scene new adapters errors device) op event
+PerformsAlone m new op event =
+    (adapters : List Standing) (errors : ℕ) (device : Option State)
+    → Performs (scene m adapters errors device) (scene new adapters errors device) op event
 
 -- an operation that goes round the bus, beside any adapters
-abbrev pub PerformsOffBus : {D : Type 0} → (D → ℕ) → (D → Option State) → (m new : ModelData) → (before after : D) → Op → Event → Type 0
-PerformsOffBus errors state m new before after op event = (adapters : List Standing) → Performs (scene m adapters (errors before) (state before)) (scene new adapters (errors after) (state after)) op
-    event
+abbrev pub PerformsOffBus :
+    {D : Type 0} → (D → ℕ) → (D → Option State) → (m new : ModelData) → (before after : D) → Op → Event → Type 0
+PerformsOffBus errors state m new before after op event =
+    (adapters : List Standing)
+    → Performs (scene m adapters (errors before) (state before))
+        (scene new adapters (errors after) (state after)) op event
 
--- what such an operation leaves for the next call: the device goes with the model, the chip and the layout are the same, and the
--- event can be told of the model
-pub record StaysOffBus {D : Type 0} (errors : D → ℕ) (state : D → Option State) (m new : ModelData) (before after : D) (event : Event) : Type 0 where
+-- what such an operation leaves for the next call: the device goes with the model,
+-- the chip and the layout are the same, and the event can be told of the model
+pub record StaysOffBus {D : Type 0} (errors : D → ℕ) (state : D → Option State) (m new : ModelData) (before after : D)
+    (event : Event) : Type 0 where
   pub device : IsDeviceOf new (state after)
   pub parts : IsSameChip m new
   pub fits : EventFits new event

@@ -28,9 +28,11 @@ IsEndWithin digits end.Nothing = Unit {0}
 IsEndWithin digits (end.BusError word) = Unit {0}
 IsEndWithin digits (end.Refused why) = Unit {0}
 
--- the values of a register have its digits, and each differing field is one of its fields; of a memory the mark is 0 or 1
+-- the values of a register have its digits, and each differing field is one of its fields;
+-- of a memory the mark is 0 or 1
 abbrev pub HasValues : ChipData → Option ℕ → Event → Type 0
-HasValues c (Some reg) e = (e.mirrored < 16 ^ (2 * size_of c reg)) × (e.desired < 16 ^ (2 * size_of c reg)) × (e.differ < 2 ^ count_of c reg)
+HasValues c (Some reg) e =
+    (e.mirrored < 16 ^ (2 * size_of c reg)) × (e.desired < 16 ^ (2 * size_of c reg)) × (e.differ < 2 ^ count_of c reg)
 HasValues c None e = e.differ ≤ 1
 
 -- an event that can be told of the model

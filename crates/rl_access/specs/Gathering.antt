@@ -1,5 +1,8 @@
 -- What a predictor has gathered.
-use Rattle.std.specs.Prelude.{◌≡◌, ℕ, ◌<◌, ◌==◌, ◌&&◌, not, Bool, true, false, if◌then◌else◌, List, [], ◌∷◌, ◌++◌, length, get_or, slice_index_or, All}
+use Rattle.std.specs.Prelude.{
+  ◌≡◌, ℕ, ◌<◌, ◌==◌, ◌&&◌, not, Bool, true, false, if◌then◌else◌, List, [], ◌∷◌, ◌++◌, length, get_or, slice_index_or,
+  All
+}
 use Rattle.rl_bus.specs.declared.op.BusOp.{BusOp}
 use Rattle.rl_model.specs.declared.rows.Item.{Item}
 use Rattle.rl_model.specs.declared.rows.Item.TheVariants.{Reg, Mem}
@@ -38,7 +41,8 @@ emptied l place op g = if same_direction g.write op.write && is_next l place op 
 
 -- the next word is appended, and any other one dropped
 abbrev pub appended : LayoutData → ℕ → BusOp → ℕ → Gathered → Gathered
-appended l place op word g = if is_next l place op g then record { write = op.write; words = g.words ++ word ∷ [] } else g
+appended l place op word g =
+    if is_next l place op g then record { write = op.write; words = g.words ++ word ∷ [] } else g
 
 abbrev pub gathered_with : LayoutData → ℕ → BusOp → ℕ → Gathered → Gathered
 gathered_with l place op word g = appended l place op word (emptied l place op g)
@@ -56,4 +60,6 @@ pub record IsRegisterPlace (l : LayoutData) (place : ℕ) : Type 0 where
 -- each list but that of the place is shorter than its place's words
 pub record IsGatheredOn (l : LayoutData) (place : ℕ) (gathered : List Gathered) : Type 0 where
   pub count : length gathered ≡ length l.places
-  pub others : (p : ℕ) → p < length l.places → (p ≡ place → ⊥) → length (gathered_at gathered p).words < length (words_of l p 0)
+  pub others : (p : ℕ)
+      → p < length l.places → (p ≡ place → ⊥)
+      → length (gathered_at gathered p).words < length (words_of l p 0)

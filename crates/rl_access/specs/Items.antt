@@ -1,5 +1,8 @@
 -- Items that are sent one after another, until one fails.
-use Rattle.std.specs.Prelude.{◌≡◌, ℕ, ◌^◌, ◌<◌, ◌≤◌, List, [], ◌∷◌, map, Bool, false, ◌||◌, Option, Some, option_map, IsTrue, slice_set, if◌then◌else◌}
+use Rattle.std.specs.Prelude.{
+  ◌≡◌, ℕ, ◌^◌, ◌<◌, ◌≤◌, List, [], ◌∷◌, map, Bool, false, ◌||◌, Option, Some, option_map, IsTrue, slice_set,
+  if◌then◌else◌
+}
 use Rattle.std.specs.Bool.{MatchBool}
 use Rattle.std.specs.List.{position}
 use Rattle.rl_bus.specs.Causes.{Rose}
@@ -31,11 +34,13 @@ moved_on_by_all all which items = slice_set all which (took_all (standing_at all
 abbrev pub item_of : Standing → ℕ → BusOp → Answer → TraceItem
 item_of s port op answer = record { port = port; op = op; tag = s.tag; answer = answer }
 
--- The items are those of the operations, in order, through an adapter that stands so. A failed item is the last one, and
--- where none failed each operation was sent.
+-- The items are those of the operations, in order, through an adapter that stands so. A failed item is the last one,
+-- and where none failed each operation was sent.
 abbrev pub AreItemsOf : Standing → ℕ → List BusOp → List TraceItem → Type 0
 AreItemsOf s port [] [] = Unit {0}
-AreItemsOf s port (op ∷ ops) (item ∷ items) = (item ≡ item_of s port op item.answer) × MatchBool item.answer.failed (items ≡ []) (AreItemsOf (took_item s item) port ops items)
+AreItemsOf s port (op ∷ ops) (item ∷ items) =
+    (item ≡ item_of s port op item.answer)
+    × MatchBool item.answer.failed (items ≡ []) (AreItemsOf (took_item s item) port ops items)
 AreItemsOf s port [] (item ∷ items) = ⊥
 AreItemsOf s port (op ∷ ops) [] = ⊥
 
@@ -74,14 +79,16 @@ state_after_all d [] = d
 state_after_all d (item ∷ items) = state_after_all (state_after d item.port item.op) items
 
 -- the items and the state are the definition's, where the state is told
-pub record IsRun (before after : Option State) (s : Standing) (port : ℕ) (ops : List BusOp) (items : List TraceItem) : Type 0 where
+pub record IsRun (before after : Option State) (s : Standing) (port : ℕ) (ops : List BusOp)
+    (items : List TraceItem) : Type 0 where
   pub answers : (d : State) → before ≡ Some d → items ≡ items_of s d port ops
   pub goes : after ≡ option_map (λ d. state_after_all d items) before
 
 -- ---- through the adapter of a port
 
 -- the operations were sent in order through one adapter, and nothing else moved
-pub record AreSent (which port : ℕ) (ops : List BusOp) (items : List TraceItem) (before now : List Standing) (errors errors_after : ℕ) (told told_after : Option State) : Type 0 where
+pub record AreSent (which port : ℕ) (ops : List BusOp) (items : List TraceItem) (before now : List Standing)
+    (errors errors_after : ℕ) (told told_after : Option State) : Type 0 where
   pub items_are : AreItemsOf (standing_at before which) port ops items
   pub adapters : now ≡ moved_on_by_all before which items
   pub cause : HasCauses errors errors_after items

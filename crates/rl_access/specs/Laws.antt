@@ -62,7 +62,8 @@ CheckNamesDiffering =
 -- A check of a memory's location that read a value is marked exactly where it isn't the given one.
 abbrev pub MemoryCheckMarksAnother : Type 0
 MemoryCheckMarksAnother =
-    (s new : Scene) (event : Event) (mem index value read : ℕ) (map : Option ℕ) → Performs s new (op.MemCheck mem map index value) event
+    (s new : Scene) (event : Event) (mem index value read : ℕ) (map : Option ℕ)
+    → Performs s new (op.MemCheck mem map index value) event
     → event.end ≡ end.Value read → (event.differ ≡ 1) ↔ (read ≢ value)
 
 -- ---- and nothing else names any

@@ -1,5 +1,8 @@
 -- What a predictor makes of an item that it sees.
-use Rattle.std.specs.Prelude.{◌≡◌, ℕ, ◌^◌, ◌<◌, ◌==◌, Bool, true, false, if◌then◌else◌, List, [], ◌∷◌, length, map, slice_get, slice_set, Option, None, Some, is_some, unwrap_or}
+use Rattle.std.specs.Prelude.{
+  ◌≡◌, ℕ, ◌^◌, ◌<◌, ◌==◌, Bool, true, false, if◌then◌else◌, List, [], ◌∷◌, length, map, slice_get, slice_set, Option,
+  None, Some, is_some, unwrap_or
+}
 use Rattle.rl_bus.specs.declared.op.Answer.{Answer}
 use Rattle.rl_bus.specs.declared.op.BusOp.{BusOp}
 use Rattle.rl_model.specs.declared.rows.Item.{Item}
@@ -25,7 +28,8 @@ pub record Seen : Type 0 where
 abbrev pub seen : List Gathered → MirrorData → Seen
 seen gathered mirror = record { gathered = gathered; mirror = mirror }
 
--- ---- the place of an item: that of a register of which a word of the item's direction stands at its address, under an explicit root
+-- ---- the place of an item: that of a register of which a word of the item's direction stands at its address,
+-- under an explicit root
 
 abbrev pub as_register : Item → ℕ → Option ℕ
 as_register (item.Reg reg) place = Some place
@@ -37,7 +41,8 @@ register_there l (Some here) = as_register (place_at l here.place).item here.pla
 
 -- The place of an item that a predictor watches (uvm_reg_predictor, IEEE 1800.2-2017, 19.3).
 abbrev pub watched_place : LayoutData → (port : ℕ) → BusOp → Option ℕ
-watched_place l port op = if (port_at l port).explicit then register_there l (found l port op.address op.write) else None
+watched_place l port op =
+    if (port_at l port).explicit then register_there l (found l port op.address op.write) else None
 
 -- ---- a word more
 
@@ -60,12 +65,16 @@ reg_in (item.Mem mem) = 0
 abbrev pub predicted : ChipData → LayoutData → (place : ℕ) → Gathered → MirrorData → MirrorData
 predicted c l place g m =
     let reg = reg_in (place_at l place).item in
-    if g.write then predict_write c reg (value_gathered l place g) every_field m else predict_read c reg (value_gathered l place g) every_field m
+    if g.write
+    then predict_write c reg (value_gathered l place g) every_field m
+    else predict_read c reg (value_gathered l place g) every_field m
 
 -- A list with all words is predicted once, and is then empty. How words are gathered is this project's own.
 abbrev pub taken_in : ChipData → LayoutData → (place : ℕ) → Gathered → List Gathered → MirrorData → Seen
 taken_in c l place g gathered m =
-    if is_whole l place g then seen (slice_set gathered place no_words) (predicted c l place g m) else seen (slice_set gathered place g) m
+    if is_whole l place g
+    then seen (slice_set gathered place no_words) (predicted c l place g m)
+    else seen (slice_set gathered place g) m
 
 -- ---- an item: without a place it changes nothing, and a failed one empties the list of its place
 
@@ -106,7 +115,8 @@ observed_all c l port (item ∷ items) gathered m =
 -- what implicit prediction makes of a whole write of a value, or of a whole read that was answered so
 abbrev pub implied : ChipData → LayoutData → (place : ℕ) → Option ℕ → List TraceItem → MirrorData → MirrorData
 implied c l place None items m =
-    predict_read c (reg_in (place_at l place).item) (joined l place 0 (all_bytes (place_at l place).bytes) (words_answered items)) every_field m
+    predict_read c (reg_in (place_at l place).item)
+      (joined l place 0 (all_bytes (place_at l place).bytes) (words_answered items)) every_field m
 implied c l place (Some value) items m = predict_write c (reg_in (place_at l place).item) value every_field m
 
 -- the items are those of a whole access to a register under an explicit root
@@ -122,6 +132,7 @@ pub record IsWholeAccess (l : LayoutData) (place : ℕ) (value : Option ℕ) (it
 -- From an empty list, the words of a whole access in order leave the mirror of implicit prediction, and an empty list.
 abbrev pub WholeAccessPredicts : Type 0
 WholeAccessPredicts =
-    (c : ChipData) (l : LayoutData) (place : ℕ) (value : Option ℕ) (items : List TraceItem) (gathered : List Gathered) (m : MirrorData)
+    (c : ChipData) (l : LayoutData) (place : ℕ) (value : Option ℕ) (items : List TraceItem) (gathered : List Gathered)
+    (m : MirrorData)
     → IsWholeAccess l place value items → place < length gathered → gathered_at gathered place ≡ no_words
     → observed_all c l (place_at l place).port items gathered m ≡ seen gathered (implied c l place value items m)

@@ -1,5 +1,8 @@
 -- The rules of events: which operation is refused and why, what any other one sends, and what it makes of the items.
-use Rattle.std.specs.Prelude.{ℕ, ◌-◌, ◌*◌, ◌^◌, nat_lt, nat_le, ◌+◌, ◌==◌, Bool, true, false, if◌then◌else◌, List, [], slice_get, slice_set, Option, None, Some, unwrap_or, Result, Ok, Err}
+use Rattle.std.specs.Prelude.{
+  ℕ, ◌-◌, ◌*◌, ◌^◌, nat_lt, nat_le, ◌+◌, ◌==◌, Bool, true, false, if◌then◌else◌, List, [], slice_get, slice_set, Option,
+  None, Some, unwrap_or, Result, Ok, Err
+}
 use Rattle.std.specs.Option.{option_map_or}
 use Rattle.rl_policy.specs.Bits.{bit, from_bits, put_bit}
 use Rattle.rl_bus.specs.declared.op.BusOp.{BusOp}
@@ -18,14 +21,19 @@ use Rattle.rl_mirror.specs.Compared.{differ}
 use Rattle.rl_model.specs.Fields.{field_of, first_of, size_of, fields_of}
 use Rattle.rl_mirror.specs.Fields.{owned, part_of}
 use Rattle.rl_mirror.specs.Mirror.{mirrored_of, desired_of, marks_in}
-use Rattle.rl_mirror.specs.Prediction.{predict_write, predict_read, predict_raw, reset, set, needs_update, update_word_of, neutral_around, written, shown, left_by_read}
+use Rattle.rl_mirror.specs.Prediction.{
+  predict_write, predict_read, predict_raw, reset, set, needs_update, update_word_of, neutral_around, written, shown,
+  left_by_read
+}
 use Rattle.rl_access.specs.declared.event.End.{End}
 use Rattle.rl_access.specs.declared.event.End.TheVariants as end
 use Rattle.rl_access.specs.declared.event.Event.{Event}
 use Rattle.rl_access.specs.declared.event.Op.{Op}
 use Rattle.rl_access.specs.declared.event.Op.TheVariants as op
 use Rattle.rl_access.specs.declared.event.Refused.{Refused}
-use Rattle.rl_access.specs.declared.event.Refused.TheVariants.{NotPlaced, NotObserved, NoRight, NoBackdoor, NotVolatile, NotWritable, OutOfRange, TooWide}
+use Rattle.rl_access.specs.declared.event.Refused.TheVariants.{
+  NotPlaced, NotObserved, NoRight, NoBackdoor, NotVolatile, NotWritable, OutOfRange, TooWide
+}
 use Rattle.rl_access.specs.declared.trace.TraceItem.{TraceItem}
 use Rattle.rl_access.specs.declared.access.Access.{Access}
 use Rattle.rl_access.specs.declared.predictor.Gathered.{Gathered}
@@ -49,7 +57,8 @@ item_size c (item.Mem mem) = location_size c mem
 abbrev pub field_width : ChipData → ℕ → ℕ
 field_width c field = (field_of c field).shape.width
 
--- ---- refusals: the place of an operation that isn't refused, or the first cause that holds; the place is 0 where none is used
+-- ---- refusals: the place of an operation that isn't refused, or the first cause that holds;
+-- the place is 0 where none is used
 
 abbrev pub Grant : Type 0
 Grant = Result ℕ Refused
@@ -78,7 +87,8 @@ abbrev pub way : ModelData → Item → Option ℕ → Bool → Grant
 way m item map write = with_right m.layout write (placed (place_of m.layout item map))
 
 abbrev pub watched_way : ModelData → ℕ → Option ℕ → Bool → Grant
-watched_way m reg map write = with_right m.layout write (with_watch m.layout (placed (place_of m.layout (item.Reg reg) map)))
+watched_way m reg map write =
+    with_right m.layout write (with_watch m.layout (placed (place_of m.layout (item.Reg reg) map)))
 
 abbrev pub by_backdoor : ModelData → Item → Grant
 by_backdoor m item = only_where (Ok 0) (unwrap_or (backdoor_of m.chip item) false) NoBackdoor
@@ -114,16 +124,21 @@ grant m (op.BackRead reg) = by_backdoor m (item.Reg reg)
 grant m (op.BackCheck reg) = by_backdoor m (item.Reg reg)
 grant m (op.Peek reg) = by_backdoor m (item.Reg reg)
 grant m (op.Poke reg value) = fitting m (item.Reg reg) value (by_backdoor m (item.Reg reg))
-grant m (op.MemWrite mem map index value) = fitting m (item.Mem mem) value (at_location m mem index (writable m mem (way m (item.Mem mem) map true)))
+grant m (op.MemWrite mem map index value) =
+    fitting m (item.Mem mem) value (at_location m mem index (writable m mem (way m (item.Mem mem) map true)))
 grant m (op.MemRead mem map index) = at_location m mem index (way m (item.Mem mem) map false)
-grant m (op.MemCheck mem map index value) = fitting m (item.Mem mem) value (at_location m mem index (way m (item.Mem mem) map false))
-grant m (op.BurstWrite mem map first count) = at_locations m mem first count (writable m mem (way m (item.Mem mem) map true))
+grant m (op.MemCheck mem map index value) =
+    fitting m (item.Mem mem) value (at_location m mem index (way m (item.Mem mem) map false))
+grant m (op.BurstWrite mem map first count) =
+    at_locations m mem first count (writable m mem (way m (item.Mem mem) map true))
 grant m (op.BurstRead mem map first count) = at_locations m mem first count (way m (item.Mem mem) map false)
 grant m (op.MemPeek mem index) = at_location m mem index (by_backdoor m (item.Mem mem))
-grant m (op.MemPoke mem index value) = fitting m (item.Mem mem) value (at_location m mem index (by_backdoor m (item.Mem mem)))
+grant m (op.MemPoke mem index value) =
+    fitting m (item.Mem mem) value (at_location m mem index (by_backdoor m (item.Mem mem)))
 grant m (op.OtherWrite reg map value) = fitting m (item.Reg reg) value (watched_way m reg map true)
 grant m (op.OtherRead reg map) = watched_way m reg map false
-grant m (op.Hw field value) = fitting_field m field value (only_where (Ok 0) (field_of m.chip field).shape.volatile NotVolatile)
+grant m (op.Hw field value) =
+    fitting_field m field value (only_where (Ok 0) (field_of m.chip field).shape.volatile NotVolatile)
 grant m (op.Reset kind) = Ok 0
 
 -- ---- the operation as its event names it
@@ -171,17 +186,30 @@ every_field = 2 ^ 64 - 1
 
 -- the whole register
 abbrev pub whole : ModelData → (reg place value : ℕ) → Access
-whole m reg place value = record { reg = reg; place = place; chosen = all_bytes (size_of m.chip reg); fields = every_field; value = value }
+whole m reg place value = record {
+  reg = reg;
+  place = place;
+  chosen = all_bytes (size_of m.chip reg);
+  fields = every_field;
+  value = value
+}
 
 -- one field and its bytes, with 0 outside the field
 abbrev pub field_alone : ModelData → (field place value : ℕ) → Access
 field_alone m field place value =
     let f = (field_of m.chip field).shape in
-    record { reg = f.reg; place = place; chosen = bytes_of_field f; fields = 2 ^ (field - first_of m.chip f.reg); value = from_bits 64 (put_bit f.lsb f.width (bit value) (bit 0)) }
+    record {
+      reg = f.reg;
+      place = place;
+      chosen = bytes_of_field f;
+      fields = 2 ^ (field - first_of m.chip f.reg);
+      value = from_bits 64 (put_bit f.lsb f.width (bit value) (bit 0))
+    }
 
 -- what was gathered of the place is forgotten where its root is explicit
 abbrev pub forgotten : LayoutData → ℕ → List Gathered → List Gathered
-forgotten l place gathered = if (port_at l (place_at l place).port).explicit then slice_set gathered place no_words else gathered
+forgotten l place gathered =
+    if (port_at l (place_at l place).port).explicit then slice_set gathered place no_words else gathered
 
 abbrev pub forgetting : ModelData → ℕ → ModelData
 forgetting m place = record m { gathered = forgotten m.layout place m.gathered }
@@ -205,7 +233,8 @@ quiet e m = record { end = e; model = m; differ = 0 }
 -- (uvm_reg_field::predict with UVM_PREDICT_WRITE, 18.5).
 abbrev pub write_outcome : ModelData → End → Access → List TraceItem → Outcome
 write_outcome m good a items =
-    or_error (failed_at items) m (quiet good (record m { mirror = predict_write m.chip a.reg a.value a.fields m.mirror }))
+    or_error (failed_at items) m
+      (quiet good (record m { mirror = predict_write m.chip a.reg a.value a.fields m.mirror }))
 
 abbrev pub value_of : ModelData → Access → List TraceItem → ℕ
 value_of m a items = joined m.layout a.place 0 a.chosen (words_answered items)
@@ -247,10 +276,13 @@ field_written m field place value =
 
 -- A field read (uvm_reg_field::read, IEEE 1800.2-2017, 18.5): narrow, or of the whole register.
 abbrev pub field_read : ModelData → (field place : ℕ) → Access
-field_read m field place = if is_alone m field place false then field_alone m field place 0 else whole m (reg_of m.chip field) place 0
+field_read m field place =
+    if is_alone m field place false then field_alone m field place 0 else whole m (reg_of m.chip field) place 0
 
 abbrev pub forgetting_field : ModelData → (field place : ℕ) → Bool → ModelData
-forgetting_field m field place write = record m { gathered = if is_alone m field place write then m.gathered else forgotten m.layout place m.gathered }
+forgetting_field m field place write = record m {
+  gathered = if is_alone m field place write then m.gathered else forgotten m.layout place m.gathered
+}
 
 -- ---- a memory
 
@@ -259,7 +291,13 @@ location_bytes m mem = all_bytes (location_size m.chip mem)
 
 -- an access to it, word by word
 abbrev pub outgoing_at : ModelData → (mem place index value : ℕ) → (write : Bool) → Outgoing
-outgoing_at m mem place index value write = record { place = place; index = index; chosen = location_bytes m mem; value = value; write = write }
+outgoing_at m mem place index value write = record {
+  place = place;
+  index = index;
+  chosen = location_bytes m mem;
+  value = value;
+  write = write
+}
 
 -- What a read of a location brings (uvm_mem::read, IEEE 1800.2-2017, 18.6).
 abbrev pub location_value : ModelData → (mem place index : ℕ) → List TraceItem → ℕ
@@ -291,7 +329,8 @@ owned_of m reg sampled = owned (fields_of m.chip reg) sampled
 -- A backdoor write (uvm_reg::write, IEEE 1800.2-2017, 18.4). That each field takes its write effect, with the mirror's
 -- spent mark, is this project's own.
 abbrev pub back_written : ModelData → (reg value sampled : ℕ) → ℕ
-back_written m reg value sampled = written (fields_of m.chip reg) (marks_in m.chip m.mirror.spent reg) (owned_of m reg sampled) value
+back_written m reg value sampled =
+    written (fields_of m.chip reg) (marks_in m.chip m.mirror.spent reg) (owned_of m reg sampled) value
 
 -- What a backdoor read answers (uvm_reg::read, IEEE 1800.2-2017, 18.4).
 abbrev pub back_value : ModelData → (reg sampled : ℕ) → ℕ
@@ -328,7 +367,8 @@ sends m (op.FieldWrite field map value) place = access_ops m (field_written m fi
 sends m (op.FieldRead field map) place = access_ops m (field_read m field place) false
 sends m (op.Set field value) place = []
 sends m (op.Show reg) place = []
-sends m (op.Update reg map) place = if needs_update m.mirror reg then access_ops m (whole m reg place (update_word_of m.chip reg m.mirror)) true else []
+sends m (op.Update reg map) place =
+    if needs_update m.mirror reg then access_ops m (whole m reg place (update_word_of m.chip reg m.mirror)) true else []
 sends m (op.BackWrite reg value) place = []
 sends m (op.BackRead reg) place = []
 sends m (op.BackCheck reg) place = []
@@ -351,33 +391,45 @@ sends m (op.Reset kind) place = []
 -- Each operation of uvm_reg (IEEE 1800.2-2017, 18.4), uvm_reg_field (18.5) and uvm_mem (18.6). `OtherWrite`,
 -- `OtherRead`, `Hw` and `MemCheck` are this project's own.
 abbrev pub outcome : ModelData → Op → (place sampled : ℕ) → List TraceItem → Outcome
-outcome m (op.Write reg map value) place sampled items = write_outcome (forgetting m place) end.Done (whole m reg place value) items
+outcome m (op.Write reg map value) place sampled items =
+    write_outcome (forgetting m place) end.Done (whole m reg place value) items
 outcome m (op.Read reg map) place sampled items = read_outcome (forgetting m place) false (whole m reg place 0) items
 outcome m (op.Mirror reg map) place sampled items = read_outcome (forgetting m place) false (whole m reg place 0) items
 outcome m (op.Check reg map) place sampled items = read_outcome (forgetting m place) true (whole m reg place 0) items
-outcome m (op.FieldWrite field map value) place sampled items = write_outcome (forgetting_field m field place true) end.Done (field_written m field place value) items
-outcome m (op.FieldRead field map) place sampled items = in_field m.chip field (read_outcome (forgetting_field m field place false) false (field_read m field place) items)
-outcome m (op.Set field value) place sampled items = quiet end.Done (record m { mirror = set m.chip field value m.mirror })
+outcome m (op.FieldWrite field map value) place sampled items =
+    write_outcome (forgetting_field m field place true) end.Done (field_written m field place value) items
+outcome m (op.FieldRead field map) place sampled items =
+    in_field m.chip field (read_outcome (forgetting_field m field place false) false (field_read m field place) items)
+outcome m (op.Set field value) place sampled items =
+    quiet end.Done (record m { mirror = set m.chip field value m.mirror })
 outcome m (op.Show reg) place sampled items = quiet end.Done m
 outcome m (op.Update reg map) place sampled items =
     let word = update_word_of m.chip reg m.mirror in
-    if needs_update m.mirror reg then write_outcome (forgetting m place) (end.Sent word) (whole m reg place word) items else quiet end.Nothing m
-outcome m (op.BackWrite reg value) place sampled items = quiet end.Done (taking_raw m reg (back_written m reg value sampled))
+    if needs_update m.mirror reg
+    then write_outcome (forgetting m place) (end.Sent word) (whole m reg place word) items
+    else quiet end.Nothing m
+outcome m (op.BackWrite reg value) place sampled items =
+    quiet end.Done (taking_raw m reg (back_written m reg value sampled))
 outcome m (op.BackRead reg) place sampled items = back_outcome m false reg sampled
 outcome m (op.BackCheck reg) place sampled items = back_outcome m true reg sampled
-outcome m (op.Peek reg) place sampled items = quiet (end.Value (owned_of m reg sampled)) (taking_raw m reg (owned_of m reg sampled))
+outcome m (op.Peek reg) place sampled items =
+    quiet (end.Value (owned_of m reg sampled)) (taking_raw m reg (owned_of m reg sampled))
 outcome m (op.Poke reg value) place sampled items = quiet end.Done (taking_raw m reg value)
 outcome m (op.MemWrite mem map index value) place sampled items = or_error (failed_at items) m (quiet end.Done m)
-outcome m (op.MemRead mem map index) place sampled items = or_error (failed_at items) m (quiet (end.Value (location_value m mem place index items)) m)
+outcome m (op.MemRead mem map index) place sampled items =
+    or_error (failed_at items) m (quiet (end.Value (location_value m mem place index items)) m)
 outcome m (op.MemCheck mem map index value) place sampled items =
     let read = location_value m mem place index items in
     or_error (failed_at items) m (record { end = end.Value read; model = m; differ = if read == value then 0 else 1 })
 outcome m (op.BurstWrite mem map first count) place sampled items = quiet end.Done m
 outcome m (op.BurstRead mem map first count) place sampled items = quiet end.Done m
-outcome m (op.MemPeek mem index) place sampled items = quiet (end.Value (low_bytes (location_size m.chip mem) sampled)) m
+outcome m (op.MemPeek mem index) place sampled items =
+    quiet (end.Value (low_bytes (location_size m.chip mem) sampled)) m
 outcome m (op.MemPoke mem index value) place sampled items = quiet end.Done m
-outcome m (op.OtherWrite reg map value) place sampled items = write_outcome (forgetting m place) end.Done (whole m reg place value) items
-outcome m (op.OtherRead reg map) place sampled items = read_outcome (forgetting m place) false (whole m reg place 0) items
+outcome m (op.OtherWrite reg map value) place sampled items =
+    write_outcome (forgetting m place) end.Done (whole m reg place value) items
+outcome m (op.OtherRead reg map) place sampled items =
+    read_outcome (forgetting m place) false (whole m reg place 0) items
 outcome m (op.Hw field value) place sampled items = quiet end.Done m
 outcome m (op.Reset kind) place sampled items = quiet end.Done (record m { mirror = reset m.chip kind m.mirror })
 

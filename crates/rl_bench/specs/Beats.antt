@@ -1,5 +1,9 @@
--- A list with a number for each word, or none where no words queue: the beat of an address stands with the first word there.
-use Rattle.std.specs.Prelude.{◌≡◌, ℕ, ◌<◌, ◌≤◌, ◌&&◌, ◌==◌, true, Bool, if◌then◌else◌, List, [], length, Option, Some, None, unwrap_or, slice_index, slice_index_or, position, filter}
+-- A list with a number for each word, or none where no words queue:
+-- the beat of an address stands with the first word there.
+use Rattle.std.specs.Prelude.{
+  ◌≡◌, ℕ, ◌<◌, ◌≤◌, ◌&&◌, ◌==◌, true, Bool, if◌then◌else◌, List, [], length, Option, Some, None, unwrap_or, slice_index,
+  slice_index_or, position, filter
+}
 use Rattle.std.specs.List.{list_any}
 use Rattle.rl_bus.specs.declared.table.WordRow.{WordRow}
 use Rattle.rl_bus.specs.declared.table.Cell.TheVariants.{Reg}
@@ -17,7 +21,15 @@ beats_of words beats port address = beat_in beats (position (stands_at port addr
 
 -- what stands past the end of the words
 abbrev pub no_word : WordRow
-no_word = record { port = 0; address = 0; reads = true; writes = true; cell = Reg 0; place = 0; lanes = record { enabled = 0; bytes = [] } }
+no_word = record {
+  port = 0;
+  address = 0;
+  reads = true;
+  writes = true;
+  cell = Reg 0;
+  place = 0;
+  lanes = record { enabled = 0; bytes = [] }
+}
 
 -- a place has a word at the address
 abbrev pub has_place : List WordRow → ℕ → ℕ → ℕ → Bool
@@ -39,12 +51,16 @@ SendsBack queues place old new =
 -- the place of a queue has a word at the address of the queue's first one
 pub record IsQueueIn (words : List WordRow) (q : Queue) : Type 0 where
   pub inside : q.first < length words
-  pub place : has_place words q.place (slice_index_or words q.first no_word).port (slice_index_or words q.first no_word).address ≡ true
+  pub place :
+      has_place words q.place (slice_index_or words q.first no_word).port (slice_index_or words q.first no_word).address
+      ≡ true
 
 pub record AreQueuesOf (words : List WordRow) (queues : List Queue) : Type 0 where
   pub each : (i : ℕ) (d : Queue) → i < length queues → IsQueueIn words (slice_index_or queues i d)
   -- each place with a word at an address where words queue has a queue there
-  pub all : (p a place : ℕ) (write : Bool) → 1 < count_for words p a write → has_place words place p a ≡ true → list_any (is_queue (unwrap_or (position (stands_at p a) words) 0) place) queues ≡ true
+  pub all : (p a place : ℕ) (write : Bool)
+      → 1 < count_for words p a write → has_place words place p a ≡ true
+      → list_any (is_queue (unwrap_or (position (stands_at p a) words) 0) place) queues ≡ true
 
 -- a beat other than 0 is that of an address where words queue
 abbrev pub IsQuiet : List WordRow → List ℕ → Type 0
@@ -56,4 +72,5 @@ HasBeats words beats = (p a : ℕ) (write : Bool) → 1 < count_for words p a wr
 
 -- each beat names a word, where words of the direction stand
 abbrev pub BeatsAreWords : List WordRow → List ℕ → Type 0
-BeatsAreWords words beats = (p a : ℕ) (write : Bool) → 0 < count_for words p a write → beats_of words beats p a < count_for words p a write
+BeatsAreWords words beats =
+    (p a : ℕ) (write : Bool) → 0 < count_for words p a write → beats_of words beats p a < count_for words p a write

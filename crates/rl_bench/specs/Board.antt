@@ -59,7 +59,8 @@ pub record AreShapesOf (t : Setup) (shapes : List Shape) : Type 0 where
 
 -- so many locations are enough for the memories
 abbrev pub HasRoom : Setup → ℕ → Type 0
-HasRoom t count = (m : ℕ) (d : MemRow) → m < length t.mems → (get_or t.mems m d).first + (get_or t.mems m d).size ≤ count
+HasRoom t count =
+    (m : ℕ) (d : MemRow) → m < length t.mems → (get_or t.mems m d).first + (get_or t.mems m d).size ≤ count
 
 -- each register has its words, and each memory its locations
 pub record FitCells (t : Setup) (c : Cells) : Type 0 where
@@ -69,4 +70,11 @@ pub record FitCells (t : Setup) (c : Cells) : Type 0 where
 
 -- the state with these cells
 abbrev pub state_of : Setup → Cells → (ℕ → ℕ → ℕ) → ℕ → State
-state_of t c beats items = record { setup = t; bits = c.bits.items; marks = c.marks.items; locations = c.locations.items; beats = beats; items = items }
+state_of t c beats items = record {
+  setup = t;
+  bits = c.bits.items;
+  marks = c.marks.items;
+  locations = c.locations.items;
+  beats = beats;
+  items = items
+}

@@ -11,7 +11,8 @@ use Rattle.rl_bench.specs.Tables.{setup_held}
 
 -- The state of the device model, which is this project's own.
 abbrev pub bench_state : Bench → State
-bench_state b = state_of (setup_held b.board.tables) b.cells (beats_of (setup_held b.board.tables).words b.beats.items) b.items
+bench_state b =
+    state_of (setup_held b.board.tables) b.cells (beats_of (setup_held b.board.tables).words b.beats.items) b.items
 
 -- the state that a bench tells, as each device may
 abbrev pub state_told : Bench → Option State
@@ -25,6 +26,7 @@ failures_of b = b.failures
 abbrev pub failures_after : ℕ → Answer → ℕ
 failures_after failures answer = if answer.failed then min (failures + 1) (2 ^ 64 - 1) else failures
 
--- an item fails where no word of its direction stands at the address, the width isn't the port's, or an error flaw names it
+-- an item fails where no word of its direction stands at the address, the width isn't the port's,
+-- or an error flaw names it
 abbrev pub item_fails : State → ℕ → BusOp → Bool
 item_fails s port op = length (words_at s.setup port op.address op.write) == 0 || is_faulty (counted s) port op

@@ -46,7 +46,14 @@ took s op answer = told (asked s op) answer
 
 -- past the end of the list
 abbrev pub no_kind : AdapterKind
-no_kind = record { name = []; most_bytes = 0; most_address = 0; aligned = false; write_lanes = false; read_lanes = false }
+no_kind = record {
+  name = [];
+  most_bytes = 0;
+  most_address = 0;
+  aligned = false;
+  write_lanes = false;
+  read_lanes = false
+}
 
 abbrev pub nobody : Standing
 nobody = record { kind = no_kind; tag = 0; trail = 0 }

@@ -67,7 +67,9 @@ parts_data rows = record {
 abbrev pub rows_fault : ArrayRows → Option DescFault
 rows_fault rows =
     first
-    (parts_fault rows ∷ in_rows (Array arrays.Map) map_fault rows.maps ∷ in_rows (Array arrays.Place) place_fault rows.places
+    (parts_fault rows
+    ∷ in_rows (Array arrays.Map) map_fault rows.maps
+    ∷ in_rows (Array arrays.Place) place_fault rows.places
     ∷ in_rows (Array arrays.Flaw) flaw_fault rows.flaws ∷ [])
 
 abbrev pub rows_data : ArrayRows → DocumentData

@@ -1,5 +1,7 @@
 -- The keys of each array in order, and how a row is tested for them.
-use Rattle.std.specs.Prelude.{ℕ, ◌+◌, ◌||◌, Bool, false, if◌then◌else◌, List, [], ◌∷◌, map, Option, Some, None, option_and_then, unwrap_or}
+use Rattle.std.specs.Prelude.{
+  ℕ, ◌+◌, ◌||◌, Bool, false, if◌then◌else◌, List, [], ◌∷◌, map, Option, Some, None, option_and_then, unwrap_or
+}
 use Rattle.std.specs.Str.{bytes_eq}
 use Rattle.toml.specs.Data.{Data, Members, no_members, member, get_member}
 use Rattle.rl_model.specs.declared.fault.Spot.{Spot}
@@ -95,7 +97,8 @@ scope_columns = (key.Name, required text) ∷ (key.Of, optional text) ∷ []
 -- what follows the names of a register
 abbrev pub reg_body_columns : List Column
 reg_body_columns =
-    (key.Bytes, required number) ∷ (key.Backdoor, optional truth) ∷ (key.Skip, optional exclusions) ∷ (key.Field, optional tables) ∷ []
+    (key.Bytes, required number) ∷ (key.Backdoor, optional truth) ∷ (key.Skip, optional exclusions)
+    ∷ (key.Field, optional tables) ∷ []
 
 abbrev pub reg_columns : List Column
 reg_columns = (key.Name, required text) ∷ (key.Of, optional text) ∷ reg_body_columns
@@ -103,7 +106,8 @@ reg_columns = (key.Name, required text) ∷ (key.Of, optional text) ∷ reg_body
 -- whether and how a check compares a field
 abbrev pub field_check_columns : List Column
 field_check_columns =
-    (key.Volatile, optional truth) ∷ (key.Compare, optional truth) ∷ (key.Alone, optional truth) ∷ (key.Reset, optional resets) ∷ []
+    (key.Volatile, optional truth) ∷ (key.Compare, optional truth) ∷ (key.Alone, optional truth)
+    ∷ (key.Reset, optional resets) ∷ []
 
 abbrev pub field_columns : List Column
 field_columns =
@@ -122,7 +126,8 @@ mem_columns = (key.Name, required text) ∷ (key.Of, optional text) ∷ mem_body
 -- how a map is reached: in its parent, or as a root by an adapter
 abbrev pub map_way_columns : List Column
 map_way_columns =
-    (key.Parent, optional text) ∷ (key.Offset, optional number) ∷ (key.Adapter, optional text) ∷ (key.Predict, optional (word predict_named)) ∷ []
+    (key.Parent, optional text) ∷ (key.Offset, optional number) ∷ (key.Adapter, optional text)
+    ∷ (key.Predict, optional (word predict_named)) ∷ []
 
 abbrev pub map_columns : List Column
 map_columns =
@@ -145,4 +150,5 @@ flaw_columns kind.Deaf = (key.Item, required text) ∷ []
 
 abbrev pub flaw_keys : List Key
 flaw_keys =
-    key.Kind ∷ key.Field ∷ key.Policy ∷ key.On ∷ key.Value ∷ key.Bit ∷ key.Map ∷ key.From ∷ key.To ∷ key.Nth ∷ key.Item ∷ []
+    key.Kind ∷ key.Field ∷ key.Policy ∷ key.On ∷ key.Value ∷ key.Bit ∷ key.Map ∷ key.From ∷ key.To
+    ∷ key.Nth ∷ key.Item ∷ []

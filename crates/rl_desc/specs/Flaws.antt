@@ -1,5 +1,7 @@
 -- The flaws of a description over a chip and its layout: the first fault, and the flaws by number.
-use Rattle.std.specs.Prelude.{ℕ, ◌+◌, ◌^◌, ◌==◌, ◌&&◌, nat_lt, nat_le, Bool, if◌then◌else◌, List, [], ◌∷◌, length, take, drop}
+use Rattle.std.specs.Prelude.{
+  ℕ, ◌+◌, ◌^◌, ◌==◌, ◌&&◌, nat_lt, nat_le, Bool, if◌then◌else◌, List, [], ◌∷◌, length, take, drop
+}
 use Rattle.std.specs.Prelude.{position, slice_get, bytes_eq, Option, Some, None, is_some, option_map, option_and_then}
 use Rattle.std.specs.List.{filter_map}
 use Rattle.std.specs.Option.{option_or}
@@ -38,7 +40,8 @@ abbrev pub mem_paths : ChipData → List (List ℕ)
 mem_paths chip = take (length chip.mems) (drop (chip.scopes + length chip.regs) chip.paths)
 
 abbrev pub item_at : ChipData → List ℕ → Option Item
-item_at chip path = option_or (option_map Reg (text_at path (reg_paths chip))) (option_map Mem (text_at path (mem_paths chip)))
+item_at chip path =
+    option_or (option_map Reg (text_at path (reg_paths chip))) (option_map Mem (text_at path (mem_paths chip)))
 
 -- the port of a map, which only a root has
 abbrev pub port_of_map : LayoutData → ℕ → Option ℕ
@@ -81,12 +84,14 @@ bad_flaw row None = Some (BadFlaw row)
 bad_flaw row (Some x) = None
 
 abbrev pub flaw_fault : ChipData → LayoutData → ℕ → FlawPart → Option DescFault
-flaw_fault chip layout row part = if nat_le 256 row then Some (TooManyFlaws row) else bad_flaw row (flaw_of chip layout part)
+flaw_fault chip layout row part =
+    if nat_le 256 row then Some (TooManyFlaws row) else bad_flaw row (flaw_of chip layout part)
 
 -- the first fault of flaws that are counted from row
 abbrev pub flaws_fault : ChipData → LayoutData → ℕ → List FlawPart → Option DescFault
 flaws_fault chip layout row [] = None
-flaws_fault chip layout row (part ∷ parts) = or_else (flaw_fault chip layout row part) (flaws_fault chip layout (row + 1) parts)
+flaws_fault chip layout row (part ∷ parts) =
+    or_else (flaw_fault chip layout row part) (flaws_fault chip layout (row + 1) parts)
 
 abbrev pub flaws_of : ChipData → LayoutData → List FlawPart → List Flaw
 flaws_of chip layout parts = filter_map (flaw_of chip layout) parts

@@ -1,5 +1,8 @@
 -- What holds of the maps, the ports and the places while a layout is built.
-use Rattle.std.specs.Prelude.{◌≡◌, ℕ, ◌+◌, ◌*◌, ◌^◌, ◌<◌, ◌≤◌, ◌==◌, Bool, false, not, ◌&&◌, ◌||◌, List, length, map, flat_map, All, slice_index_or, slice_get, Option, Some, None}
+use Rattle.std.specs.Prelude.{
+  ◌≡◌, ℕ, ◌+◌, ◌*◌, ◌^◌, ◌<◌, ◌≤◌, ◌==◌, Bool, false, not, ◌&&◌, ◌||◌, List, length, map, flat_map, All, slice_index_or,
+  slice_get, Option, Some, None
+}
 use Rattle.std.specs.List.{range_with_len}
 use Rattle.rl_model.specs.Rows.{ChipData}
 use Rattle.rl_model.specs.declared.rows.Item.TheVariants as item
@@ -47,7 +50,8 @@ HasTables maps ports = (kinds : List AdapterKind) × AreTables kinds maps ports
 -- a map's parent is an earlier map, whose path has room for one more
 abbrev pub IsUnder : List MapRow → Option (List ℕ) → Type 0
 IsUnder maps None = Unit {0}
-IsUnder maps (Some parent) = (n : ℕ) × (map_number maps parent ≡ Some n) × (n < length maps) × (length (slice_index_or maps n no_map).path < 4)
+IsUnder maps (Some parent) =
+    (n : ℕ) × (map_number maps parent ≡ Some n) × (n < length maps) × (length (slice_index_or maps n no_map).path < 4)
 
 -- a root has a port
 abbrev pub HasPort : List AdapterKind → ℕ → Option (List ℕ) → MapNode → Type 0
@@ -98,15 +102,18 @@ pub record HasRoom (maps : List MapRow) (ports : List PortRow) (words : ℕ) (p 
 
 -- the rows of a place
 abbrev pub location_rows_of : List MapRow → List PortRow → ℕ → PlaceRow → ℕ → List WordRow
-location_rows_of maps ports number p index = map (word_row p number index) (item_words (path_in maps p) (port_for ports p).base (location_of p index))
+location_rows_of maps ports number p index =
+    map (word_row p number index) (item_words (path_in maps p) (port_for ports p).base (location_of p index))
 
 abbrev pub rows_of : List MapRow → List PortRow → ℕ → PlaceRow → List WordRow
 rows_of maps ports number p = flat_map (location_rows_of maps ports number p) (range_with_len 0 p.size)
 
 abbrev pub rows_of_all : List MapRow → List PortRow → List PlaceRow → List WordRow
-rows_of_all maps ports places = flat_map (λ q. rows_of maps ports q (slice_index_or places q no_place)) (range_with_len 0 (length places))
+rows_of_all maps ports places =
+    flat_map (λ q. rows_of maps ports q (slice_index_or places q no_place)) (range_with_len 0 (length places))
 
-pub record ArePlaces (chip : ChipData) (maps : List MapRow) (ports : List PortRow) (places : List PlaceRow) (rows : List WordRow) : Type 0 where
+pub record ArePlaces (chip : ChipData) (maps : List MapRow) (ports : List PortRow) (places : List PlaceRow)
+    (rows : List WordRow) : Type 0 where
   pub few : length places ≤ 4096
   pub once : PlacedOnce places
   pub each : All (IsPlaceRow chip maps ports) places
@@ -124,9 +131,15 @@ AreRowsOf places rows = All (λ r. r.place < length places) rows
 abbrev pub rows_clash : List PlaceRow → WordRow → WordRow → Bool
 rows_clash places r s =
     not (r.place == s.place)
-    && ((r.reads && s.reads) || (r.writes && s.writes) || (slice_index_or places r.place no_place).fifo || (slice_index_or places s.place no_place).fifo)
+    && ((r.reads && s.reads)
+        || (r.writes && s.writes)
+        || (slice_index_or places r.place no_place).fifo
+        || (slice_index_or places s.place no_place).fifo)
 
 -- no two rows of one address clash
 abbrev pub NoRowsClash : List PlaceRow → List WordRow → Type 0
-NoRowsClash places rows = (i k : ℕ) (d : WordRow) → i < k → k < length rows → key_of (slice_index_or rows i d) ≡ key_of (slice_index_or rows k d)
+NoRowsClash places rows =
+    (i k : ℕ) (d : WordRow)
+    → i < k → k < length rows
+    → key_of (slice_index_or rows i d) ≡ key_of (slice_index_or rows k d)
     → rows_clash places (slice_index_or rows i d) (slice_index_or rows k d) ≡ false

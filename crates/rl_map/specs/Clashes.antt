@@ -1,5 +1,8 @@
 -- The first clash of rows: by the later place, then by the address, then by the earlier place.
-use Rattle.std.specs.Prelude.{◌≡◌, ℕ, ◌<◌, ◌≤◌, ◌==◌, nat_lt, Bool, true, ◌&&◌, ◌||◌, if◌then◌else◌, List, length, Option, Some, None, option_map, slice_index_or}
+use Rattle.std.specs.Prelude.{
+  ◌≡◌, ℕ, ◌<◌, ◌≤◌, ◌==◌, nat_lt, Bool, true, ◌&&◌, ◌||◌, if◌then◌else◌, List, length, Option, Some, None, option_map,
+  slice_index_or
+}
 use Rattle.rl_bus.specs.declared.table.WordRow.{WordRow}
 use Rattle.rl_model.specs.declared.fault.Array.TheVariants as array
 use Rattle.rl_model.specs.Rules.{or_else}
@@ -14,17 +17,23 @@ use Rattle.rl_map.specs.Building.{rows_clash}
 
 -- the clash of two rows of one address
 abbrev pub shared_by : WordRow → WordRow → Shared
-shared_by a b = if nat_lt a.place b.place then record { place = b.place; address = b.address; other = a.place } else record { place = a.place; address = b.address; other = b.place }
+shared_by a b =
+    if nat_lt a.place b.place
+    then record { place = b.place; address = b.address; other = a.place }
+    else record { place = a.place; address = b.address; other = b.place }
 
 abbrev pub is_before : Shared → Shared → Bool
-is_before a b = nat_lt a.place b.place || (a.place == b.place && (nat_lt a.address b.address || (a.address == b.address && nat_lt a.other b.other)))
+is_before a b =
+    nat_lt a.place b.place
+    || (a.place == b.place && (nat_lt a.address b.address || (a.address == b.address && nat_lt a.other b.other)))
 
 abbrev pub earlier : Option Shared → Shared → Shared
 earlier None found = found
 earlier (Some best) found = if is_before found best then found else best
 
 abbrev pub with_pair : List PlaceRow → WordRow → Option Shared → WordRow → Option Shared
-with_pair places row best other = if rows_clash places other row then Some (earlier best (shared_by other row)) else best
+with_pair places row best other =
+    if rows_clash places other row then Some (earlier best (shared_by other row)) else best
 
 -- one clash doesn't come after another
 pub record IsFirst (a b : Shared) : Type 0 where
@@ -48,8 +57,12 @@ pub record IsMade (places : List PlaceRow) (rows : List WordRow) (s : Shared) : 
 
 -- no clash of two rows comes before it
 abbrev pub IsLeast : List PlaceRow → List WordRow → Option Shared → Type 0
-IsLeast places rows best = (i k : ℕ) (d : WordRow) → i < k → k < length rows → key_of (slice_index_or rows i d) ≡ key_of (slice_index_or rows k d)
-    → rows_clash places (slice_index_or rows i d) (slice_index_or rows k d) ≡ true → NotAfter best (shared_by (slice_index_or rows i d) (slice_index_or rows k d))
+IsLeast places rows best =
+    (i k : ℕ) (d : WordRow)
+    → i < k → k < length rows
+    → key_of (slice_index_or rows i d) ≡ key_of (slice_index_or rows k d)
+    → rows_clash places (slice_index_or rows i d) (slice_index_or rows k d) ≡ true
+    → NotAfter best (shared_by (slice_index_or rows i d) (slice_index_or rows k d))
 
 -- ---- the refusal
 

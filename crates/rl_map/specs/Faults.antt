@@ -1,6 +1,11 @@
 -- The first condition that fails for maps and places.
-use Rattle.std.specs.Prelude.{◌≡◌, ◌≢◌, ℕ, ◌+◌, ◌*◌, ◌%◌, ◌==◌, min, nat_lt, nat_le, ◌&&◌, ◌||◌, Bool, true, false, not, List, [], ◌∷◌, ◌++◌, length}
-use Rattle.std.specs.Prelude.{map, filter, fold, flat_map, slice_index_or, Option, Some, None, is_some, is_none, option_map, unwrap_or, Result, Ok, Err, position}
+use Rattle.std.specs.Prelude.{
+  ◌≡◌, ◌≢◌, ℕ, ◌+◌, ◌*◌, ◌%◌, ◌==◌, min, nat_lt, nat_le, ◌&&◌, ◌||◌, Bool, true, false, not, List, [], ◌∷◌, ◌++◌, length
+}
+use Rattle.std.specs.Prelude.{
+  map, filter, fold, flat_map, slice_index_or, Option, Some, None, is_some, is_none, option_map, unwrap_or, Result, Ok,
+  Err, position
+}
 use Rattle.std.specs.List.{list_any, range_with_len}
 use Rattle.rl_model.specs.declared.fault.Array.{Array}
 use Rattle.rl_model.specs.declared.fault.Array.TheVariants as array
@@ -11,8 +16,12 @@ use Rattle.rl_model.specs.Rows.{ChipData}
 use Rattle.rl_model.specs.Rules.{is_name, or_else, first_failing, row_of}
 use Rattle.rl_bus.specs.declared.op.AdapterKind.{AdapterKind}
 use Rattle.rl_map.specs.declared.fault.MapCause.{MapCause}
-use Rattle.rl_map.specs.declared.fault.MapCause.TheVariants.{TooMany, BadName, DuplicateName, NoSuchMap, TooDeep, BadBytes, NoSuchAdapter, NoSuchItem}
-use Rattle.rl_map.specs.declared.fault.MapCause.TheVariants.{PlacedTwice, MemInFifo, AddressOverflow, Unaligned, SharedAddress}
+use Rattle.rl_map.specs.declared.fault.MapCause.TheVariants.{
+  TooMany, BadName, DuplicateName, NoSuchMap, TooDeep, BadBytes, NoSuchAdapter, NoSuchItem
+}
+use Rattle.rl_map.specs.declared.fault.MapCause.TheVariants.{
+  PlacedTwice, MemInFifo, AddressOverflow, Unaligned, SharedAddress
+}
 use Rattle.rl_map.specs.declared.fault.MapFault.{MapFault}
 use Rattle.rl_map.specs.declared.fault.MapFault.TheVariants.{Bad, Memory}
 use Rattle.rl_map.specs.declared.path.Level.{Level}
@@ -26,7 +35,10 @@ use Rattle.rl_map.specs.Access.{through}
 use Rattle.rl_map.specs.Seat.{access_of, seat_of}
 use Rattle.rl_map.specs.Words.{item_words}
 use Rattle.rl_map.specs.Layout.{no_map, no_port, location_of, same_item, has_right}
-use Rattle.rl_map.specs.Maps.{MapTables, no_tables, with_map, tables_of, path_under, level_of, kind_number, kind_with, map_number, item_at, place_row}
+use Rattle.rl_map.specs.Maps.{
+  MapTables, no_tables, with_map, tables_of, path_under, level_of, kind_number, kind_with, map_number, item_at,
+  place_row
+}
 
 -- ---- the order of refusals
 
@@ -66,7 +78,8 @@ map_checks kinds earlier m =
 abbrev pub maps_fault : List AdapterKind → MapTables → List MapNode → Option MapFault
 maps_fault kinds t [] = None
 maps_fault kinds t (m ∷ ms) =
-    or_else (first_of (row_at array.Map (length t.maps)) (map_checks kinds t.maps m)) (maps_fault kinds (with_map kinds t m) ms)
+    or_else (first_of (row_at array.Map (length t.maps)) (map_checks kinds t.maps m))
+      (maps_fault kinds (with_map kinds t m) ms)
 
 -- ---- places
 
@@ -77,7 +90,11 @@ pub record Placed : Type 0 where
   pub port : PortRow
 
 abbrev pub placed_by : MapTables → PlaceRow → Placed
-placed_by t row = record { row = row; path = (slice_index_or t.maps row.map no_map).path; port = slice_index_or t.ports row.port no_port }
+placed_by t row = record {
+  row = row;
+  path = (slice_index_or t.maps row.map no_map).path;
+  port = slice_index_or t.ports row.port no_port
+}
 
 abbrev pub placed : ChipData → MapTables → PlacePart → Placed
 placed chip t p = placed_by t (place_row chip t.maps p)
@@ -99,7 +116,8 @@ is_placed places p = list_any (λ q. is_same_place q p) places
 
 -- some byte of some location
 abbrev pub some_byte : Placed → ((index byte : ℕ) → Bool) → Bool
-some_byte p test = list_any (λ index. list_any (test index) (range_with_len 0 p.row.bytes)) (range_with_len 0 p.row.size)
+some_byte p test =
+    list_any (λ index. list_any (test index) (range_with_len 0 p.row.bytes)) (range_with_len 0 p.row.size)
 
 abbrev pub address_in : Placed → (index byte : ℕ) → ℕ
 address_in p index byte = (seat_of p.path p.port.base (location_of p.row index) byte).address
@@ -115,7 +133,8 @@ is_askew access (level ∷ up) =
 
 abbrev pub is_unaligned : Placed → (index byte : ℕ) → Bool
 is_unaligned p index byte =
-    (p.port.kind.aligned && not (address_in p index byte % p.port.bytes == 0)) || is_askew (access_of (location_of p.row index) byte) p.path
+    (p.port.kind.aligned && not (address_in p index byte % p.port.bytes == 0))
+    || is_askew (access_of (location_of p.row index) byte) p.path
 
 -- ---- shared addresses
 
@@ -125,7 +144,8 @@ stands_on address p = some_byte p (λ index byte. address_in p index byte == add
 
 -- two places of one port that may not share an address: they have a right in common, or one has a FIFO kind on its path
 abbrev pub share_right : PlaceRow → PlaceRow → Bool
-share_right p q = (has_right p.rights false && has_right q.rights false) || (has_right p.rights true && has_right q.rights true)
+share_right p q =
+    (has_right p.rights false && has_right q.rights false) || (has_right p.rights true && has_right q.rights true)
 
 abbrev pub clash : Placed → Placed → Bool
 clash p q = p.row.port == q.row.port && (share_right p.row q.row || p.row.fifo || q.row.fifo)
@@ -136,7 +156,8 @@ sharer earlier p address = position (λ q. clash q p && stands_on address q) ear
 
 -- the addresses of a place's bytes, location by location
 abbrev pub addresses_of : Placed → List ℕ
-addresses_of p = flat_map (λ index. map (address_in p index) (range_with_len 0 p.row.bytes)) (range_with_len 0 p.row.size)
+addresses_of p =
+    flat_map (λ index. map (address_in p index) (range_with_len 0 p.row.bytes)) (range_with_len 0 p.row.size)
 
 abbrev pub least : List ℕ → Option ℕ
 least [] = None
@@ -172,7 +193,8 @@ places_fault chip t earlier words (part ∷ parts) =
 
 -- The first condition that fails. The conditions and their order are this project's own.
 unfoldable pub layout_fault : ChipData → List MapNode → List PlacePart → List AdapterKind → Option MapFault
-layout_fault chip maps places kinds = or_else (maps_fault kinds no_tables maps) (places_fault chip (tables_of kinds maps) [] 0 places)
+layout_fault chip maps places kinds =
+    or_else (maps_fault kinds no_tables maps) (places_fault chip (tables_of kinds maps) [] 0 places)
 
 -- ---- what a step answers
 

@@ -1,5 +1,7 @@
 -- What holds of every path and every item.
-use Rattle.std.specs.Prelude.{◌≡◌, ℕ, zero, suc, ◌+◌, ◌*◌, ◌/◌, ◌%◌, ◌<◌, ◌≤◌, ◌==◌, if◌then◌else◌, List, [], ◌∷◌, All, false}
+use Rattle.std.specs.Prelude.{
+  ◌≡◌, ℕ, zero, suc, ◌+◌, ◌*◌, ◌/◌, ◌%◌, ◌<◌, ◌≤◌, ◌==◌, if◌then◌else◌, List, [], ◌∷◌, All, false
+}
 use Rattle.std.specs.Int.{div_ceil}
 use Rattle.rl_map.specs.declared.path.Level.{Level}
 use Rattle.rl_map.specs.declared.seat.Access.{Access}
@@ -13,16 +15,20 @@ use Rattle.rl_map.specs.Partition.{IsPartition}
 
 -- by every path the bytes of an item stand apart
 abbrev pub EverySeatApart : Type 0
-EverySeatApart = (path : List Level) (base : ℕ) (item : Location) → IsPath path → item.bytes ≤ 8 → SeatsApart path base item
+EverySeatApart =
+    (path : List Level) (base : ℕ) (item : Location) → IsPath path → item.bytes ≤ 8 → SeatsApart path base item
 
 -- by every path without a FIFO kind an address is that of one word of one location
 abbrev pub EveryAddressApart : Type 0
-EveryAddressApart = (path : List Level) (base : ℕ) (item : Location) → IsPath path → item.bytes ≤ 8 → AddressesApart path base item
+EveryAddressApart =
+    (path : List Level) (base : ℕ) (item : Location) → IsPath path → item.bytes ≤ 8 → AddressesApart path base item
 
 -- by every path the words of an item are a partition of its bytes
 abbrev pub EveryItemPartitioned : Type 0
 EveryItemPartitioned =
-    (path : List Level) (base : ℕ) (item : Location) → IsPath path → item.bytes ≤ 8 → IsPartition (seats_of path base item) (item_words path base item)
+    (path : List Level) (base : ℕ) (item : Location)
+    → IsPath path → item.bytes ≤ 8
+    → IsPartition (seats_of path base item) (item_words path base item)
 
 -- ---- byte addresses
 
@@ -32,14 +38,16 @@ byte_climb base [] offset address bytes byte order = record { order = order; add
 byte_climb base (level ∷ up) offset address bytes byte order =
     let count = div_ceil bytes level.bytes in
     let chunk = byte / level.bytes in
-    byte_climb base up level.offset (address_of level.kind (offset + address) level.bytes count chunk) level.bytes (byte % level.bytes)
+    byte_climb base up level.offset (address_of level.kind (offset + address) level.bytes count chunk)
+      level.bytes (byte % level.bytes)
     (order * count + place_in_time level.kind count chunk)
 
 -- location `index` of an item stands that many items further, in whole words of its own map
 abbrev pub byte_seat_of : List Level → ℕ → Location → ℕ → Seat
 byte_seat_of [] base item byte = record { order = 0; address = base + item.index; lane = byte }
 byte_seat_of (level ∷ up) base item byte =
-    byte_climb base (level ∷ up) item.offset (item.index * level.bytes * div_ceil item.bytes level.bytes) item.bytes byte 0
+    byte_climb base (level ∷ up) item.offset (item.index * level.bytes * div_ceil item.bytes level.bytes)
+      item.bytes byte 0
 
 -- where no map counts words, the seats are those by byte addresses
 abbrev pub ByteAddressedAlike : Type 0
@@ -48,8 +56,9 @@ ByteAddressedAlike = (path : List Level) (base : ℕ) (item : Location) (byte : 
 
 -- ---- addresses by counting
 
--- What unit number `unit` of a child's addresses takes of its parent's: a word as many words as its bytes fill, and a byte a
--- byte. Where the child counts bytes and the parent words, the last byte of each word of the child takes that word's.
+-- What unit number `unit` of a child's addresses takes of its parent's: a word as many words as its bytes fill,
+-- and a byte a byte. Where the child counts bytes and the parent words, the last byte of each word of the child
+-- takes that word's.
 abbrev pub units_of : Access → Level → ℕ → ℕ
 units_of access level unit =
     let count = div_ceil access.bytes level.bytes in
@@ -64,4 +73,7 @@ units_before access level (suc unit) = units_before access level unit + units_of
 
 -- an access starts in the map above it behind the units that go before its address
 abbrev pub EveryAddressCounted : Type 0
-EveryAddressCounted = (access : Access) (level : Level) → 0 < access.bytes → carried access level ≡ units_before access level access.address
+EveryAddressCounted =
+    (access : Access) (level : Level)
+    → 0 < access.bytes
+    → carried access level ≡ units_before access level access.address

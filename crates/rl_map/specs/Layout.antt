@@ -1,6 +1,10 @@
 -- A layout as data, and what it answers.
-use Rattle.std.specs.Prelude.{◌≡◌, ℕ, ◌+◌, ◌*◌, ◌/◌, ◌^◌, ◌<◌, ◌≤◌, ◌==◌, nat_lt, Bool, true, false, ◌&&◌, if◌then◌else◌, List, [], ◌∷◌}
-use Rattle.std.specs.Prelude.{length, map, All, slice_index_or, slice_get, Option, Some, None, filter, position, bytes_eq, codes}
+use Rattle.std.specs.Prelude.{
+  ◌≡◌, ℕ, ◌+◌, ◌*◌, ◌/◌, ◌^◌, ◌<◌, ◌≤◌, ◌==◌, nat_lt, Bool, true, false, ◌&&◌, if◌then◌else◌, List, [], ◌∷◌
+}
+use Rattle.std.specs.Prelude.{
+  length, map, All, slice_index_or, slice_get, Option, Some, None, filter, position, bytes_eq, codes
+}
 use Rattle.rl_policy.specs.Bits.{bit}
 use Rattle.rl_model.specs.declared.rows.Item.{Item}
 use Rattle.rl_model.specs.declared.rows.Item.TheVariants as item
@@ -40,13 +44,29 @@ abbrev pub no_map : MapRow
 no_map = record { name = []; path = []; port = 0 }
 
 abbrev pub no_kind : AdapterKind
-no_kind = record { name = codes "-"; most_bytes = 0; most_address = 0; aligned = false; write_lanes = false; read_lanes = false }
+no_kind = record {
+  name = codes "-";
+  most_bytes = 0;
+  most_address = 0;
+  aligned = false;
+  write_lanes = false;
+  read_lanes = false
+}
 
 abbrev pub no_port : PortRow
 no_port = record { map = 0; base = 0; bytes = 0; adapter = 0; kind = no_kind; explicit = false }
 
 abbrev pub no_place : PlaceRow
-no_place = record { map = 0; item = item.Reg 0; offset = 0; rights = record { bits = 0 }; bytes = 0; size = 0; port = 0; fifo = false }
+no_place = record {
+  map = 0;
+  item = item.Reg 0;
+  offset = 0;
+  rights = record { bits = 0 };
+  bytes = 0;
+  size = 0;
+  port = 0;
+  fifo = false
+}
 
 abbrev pub map_at : LayoutData → ℕ → MapRow
 map_at l m = slice_index_or l.maps m no_map
@@ -188,18 +208,26 @@ pub record HasWords (l : LayoutData) (place index : ℕ) : Type 0 where
   pub few : length (words_of l place index) ≤ 8
   pub fits : AddressesFit (path_of l place) (base_of l place) (location_of (place_at l place) index)
   -- each of them is one that the port's adapter carries
-  pub on : All (IsWordOn (port_at l (place_at l place).port).kind (port_at l (place_at l place).port).bytes) (words_of l place index)
+  pub on :
+      All (IsWordOn (port_at l (place_at l place).port).kind (port_at l (place_at l place).port).bytes)
+        (words_of l place index)
   -- each byte of the location stands in one of them, at the lane that its seat says, and nothing else does
   pub partition : IsPartition (place_seats l place index) (words_of l place index)
   pub parts : AreParts (words_of l place index)
   pub reach : (b : ℕ) → have_bit (words_of l place index) b ≡ nat_lt (b / 8) (place_at l place).bytes
   -- those that stand at the address of one of them, and have the right of a direction, are this location's, by order
-  pub found : (write : Bool) (k : ℕ) → k < length (words_of l place index) → has_right (place_at l place).rights write ≡ true
+  pub found : (write : Bool) (k : ℕ)
+      → k < length (words_of l place index)
+      → has_right (place_at l place).rights write ≡ true
       → let address = (slice_index_or (words_of l place index) k no_word).address in
-      standing l (place_at l place).port address write ≡ map (row_of l place index) (words_with address (words_of l place index))
+      standing l (place_at l place).port address write
+      ≡ map (row_of l place index) (words_with address (words_of l place index))
   -- outside FIFO paths an address has one of them
-  pub alone : (place_at l place).fifo ≡ false → (i k : ℕ) → i < length (words_of l place index) → k < length (words_of l place index)
-      → (slice_index_or (words_of l place index) i no_word).address ≡ (slice_index_or (words_of l place index) k no_word).address → i ≡ k
+  pub alone : (place_at l place).fifo ≡ false
+      → (i k : ℕ) → i < length (words_of l place index) → k < length (words_of l place index)
+      → (slice_index_or (words_of l place index) i no_word).address
+        ≡ (slice_index_or (words_of l place index) k no_word).address
+      → i ≡ k
 
 -- a row is that of a word of a location
 pub record IsRowOf (l : LayoutData) (r : WordRow) : Type 0 where
@@ -207,7 +235,8 @@ pub record IsRowOf (l : LayoutData) (r : WordRow) : Type 0 where
   pub low : r.address < 2 ^ 64
   pub number : ℕ
   pub number_in : number < length (words_of l r.place (index_of r.cell))
-  pub row : r ≡ row_of l r.place (index_of r.cell) (slice_index_or (words_of l r.place (index_of r.cell)) number no_word)
+  pub row :
+      r ≡ row_of l r.place (index_of r.cell) (slice_index_or (words_of l r.place (index_of r.cell)) number no_word)
 
 -- a word of a location stands at an address of a port
 pub record Occupies (l : LayoutData) (port address place index : ℕ) : Type 0 where
@@ -228,7 +257,10 @@ abbrev pub key_of : WordRow → ℕ
 key_of r = r.port * 2 ^ 64 + r.address
 
 abbrev pub IsAscending : List WordRow → Type 0
-IsAscending rows = (i j : ℕ) (d : WordRow) → i ≤ j → j < length rows → key_of (slice_index_or rows i d) ≤ key_of (slice_index_or rows j d)
+IsAscending rows =
+    (i j : ℕ) (d : WordRow)
+    → i ≤ j → j < length rows
+    → key_of (slice_index_or rows i d) ≤ key_of (slice_index_or rows j d)
 
 pub record IsSound (l : LayoutData) : Type 0 where
   pub maps : length l.maps ≤ 64
@@ -244,11 +276,15 @@ pub record IsSound (l : LayoutData) : Type 0 where
   pub each_row : All (IsRowOf l) l.rows
   pub each_location : (place index : ℕ) → IsLocation l place index → HasWords l place index
   -- where words of both directions stand at an address, there are as many of each
-  pub even : (port address : ℕ) (one other : Bool) → 0 < length (standing l port address one) → 0 < length (standing l port address other)
+  pub even : (port address : ℕ) (one other : Bool)
+      → 0 < length (standing l port address one)
+      → 0 < length (standing l port address other)
       → length (standing l port address one) ≡ length (standing l port address other)
-  -- An address on a FIFO path belongs to one place in both directions: where a word of such a place stands, each word there,
-  -- of either direction and whatever its rights, is of the same location of the same place.
-  pub owner : (port address p i q j : ℕ) → Occupies l port address p i → Occupies l port address q j → (place_at l p).fifo ≡ true
+  -- An address on a FIFO path belongs to one place in both directions: where a word of such a place stands,
+  -- each word there, of either direction and whatever its rights, is of the same location of the same place.
+  pub owner : (port address p i q j : ℕ)
+      → Occupies l port address p i → Occupies l port address q j
+      → (place_at l p).fifo ≡ true
       → (p ≡ q) × (i ≡ j)
 
 -- what was found is there

@@ -20,4 +20,6 @@ pub record IsLast (places : List PlaceRow) (n : ℕ) (item : Item) (above : ℕ)
 pub record AreLinked (places : List PlaceRow) (lasts before : List ℕ) : Type 0 where
   pub long : length before ≡ length places
   pub each_item : (item : Item) → IsLast places (length places) item (slice_index_or lasts (number_of_item item) 0)
-  pub each_place : (p : ℕ) → p < length places → IsLast places p (slice_index_or places p no_place).item (slice_index_or before p 0)
+  pub each_place : (p : ℕ)
+      → p < length places
+      → IsLast places p (slice_index_or places p no_place).item (slice_index_or before p 0)

@@ -30,23 +30,31 @@ address_of path base item index = (seat_of path base (record item { index = inde
 
 -- on its way each byte of each location stands at a multiple of its map's width, where that is asked
 abbrev pub AreStraight : List Level → Location → (size : ℕ) → Type 0
-AreStraight path item size = (index byte : ℕ) → index < size → byte < item.bytes → IsAligned (access_of (record item { index = index }) byte) path
+AreStraight path item size =
+    (index byte : ℕ)
+    → index < size → byte < item.bytes
+    → IsAligned (access_of (record item { index = index }) byte) path
 
 -- the words of each location of an item are the kept ones
 abbrev pub AreLocations : List Level → ℕ → Location → (size : ℕ) → PlaceWords → Type 0
-AreLocations path base item size kept = (index : ℕ) → index < size → item_words path base (record item { index = index }) ≡ kept_at kept index
+AreLocations path base item size kept =
+    (index : ℕ) → index < size → item_words path base (record item { index = index }) ≡ kept_at kept index
 
 abbrev pub no_words : PlaceWords
 no_words = record { words = []; step = 0 }
 
 -- what is kept of places by their maps and ports
-pub record AreWordsOf (maps : List MapRow) (ports : List PortRow) (places : List PlaceRow) (kept : List PlaceWords) : Type 0 where
+pub record AreWordsOf (maps : List MapRow) (ports : List PortRow) (places : List PlaceRow)
+    (kept : List PlaceWords) : Type 0 where
   pub long : length kept ≡ length places
   pub each : (place : ℕ) → place < length places
       → let row = slice_index_or places place no_place in
-      AreLocations (path_in maps row) (port_for ports row).base (location_of row 0) row.size (slice_index_or kept place no_words)
+      AreLocations (path_in maps row) (port_for ports row).base (location_of row 0) row.size
+        (slice_index_or kept place no_words)
 
 -- what a layout keeps of its places' words
 pub record AreKept (l : LayoutData) (kept : List PlaceWords) : Type 0 where
   pub long : length kept ≡ length l.places
-  pub words : (place index : ℕ) → IsLocation l place index → words_of l place index ≡ kept_at (slice_index_or kept place no_words) index
+  pub words : (place index : ℕ)
+      → IsLocation l place index
+      → words_of l place index ≡ kept_at (slice_index_or kept place no_words) index

@@ -1,6 +1,10 @@
 -- What a layout keeps of the maps, the ports and the places that it was built of.
-use Rattle.std.specs.Prelude.{◌≡◌, ℕ, ◌+◌, ◌<◌, nat_lt, if◌then◌else◌, List, [], ◌∷◌, ◌++◌, length, map, flat_map, take, drop}
-use Rattle.std.specs.Prelude.{fold, slice_get, slice_index_or, Option, Some, None, option_map, unwrap_or, position, bytes_eq}
+use Rattle.std.specs.Prelude.{
+  ◌≡◌, ℕ, ◌+◌, ◌<◌, nat_lt, if◌then◌else◌, List, [], ◌∷◌, ◌++◌, length, map, flat_map, take, drop
+}
+use Rattle.std.specs.Prelude.{
+  fold, slice_get, slice_index_or, Option, Some, None, option_map, unwrap_or, position, bytes_eq
+}
 use Rattle.std.specs.List.{range_with_len}
 use Rattle.std.specs.Option.{option_or}
 use Rattle.rl_model.specs.declared.rows.Item.{Item}
@@ -43,7 +47,11 @@ port_under ports earlier None = ports
 port_under ports earlier (Some parent) = (map_with earlier (map_number earlier parent)).port
 
 abbrev pub map_row : ℕ → List MapRow → MapNode → MapRow
-map_row ports earlier m = record { name = m.name; path = path_under earlier m.parent (level_of m); port = port_under ports earlier m.parent }
+map_row ports earlier m = record {
+  name = m.name;
+  path = path_under earlier m.parent (level_of m);
+  port = port_under ports earlier m.parent
+}
 
 -- ---- ports
 
@@ -60,7 +68,14 @@ kind_with kinds (Some n) = slice_index_or kinds n no_kind
 abbrev pub port_row : List AdapterKind → ℕ → MapNode → PortRow
 port_row kinds number m =
     let adapter = kind_number kinds m.adapter in
-    record { map = number; base = m.base; bytes = m.bytes; adapter = unwrap_or adapter 0; kind = kind_with kinds adapter; explicit = m.explicit }
+    record {
+      map = number;
+      base = m.base;
+      bytes = m.bytes;
+      adapter = unwrap_or adapter 0;
+      kind = kind_with kinds adapter;
+      explicit = m.explicit
+    }
 
 -- the ports, and a root among them
 abbrev pub ports_with : List AdapterKind → ℕ → List PortRow → Option (List ℕ) → MapNode → List PortRow
@@ -89,8 +104,10 @@ tables_of kinds maps = fold (with_map kinds) no_tables maps
 -- the register or the memory with a path
 abbrev pub item_at : ChipData → List ℕ → Option Item
 item_at chip path =
-    option_or (option_map (λ n. item.Reg n) (position (bytes_eq path) (take (length chip.regs) (drop chip.scopes chip.paths))))
-    (option_map (λ n. item.Mem n) (position (bytes_eq path) (take (length chip.mems) (drop (chip.scopes + length chip.regs) chip.paths))))
+    option_or
+      (option_map (λ n. item.Reg n) (position (bytes_eq path) (take (length chip.regs) (drop chip.scopes chip.paths))))
+      (option_map (λ n. item.Mem n)
+        (position (bytes_eq path) (take (length chip.mems) (drop (chip.scopes + length chip.regs) chip.paths))))
 
 abbrev pub item_bytes : ChipData → Item → ℕ
 item_bytes chip i = unwrap_or (bytes_of chip i) 0
@@ -156,7 +173,9 @@ layout_of chip maps places kinds =
 
 -- each item of the layout is in the chip, with the same bytes and the same size
 abbrev pub IsPlaceIn : ChipData → PlaceRow → Type 0
-IsPlaceIn chip p = (bytes_of chip p.item ≡ Some p.bytes) × ((m : ℕ) → p.item ≡ item.Mem m → option_map (λ m. m.size) (slice_get chip.mems m) ≡ Some p.size)
+IsPlaceIn chip p =
+    (bytes_of chip p.item ≡ Some p.bytes)
+    × ((m : ℕ) → p.item ≡ item.Mem m → option_map (λ m. m.size) (slice_get chip.mems m) ≡ Some p.size)
 
 -- the layout was built with the chip
 abbrev pub IsBuiltWith : LayoutData → ChipData → Type 0

@@ -17,9 +17,10 @@ use Rattle.rl_map.specs.Links.{AreLinked}
 use Rattle.rl_map.specs.Locations.{AreWordsOf}
 use Rattle.rl_map.specs.Steps.{own_faults, accepted}
 
--- The places of these parts up to the first that is refused, with their rows in order, and the first fault. `first` are the rows
--- as they were added, `best` the first clash among them, and `refused` the first fault but for clashes.
-pub record AreOrdered (chip : ChipData) (maps : List MapRow) (ports : List PortRow) (parts : List PlacePart) (p : Placing) (fault : Option MapFault) : Type 0 where
+-- The places of these parts up to the first that is refused, with their rows in order, and the first fault. `first` are
+-- the rows as they were added, `best` the first clash among them, and `refused` the first fault but for clashes.
+pub record AreOrdered (chip : ChipData) (maps : List MapRow) (ports : List PortRow) (parts : List PlacePart)
+    (p : Placing) (fault : Option MapFault) : Type 0 where
   pub first : List WordRow
   pub best : Option Shared
   pub refused : Option MapFault

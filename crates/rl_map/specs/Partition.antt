@@ -1,5 +1,8 @@
 -- The words of an item are a partition of its bytes.
-use Rattle.std.specs.Prelude.{◌≡◌, ℕ, ◌%◌, ◌^◌, ◌<◌, ◌≤◌, IsTrue, IsBitSet, Bool, true, false, ◌||◌, List, [], ◌∷◌, length, slice_index, slice_index_or}
+use Rattle.std.specs.Prelude.{
+  ◌≡◌, ℕ, ◌%◌, ◌^◌, ◌<◌, ◌≤◌, IsTrue, IsBitSet, Bool, true, false, ◌||◌, List, [], ◌∷◌, length, slice_index,
+  slice_index_or
+}
 use Rattle.rl_bus.specs.Spread.{lane_bit, AreInCell}
 use Rattle.rl_bus.specs.declared.op.AdapterKind.{AdapterKind}
 use Rattle.rl_map.specs.declared.seat.Seat.{Seat}
@@ -49,15 +52,23 @@ pub record IsPartition (seats : List Seat) (words : List Word) : Type 0 where
   -- each byte is at one lane of one word, and that is where its seat says
   pub placed : (j : ℕ) → j < length seats
       → (number_of seats (slice_index_or seats j no_seat).order < length words)
-      × Carries (slice_index_or words (number_of seats (slice_index_or seats j no_seat).order) no_word) (slice_index_or seats j no_seat).lane j
+      × Carries (slice_index_or words (number_of seats (slice_index_or seats j no_seat).order) no_word)
+          (slice_index_or seats j no_seat).lane j
   pub lane_in : (j : ℕ) → j < length seats → (slice_index_or seats j no_seat).lane < 8
   -- each enabled lane of each word has a byte of the item, whose seat is that word and that lane
   pub sound : (k lane : ℕ) → k < length words → lane < 8 → IsBitSet (slice_index_or words k no_word).lanes lane
       → let byte = slice_index (slice_index_or words k no_word).bytes lane in
       (byte < length seats) × (number_of seats (slice_index_or seats byte no_seat).order ≡ k)
-      × (slice_index_or seats byte no_seat ≡ record { order = (slice_index_or words k no_word).order; address = (slice_index_or words k no_word).address; lane = lane })
+      × (slice_index_or seats byte no_seat
+         ≡ record {
+             order = (slice_index_or words k no_word).order;
+             address = (slice_index_or words k no_word).address;
+             lane = lane
+           })
   -- the words stand by ascending order
-  pub ascending : (i k : ℕ) → i < k → k < length words → (slice_index_or words i no_word).order < (slice_index_or words k no_word).order
+  pub ascending : (i k : ℕ)
+      → i < k → k < length words
+      → (slice_index_or words i no_word).order < (slice_index_or words k no_word).order
 
 -- ---- what an adapter carries
 

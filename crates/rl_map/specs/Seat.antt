@@ -10,7 +10,14 @@ use Rattle.rl_map.specs.Access.{climb, IsAligned}
 
 -- an item is a word-addressed child of its own map: location `index` is its word number `index`
 abbrev pub access_of : Location → ℕ → Access
-access_of item byte = record { bytes = item.bytes; word = true; offset = item.offset; address = item.index; byte = byte; order = 0 }
+access_of item byte = record {
+  bytes = item.bytes;
+  word = true;
+  offset = item.offset;
+  address = item.index;
+  byte = byte;
+  order = 0
+}
 
 -- The order, the bus address and the lane of a byte. That a narrower child map is right-justified is this project's
 -- own.
@@ -39,11 +46,15 @@ pub record SeatsApart (path : List Level) (base : ℕ) (item : Location) : Type 
   pub order_in : (i : ℕ) → i < item.bytes → (seat_of path base item i).order < slots item.bytes path
   pub lane_in : (i : ℕ) → i < item.bytes → (seat_of path base item i).lane < 8
 
--- Outside FIFO paths two words of an item, or of two locations of it, stand at two addresses: one address is that of one
--- location and one order.
+-- Outside FIFO paths two words of an item, or of two locations of it, stand at two addresses: one address is that of
+-- one location and one order.
 abbrev pub AddressesApart : List Level → ℕ → Location → Type 0
 AddressesApart path base item = (m n i j : ℕ) → i < item.bytes → j < item.bytes
     → has_fifo path ≡ false
-    → IsAligned (access_of (record item { index = m }) i) path → IsAligned (access_of (record item { index = n }) j) path
-    → (seat_of path base (record item { index = m }) i).address ≡ (seat_of path base (record item { index = n }) j).address
-    → (m ≡ n) × ((seat_of path base (record item { index = m }) i).order ≡ (seat_of path base (record item { index = n }) j).order)
+    → IsAligned (access_of (record item { index = m }) i) path
+    → IsAligned (access_of (record item { index = n }) j) path
+    → (seat_of path base (record item { index = m }) i).address
+      ≡ (seat_of path base (record item { index = n }) j).address
+    → (m ≡ n)
+      × ((seat_of path base (record item { index = m }) i).order
+         ≡ (seat_of path base (record item { index = n }) j).order)

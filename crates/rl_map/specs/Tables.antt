@@ -14,12 +14,14 @@ field_row f = record { reg = f.shape.reg; lsb = f.shape.lsb; width = f.shape.wid
 -- the reset values of fields that are numbered from `field` on
 abbrev pub reset_rows : ℕ → List FieldSeen → List ResetRow
 reset_rows field [] = []
-reset_rows field (f ∷ fs) = map (λ r. record { field = field; kind = r.kind; value = r.value }) f.resets ++ reset_rows (field + 1) fs
+reset_rows field (f ∷ fs) =
+    map (λ r. record { field = field; kind = r.kind; value = r.value }) f.resets ++ reset_rows (field + 1) fs
 
 -- memories, of which each stands behind the locations of those before
 abbrev pub mem_rows : ℕ → List Mem → List MemRow
 mem_rows first [] = []
-mem_rows first (m ∷ ms) = record { first = first; bytes = m.bytes; size = m.size; writable = m.writable } ∷ mem_rows (first + m.size) ms
+mem_rows first (m ∷ ms) =
+    record { first = first; bytes = m.bytes; size = m.size; writable = m.writable } ∷ mem_rows (first + m.size) ms
 
 -- the device with these flaws
 unfoldable pub setup_of : ChipData → LayoutData → Flaws → Setup

@@ -1,5 +1,8 @@
 -- The words of an item: the bytes that one bus item carries.
-use Rattle.std.specs.Prelude.{ℕ, ◌+◌, ◌^◌, Bool, ◌==◌, ◌&&◌, if◌then◌else◌, Option, zero, suc, List, [], ◌∷◌, ◌++◌, map, filter, None, Some, is_some, unwrap_or}
+use Rattle.std.specs.Prelude.{
+  ℕ, ◌+◌, ◌^◌, Bool, ◌==◌, ◌&&◌, if◌then◌else◌, Option, zero, suc, List, [], ◌∷◌, ◌++◌, map, filter, None, Some,
+  is_some, unwrap_or
+}
 use Rattle.std.specs.List.{list_any, range_with_len}
 use Rattle.rl_bus.specs.declared.table.Lanes.{Lanes}
 use Rattle.rl_map.specs.declared.path.Level.{Level}
@@ -39,7 +42,8 @@ word_of seats order = record {
 -- the numbers below `n` that are the order of a byte, in ascending order
 abbrev pub orders_below : List Seat → ℕ → List ℕ
 orders_below seats zero = []
-orders_below seats (suc n) = if list_any (λ seat. seat.order == n) seats then orders_below seats n ++ n ∷ [] else orders_below seats n
+orders_below seats (suc n) =
+    if list_any (λ seat. seat.order == n) seats then orders_below seats n ++ n ∷ [] else orders_below seats n
 
 abbrev pub words_below : List Seat → ℕ → List Word
 words_below seats n = map (word_of seats) (orders_below seats n)

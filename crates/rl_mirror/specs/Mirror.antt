@@ -35,7 +35,8 @@ pub record IsValueOf (c : ChipData) (reg value : ℕ) : Type 0 where
   pub fits : value < 256 ^ size_of c reg
   pub owned : value ≡ owned (fields_of c reg) value
 
--- the mirror was built with the chip: it has a mirrored and a desired value for each register, and a mark for each field
+-- the mirror was built with the chip: it has a mirrored and a desired value for each register,
+-- and a mark for each field
 pub record IsMirrorOf (c : ChipData) (m : MirrorData) : Type 0 where
   pub registers : length m.mirrored ≡ length c.regs
   pub wishes : length m.desired ≡ length c.regs
@@ -47,4 +48,5 @@ pub record IsMirrorOf (c : ChipData) (m : MirrorData) : Type 0 where
 abbrev pub HasNoWish : ChipData → MirrorData → (reg : ℕ) → Type 0
 HasNoWish c m reg =
     (k : ℕ) → k < length (fields_of c reg)
-    → part_of (field_in (fields_of c reg) k).shape (desired_of m reg) ≡ part_of (field_in (fields_of c reg) k).shape (mirrored_of m reg)
+    → part_of (field_in (fields_of c reg) k).shape (desired_of m reg)
+      ≡ part_of (field_in (fields_of c reg) k).shape (mirrored_of m reg)

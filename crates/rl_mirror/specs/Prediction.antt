@@ -1,9 +1,13 @@
 -- What accesses, resets and `set` do to what is believed of a register.
-use Rattle.std.specs.Prelude.{ℕ, ◌+◌, ◌-◌, Bool, false, not, ◌&&◌, ◌||◌, ◌==◌, if◌then◌else◌, List, length, map, replicate, slice_set, get_or}
+use Rattle.std.specs.Prelude.{
+  ℕ, ◌+◌, ◌-◌, Bool, false, not, ◌&&◌, ◌||◌, ◌==◌, if◌then◌else◌, List, length, map, replicate, slice_set, get_or
+}
 use Rattle.std.specs.List.{range_with_len}
 use Rattle.std.specs.Option.{option_map_or}
 use Rattle.rl_policy.specs.Bits.{bit, put_bit, from_bits}
-use Rattle.rl_policy.specs.Table.{after_write, after_read, value_read, update_bit, neutral_bit, is_write_only, spends_mark}
+use Rattle.rl_policy.specs.Table.{
+  after_write, after_read, value_read, update_bit, neutral_bit, is_write_only, spends_mark
+}
 use Rattle.rl_policy.specs.declared.policy.Policy.{Policy}
 use Rattle.rl_model.specs.Chip.{value_for}
 use Rattle.rl_model.specs.Rows.{FieldSeen, ChipData}
@@ -15,7 +19,8 @@ use Rattle.rl_mirror.specs.Mirror.{MirrorData, mirrored_of, desired_of, marks_in
 
 -- The bits after a write of a word, each by the policy of its field (uvm_reg_field, IEEE 1800.2-2017, 18.5).
 unfoldable pub written : List FieldSeen → (marks : ℕ → Bool) → (bits word : ℕ) → ℕ
-written fields marks bits word = word_by_field fields (λ k b. after_write (policy_in fields k) (bit bits b) (bit word b) (marks k))
+written fields marks bits word =
+    word_by_field fields (λ k b. after_write (policy_in fields k) (bit bits b) (bit word b) (marks k))
 
 -- What a read answers.
 unfoldable pub shown : List FieldSeen → ℕ → ℕ
@@ -27,7 +32,8 @@ left_by_read fields bits = word_by_field fields (λ k b. after_read (policy_in f
 
 -- The word that brings the mirrored bits to the desired ones, where their policies can reach them: this project's own.
 unfoldable pub update_word : List FieldSeen → (desired mirrored : ℕ) → ℕ
-update_word fields desired mirrored = word_by_field fields (λ k b. update_bit (policy_in fields k) (bit desired b) (bit mirrored b))
+update_word fields desired mirrored =
+    word_by_field fields (λ k b. update_bit (policy_in fields k) (bit desired b) (bit mirrored b))
 
 -- The word that leaves the fields as they are, where their policies allow that: this project's own.
 unfoldable pub neutral_word : List FieldSeen → ℕ → ℕ
@@ -37,7 +43,8 @@ neutral_word fields mirrored = word_by_field fields (λ k b. neutral_bit (policy
 
 unfoldable pub learned_by_write : List FieldSeen → (chosen marks : ℕ → Bool) → (mirrored word kept : ℕ) → ℕ
 learned_by_write fields chosen marks mirrored word kept =
-    word_by_field fields (λ k b. if chosen k then after_write (policy_in fields k) (bit mirrored b) (bit word b) (marks k) else bit kept b)
+    word_by_field fields (λ k b.
+      if chosen k then after_write (policy_in fields k) (bit mirrored b) (bit word b) (marks k) else bit kept b)
 
 -- What is known of a bit after a read. That a read tells nothing of a write-only field is this project's own.
 abbrev pub learned_bit : Policy → (read kept : Bool) → Bool
@@ -49,7 +56,8 @@ told_bits fields chosen = word_by_field fields (λ k b. bit chosen k && not (is_
 
 unfoldable pub learned_by_read : List FieldSeen → (chosen : ℕ → Bool) → (read kept : ℕ) → ℕ
 learned_by_read fields chosen read kept =
-    word_by_field fields (λ k b. if chosen k then learned_bit (policy_in fields k) (bit read b) (bit kept b) else bit kept b)
+    word_by_field fields (λ k b.
+      if chosen k then learned_bit (policy_in fields k) (bit read b) (bit kept b) else bit kept b)
 
 -- ---- a reset
 
@@ -73,14 +81,18 @@ is_spent_by c reg fields n =
     (field_of c n).shape.reg == reg && (bit fields (n - first_of c reg) && spends_mark (field_of c n).shape.policy)
 
 unfoldable pub spent_after : ChipData → (reg fields : ℕ) → List Bool → List Bool
-spent_after c reg fields spent = map (λ n. get_or spent n false || is_spent_by c reg fields n) (range_with_len 0 (length spent))
+spent_after c reg fields spent =
+    map (λ n. get_or spent n false || is_spent_by c reg fields n) (range_with_len 0 (length spent))
 
 -- A write of a word to the chosen fields went through (uvm_reg_field::predict with UVM_PREDICT_WRITE, IEEE 1800.2-2017,
 -- 18.5); bit k of `fields` stands for the k-th field of the register.
 unfoldable pub predict_write : ChipData → (reg word fields : ℕ) → MirrorData → MirrorData
 predict_write c reg word fields m =
-    let after = λ (kept : ℕ). learned_by_write (fields_of c reg) (bit fields) (marks_in c m.spent reg) (mirrored_of m reg) word kept in
-    record (with_values m reg (after (mirrored_of m reg)) (after (desired_of m reg))) { spent = spent_after c reg fields m.spent }
+    let after = λ (kept : ℕ).
+      learned_by_write (fields_of c reg) (bit fields) (marks_in c m.spent reg) (mirrored_of m reg) word kept in
+    record (with_values m reg (after (mirrored_of m reg)) (after (desired_of m reg))) {
+      spent = spent_after c reg fields m.spent
+    }
 
 -- A read of the chosen fields answered this (uvm_reg_field::predict with UVM_PREDICT_READ, IEEE 1800.2-2017, 18.5).
 unfoldable pub predict_read : ChipData → (reg read fields : ℕ) → MirrorData → MirrorData
@@ -95,7 +107,8 @@ predict_raw c reg value m = with_values m reg (owned (fields_of c reg) value) (o
 -- A reset of this kind (uvm_reg_field::reset, IEEE 1800.2-2017, 18.5), which clears all marks where it is the hard one.
 unfoldable pub reset : ChipData → (kind : ℕ) → MirrorData → MirrorData
 reset c kind m =
-    let after = λ (values : List ℕ). map (λ reg. after_reset (fields_of c reg) kind (get_or values reg 0)) (range_with_len 0 (length values)) in
+    let after = λ (values : List ℕ).
+      map (λ reg. after_reset (fields_of c reg) kind (get_or values reg 0)) (range_with_len 0 (length values)) in
     record {
       mirrored = after m.mirrored;
       desired = after m.desired;
@@ -119,8 +132,12 @@ fresh c = reset c 0 (blank c)
 unfoldable pub set : ChipData → (field v : ℕ) → MirrorData → MirrorData
 set c field v m =
     let f = field_of c field in
-    let wish = λ (b : ℕ). after_write f.shape.policy (bit (desired_of m f.shape.reg) (f.shape.lsb + b)) (bit v b) (is_spent m field) in
-    record m { desired = slice_set m.desired f.shape.reg (from_bits 64 (put_bit f.shape.lsb f.shape.width wish (bit (desired_of m f.shape.reg)))) }
+    let wish = λ (b : ℕ).
+      after_write f.shape.policy (bit (desired_of m f.shape.reg) (f.shape.lsb + b)) (bit v b) (is_spent m field) in
+    record m {
+      desired = slice_set m.desired f.shape.reg
+        (from_bits 64 (put_bit f.shape.lsb f.shape.width wish (bit (desired_of m f.shape.reg))))
+    }
 
 -- ---- words to send
 
@@ -138,4 +155,6 @@ update_word_of c reg m = update_word (fields_of c reg) (desired_of m reg) (mirro
 unfoldable pub neutral_around : ChipData → (field v : ℕ) → MirrorData → ℕ
 neutral_around c field v m =
     let f = field_of c field in
-    from_bits 64 (put_bit f.shape.lsb f.shape.width (bit v) (bit (neutral_word (fields_of c f.shape.reg) (mirrored_of m f.shape.reg))))
+    from_bits 64
+      (put_bit f.shape.lsb f.shape.width (bit v)
+        (bit (neutral_word (fields_of c f.shape.reg) (mirrored_of m f.shape.reg))))

@@ -19,13 +19,16 @@ abbrev pub IsReached : ChipData → MirrorData → ℕ → Type 0
 IsReached c m n =
     let f = field_of c n in
     (b : ℕ) → covers f.shape b ≡ true
-    → IsTrue (is_reached f.shape.policy (bit (mirrored_of m f.shape.reg) b) (bit (desired_of m f.shape.reg) b) (is_spent m n))
+    → IsTrue (is_reached f.shape.policy
+        (bit (mirrored_of m f.shape.reg) b) (bit (desired_of m f.shape.reg) b) (is_spent m n))
 
 -- An update reaches the desired value of each field. A field that each write sets or clears as a whole may wait at its
 -- mirrored value, which an update doesn't keep.
 pub record IsReachable (c : ChipData) (m : MirrorData) : Type 0 where
   pub reached : (n : ℕ) → n < length c.fields → is_one_sided (field_of c n).shape.policy ≡ false → IsReached c m n
-  pub one_sided : (n : ℕ) → n < length c.fields → is_one_sided (field_of c n).shape.policy ≡ true → IsSettled c m n ⊎ IsReached c m n
+  pub one_sided : (n : ℕ)
+      → n < length c.fields → is_one_sided (field_of c n).shape.policy ≡ true
+      → IsSettled c m n ⊎ IsReached c m n
 
 -- The mirror after the update word was written to all fields (uvm_reg::update, IEEE 1800.2-2017, 18.4).
 abbrev pub after_update : ChipData → (reg : ℕ) → MirrorData → MirrorData
@@ -33,8 +36,12 @@ after_update c reg m = predict_write c reg (update_word_of c reg m) (2 ^ 64 - 1)
 
 -- the field has its old desired value as mirrored and as desired value
 pub record IsBrought (c : ChipData) (old new : MirrorData) (n : ℕ) : Type 0 where
-  pub mirrored : part_of (field_of c n).shape (mirrored_of new (field_of c n).shape.reg) ≡ part_of (field_of c n).shape (desired_of old (field_of c n).shape.reg)
-  pub desired : part_of (field_of c n).shape (desired_of new (field_of c n).shape.reg) ≡ part_of (field_of c n).shape (desired_of old (field_of c n).shape.reg)
+  pub mirrored :
+      part_of (field_of c n).shape (mirrored_of new (field_of c n).shape.reg)
+      ≡ part_of (field_of c n).shape (desired_of old (field_of c n).shape.reg)
+  pub desired :
+      part_of (field_of c n).shape (desired_of new (field_of c n).shape.reg)
+      ≡ part_of (field_of c n).shape (desired_of old (field_of c n).shape.reg)
 
 -- The law of updates, by this project's own update words.
 abbrev pub UpdateBrings : ChipData → Type 0

@@ -1,6 +1,11 @@
 -- What a chip answers.
-use Rattle.std.specs.Prelude.{◌≡◌, ◌≢◌, ◌⊎◌, true, false, nat_le, IsSomeAnd, sum_by, ℕ, ◌+◌, ◌*◌, ◌^◌, ◌<◌, ◌≤◌, ◌==◌, nat_lt, ◌&&◌, Bool, if◌then◌else◌}
-use Rattle.std.specs.Prelude.{List, [], ◌∷◌, ◌++◌, length, take, slice_get, slice_index, Option, Some, None, option_map, unwrap_or, bytes_eq}
+use Rattle.std.specs.Prelude.{
+  ◌≡◌, ◌≢◌, ◌⊎◌, true, false, nat_le, IsSomeAnd, sum_by, ℕ, ◌+◌, ◌*◌, ◌^◌, ◌<◌, ◌≤◌, ◌==◌, nat_lt, ◌&&◌, Bool,
+  if◌then◌else◌
+}
+use Rattle.std.specs.Prelude.{
+  List, [], ◌∷◌, ◌++◌, length, take, slice_get, slice_index, Option, Some, None, option_map, unwrap_or, bytes_eq
+}
 use Rattle.rl_model.specs.declared.rows.Item.{Item}
 use Rattle.rl_model.specs.declared.rows.Item.TheVariants.{Reg, Mem}
 use Rattle.std.specs.List.{list_any}
@@ -51,7 +56,9 @@ value_for kind (r ∷ rs) = if r.kind == kind then Some r.value else value_for k
 
 -- a path that goes on from the block's path
 abbrev pub is_inside : List ℕ → List ℕ → Bool
-is_inside block path = nat_lt (length block) (length path) && (bytes_eq (take (length block) path) block && slice_index path (length block) == 46)
+is_inside block path =
+    nat_lt (length block) (length path)
+    && (bytes_eq (take (length block) path) block && slice_index path (length block) == 46)
 
 -- the path is a name after the path of the scope with this number, a block or a file
 pub record IsInScope (c : ChipData) (scope_number : ℕ) (path : List ℕ) : Type 0 where
@@ -151,7 +158,10 @@ pub record IsSound (c : ChipData) : Type 0 where
   -- the fields of the registers follow one another
   pub firsts : (n : ℕ) (r : RegRow) → slice_get c.regs n ≡ Some r → r.first ≡ sum_by (λ r. r.count) (take n c.regs)
   pub counts : length c.fields ≡ sum_by (λ r. r.count) c.regs
-  pub each_reset : (i : ℕ) (f : FieldSeen) (k : ℕ) (r : Reset) → slice_get c.fields i ≡ Some f → slice_get f.resets k ≡ Some r → ResetFits c f r
+  pub each_reset : (i : ℕ) (f : FieldSeen) (k : ℕ) (r : Reset)
+      → slice_get c.fields i ≡ Some f → slice_get f.resets k ≡ Some r
+      → ResetFits c f r
   -- a field has at most one value for a kind
-  pub one_value : (i : ℕ) (f : FieldSeen) (k l : ℕ) (r s : Reset) → slice_get c.fields i ≡ Some f → slice_get f.resets k ≡ Some r → slice_get f.resets l ≡ Some s
+  pub one_value : (i : ℕ) (f : FieldSeen) (k l : ℕ) (r s : Reset)
+      → slice_get c.fields i ≡ Some f → slice_get f.resets k ≡ Some r → slice_get f.resets l ≡ Some s
       → r.kind ≡ s.kind → k ≡ l

@@ -20,4 +20,6 @@ HaveFields regs fields = (n : ℕ) (r : RegRow) → slice_get regs n ≡ Some r 
 -- for each register its masks
 pub record AreEffects (regs : List RegRow) (fields : List FieldSeen) (all : List Effects) : Type 0 where
   pub long : length all ≡ length regs
-  pub each : (n : ℕ) (r : RegRow) (e : Effects) → slice_get regs n ≡ Some r → slice_get all n ≡ Some e → AreEffectsOf (policy_at (take r.count (drop r.first fields))) e
+  pub each : (n : ℕ) (r : RegRow) (e : Effects)
+      → slice_get regs n ≡ Some r → slice_get all n ≡ Some e
+      → AreEffectsOf (policy_at (take r.count (drop r.first fields))) e

@@ -11,7 +11,8 @@ use Rattle.rl_model.specs.Build.{shape_of}
 
 abbrev pub numbered : List (List ℕ) → List ResetPart → List Reset
 numbered kinds [] = []
-numbered kinds (r ∷ rs) = record { kind = number_in kinds r.kind; value = r.value } ∷ numbered (with_text kinds r.kind) rs
+numbered kinds (r ∷ rs) =
+    record { kind = number_in kinds r.kind; value = r.value } ∷ numbered (with_text kinds r.kind) rs
 
 abbrev pub field_next : ℕ → List (List ℕ) → FieldData → FieldSeen
 field_next reg kinds f = record { shape = shape_of reg f; name = f.name; resets = numbered kinds f.resets }

@@ -1,5 +1,8 @@
 -- Numbers as text.
-use Rattle.std.specs.Prelude.{ℕ, ◌-◌, ◌^◌, ◌/◌, ◌%◌, ◌==◌, Bool, ◌&&◌, ◌||◌, if◌then◌else◌, List, [], ◌∷◌, length, drop, map, nat_lt, slice_index, Option, Some, None}
+use Rattle.std.specs.Prelude.{
+  ℕ, ◌-◌, ◌^◌, ◌/◌, ◌%◌, ◌==◌, Bool, ◌&&◌, ◌||◌, if◌then◌else◌, List, [], ◌∷◌, length, drop, map, nat_lt, slice_index,
+  Option, Some, None
+}
 use Rattle.std.specs.List.{list_all}
 use Rattle.std.specs.Char.{digit_char, is_digit}
 use Rattle.std.specs.Int.Digits.{digits_of}
@@ -29,7 +32,8 @@ numeral_of radix ds = if is_numeral radix ds then fitting (digits_value radix ds
 
 -- the text begins with 0x or 0X
 abbrev pub has_hex_prefix : List ℕ → Bool
-has_hex_prefix text = nat_lt 1 (length text) && slice_index text 0 == 48 && (slice_index text 1 == 120 || slice_index text 1 == 88)
+has_hex_prefix text =
+    nat_lt 1 (length text) && slice_index text 0 == 48 && (slice_index text 1 == 120 || slice_index text 1 == 88)
 
 -- what a text writes: decimal digits, or 0x or 0X and hexadecimal digits
 abbrev pub number_of : List ℕ → NumberText

@@ -3,7 +3,10 @@ use Rattle.std.specs.Prelude.{◌≡◌, ◌↔◌, Bool, true, not, ◌||◌, I
 use Rattle.std.specs.Bool.{beq}
 use Rattle.rl_policy.specs.Table.{after_write, update_bit}
 use Rattle.rl_policy.specs.declared.policy.Policy.{Policy}
-use Rattle.rl_policy.specs.declared.policy.Policy.TheVariants.{Ro, Rw, Rc, Rs, Wrc, Wrs, Wc, Ws, Wsrc, Wcrs, W1c, W1s, W1t, W0c, W0s, W0t, W1src, W1crs, W0src, W0crs, Wo, Woc, Wos, W1, Wo1}
+use Rattle.rl_policy.specs.declared.policy.Policy.TheVariants.{
+  Ro, Rw, Rc, Rs, Wrc, Wrs, Wc, Ws, Wsrc, Wcrs, W1c, W1s, W1t, W0c, W0s, W0t, W1src, W1crs, W0src, W0crs, Wo, Woc, Wos,
+  W1, Wo1
+}
 
 -- A write can turn the mirrored bit m into the desired bit d, at the spent mark s: this project's own.
 abbrev pub is_reached : Policy → Bool → Bool → Bool → Bool
@@ -51,6 +54,10 @@ is_one_sided _ = false
 -- what keeps desired bits in reach: a prediction, which makes them the mirrored ones; `set`; and a hard reset
 pub record KeepsReach : Type 0 where
   pub predicted : (p : Policy) (m s : Bool) → is_one_sided p ≡ false → IsTrue (is_reached p m m s)
-  pub set : (p : Policy) (m d v s : Bool) → IsTrue (is_reached p m d s) → IsTrue (is_reached p m (after_write p d v s) s)
-  pub set_one_sided : (p : Policy) (m d v s : Bool) → is_one_sided p ≡ true → IsTrue (is_reached p m (after_write p d v s) s)
+  pub set : (p : Policy) (m d v s : Bool)
+      → IsTrue (is_reached p m d s)
+      → IsTrue (is_reached p m (after_write p d v s) s)
+  pub set_one_sided : (p : Policy) (m d v s : Bool)
+      → is_one_sided p ≡ true
+      → IsTrue (is_reached p m (after_write p d v s) s)
   pub fresh : (p : Policy) (m d s : Bool) → IsTrue (is_reached p m d s) → IsTrue (is_reached p m d false)

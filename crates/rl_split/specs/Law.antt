@@ -1,5 +1,7 @@
 -- The law of split accesses: the items of an access to a register, one after another, are one step of the register.
-use Rattle.std.specs.Prelude.{◌≡◌, ℕ, ◌-◌, ◌^◌, ◌<◌, Bool, true, false, List, [], length, map, All, slice_index, slice_set, Option, Some, None}
+use Rattle.std.specs.Prelude.{
+  ◌≡◌, ℕ, ◌-◌, ◌^◌, ◌<◌, Bool, true, false, List, [], length, map, All, slice_index, slice_set, Option, Some, None
+}
 use Rattle.rl_policy.specs.Bits.{bit, from_bits}
 use Rattle.rl_model.specs.declared.rows.Item.TheVariants.{Reg, Mem}
 use Rattle.rl_model.specs.Rows.{FieldSeen, ChipData}
@@ -70,17 +72,22 @@ abbrev pub written_answer : BusOp → Answer
 written_answer op = record { word = 0; failed = false }
 
 -- no item failed, the register made a write of the chosen fields, and all else stays
-pub record IsWrite (c : ChipData) (l : LayoutData) (s : State) (place reg : ℕ) (chosen : ℕ → Bool) (value : ℕ) (r : Register) (ops : List BusOp) : Type 0 where
+pub record IsWrite (c : ChipData) (l : LayoutData) (s : State) (place reg : ℕ) (chosen : ℕ → Bool) (value : ℕ)
+    (r : Register) (ops : List BusOp) : Type 0 where
   pub answers : answers_of s (row_at l place).port ops ≡ map written_answer ops
-  pub state : state_after_all s (row_at l place).port ops ≡ after_wstep c s reg (wstep (fields_of c reg) chosen value r) (length ops)
+  pub state :
+      state_after_all s (row_at l place).port ops
+      ≡ after_wstep c s reg (wstep (fields_of c reg) chosen value r) (length ops)
   pub holds : Holds c (state_after_all s (row_at l place).port ops) reg (wstep (fields_of c reg) chosen value r)
   pub ready : IsReady c l (state_after_all s (row_at l place).port ops)
 
 -- no item failed, the answers bring the value of a read of the chosen fields, the register made it, and all else stays
-pub record IsRead (c : ChipData) (l : LayoutData) (s : State) (place reg : ℕ) (chosen : ℕ → Bool) (r : Register) (ops : List BusOp) (value : List ℕ → ℕ) : Type 0 where
+pub record IsRead (c : ChipData) (l : LayoutData) (s : State) (place reg : ℕ) (chosen : ℕ → Bool) (r : Register)
+    (ops : List BusOp) (value : List ℕ → ℕ) : Type 0 where
   pub answers : All (λ a. a.failed ≡ false) (answers_of s (row_at l place).port ops)
   pub value_is : value (map (λ a. a.word) (answers_of s (row_at l place).port ops)) ≡ ranswer (fields_of c reg) chosen r
-  pub state : state_after_all s (row_at l place).port ops ≡ after_rstep s reg (rstep (fields_of c reg) chosen r) (length ops)
+  pub state :
+      state_after_all s (row_at l place).port ops ≡ after_rstep s reg (rstep (fields_of c reg) chosen r) (length ops)
   pub holds : Holds c (state_after_all s (row_at l place).port ops) reg (rstep (fields_of c reg) chosen r)
   pub ready : IsReady c l (state_after_all s (row_at l place).port ops)
 
@@ -107,7 +114,8 @@ NarrowWriteIsStep =
     → field < length c.fields → is_narrow c l field place true ≡ true
     → let reg = (field_at c field).reg in
     IsPlaceOf c l place reg true → IsReady c l s → Holds c s reg r
-    → IsWrite c l s place reg (only (field - first_of c reg)) value r (ops_of l place 0 (bytes_of_field (field_at c field)) value true)
+    → IsWrite c l s place reg (only (field - first_of c reg)) value r
+        (ops_of l place 0 (bytes_of_field (field_at c field)) value true)
 
 abbrev pub NarrowReadIsStep : Type 0
 NarrowReadIsStep =
@@ -116,7 +124,8 @@ NarrowReadIsStep =
     → let reg = (field_at c field).reg in
     let chosen = bytes_of_field (field_at c field) in
     IsPlaceOf c l place reg false → IsReady c l s → Holds c s reg r
-    → IsRead c l s place reg (only (field - first_of c reg)) r (ops_of l place 0 chosen 0 false) (joined l place 0 chosen)
+    → IsRead c l s place reg (only (field - first_of c reg)) r (ops_of l place 0 chosen 0 false)
+        (joined l place 0 chosen)
 
 -- ---- memories: an access to all bytes of a location stores or brings its value
 
@@ -134,16 +143,23 @@ pub record HasLocation (s : State) (mem index bytes : ℕ) : Type 0 where
   pub fits : slice_index s.locations (location s.setup mem index) < 256 ^ bytes
 
 -- no item failed, the location has the value, and all else stays
-pub record IsStore (c : ChipData) (l : LayoutData) (s : State) (place mem index value : ℕ) (ops : List BusOp) : Type 0 where
+pub record IsStore (c : ChipData) (l : LayoutData) (s : State) (place mem index value : ℕ)
+    (ops : List BusOp) : Type 0 where
   pub answers : answers_of s (row_at l place).port ops ≡ map written_answer ops
   pub state : state_after_all s (row_at l place).port ops
-      ≡ record s { locations = slice_set s.locations (location s.setup mem index) value; items = counted_on (length ops) s.items }
+      ≡ record s {
+          locations = slice_set s.locations (location s.setup mem index) value;
+          items = counted_on (length ops) s.items
+        }
   pub ready : IsReady c l (state_after_all s (row_at l place).port ops)
 
 -- no item failed, the answers bring the location's value, and the device stays
-pub record IsLoad (c : ChipData) (l : LayoutData) (s : State) (place mem index : ℕ) (ops : List BusOp) (value : List ℕ → ℕ) : Type 0 where
+pub record IsLoad (c : ChipData) (l : LayoutData) (s : State) (place mem index : ℕ) (ops : List BusOp)
+    (value : List ℕ → ℕ) : Type 0 where
   pub answers : All (λ a. a.failed ≡ false) (answers_of s (row_at l place).port ops)
-  pub value_is : value (map (λ a. a.word) (answers_of s (row_at l place).port ops)) ≡ slice_index s.locations (location s.setup mem index)
+  pub value_is :
+      value (map (λ a. a.word) (answers_of s (row_at l place).port ops))
+      ≡ slice_index s.locations (location s.setup mem index)
   pub state : state_after_all s (row_at l place).port ops ≡ record s { items = counted_on (length ops) s.items }
   pub ready : IsReady c l (state_after_all s (row_at l place).port ops)
 

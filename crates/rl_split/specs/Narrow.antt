@@ -33,12 +33,16 @@ share_byte f g = nat_le (first_byte f) (last_byte g) && nat_le (first_byte g) (l
 abbrev pub has_neighbour : ChipData → ℕ → Bool
 has_neighbour c field =
     let reg = (field_at c field).reg in
-    list_any (λ n. not (n == field) && share_byte (field_at c n) (field_at c field)) (range_with_len (first_of c reg) (count_of c reg))
+    list_any (λ n. not (n == field) && share_byte (field_at c n) (field_at c field))
+      (range_with_len (first_of c reg) (count_of c reg))
 
 -- An individually accessible field is accessed alone (uvm_reg_field::write and read, IEEE 1800.2-2017, 18.5). The
 -- conditions are this project's own: it is marked alone and has no neighbour in its bytes; prediction is implicit; no
 -- map on the path is of a FIFO kind; and the adapter carries byte enables in the direction.
 unfoldable pub is_narrow : ChipData → LayoutData → (field place : ℕ) → (write : Bool) → Bool
 is_narrow c l field place write =
-    (field_at c field).alone && not (has_neighbour c field) && not (port_at l (place_at l place).port).explicit && not (place_at l place).fifo
+    (field_at c field).alone
+    && not (has_neighbour c field)
+    && not (port_at l (place_at l place).port).explicit
+    && not (place_at l place).fifo
     && carries_lanes (kind_of l place) write

@@ -27,7 +27,11 @@ word_in l s k = get_or (words_in l s) k no_word
 
 -- a word as it is sent
 abbrev pub outgoing_word : LayoutData → Outgoing → Word → OutgoingWord
-outgoing_word l s w = record { op = op_of l s.place s.chosen s.value s.write w; lanes = lanes_for s.chosen w; order = w.order }
+outgoing_word l s w = record {
+  op = op_of l s.place s.chosen s.value s.write w;
+  lanes = lanes_for s.chosen w;
+  order = w.order
+}
 
 -- none where it has no chosen byte
 abbrev pub sent_as : LayoutData → Outgoing → Word → Option OutgoingWord

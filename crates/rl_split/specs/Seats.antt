@@ -8,13 +8,15 @@ use Rattle.rl_split.specs.Access.{IsChoice, ops_of, orders_of, joined}
 
 -- the number of the operation that carries a byte: its word has the order of the byte's seat
 abbrev pub number_at : LayoutData → (place index chosen byte : ℕ) → ℕ
-number_at l place index chosen byte = position_or_len (λ o. o == (seat_at l place index byte).order) (orders_of l place index chosen)
+number_at l place index chosen byte =
+    position_or_len (λ o. o == (seat_at l place index byte).order) (orders_of l place index chosen)
 
 -- each chosen byte of the value is that of its answer at the lane of its seat, and any other byte is 0
 abbrev pub ValueIsBySeats : Type 0
 ValueIsBySeats =
     (l : LayoutData) (place index chosen : ℕ) (answers : List ℕ)
-    → IsSound l → IsLocation l place index → IsChoice (place_at l place).bytes chosen → length answers ≡ length (orders_of l place index chosen)
+    → IsSound l → IsLocation l place index → IsChoice (place_at l place).bytes chosen
+    → length answers ≡ length (orders_of l place index chosen)
     → (byte i : ℕ) → byte < 8 → i < 8
     → let seat = seat_at l place index byte in
     bit (joined l place index chosen answers) (8 * byte + i)
@@ -26,7 +28,8 @@ no_op = record { write = false; address = 0; word = 0; lanes = 0; bytes = 0 }
 
 -- the operation that carries a byte
 abbrev pub op_at : LayoutData → (place index chosen value : ℕ) → (write : Bool) → (byte : ℕ) → BusOp
-op_at l place index chosen value write byte = get_or (ops_of l place index chosen value write) (number_at l place index chosen byte) no_op
+op_at l place index chosen value write byte =
+    get_or (ops_of l place index chosen value write) (number_at l place index chosen byte) no_op
 
 -- it is one of the access's, it goes to the address of the byte's seat, and a write has the byte in the seat's lane
 pub record IsCarried (l : LayoutData) (place index chosen value : ℕ) (write : Bool) (byte : ℕ) : Type 0 where
@@ -34,7 +37,8 @@ pub record IsCarried (l : LayoutData) (place index chosen value : ℕ) (write : 
   pub address : (op_at l place index chosen value write byte).address ≡ (seat_at l place index byte).address
   pub lane : bit (op_at l place index chosen value write byte).lanes (seat_at l place index byte).lane ≡ true
   pub bits : (i : ℕ) → i < 8
-      → bit (op_at l place index chosen value write byte).word (8 * (seat_at l place index byte).lane + i) ≡ (write && bit value (8 * byte + i))
+      → bit (op_at l place index chosen value write byte).word (8 * (seat_at l place index byte).lane + i)
+        ≡ (write && bit value (8 * byte + i))
 
 -- so it is with each chosen byte
 abbrev pub OperationsAreBySeats : Type 0

@@ -30,18 +30,21 @@ whole_op l place value write k = get_or (whole_ops l place value write) k no_op
 abbrev pub alone : LayoutData → State → (place value : ℕ) → (write : Bool) → (k : ℕ) → State
 alone l begun place value write k = state_after_all begun (row_at l place).port (take k (whole_ops l place value write))
 
--- The first k words were sent since the device stood so: its register, and the beats at the addresses of the place, are as
--- if they had been sent alone.
+-- The first k words were sent since the device stood so: its register, and the beats at the addresses of the place,
+-- are as if they had been sent alone.
 pub record IsUnderWay (l : LayoutData) (begun s : State) (place reg value : ℕ) (write : Bool) (k : ℕ) : Type 0 where
   pub bits : slice_index s.bits reg ≡ slice_index (alone l begun place value write k).bits reg
   pub marks : slice_index s.marks reg ≡ slice_index (alone l begun place value write k).marks reg
-  pub beats : (address : ℕ) → Occupies l (row_at l place).port address place 0 → s.beats (row_at l place).port address ≡ (alone l begun place value write k).beats (row_at l place).port address
+  pub beats : (address : ℕ)
+      → Occupies l (row_at l place).port address place 0
+      → s.beats (row_at l place).port address ≡ (alone l begun place value write k).beats (row_at l place).port address
 
 -- ---- the laws
 
 -- before its first word
 abbrev pub NoneSentIsUnderWay : Type 0
-NoneSentIsUnderWay = (l : LayoutData) (s : State) (place reg value : ℕ) (write : Bool) → IsUnderWay l s s place reg value write 0
+NoneSentIsUnderWay =
+    (l : LayoutData) (s : State) (place reg value : ℕ) (write : Bool) → IsUnderWay l s s place reg value write 0
 
 -- two states differ in one register, and in the beat of one address, alone
 pub record IsTouched (s next : State) (reg port address : ℕ) : Type 0 where
@@ -54,8 +57,10 @@ pub record IsTouched (s next : State) (reg port address : ℕ) : Type 0 where
   pub beats : (p a : ℕ) → ((p ≡ port) × (a ≡ address) → ⊥) → next.beats p a ≡ s.beats p a
 
 -- the next word doesn't fail, is answered as if sent alone, and touches its register alone
-pub record IsNextWord (l : LayoutData) (begun s : State) (place reg value : ℕ) (write : Bool) (k : ℕ) (op : BusOp) : Type 0 where
-  pub answer : answer_of s (row_at l place).port op ≡ answer_of (alone l begun place value write k) (row_at l place).port op
+pub record IsNextWord (l : LayoutData) (begun s : State) (place reg value : ℕ) (write : Bool) (k : ℕ)
+    (op : BusOp) : Type 0 where
+  pub answer :
+      answer_of s (row_at l place).port op ≡ answer_of (alone l begun place value write k) (row_at l place).port op
   pub quiet : (answer_of s (row_at l place).port op).failed ≡ false
   pub touched : IsTouched s (state_after s (row_at l place).port op) reg (row_at l place).port op.address
   pub at : Occupies l (row_at l place).port op.address place 0
@@ -77,12 +82,15 @@ OthersStayUnderWay =
     → (before : State) (other its_reg its_value : ℕ) (its_write : Bool) (j : ℕ)
     → IsPlaceOf c l other its_reg its_write → (its_reg ≡ reg → ⊥)
     → IsUnderWay l before s other its_reg its_value its_write j
-    → IsUnderWay l before (state_after s (row_at l place).port (whole_op l place value write k)) other its_reg its_value its_write j
+    → IsUnderWay l before (state_after s (row_at l place).port (whole_op l place value write k))
+        other its_reg its_value its_write j
 
 -- once all words were sent, the register took one step, and the beats at its addresses are 0
 pub record IsOver (c : ChipData) (l : LayoutData) (s : State) (place reg : ℕ) (r : Register) : Type 0 where
   pub holds : Holds c s reg r
-  pub beats : (address : ℕ) → Occupies l (row_at l place).port address place 0 → s.beats (row_at l place).port address ≡ 0
+  pub beats : (address : ℕ)
+      → Occupies l (row_at l place).port address place 0
+      → s.beats (row_at l place).port address ≡ 0
 
 abbrev pub AllSentIsWrite : Type 0
 AllSentIsWrite =
