@@ -20,7 +20,9 @@ abbrev pub on_timer : Result DescData (List ℕ) → Result DescData (List ℕ)
 on_timer (Ok desc) = unless_flawed desc (has_flaws desc.flaws)
 on_timer (Err line) = Err line
 
--- It is refused by what it describes and for the timer, or its script is played. `errors` is how often the timer failed, where there is one.
-abbrev pub RunsOnTimer : (bytes : List ℕ) → Status → (old new : Option (List ℕ)) → (adapters now : List Standing) → (errors : Option ℕ) → Type 0
+-- It is refused by what it describes and for the timer, or its script is played.
+-- `errors` is how often the timer failed, where there is one.
+abbrev pub RunsOnTimer : (bytes : List ℕ) → Status → (old new : Option (List ℕ)) → (adapters now : List Standing)
+    → (errors : Option ℕ) → Type 0
 RunsOnTimer bytes status old new adapters now errors =
     RunsSession (on_timer (opening_of bytes (kinds_of adapters))) bytes status old new adapters now errors

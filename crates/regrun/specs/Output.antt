@@ -15,8 +15,8 @@ use Rattle.rl_report.specs.declared.source.Source.{Ghosts as Source}
 use Rattle.rl_session.specs.Judged.{Judged, first_world}
 use Rattle.rl_weave_log.specs.WeaveLog.{closed_text, counting}
 
--- the log of the lines of a script whose accesses are woven, from the first state of a description on: that of the groups that
--- a blank line among these ends
+-- the log of the lines of a script whose accesses are woven, from the first state of a description on:
+-- that of the groups that a blank line among these ends
 abbrev pub woven_lines : (n : ℕ) → DescData → List Standing → List (List ℕ) → List ℕ
 woven_lines n desc adapters lines = closed_text 1 (counting n no_counts (first_world desc adapters)) lines
 
@@ -35,14 +35,18 @@ pub record BreaksOff (log : (taken : List ℕ) → List Standing → List ℕ) (
   pub is_left : left ≡ Some others
   pub text : Appends old new (log taken adapters)
 
--- A session was read from its first byte on and run, or ended before its script: from what the source, the log and the adapters
--- were before to what they are after. `judge` says what its bytes come to, and `log_of` what is written of a front of them.
+-- A session was read from its first byte on and run, or ended before its script: from what the source,
+-- the log and the adapters were before to what they are after. `judge` says what its bytes come to, and `log_of` what
+-- is written of a front of them.
 pub record RunsWhole {S K : Type 0} (source : Source S) (sink : Sink K) (is_out : K → Type 0)
     (judge : (bytes : List ℕ) → List Standing → Judged) (log_of : (taken : List ℕ) → List Standing → List ℕ)
     (before after : S) (old new : K) (adapters now : List Standing) (status : Status) : Type 0 where
-  -- What is written is what is judged, with its status. After any fault, and where memory ran out, it is a front of that.
-  pub tells : IfSome (source.left before) (λ bytes. IsJudged (judge bytes adapters) status (sink.written old) (sink.written new) now)
-  -- After a source that failed, what is written is exactly the log of the bytes that were taken, and nothing of it is kept back.
+  -- What is written is what is judged, with its status. After any fault, and where memory ran
+  -- out, it is a front of that.
+  pub tells : IfSome (source.left before) (λ bytes.
+      IsJudged (judge bytes adapters) status (sink.written old) (sink.written new) now)
+  -- After a source that failed, what is written is exactly the log of the bytes that were taken,
+  -- and nothing of it is kept back.
   pub at_fault : status ≡ SourceFault → IfSome (source.left before) (λ bytes.
       BreaksOff log_of bytes adapters (source.left after) (sink.written old) (sink.written new))
   pub flushed : status ≡ SourceFault → is_out old → is_out new

@@ -17,22 +17,26 @@ use Rattle.regrun.specs.declared.words.Task.{Task}
 use Rattle.regrun.specs.declared.words.Task.TheVariants.{Run, Map, Soak, Weave}
 use Rattle.regrun.specs.Output.{BreaksOff, WritesEvents}
 
--- In each of these, `input` and `left` are the bytes that the source has before and after the call, where it tells them.
+-- In each of these, `input` and `left` are the bytes that the source has before and after
+-- the call, where it tells them.
 
 pub record Runs (status : Status) (input left : Option (List ℕ)) (before after : Output) : Type 0 where
-  -- The headline: `run` writes the judged log of the session, and answers its status; the adapters then stand as its items
-  -- leave them. After any fault, and where memory ran out, it wrote a front of that.
+  -- The headline: `run` writes the judged log of the session, and answers its status; the adapters then stand as its
+  -- items leave them. After any fault, and where memory ran out, it wrote a front of that.
   pub run : IfSome input (λ bytes. WritesJudged (judged bytes) status before after)
-  -- Each event of that log is lawful. One that ended by a bus error left the mirrored values, the desired values and the marks of
-  -- first writes as they were. A check names exactly the compared fields whose bits in the value read aren't those that were mirrored
-  -- before the read, and one of a memory's location is marked exactly where it read another value. Nothing else names any.
+  -- Each event of that log is lawful. One that ended by a bus error left the mirrored values, the desired values
+  -- and the marks of first writes as they were. A check names exactly the compared fields whose bits in the value read
+  -- aren't those that were mirrored before the read, and one of a memory's location is marked exactly where it read
+  -- another value. Nothing else names any.
   pub lawful : IfSome input (λ bytes. All IsLawful (judged_events bytes before.adapters))
-  -- What is said of these events is said of what was written: as a whole it is, line by line, the text of each of them in order.
-  pub events : is_complete status ≡ true → IfSome input (λ bytes. IfOk (opening_of bytes (kinds_of before.adapters)) (λ desc.
-      WritesEvents (script_of bytes) (judged_events bytes before.adapters) before.text after.text))
-  -- The other half. Where the description declares no flaw and no volatile field, and wherever the session is refused
-  -- before its script, what `run` wrote as a whole is, without its item lines, the log of a plain machine that steps whole
-  -- registers.
+  -- What is said of these events is said of what was written: as a whole it is, line by line,
+  -- the text of each of them in order.
+  pub events : is_complete status ≡ true → IfSome input (λ bytes.
+      IfOk (opening_of bytes (kinds_of before.adapters)) (λ desc.
+        WritesEvents (script_of bytes) (judged_events bytes before.adapters) before.text after.text))
+  -- The other half. Where the description declares no flaw and no volatile field, and wherever the session
+  -- is refused before its script, what `run` wrote as a whole is, without its item lines, the log of a plain machine
+  -- that steps whole registers.
   pub plain : is_complete status ≡ true → IfSome input (λ bytes.
       IsSteadyOpening (opening_of bytes (kinds_of before.adapters))
       → WritesPlainLog bytes (kinds_of before.adapters) before.text after.text)
@@ -44,8 +48,8 @@ pub record Maps (status : Status) (input left : Option (List ℕ)) (before after
   -- `map` writes where the items stand, and compares nothing.
   pub map : IfSome input (λ bytes. WritesJudged (map_judged bytes) status before after)
   pub map_status : status ≢ Found
-  -- It leaves the script: where the source fails, no whole separator was taken. Else, but for want of memory, the script is
-  -- unread but for what was taken with the separator.
+  -- It leaves the script: where the source fails, no whole separator was taken. Else, but for want of memory,
+  -- the script is unread but for what was taken with the separator.
   pub map_at_fault : status ≡ SourceFault → IfSome input (λ bytes. TakesNoHead bytes left)
   pub map_unread : status ≢ SourceFault → status ≢ Memory → IfSome input (λ bytes. LeavesScript bytes left)
 
@@ -58,10 +62,11 @@ pub record Weaves (n : ℕ) (status : Status) (input left : Option (List ℕ)) (
   -- `weave` and a number writes the log of the session with its words drawn from the number on, and answers its status.
   -- After any fault, and where memory ran out, it wrote a front of that.
   pub weave : IfSome input (λ bytes. WritesJudged (woven_judged n bytes) status before after)
-  -- The other half. Where the description declares no flaw and no volatile field, what `weave` wrote as a whole is, without its item
-  -- lines, the plain machine's log with the lines of each group in some order, up to its last line or the line at which the weave
-  -- stops. Wherever the session is refused before its script, it is that log.
-  pub plain : is_complete status ≡ true → IfSome input (λ bytes. WritesWovenPlain n bytes before.adapters before.text after.text)
+  -- The other half. Where the description declares no flaw and no volatile field, what `weave` wrote as a whole is,
+  -- without its item lines, the plain machine's log with the lines of each group in some order, up to its last line or
+  -- the line at which the weave stops. Wherever the session is refused before its script, it is that log.
+  pub plain : is_complete status ≡ true
+      → IfSome input (λ bytes. WritesWovenPlain n bytes before.adapters before.text after.text)
   -- After a source that failed, the sink has exactly the log of the groups whose blank line was taken whole.
   pub weave_at_fault : status ≡ SourceFault → IfSome input (λ bytes.
       BreaksOff (woven_taken_text n) bytes before.adapters left before.text after.text)

@@ -8,7 +8,9 @@ use Rattle.regrun.specs.declared.words.Task.{Task}
 use Rattle.regrun.specs.declared.words.Task.TheVariants.{Run, Map, Soak, Weave}
 
 abbrev pub task_named : List ℕ → Option Task
-task_named word = if bytes_eq word (codes "run") then Some Run else (if bytes_eq word (codes "map") then Some Map else None)
+task_named word =
+    if bytes_eq word (codes "run") then Some Run
+    else (if bytes_eq word (codes "map") then Some Map else None)
 
 abbrev pub numbered_task : List ℕ → NumberText → Option Task
 numbered_task word (Value n) =

@@ -1,9 +1,13 @@
 -- Which sequence finds a deaf memory: `mem_walk`; and a deaf register: `access_test`.
-use Rattle.std.specs.Prelude.{◌≡◌, ◌≢◌, ℕ, ◌+◌, ◌^◌, ◌<◌, Bool, true, false, not, All, List, [], ◌∷◌, length, slice_index, sum_by, Option, Some}
+use Rattle.std.specs.Prelude.{
+  ◌≡◌, ◌≢◌, ℕ, ◌+◌, ◌^◌, ◌<◌, Bool, true, false, not, All, List, [], ◌∷◌, length, slice_index, sum_by, Option, Some
+}
 use Rattle.rl_policy.specs.Bits.{bit}
 use Rattle.rl_policy.specs.Table.{after_write}
 use Rattle.rl_policy.specs.declared.policy.Policy.{Policy}
-use Rattle.rl_policy.specs.declared.policy.Policy.TheVariants.{Rw, Wrc, Wrs, Wc, Ws, Wsrc, Wcrs, W1s, W1t, W0c, W0t, W1src, W0crs, W1}
+use Rattle.rl_policy.specs.declared.policy.Policy.TheVariants.{
+  Rw, Wrc, Wrs, Wc, Ws, Wsrc, Wcrs, W1s, W1t, W0c, W0t, W1src, W0crs, W1
+}
 use Rattle.rl_bus.specs.declared.table.Cell.TheVariants.{Reg, Loc}
 use Rattle.rl_bus.specs.declared.table.ItemRow.{ItemRow}
 use Rattle.rl_bus.specs.Setup.{Flaws, location, is_deaf}
@@ -57,8 +61,8 @@ DeafMemoryIsFound =
 abbrev pub IsTurned : Policy → (value spent : Bool) → Type 0
 IsTurned p value spent = after_write p value (not value) spent ≢ value
 
--- a deaf register, and a bit of a compared field of it that is believed as it is held, at a value from which the field's policy
--- turns it
+-- a deaf register, and a bit of a compared field of it that is believed as it is held, at a value from which
+-- the field's policy turns it
 pub record IsDeafBit (c : ChipData) (d : State) (m : MirrorData) (field i : ℕ) : Type 0 where
   pub deaf : is_deaf d.setup (Reg (reg_of c field)) ≡ true
   pub field_in : field < length c.fields
@@ -73,8 +77,10 @@ pub record IsDeafBit (c : ChipData) (d : State) (m : MirrorData) (field i : ℕ)
 abbrev pub DeafRegisterIsNamed : Type 0
 DeafRegisterIsNamed =
     (s new : Scene) (d : State) (block : Option ℕ) (told : List Told) (field i place : ℕ)
-    → IsModel s.model → s.device ≡ Some d → HasDeafItems s.model.chip s.model.layout d → IsDeafBit s.model.chip d s.model.mirror field i
-    → IsVisited Access s.model.chip s.model.layout block (reg_of s.model.chip field) place → RunsAll Access block s told new
+    → IsModel s.model → s.device ≡ Some d → HasDeafItems s.model.chip s.model.layout d
+    → IsDeafBit s.model.chip d s.model.mirror field i
+    → IsVisited Access s.model.chip s.model.layout block (reg_of s.model.chip field) place
+    → RunsAll Access block s told new
     → HasEvent (IsNamedBy s.model.chip field) told
 
 -- ---- the policies
@@ -89,7 +95,8 @@ turned_from_1 = Rw ∷ Wrc ∷ Wrs ∷ Wc ∷ Wcrs ∷ W0c ∷ W0t ∷ W0crs ∷
 -- and W1 turns either, where the first write is still to come
 abbrev pub PoliciesTurn : Type 0
 PoliciesTurn =
-    All (λ p. (spent : Bool) → IsTurned p false spent) turned_from_0 × All (λ p. (spent : Bool) → IsTurned p true spent) turned_from_1
+    All (λ p. (spent : Bool) → IsTurned p false spent) turned_from_0
+    × All (λ p. (spent : Bool) → IsTurned p true spent) turned_from_1
     × ((value : Bool) → IsTurned W1 value false)
 
 -- No field is spent in new beliefs.
@@ -99,5 +106,6 @@ NoneSpent = (c : ChipData) (field : ℕ) → is_spent (fresh c) field ≡ false
 -- A new device with deaf items and new beliefs of the same chip agree on each register, where no field is volatile.
 abbrev pub NewOnesAgreeOnBits : Type 0
 NewOnesAgreeOnBits =
-    (c : ChipData) (l : LayoutData) (deaf : List ItemRow) (count reg : ℕ) → IsSound c → HasNoVolatile c → reg < length c.regs
+    (c : ChipData) (l : LayoutData) (deaf : List ItemRow) (count reg : ℕ)
+    → IsSound c → HasNoVolatile c → reg < length c.regs
     → mirrored_of (fresh c) reg ≡ slice_index (first_state (setup_of c l (deaf_items deaf)) count).bits reg

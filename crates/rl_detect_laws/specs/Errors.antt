@@ -19,7 +19,8 @@ use Rattle.rl_detect_laws.specs.Visited.{RunsAll, HasEvent, IsVisited}
 
 -- by a flaw each item at this address of the port fails
 abbrev pub is_error_at : Setup → (port address : ℕ) → Bool
-is_error_at t port address = list_any (λ r. r.port == port && nat_le r.from address && nat_le address r.to) t.flaws.ranges
+is_error_at t port address =
+    list_any (λ r. r.port == port && nat_le r.from address && nat_le address r.to) t.flaws.ranges
 
 -- some word of a location of the place stands at such an address
 pub record HasError (l : LayoutData) (t : Setup) (place index : ℕ) : Type 0 where
@@ -31,13 +32,14 @@ pub record HasError (l : LayoutData) (t : Setup) (place index : ℕ) : Type 0 wh
 abbrev pub EndsByError : Event → Type 0
 EndsByError e = is_bus_error e.end ≡ true
 
--- the sequence sends something to what it visits: `bit_bash` does where a bit of the register belongs to a compared field
+-- the sequence sends something to what it visits: `bit_bash` does where a bit of the register
+-- belongs to a compared field
 abbrev pub SendsSome : Sequence → ChipData → (number : ℕ) → Type 0
 SendsSome BitBash c reg = (bit : ℕ) × (bit < 8 * size_of c reg) × (is_bit_compared c reg bit ≡ true)
 SendsSome _ c number = Unit {0}
 
--- Where an address of a word of a visited place answers errors, some event ends by a bus error, whatever else is wrong with the
--- device and whatever is believed.
+-- Where an address of a word of a visited place answers errors, some event ends by a bus error, whatever else is wrong
+-- with the device and whatever is believed.
 abbrev pub VisitedErrorIsFound : Type 0
 VisitedErrorIsFound =
     (s new : Scene) (d : State) (which : Sequence) (block : Option ℕ) (told : List Told) (number place index : ℕ)
@@ -56,16 +58,19 @@ abbrev pub SharedErrorIsFound : Type 0
 SharedErrorIsFound =
     (s new : Scene) (d : State) (block : Option ℕ) (told : List Told) (reg written place index : ℕ)
     → IsModel s.model → s.device ≡ Some d → IsVisited Shared s.model.chip s.model.layout block reg written
-    → IsPlaceWithRight s.model.layout reg place → HasError s.model.layout d.setup place index → RunsAll Shared block s told new
+    → IsPlaceWithRight s.model.layout reg place → HasError s.model.layout d.setup place index
+    → RunsAll Shared block s told new
     → HasEvent EndsByError told
 
 -- by a flaw the item with this number fails
 abbrev pub is_failing : Setup → (number : ℕ) → Bool
 is_failing t number = list_any (λ nth. nth == number) t.flaws.nths
 
--- Where the device took such an item while a sequence ran, some event ends by a bus error, whatever else is wrong with the device.
+-- Where the device took such an item while a sequence ran, some event ends by a bus error,
+-- whatever else is wrong with the device.
 abbrev pub NthErrorIsFound : Type 0
 NthErrorIsFound =
     (s new : Scene) (d after : State) (which : Sequence) (block : Option ℕ) (told : List Told) (number : ℕ)
-    → s.device ≡ Some d → new.device ≡ Some after → is_failing d.setup number ≡ true → d.items < number → number ≤ after.items
+    → s.device ≡ Some d → new.device ≡ Some after → is_failing d.setup number ≡ true
+    → d.items < number → number ≤ after.items
     → RunsAll which block s told new → HasEvent EndsByError told

@@ -14,8 +14,8 @@ use Rattle.rl_detect_laws.specs.Visited.{RunsAll, RunsSome}
 abbrev pub NamesNoField : Event → Type 0
 NamesNoField e = is_on_memory e.op ≡ false → e.differ ≡ 0
 
--- Where a device without flaws and a model without a volatile field agree, as new ones do, no event of a sequence names a
--- field, also where the recorder failed at the last one.
+-- Where a device without flaws and a model without a volatile field agree, as new ones do, no event of a sequence names
+-- a field, also where the recorder failed at the last one.
 abbrev pub NothingIsNamed : Type 0
 NothingIsNamed =
     (s new : Scene) (which : Sequence) (block : Option ℕ) (told : List Told)

@@ -42,12 +42,14 @@ pub record IsNamedBy (c : ChipData) (field : ℕ) (e : Event) : Type 0 where
   pub check : ChecksRegister e.op (reg_of c field)
   pub names : NamesField e (field - first_of c (reg_of c field))
 
--- Where a compared field of a register that `hw_reset` visits takes another value at a HARD reset than the description says,
--- some check names the field, whatever the device holds and whatever is believed before.
+-- Where a compared field of a register that `hw_reset` visits takes another value at a HARD reset than the description
+-- says, some check names the field, whatever the device holds and whatever is believed before.
 abbrev pub WrongResetIsNamed : Type 0
 WrongResetIsNamed =
     (s new : Scene) (d : State) (block : Option ℕ) (told : List Told) (field place : ℕ)
     → IsModel s.model → s.device ≡ Some d → HasWrongResets s.model.chip s.model.layout d
-    → field < length s.model.chip.fields → IsComparedField (field_of s.model.chip field).shape → IsResetOtherwise s.model.chip d.setup field
-    → IsVisited HwReset s.model.chip s.model.layout block (reg_of s.model.chip field) place → RunsAll HwReset block s told new
+    → field < length s.model.chip.fields → IsComparedField (field_of s.model.chip field).shape
+    → IsResetOtherwise s.model.chip d.setup field
+    → IsVisited HwReset s.model.chip s.model.layout block (reg_of s.model.chip field) place
+    → RunsAll HwReset block s told new
     → HasEvent (IsNamedBy s.model.chip field) told

@@ -1,9 +1,13 @@
 -- Which sequences find a stuck bit: `bit_bash` and `hw_reset`.
-use Rattle.std.specs.Prelude.{◌≡◌, ◌≢◌, ℕ, ◌+◌, ◌*◌, ◌<◌, Bool, true, false, not, All, List, [], ◌∷◌, length, slice_index, Option, Some}
+use Rattle.std.specs.Prelude.{
+  ◌≡◌, ◌≢◌, ℕ, ◌+◌, ◌*◌, ◌<◌, Bool, true, false, not, All, List, [], ◌∷◌, length, slice_index, Option, Some
+}
 use Rattle.rl_policy.specs.Bits.{bit}
 use Rattle.rl_policy.specs.Table.{after_write, after_read}
 use Rattle.rl_policy.specs.declared.policy.Policy.{Policy}
-use Rattle.rl_policy.specs.declared.policy.Policy.TheVariants.{Rw, Rc, Rs, Wrc, Wrs, Wc, Ws, Wsrc, Wcrs, W1c, W1s, W1t, W0c, W0s, W0t, W1src, W1crs, W0src, W0crs}
+use Rattle.rl_policy.specs.declared.policy.Policy.TheVariants.{
+  Rw, Rc, Rs, Wrc, Wrs, Wc, Ws, Wsrc, Wcrs, W1c, W1s, W1t, W0c, W0s, W0t, W1src, W1crs, W0src, W0crs
+}
 use Rattle.rl_bus.specs.declared.table.StuckRow.{StuckRow}
 use Rattle.rl_bus.specs.Setup.{Flaws}
 use Rattle.rl_bus.specs.State.{State, first_state}
@@ -31,7 +35,8 @@ stuck_bit s = record no_flaws { stuck = s ∷ [] }
 abbrev pub bit_of : ChipData → StuckRow → ℕ
 bit_of c s = (field_of c s.field).shape.lsb + s.bit
 
--- a device of this chip and this layout, whose only flaw is this stuck bit, with all beats 0; it holds the bit as it is stuck
+-- a device of this chip and this layout, whose only flaw is this stuck bit, with all beats 0;
+-- it holds the bit as it is stuck
 pub record HasStuckBit (c : ChipData) (l : LayoutData) (d : State) (s : StuckRow) : Type 0 where
   pub set_up : IsSetUp c (setup_of c l (stuck_bit s)) d
   pub open set_up use *
@@ -53,14 +58,16 @@ IsShownTurned p value = (spent : Bool) → after_write p (after_read p value) (n
 abbrev pub IsShownBeside : Policy → Bool → Type 0
 IsShownBeside p value = (spent : Bool) → after_write p (after_read p value) (after_read p value) spent ≢ value
 
--- Where such a bit of a visited register is stuck and the other value shows it, some check names its field, whatever else the
--- device holds and whatever is believed.
+-- Where such a bit of a visited register is stuck and the other value shows it, some check names its field,
+-- whatever else the device holds and whatever is believed.
 abbrev pub StuckBitIsNamed : Type 0
 StuckBitIsNamed =
     (s new : Scene) (d : State) (block : Option ℕ) (told : List Told) (stuck : StuckRow) (place : ℕ)
-    → IsModel s.model → s.device ≡ Some d → HasStuckBit s.model.chip s.model.layout d stuck → IsComparedBit s.model.chip stuck
+    → IsModel s.model → s.device ≡ Some d → HasStuckBit s.model.chip s.model.layout d stuck
+    → IsComparedBit s.model.chip stuck
     → IsShownTurned (field_of s.model.chip stuck.field).shape.policy stuck.value
-    → IsVisited BitBash s.model.chip s.model.layout block (reg_of s.model.chip stuck.field) place → RunsAll BitBash block s told new
+    → IsVisited BitBash s.model.chip s.model.layout block (reg_of s.model.chip stuck.field) place
+    → RunsAll BitBash block s told new
     → HasEvent (IsNamedBy s.model.chip stuck.field) told
 
 -- another bit of the register that is compared
@@ -73,9 +80,11 @@ pub record IsBitBeside (c : ChipData) (s : StuckRow) (beside : ℕ) : Type 0 whe
 abbrev pub StuckBitBesideIsNamed : Type 0
 StuckBitBesideIsNamed =
     (s new : Scene) (d : State) (block : Option ℕ) (told : List Told) (stuck : StuckRow) (beside place : ℕ)
-    → IsModel s.model → s.device ≡ Some d → HasStuckBit s.model.chip s.model.layout d stuck → IsComparedBit s.model.chip stuck
+    → IsModel s.model → s.device ≡ Some d → HasStuckBit s.model.chip s.model.layout d stuck
+    → IsComparedBit s.model.chip stuck
     → IsShownBeside (field_of s.model.chip stuck.field).shape.policy stuck.value → IsBitBeside s.model.chip stuck beside
-    → IsVisited BitBash s.model.chip s.model.layout block (reg_of s.model.chip stuck.field) place → RunsAll BitBash block s told new
+    → IsVisited BitBash s.model.chip s.model.layout block (reg_of s.model.chip stuck.field) place
+    → RunsAll BitBash block s told new
     → HasEvent (IsNamedBy s.model.chip stuck.field) told
 
 -- ---- the policies
@@ -112,9 +121,11 @@ pub record IsStuckOtherwise (c : ChipData) (s : StuckRow) : Type 0 where
 abbrev pub StuckResetIsNamed : Type 0
 StuckResetIsNamed =
     (s new : Scene) (d : State) (block : Option ℕ) (told : List Told) (stuck : StuckRow) (place : ℕ)
-    → IsModel s.model → s.device ≡ Some d → HasStuckBit s.model.chip s.model.layout d stuck → IsComparedBit s.model.chip stuck
+    → IsModel s.model → s.device ≡ Some d → HasStuckBit s.model.chip s.model.layout d stuck
+    → IsComparedBit s.model.chip stuck
     → IsStuckOtherwise s.model.chip stuck
-    → IsVisited HwReset s.model.chip s.model.layout block (reg_of s.model.chip stuck.field) place → RunsAll HwReset block s told new
+    → IsVisited HwReset s.model.chip s.model.layout block (reg_of s.model.chip stuck.field) place
+    → RunsAll HwReset block s told new
     → HasEvent (IsNamedBy s.model.chip stuck.field) told
 
 -- A new device with one stuck bit is such a one.

@@ -24,7 +24,8 @@ HasEvent IsSo (t ∷ told) = IsSo t.event ⊎ HasEvent IsSo told
 
 -- the sequence visits a register, or for `mem_walk` a memory, at this place: it isn't told to leave it out, and the
 -- place is the register's and has the rights that the sequence asks for
-pub record IsVisited (which : Sequence) (c : ChipData) (l : LayoutData) (block : Option ℕ) (number place : ℕ) : Type 0 where
+pub record IsVisited (which : Sequence) (c : ChipData) (l : LayoutData) (block : Option ℕ)
+    (number place : ℕ) : Type 0 where
   pub number_in : number < items_of which c
   pub chosen : is_chosen which c l block number ≡ true
   pub place_in : place < length l.places

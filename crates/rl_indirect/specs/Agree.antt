@@ -1,4 +1,5 @@
--- A bank over a device and a model that agree: both have the same entries, and an access by index is one step of one of them.
+-- A bank over a device and a model that agree: both have the same entries, and an access by index
+-- is one step of one of them.
 use Rattle.std.specs.Prelude.{◌≡◌, ℕ, Bool, true, false, if◌then◌else◌, List, All, slice_index, slice_set}
 use Rattle.rl_model.specs.Fields.{fields_of}
 use Rattle.rl_split.specs.Step.{Register, every, ranswer}
@@ -16,8 +17,8 @@ use Rattle.rl_indirect.specs.declared.indexed.Indexed.TheVariants.{NoSuchEntry, 
 use Rattle.rl_indirect.specs.Bank.{BankData, entries_there, entries_believed}
 use Rattle.rl_indirect.specs.Indexed.{is_done}
 
--- The device and the model agree, and so do their entries, each of which is a value of the data register. Either has that
--- entry in its data register which the index register selects.
+-- The device and the model agree, and so do their entries, each of which is a value of the data register.
+-- Either has that entry in its data register which the index register selects.
 pub record BankAgree (s : Scene) (b : BankData) : Type 0 where
   pub agree : Agree s
   pub entries : entries_there b agree.device ≡ entries_believed b s.model
@@ -44,14 +45,17 @@ is_refused _ = false
 abbrev pub entries_after : BankData → ModelData → (k : ℕ) → Step → Indexed → List ℕ
 entries_after b m k step NoSuchEntry = entries_believed b m
 entries_after b m k step (AtIndex index) = entries_believed b m
-entries_after b m k step (At index access) = if is_refused access.end then entries_believed b m else entries_stepped b m k step
+entries_after b m k step (At index access) =
+    if is_refused access.end then entries_believed b m
+    else entries_stepped b m k step
 
 -- a value that was read is what a read of entry k answers
 abbrev pub ReadsEntry : BankData → ModelData → (k : ℕ) → Indexed → Type 0
 ReadsEntry b m k NoSuchEntry = Unit {0}
 ReadsEntry b m k (AtIndex index) = Unit {0}
 ReadsEntry b m k (At index access) =
-    (read : ℕ) → access.end ≡ end.Value read → read ≡ ranswer (fields_of m.chip b.window.data_reg) every (entry_at b m k)
+    (read : ℕ) → access.end ≡ end.Value read
+    → read ≡ ranswer (fields_of m.chip b.window.data_reg) every (entry_at b m k)
 
 -- neither event ended by a bus error
 abbrev pub HasNoBusError : Indexed → Type 0

@@ -1,5 +1,7 @@
 -- A bank as data: the entries behind a window, in the device and in the model.
-use Rattle.std.specs.Prelude.{◌≡◌, ℕ, ◌<◌, ◌≤◌, ◌==◌, nat_lt, not, ◌&&◌, Bool, if◌then◌else◌, List, length, replicate, slice_index}
+use Rattle.std.specs.Prelude.{
+  ◌≡◌, ℕ, ◌<◌, ◌≤◌, ◌==◌, nat_lt, not, ◌&&◌, Bool, if◌then◌else◌, List, length, replicate, slice_index
+}
 use Rattle.std.specs.Prelude.{slice_set, Option, None, Some, option_map, Result, Err, MatchOption, MatchResult}
 use Rattle.std.specs.Option.{option_map_or}
 use Rattle.rl_bus.specs.State.{State, peeked, poked}
@@ -77,7 +79,8 @@ pub record IsSameBank (b new : BankData) : Type 0 where
   pub size : new.size ≡ b.size
   pub bytes : new.bytes ≡ b.bytes
 
--- The chip has both registers, the data register with the bytes that the bank keeps, and they are a window to its entries.
+-- The chip has both registers, the data register with the bytes that the bank keeps,
+-- and they are a window to its entries.
 pub record IsBankOf (c : ChipData) (b : BankData) : Type 0 where
   pub index_reg : b.window.index_reg < length c.regs
   pub data_reg : b.window.data_reg < length c.regs
@@ -119,10 +122,12 @@ new_bank m w size index held = record {
 
 -- the first condition that fails, where the device has this index
 abbrev pub bank_fault : ModelData → Window → (size index : ℕ) → Option WindowFault
-bank_fault m w size index = or_else (window_fault m.chip w size) (outside_fault size index (mirrored_of m.mirror w.index_reg))
+bank_fault m w size index =
+    or_else (window_fault m.chip w size) (outside_fault size index (mirrored_of m.mirror w.index_reg))
 
 -- a bank is built, or refused by its first cause; only want of memory comes later
-pub record IsBuilt (m : ModelData) (told : Option State) (w : Window) (size : ℕ) (r : Result BankData WindowFault) : Type 0 where
+pub record IsBuilt (m : ModelData) (told : Option State) (w : Window) (size : ℕ)
+    (r : Result BankData WindowFault) : Type 0 where
   -- what the device was found to have in the two registers
   pub index : ℕ
   pub held : ℕ

@@ -31,17 +31,21 @@ pub record Selects (b new : BankData) (s t : Scene) (map : Option ℕ) (k : ℕ)
   pub bank : new ≡ (if is_done index.end then bank_believed half written.model k else half)
 
 -- entry k was selected, and then the data register was accessed
-pub record Reaches (b new : BankData) (s t : Scene) (map : Option ℕ) (k : ℕ) (on_data : Op) (index access : Event) : Type 0 where
+pub record Reaches (b new : BankData) (s t : Scene) (map : Option ℕ) (k : ℕ) (on_data : Op)
+    (index access : Event) : Type 0 where
   pub selected : Scene
   pub selects : Selects b new s selected map k index
   pub performs : Performs selected t on_data access
 
 -- An access by index (uvm_reg_indirect_data, IEEE 1800.2-2017, 18.7). Past the size nothing is done. Elsewhere the
 -- index register is written, and only where that was done the data register is accessed.
-abbrev pub IsIndexed : (b new : BankData) → (s t : Scene) → (map : Option ℕ) → (k : ℕ) → (on_data : Op) → Indexed → Type 0
+abbrev pub IsIndexed : (b new : BankData) → (s t : Scene) → (map : Option ℕ) → (k : ℕ)
+    → (on_data : Op) → Indexed → Type 0
 IsIndexed b new s t map k on_data NoSuchEntry = (b.size ≤ k) × (new ≡ b) × (t ≡ s)
-IsIndexed b new s t map k on_data (AtIndex index) = (k < b.size) × (is_done index.end ≡ false) × Selects b new s t map k index
-IsIndexed b new s t map k on_data (At index access) = (k < b.size) × (is_done index.end ≡ true) × Reaches b new s t map k on_data index access
+IsIndexed b new s t map k on_data (AtIndex index) =
+    (k < b.size) × (is_done index.end ≡ false) × Selects b new s t map k index
+IsIndexed b new s t map k on_data (At index access) =
+    (k < b.size) × (is_done index.end ≡ true) × Reaches b new s t map k on_data index access
 
 -- each event can be told of the model
 abbrev pub IndexedFits : ModelData → Indexed → Type 0
@@ -49,7 +53,8 @@ IndexedFits m NoSuchEntry = Unit {0}
 IndexedFits m (AtIndex index) = EventFits m index
 IndexedFits m (At index access) = EventFits m index × EventFits m access
 
--- a check that read a value names the compared fields of the data register whose bits aren't those of the model's entry k
+-- a check that read a value names the compared fields of the data register whose bits aren't
+-- those of the model's entry k
 abbrev pub NamesDiffering : BankData → ModelData → (k : ℕ) → Indexed → Type 0
 NamesDiffering b m k NoSuchEntry = Unit {0}
 NamesDiffering b m k (AtIndex index) = Unit {0}

@@ -1,5 +1,7 @@
 -- Which two registers are a window to so many entries.
-use Rattle.std.specs.Prelude.{ℕ, ◌^◌, ◌==◌, nat_lt, nat_le, not, ◌&&◌, Bool, true, false, if◌then◌else◌, length, Option, None, Some}
+use Rattle.std.specs.Prelude.{
+  ℕ, ◌^◌, ◌==◌, nat_lt, nat_le, not, ◌&&◌, Bool, true, false, if◌then◌else◌, length, Option, None, Some
+}
 use Rattle.std.specs.List.{list_all}
 use Rattle.rl_policy.specs.Table.{spends_mark}
 use Rattle.rl_policy.specs.declared.policy.Policy.{Policy}
@@ -9,7 +11,9 @@ use Rattle.rl_model.specs.Fields.{fields_of, field_in}
 use Rattle.rl_model.specs.Rows.{ChipData}
 use Rattle.rl_indirect.specs.declared.window.Window.{Window}
 use Rattle.rl_indirect.specs.declared.window.WindowFault.{WindowFault}
-use Rattle.rl_indirect.specs.declared.window.WindowFault.TheVariants.{SameRegister, BadIndex, BadData, BadSize, IndexOutside}
+use Rattle.rl_indirect.specs.declared.window.WindowFault.TheVariants.{
+  SameRegister, BadIndex, BadData, BadSize, IndexOutside
+}
 
 abbrev pub is_rw : Policy → Bool
 is_rw Rw = true
@@ -35,7 +39,8 @@ is_data c reg = list_all (λ f. is_data_field f.shape) (fields_of c reg)
 
 -- there are entries, at most 65,536 of them, and the index field can select each
 abbrev pub is_size : ChipData → (index_reg size : ℕ) → Bool
-is_size c index_reg size = nat_lt 0 size && nat_le size 65536 && nat_le size (2 ^ (field_in (fields_of c index_reg) 0).shape.width)
+is_size c index_reg size =
+    nat_lt 0 size && nat_le size 65536 && nat_le size (2 ^ (field_in (fields_of c index_reg) 0).shape.width)
 
 -- The first condition of a window that fails. The conditions and their order are this project's own.
 abbrev pub window_fault : ChipData → Window → (size : ℕ) → Option WindowFault

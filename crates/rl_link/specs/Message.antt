@@ -4,7 +4,9 @@ use Rattle.rl_report.specs.Lines.{first_line}
 use Rattle.rl_report.specs.Pieces.{joined}
 use Rattle.rl_link.specs.declared.link.Break.{Break}
 use Rattle.rl_link.specs.declared.answer.Cause.{Cause}
-use Rattle.rl_link.specs.declared.answer.Cause.TheVariants.{Unsent, Unread, Closed, TooLong, TooMany, Unasked, Unclear, TooWide, Backdoor, Memory}
+use Rattle.rl_link.specs.declared.answer.Cause.TheVariants.{
+  Unsent, Unread, Closed, TooLong, TooMany, Unasked, Unclear, TooWide, Backdoor, Memory
+}
 
 abbrev pub cause_text : Cause → List ℕ
 cause_text Unsent = codes "the request couldn't be sent"
@@ -39,13 +41,14 @@ chatter_text line = joined (codes "peer: " ∷ line ∷ codes "\n" ∷ [])
 -- an answer with unknown bits
 abbrev pub unknown_text : (line : ℕ) (held request : List ℕ) → List ℕ
 unknown_text line held request =
-    joined (codes "an unknown value at line " ∷ decimal line ∷ codes " of the peer's output: `" ∷ line_told held ∷ codes "`; the request was `"
-    ∷ first_line request ∷ codes "`\n" ∷ [])
+    joined (codes "an unknown value at line " ∷ decimal line ∷ codes " of the peer's output: `" ∷ line_told held
+    ∷ codes "`; the request was `" ∷ first_line request ∷ codes "`\n" ∷ [])
 
 -- an answer that says that a reset or a change wasn't done
 abbrev pub undone_text : (held request : List ℕ) → List ℕ
 undone_text held request =
-    joined (codes "# not done: `" ∷ first_line request ∷ codes "`; the answer was `" ∷ line_told held ∷ codes "`\n" ∷ [])
+    joined (codes "# not done: `" ∷ first_line request
+    ∷ codes "`; the answer was `" ∷ line_told held ∷ codes "`\n" ∷ [])
 
 -- a break: where, and behind why the request, and the line that came where it is what broke the link
 abbrev pub where_told : (line : ℕ) → List ℕ
@@ -62,7 +65,8 @@ abbrev pub talk_told : Cause → (held request : List ℕ) → List ℕ
 talk_told cause held request = if is_of_line cause then line_and_request held request else request_told request
 
 abbrev pub told_text : Break → (held request : List ℕ) → List ℕ
-told_text broken held request = (where_told broken.line ++ cause_text broken.cause) ++ talk_told broken.cause held request
+told_text broken held request =
+    (where_told broken.line ++ cause_text broken.cause) ++ talk_told broken.cause held request
 
 -- behind a mark
 abbrev pub break_text : (mark : List ℕ) → Break → (held request : List ℕ) → List ℕ

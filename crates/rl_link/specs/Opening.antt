@@ -15,6 +15,7 @@ abbrev pub over_link : Result DescData (List ℕ) → Result DescData (List ℕ)
 over_link (Ok desc) = allowed desc (refusal_of desc)
 over_link (Err line) = Err line
 
--- what a session describes, or its last line where it is refused before its script: as `run` refuses it, and then for the link
+-- what a session describes, or its last line where it is refused before its script:
+-- as `run` refuses it, and then for the link
 abbrev pub linked_opening : List ℕ → List AdapterKind → Result DescData (List ℕ)
 linked_opening bytes kinds = over_link (opening_of bytes kinds)

@@ -1,5 +1,7 @@
 -- What a talk takes from its peer.
-use Rattle.std.specs.Prelude.{◌≡◌, ℕ, ◌+◌, ◌-◌, ◌^◌, ◌≤◌, Bool, true, false, List, codes, Option, IfSome, IsNone, IsSome, min}
+use Rattle.std.specs.Prelude.{
+  ◌≡◌, ℕ, ◌+◌, ◌-◌, ◌^◌, ◌≤◌, Bool, true, false, List, codes, Option, IfSome, IsNone, IsSome, min
+}
 use Rattle.std.specs.Io.KnownBytes.{Appends}
 use Rattle.rl_bus.specs.Causes.{Rose}
 use Rattle.rl_bus.specs.declared.op.Answer.{Answer}
@@ -53,7 +55,8 @@ pub record OnlyTalks {S K N M : Type 0} (left : S → Option (List ℕ)) (old ne
   pub undone : new.undone ≡ old.undone
   pub broken : new.broken ≡ old.broken
 
--- A link is the same one after a call: once broken, it is silent and stays so, and else it breaks behind the lines that it took.
+-- A link is the same one after a call: once broken, it is silent and stays so, and else it breaks
+-- behind the lines that it took.
 pub record KeepsOn {S K N M : Type 0} (left : S → Option (List ℕ)) (old new : Link S K N M) : Type 0 where
   pub silent : IsSome old.broken → (new.talk ≡ old.talk) × (new.broken ≡ old.broken)
   pub names : new.names ≡ old.names

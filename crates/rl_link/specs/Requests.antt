@@ -16,7 +16,8 @@ way false = codes "r "
 -- `w` or `r`, the port's map, the address, the word, a binary digit for each lane, and the tag
 abbrev pub transfer_line : (port : List ℕ) → BusOp → (tag : ℕ) → List ℕ
 transfer_line port op tag =
-    joined (way op.write ∷ port ∷ codes " 0x" ∷ hex_digits op.address ∷ codes " 0x" ∷ hex_digits op.word ∷ codes " " ∷ lanes_text op.bytes op.lanes ∷ codes " #" ∷ decimal tag ∷ codes "\n" ∷ [])
+    joined (way op.write ∷ port ∷ codes " 0x" ∷ hex_digits op.address ∷ codes " 0x" ∷ hex_digits op.word
+    ∷ codes " " ∷ lanes_text op.bytes op.lanes ∷ codes " #" ∷ decimal tag ∷ codes "\n" ∷ [])
 
 abbrev pub reset_line : (kind : List ℕ) → List ℕ
 reset_line kind = joined (codes "reset " ∷ kind ∷ codes "\n" ∷ [])

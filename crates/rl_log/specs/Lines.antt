@@ -56,9 +56,10 @@ pub record SaysRefused (last : List ℕ) : Type 0 where
   pub why : LineRefusal
   pub is : last ≡ refused_text number why
 
--- A text is the log of these lines and events: line by line the text of each line's events, and then one last line, which
--- counts all of them or says which line is refused.
-pub record IsLogOf (number : ℕ) (counts : Counts) (lines : List (List ℕ)) (events : List Happened) (text : List ℕ) : Type 0 where
+-- A text is the log of these lines and events: line by line the text of each line's events, and then one last line,
+-- which counts all of them or says which line is refused.
+pub record IsLogOf (number : ℕ) (counts : Counts) (lines : List (List ℕ)) (events : List Happened)
+    (text : List ℕ) : Type 0 where
   pub ran : List Ran
   pub first : AreFirst number ran lines
   pub events_are : events_of ran ≡ events

@@ -1,5 +1,7 @@
 -- The judged log: what a session writes, how it ends, and what stands afterwards.
-use Rattle.std.specs.Prelude.{ℕ, ◌+◌, nat_lt, if◌then◌else◌, List, [], ◌∷◌, ◌++◌, length, Option, Some, None, Result, Ok, Err}
+use Rattle.std.specs.Prelude.{
+  ℕ, ◌+◌, nat_lt, if◌then◌else◌, List, [], ◌∷◌, ◌++◌, length, Option, Some, None, Result, Ok, Err
+}
 use Rattle.std.specs.Io.BufRead.{strip_last}
 use Rattle.rl_script.specs.declared.fault.LineFault.{LineFault}
 use Rattle.rl_script.specs.declared.fault.LineFault.TheVariants as fault
@@ -9,7 +11,10 @@ use Rattle.rl_log.specs.declared.counts.Counts.{Counts}
 use Rattle.rl_log.specs.declared.status.Status.{Status}
 use Rattle.rl_log.specs.declared.status.Status.TheVariants.{Refused}
 use Rattle.rl_log.specs.declared.refusal.LineRefusal.{LineRefusal}
-use Rattle.rl_log.specs.declared.refusal.LineRefusal.TheVariants.{TooLong, NotAscii, NoSuchCommand, WrongCount, BadName, BadNumber, NumberTooLarge, CountOutOfRange, NoSuchName, TooManyLines}
+use Rattle.rl_log.specs.declared.refusal.LineRefusal.TheVariants.{
+  TooLong, NotAscii, NoSuchCommand, WrongCount, BadName, BadNumber, NumberTooLarge,
+  CountOutOfRange, NoSuchName, TooManyLines
+}
 use Rattle.rl_log.specs.Endings.{end_status}
 use Rattle.rl_log.specs.Entry.{Entry, entry_of}
 use Rattle.rl_log.specs.Recording.{with_events}
@@ -69,7 +74,8 @@ abbrev pub after_text : List ℕ → Ending → Ending
 after_text text e = record e { text = text ++ e.text }
 
 -- a line that is refused stops the script, and any other one is followed by the rest
-abbrev pub goes_on : (number : ℕ) → Counts → World → Result Entry LineRefusal → (rest : Counts → World → Ending) → Ending
+abbrev pub goes_on : (number : ℕ) → Counts → World → Result Entry LineRefusal
+    → (rest : Counts → World → Ending) → Ending
 goes_on number counts w (Err why) rest = stops number why counts w
 goes_on number counts w (Ok entry) rest =
     after_text entry.text (rest (with_events counts entry.course.told) entry.course.world)

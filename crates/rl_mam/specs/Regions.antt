@@ -1,5 +1,8 @@
 -- The regions of a memory: which locations they take, and why a region is refused.
-use Rattle.std.specs.Prelude.{◌≡◌, ℕ, ◌+◌, ◌<◌, ◌≤◌, ◌==◌, nat_lt, nat_le, not, if◌then◌else◌, List, [], ◌∷◌, Option, None, Some, Result, Ok, Err, find, filter, insert, All, Any}
+use Rattle.std.specs.Prelude.{
+  ◌≡◌, ℕ, ◌+◌, ◌<◌, ◌≤◌, ◌==◌, nat_lt, nat_le, not, if◌then◌else◌, List, [], ◌∷◌, Option, None, Some, Result,
+  Ok, Err, find, filter, insert, All, Any
+}
 use Rattle.std.specs.List.{position_or_len}
 use Rattle.rl_mam.specs.declared.region.Region.{Region}
 use Rattle.rl_mam.specs.declared.region.MamFault.{MamFault}
@@ -11,11 +14,12 @@ use Rattle.rl_mam.specs.declared.region.RegionFault.TheVariants.{NoSuchRegion, O
 abbrev pub region : (first len : ℕ) → Region
 region first len = record { first = first; len = len }
 
--- Regions from a location on, in ascending order: each begins where the one before it has ended or later, none is empty,
--- and all end within the memory.
+-- Regions from a location on, in ascending order: each begins where the one before it has ended or later,
+-- none is empty, and all end within the memory.
 abbrev pub AreApart : (from size : ℕ) → List Region → Type 0
 AreApart from size [] = Unit {0}
-AreApart from size (r ∷ rs) = (from ≤ r.first) × (0 < r.len) × (r.first + r.len ≤ size) × AreApart (r.first + r.len) size rs
+AreApart from size (r ∷ rs) =
+    (from ≤ r.first) × (0 < r.len) × (r.first + r.len ≤ size) × AreApart (r.first + r.len) size rs
 
 -- ---- locations
 

@@ -33,13 +33,15 @@ is_spendable fields (Some k) = spends_mark (policy_in fields k)
 
 -- no other bit of the device is marked
 abbrev pub IsMarkedAlone : ChipData → State → (reg : ℕ) → Type 0
-IsMarkedAlone c d reg = (b : ℕ) → b < 64 → is_spendable (fields_of c reg) (place_at (fields_of c reg) b) ≡ false → bit (slice_index d.marks reg) b ≡ false
+IsMarkedAlone c d reg =
+    (b : ℕ) → b < 64 → is_spendable (fields_of c reg) (place_at (fields_of c reg) b) ≡ false
+    → bit (slice_index d.marks reg) b ≡ false
 
 abbrev pub HasNoVolatile : ChipData → Type 0
 HasNoVolatile c = (n : ℕ) → n < length c.fields → (field_of c n).shape.volatile ≡ false
 
--- The device has this chip and this layout, no flaw, and beats of 0. No field is volatile. Each register has its mirrored
--- value and the marks of its fields, and no other bit is marked.
+-- The device has this chip and this layout, no flaw, and beats of 0. No field is volatile.
+-- Each register has its mirrored value and the marks of its fields, and no other bit is marked.
 pub record IsAsBelieved (c : ChipData) (l : LayoutData) (m : MirrorData) (d : State) : Type 0 where
   pub ready : IsReady c l d
   pub steady : HasNoVolatile c
@@ -57,7 +59,8 @@ pub record Agree (s : Scene) : Type 0 where
 abbrev pub KeepsAgreement : Sort → Type 0
 KeepsAgreement kind =
     (s new : Scene) (op : Op) (event : Event)
-    → IsOf kind op → HasNumbers s.model.chip (length s.model.layout.maps) op → IsModel s.model → Agree s → Performs s new op event
+    → IsOf kind op → HasNumbers s.model.chip (length s.model.layout.maps) op → IsModel s.model
+    → Agree s → Performs s new op event
     → Agree new
 
 -- the operations that concern desired values alone, or nothing
@@ -99,5 +102,6 @@ MemoryAccessKeepsAgreement =
 abbrev pub NewOnesAgree : Type 0
 NewOnesAgree =
     (s : Scene) (count : ℕ) → IsSoundChip s.model.chip → HasNoVolatile s.model.chip
-    → s.model.mirror ≡ fresh s.model.chip → IsNothingGathered s.model.gathered → s.device ≡ Some (first_state (setup_of s.model.chip s.model.layout no_flaws) count)
+    → s.model.mirror ≡ fresh s.model.chip → IsNothingGathered s.model.gathered
+    → s.device ≡ Some (first_state (setup_of s.model.chip s.model.layout no_flaws) count)
     → Agree s

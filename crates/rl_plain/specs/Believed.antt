@@ -22,7 +22,8 @@ use Rattle.rl_plain.specs.OneStep.{IsAccess, register_after, step_of, end_of}
 -- every register but this one is believed to be what it was
 abbrev pub LeavesOthers : Scene → Scene → (reg : ℕ) → Type 0
 LeavesOthers s new reg =
-    (q : ℕ) → q < length s.model.chip.regs → (q ≡ reg → ⊥) → mirrored_of new.model.mirror q ≡ mirrored_of s.model.mirror q
+    (q : ℕ) → q < length s.model.chip.regs → (q ≡ reg → ⊥)
+    → mirrored_of new.model.mirror q ≡ mirrored_of s.model.mirror q
 
 -- ---- an access
 
@@ -31,7 +32,8 @@ pub record IsBelievedStep (s new : Scene) (op : Op) (event : Event) (place reg :
   pub agree : Agree new
   pub same : IsSameChip s.model new.model
   pub here : mirrored_of new.model.mirror reg
-      ≡ (register_after (fields_of s.model.chip reg) (step_of s.model op place) (believed s.model.chip s.model.mirror reg)).bits
+      ≡ (register_after (fields_of s.model.chip reg) (step_of s.model op place)
+        (believed s.model.chip s.model.mirror reg)).bits
   pub others : LeavesOthers s new reg
   pub ends : event.end ≡ end_of s.model op place (believed s.model.chip s.model.mirror reg)
   pub no_error : is_bus_error event.end ≡ false
@@ -57,7 +59,8 @@ pub record IsStored (c : ChipData) (reg width : ℕ) : Type 0 where
 abbrev pub WriteIsStored : Type 0
 WriteIsStored =
     (s new : Scene) (event : Event) (reg width value : ℕ) (map : Option ℕ)
-    → reg < length s.model.chip.regs → IsMapIn (length s.model.layout.maps) map → IsStored s.model.chip reg width → value < 2 ^ width
+    → reg < length s.model.chip.regs → IsMapIn (length s.model.layout.maps) map
+    → IsStored s.model.chip reg width → value < 2 ^ width
     → IsModel s.model → Agree s → Performs s new (op.Write reg map value) event → event.end ≡ end.Done
     → mirrored_of new.model.mirror reg ≡ value
 

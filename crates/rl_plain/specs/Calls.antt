@@ -1,5 +1,7 @@
 -- Each call on a device without flaws is the plain machine's.
-use Rattle.std.specs.Prelude.{◌≡◌, ℕ, ◌<◌, List, [], ◌∷◌, length, map, take, All, slice_index, Option, Some, Ok, Err, sum_by}
+use Rattle.std.specs.Prelude.{
+  ◌≡◌, ℕ, ◌<◌, List, [], ◌∷◌, length, map, take, All, slice_index, Option, Some, Ok, Err, sum_by
+}
 use Rattle.rl_bus.specs.Setup.{location}
 use Rattle.rl_bus.specs.State.{State, first_state}
 use Rattle.rl_model.specs.Rows.{ChipData}
@@ -39,8 +41,8 @@ pub record HasContent (c : ChipData) (d : State) (p : Machine) (mem index : ℕ)
 abbrev pub HasAllContents : ChipData → State → Machine → Type 0
 HasAllContents c d p = (mem index : ℕ) → mem < length c.mems → index < memory_size c mem → HasContent c d p mem index
 
--- The device and the model agree and are the machine's: what is believed, which is what the device has, and each location
--- of the memories.
+-- The device and the model agree and are the machine's: what is believed, which is what the device has,
+-- and each location of the memories.
 pub record IsMachineOf (s : Scene) (p : Machine) : Type 0 where
   pub agree : Agree s
   pub model : s.model ≡ seen s.model.chip s.model.layout p

@@ -33,7 +33,8 @@ along c l p (look f) = along c l p (f (seen c l p))
 unfoldable pub first_along : ChipData → LayoutData → Machine → (count : ℕ) → Plan → Course
 first_along c l p count stop = record { events = []; machine = p }
 first_along c l p zero (step op plan) = record { events = []; machine = p }
-first_along c l p (suc count) (step op plan) = then_on (machine_step c l p op) (λ after. first_along c l after count plan)
+first_along c l p (suc count) (step op plan) =
+    then_on (machine_step c l p op) (λ after. first_along c l after count plan)
 first_along c l p count (look f) = first_along c l p count (f (seen c l p))
 
 -- an operation that is refused as a whole, or done as those that it stands for

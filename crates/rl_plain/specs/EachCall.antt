@@ -1,4 +1,5 @@
--- What each call leaves of a device and a model that agree in the locations of memories too, and what a reset makes of a plain machine.
+-- What each call leaves of a device and a model that agree in the locations of memories too, and what a
+-- reset makes of a plain machine.
 use Rattle.std.specs.Prelude.{◌≡◌, ℕ, length, Some}
 use Rattle.rl_mirror.specs.Prediction.{fresh}
 use Rattle.rl_access.specs.declared.event.Event.{Event}
@@ -21,7 +22,8 @@ pub record AgreeWithMemories (s : Scene) : Type 0 where
 abbrev pub EachCallKeepsAgreement : Type 0
 EachCallKeepsAgreement =
     (s new : Scene) (op : Op) (event : Event)
-    → HasNumbers s.model.chip (length s.model.layout.maps) op → IsModel s.model → AgreeWithMemories s → Performs s new op event
+    → HasNumbers s.model.chip (length s.model.layout.maps) op → IsModel s.model
+    → AgreeWithMemories s → Performs s new op event
     → AgreeWithMemories new
 
 -- a new device without flaws, with all locations of its memories, and a new model of the same chip and layout begin so

@@ -1,4 +1,5 @@
--- What a burst or a sequence hands over to a recorder, also where the recorder fails, is a front of the plain machine's events.
+-- What a burst or a sequence hands over to a recorder, also where the recorder fails, is a front of
+-- the plain machine's events.
 use Rattle.std.specs.Prelude.{◌≡◌, ℕ, List, length, map, take, All, Option, Result, OnOk, OnErr}
 use Rattle.rl_bus.specs.declared.device.Failed.{Failed}
 use Rattle.rl_access.specs.declared.event.Event.{Event}
@@ -17,10 +18,10 @@ use Rattle.rl_plain.specs.Machine.{Machine}
 use Rattle.rl_plain.specs.Courses.{Course, first_along, along, burst}
 use Rattle.rl_plain.specs.Calls.{without_items, IsMachineOf, IsPlainCourse}
 
--- What a recorder was told is a front of the machine's events, and where it didn't fail all of them. Device and model are the machine's after the
--- last of the front.
-pub record HandsOverFront {R T E : Type 0} (takes breaks : R → ModelData → Event → R → Type 0) (old rec : R) (s new : Scene)
-    (whole : Course) (first : (count : ℕ) → Course) (r : Result T E) : Type 0 where
+-- What a recorder was told is a front of the machine's events, and where it didn't fail all of them.
+-- Device and model are the machine's after the last of the front.
+pub record HandsOverFront {R T E : Type 0} (takes breaks : R → ModelData → Event → R → Type 0) (old rec : R)
+    (s new : Scene) (whole : Course) (first : (count : ℕ) → Course) (r : Result T E) : Type 0 where
   pub told : List Told
   pub handed : HandsOver takes breaks old told rec r
   pub events : map (λ t. without_items t.event) told ≡ take (length told) whole.events

@@ -1,5 +1,8 @@
 -- The plain machine: it steps whole registers, with no maps, words, enables, beats or adapters.
-use Rattle.std.specs.Prelude.{ℕ, ◌+◌, ◌-◌, ◌==◌, Bool, true, false, not, ◌&&◌, if◌then◌else◌, List, [], length, map, get_or, replicate, slice_set, Option, None, Some, Ok, Err}
+use Rattle.std.specs.Prelude.{
+  ℕ, ◌+◌, ◌-◌, ◌==◌, Bool, true, false, not, ◌&&◌, if◌then◌else◌, List, [], length, map, get_or, replicate,
+  slice_set, Option, None, Some, Ok, Err
+}
 use Rattle.std.specs.List.{range_with_len}
 use Rattle.rl_policy.specs.Bits.{bit, from_bits, put_bit}
 use Rattle.rl_policy.specs.Table.{after_write, is_write_only}
@@ -43,8 +46,8 @@ register_at c p reg = record { bits = get_or p.bits reg 0; spent = marks_in c p.
 abbrev pub mirror_of : Machine → MirrorData
 mirror_of p = record { mirrored = p.bits; desired = p.desired; spent = p.spent }
 
--- A model with this mirror, which has gathered nothing. By its chip and its layout an operation is granted or refused, and
--- its event names the map that was used. A plan may look at its mirror.
+-- A model with this mirror, which has gathered nothing. By its chip and its layout an operation is granted or refused,
+-- and its event names the map that was used. A plan may look at its mirror.
 abbrev pub seen : ChipData → LayoutData → Machine → ModelData
 seen c l p = record { chip = c; layout = l; mirror = mirror_of p; gathered = replicate (length l.places) no_words }
 
@@ -98,11 +101,13 @@ with_wish c field value p =
 
 -- a location holds this
 abbrev pub with_location : (mem index value : ℕ) → Machine → Machine
-with_location mem index value p = record p { locations = λ m i. if m == mem && i == index then value else p.locations m i }
+with_location mem index value p =
+    record p { locations = λ m i. if m == mem && i == index then value else p.locations m i }
 
 -- each field with a value for the kind takes it
 abbrev pub values_reset : ChipData → (kind : ℕ) → List ℕ → List ℕ
-values_reset c kind values = map (λ reg. after_reset (fields_of c reg) kind (get_or values reg 0)) (range_with_len 0 (length values))
+values_reset c kind values =
+    map (λ reg. after_reset (fields_of c reg) kind (get_or values reg 0)) (range_with_len 0 (length values))
 
 -- as bits and as desired value, and the hard reset clears all marks
 abbrev pub with_reset : ChipData → (kind : ℕ) → Machine → Machine
@@ -154,7 +159,8 @@ machine_after c l (op.Write reg _ value) place p = stepped c reg (write_step eve
 machine_after c l (op.Read reg _) place p = stepped c reg (read_step every) p
 machine_after c l (op.Mirror reg _) place p = stepped c reg (read_step every) p
 machine_after c l (op.Check reg _) place p = stepped c reg (read_step every) p
-machine_after c l (op.FieldWrite field _ value) place p = stepped c (reg_of c field) (field_write_step c l field place value p) p
+machine_after c l (op.FieldWrite field _ value) place p =
+    stepped c (reg_of c field) (field_write_step c l field place value p) p
 machine_after c l (op.FieldRead field _) place p = stepped c (reg_of c field) (field_read_step c l field place) p
 machine_after c l (op.Set field value) place p = with_wish c field value p
 machine_after c l (op.Show reg) place p = p
@@ -191,7 +197,9 @@ field_answer c l field place p =
 
 -- the word that an update sent
 abbrev pub update_end : ChipData → (reg : ℕ) → Machine → End
-update_end c reg p = if needs_update (mirror_of p) reg then end.Sent (update_word_of c reg (mirror_of p)) else end.Nothing
+update_end c reg p =
+    if needs_update (mirror_of p) reg then end.Sent (update_word_of c reg (mirror_of p))
+    else end.Nothing
 
 abbrev pub machine_end : ChipData → LayoutData → Op → (place : ℕ) → Machine → End
 machine_end c l (op.Read reg _) place p = answer_in c reg p

@@ -15,9 +15,11 @@ IsOther (op.OtherWrite reg map value) = Unit {0}
 IsOther (op.OtherRead reg map) = Unit {0}
 IsOther _ = ⊥
 
--- either of two operations may come first: they leave the same machine, and the event of each is what it is without the other
+-- either of two operations may come first: they leave the same machine, and the event of each is
+-- what it is without the other
 pub record Commute (c : ChipData) (l : LayoutData) (p : Machine) (one two : Op) : Type 0 where
-  pub machine : (machine_step c l (machine_step c l p one).machine two).machine ≡ (machine_step c l (machine_step c l p two).machine one).machine
+  pub machine : (machine_step c l (machine_step c l p one).machine two).machine
+      ≡ (machine_step c l (machine_step c l p two).machine one).machine
   pub first : (machine_step c l (machine_step c l p two).machine one).event ≡ (machine_step c l p one).event
   pub second : (machine_step c l (machine_step c l p one).machine two).event ≡ (machine_step c l p two).event
 

@@ -36,7 +36,8 @@ register_after fields no_step r = r
 
 -- and the device, which took so many items: other registers, and the memories, stay
 abbrev pub device_after : ChipData → State → (reg : ℕ) → Step → Register → (count : ℕ) → State
-device_after c d reg (write_step chosen word) r count = after_wstep c d reg (wstep (fields_of c reg) chosen word r) count
+device_after c d reg (write_step chosen word) r count =
+    after_wstep c d reg (wstep (fields_of c reg) chosen word r) count
 device_after c d reg (read_step chosen) r count = after_rstep d reg (rstep (fields_of c reg) chosen r) count
 device_after c d reg no_step r count = d
 
@@ -52,16 +53,21 @@ reached_fields m field place write = if is_alone m field place write then own_fi
 
 -- and the word that it writes
 abbrev pub field_word : ModelData → (field place value : ℕ) → ℕ
-field_word m field place value = if is_alone m field place true then (field_alone m field place value).value else neutral_around m.chip field value m.mirror
+field_word m field place value =
+    if is_alone m field place true then (field_alone m field place value).value
+    else neutral_around m.chip field value m.mirror
 
 abbrev pub step_of : ModelData → Op → (place : ℕ) → Step
 step_of m (op.Write reg map value) place = write_step every value
 step_of m (op.Read reg map) place = read_step every
 step_of m (op.Mirror reg map) place = read_step every
 step_of m (op.Check reg map) place = read_step every
-step_of m (op.FieldWrite field map value) place = write_step (reached_fields m field place true) (field_word m field place value)
+step_of m (op.FieldWrite field map value) place =
+    write_step (reached_fields m field place true) (field_word m field place value)
 step_of m (op.FieldRead field map) place = read_step (reached_fields m field place false)
-step_of m (op.Update reg map) place = if needs_update m.mirror reg then write_step every (update_word_of m.chip reg m.mirror) else no_step
+step_of m (op.Update reg map) place =
+    if needs_update m.mirror reg then write_step every (update_word_of m.chip reg m.mirror)
+    else no_step
 step_of m (op.OtherWrite reg map value) place = write_step every value
 step_of m (op.OtherRead reg map) place = read_step every
 step_of m _ place = no_step
@@ -72,8 +78,11 @@ end_of m (op.Read reg map) place r = end.Value (ranswer (fields_of m.chip reg) e
 end_of m (op.Mirror reg map) place r = end.Value (ranswer (fields_of m.chip reg) every r)
 end_of m (op.Check reg map) place r = end.Value (ranswer (fields_of m.chip reg) every r)
 end_of m (op.FieldRead field map) place r =
-    end.Value (part_of (field_of m.chip field).shape (ranswer (fields_of m.chip (reg_of m.chip field)) (reached_fields m field place false) r))
-end_of m (op.Update reg map) place r = if needs_update m.mirror reg then end.Sent (update_word_of m.chip reg m.mirror) else end.Nothing
+    end.Value (part_of (field_of m.chip field).shape
+      (ranswer (fields_of m.chip (reg_of m.chip field)) (reached_fields m field place false) r))
+end_of m (op.Update reg map) place r =
+    if needs_update m.mirror reg then end.Sent (update_word_of m.chip reg m.mirror)
+    else end.Nothing
 end_of m (op.OtherRead reg map) place r = end.Value (ranswer (fields_of m.chip reg) every r)
 end_of m _ place r = end.Done
 
@@ -105,6 +114,7 @@ pub record IsOneStep (s new : Scene) (op : Op) (event : Event) (place reg : ℕ)
 abbrev pub AccessIsStep : Type 0
 AccessIsStep =
     (s new : Scene) (op : Op) (event : Event) (place reg : ℕ) (d : State) (r : Register)
-    → IsAccess op → HasNumbers s.model.chip (length s.model.layout.maps) op → register_of s.model.chip op ≡ Some reg → Meets s d reg r
+    → IsAccess op → HasNumbers s.model.chip (length s.model.layout.maps) op
+    → register_of s.model.chip op ≡ Some reg → Meets s d reg r
     → grant s.model op ≡ Ok place → Performs s new op event
     → IsOneStep s new op event place reg d r

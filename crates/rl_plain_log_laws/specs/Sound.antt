@@ -34,7 +34,8 @@ pub record IsLayoutOf (chip : ChipData) (layout : LayoutData) : Type 0 where
 
 abbrev pub EveryLayoutSound : Type 0
 EveryLayoutSound =
-    (chip : ChipData) (maps : List MapNode) (places : List PlacePart) (kinds : List AdapterKind) → IsChip chip → AreKinds kinds
+    (chip : ChipData) (maps : List MapNode) (places : List PlacePart) (kinds : List AdapterKind)
+    → IsChip chip → AreKinds kinds
     → layout_fault chip maps places kinds ≡ None → IsLayoutOf chip (layout_of chip maps places kinds)
 
 -- ---- a session

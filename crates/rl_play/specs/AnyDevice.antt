@@ -1,6 +1,9 @@
--- What a script does over any device, one that tells its state or one that tells nothing: events, each of which performs
--- its operation from where the one before ended.
-use Rattle.std.specs.Prelude.{◌≡◌, ◌⊎◌, ℕ, ◌+◌, List, [], ◌∷◌, ◌++◌, true, false, Option, Some, None, IfSome, Result, Ok, Err, OnOk, OnErr, IfOk, MatchResult}
+-- What a script does over any device, one that tells its state or one that tells nothing:
+-- events, each of which performs its operation from where the one before ended.
+use Rattle.std.specs.Prelude.{
+  ◌≡◌, ◌⊎◌, ℕ, ◌+◌, List, [], ◌∷◌, ◌++◌, true, false, Option, Some, None, IfSome, Result, Ok,
+  Err, OnOk, OnErr, IfOk, MatchResult
+}
 use Rattle.std.specs.Io.KnownBytes.{Appends}
 use Rattle.rl_access.specs.declared.event.Tally.{Tally}
 use Rattle.rl_access.specs.Call.{Scene, scene_of}
@@ -46,7 +49,8 @@ moment_at p = moment p.scene.model p.scene.adapters p.scene.device p.text p.coun
 -- each event was written and counted; where the sink failed, it failed at the last of these
 pub record Logs {T E : Type 0} (work : Work) (before after : Point) (r : Result T E) : Type 0 where
   pub told : List Told
-  pub run : MatchResult r (λ x. Does work before.scene told after.scene) (λ e. BreaksOff work before.scene told after.scene)
+  pub run : MatchResult r (λ x. Does work before.scene told after.scene)
+      (λ e. BreaksOff work before.scene told after.scene)
   pub whole : OnOk r (Appends before.text after.text (events_text told))
   pub part : OnErr r (AppendsFront before.text after.text (events_text told))
   pub counted : after.counts ≡ with_events before.counts told
@@ -85,7 +89,8 @@ pub data Close : Type 0 where
 abbrev pub ClosesAt : (number : ℕ) → (given : Result Work LineRefusal) → Scene → Close → Scene → Type 0
 ClosesAt number given s at_end new = ⊥
 ClosesAt number given s (refused n why) new = (n ≡ number) × (given ≡ Err why) × (new ≡ s)
-ClosesAt number given s (broken work told) new = (given ≡ Ok work) × (((told ≡ []) × (new ≡ s)) ⊎ BreaksOff work s told new)
+ClosesAt number given s (broken work told) new =
+    (given ≡ Ok work) × (((told ≡ []) × (new ≡ s)) ⊎ BreaksOff work s told new)
 ClosesAt number given s (unwritten work told) new = (given ≡ Ok work) × Does work s told new
 ClosesAt number given s cut new = new ≡ s
 
@@ -120,7 +125,8 @@ HasStatus counts (unwritten work told) s = is_complete s ≡ false
 HasStatus counts cut s = is_complete s ≡ false
 
 -- The script ended at a line: the text was written, or a front of it where the sink failed.
-pub record StopsAt (number : ℕ) (given : Result Work LineRefusal) (before after : Point) (status : Status) : Type 0 where
+pub record StopsAt (number : ℕ) (given : Result Work LineRefusal) (before after : Point)
+    (status : Status) : Type 0 where
   pub close : Close
   pub closes : ClosesAt number given before.scene close after.scene
   pub counted : after.counts ≡ with_events before.counts (told_at close)
@@ -129,7 +135,8 @@ pub record StopsAt (number : ℕ) (given : Result Work LineRefusal) (before afte
   pub part : AppendsFront before.text after.text (text_at after.counts close)
 
 -- a line that asks for this was run, or a name of it isn't there and nothing was done, or the sink failed
-abbrev pub RunsOn : (given : Result Work LineRefusal) → (before after : Point) → Result (Option LineRefusal) Failed → Type 0
+abbrev pub RunsOn : (given : Result Work LineRefusal) → (before after : Point)
+    → Result (Option LineRefusal) Failed → Type 0
 RunsOn given before after (Ok None) = RanWhole given before after
 RunsOn given before after (Ok (Some why)) = (given ≡ Err why) × (after ≡ before)
 RunsOn given before after (Err failed) = (number : ℕ) → StopsAt number given before after ended.SinkFault
@@ -153,7 +160,8 @@ Happens number s [] [] close new = ClosesBehind s close new
 Happens number s [] (d ∷ done) close new = ⊥
 Happens number s (line ∷ lines) [] close new = ClosesAt number (asked s.model (said number line)) s close new
 Happens number s (line ∷ lines) (d ∷ done) close new =
-    (asked s.model (said number line) ≡ Ok d.work) × Does d.work s d.told d.scene × Happens (number + 1) d.scene lines done close new
+    (asked s.model (said number line) ≡ Ok d.work) × Does d.work s d.told d.scene
+    × Happens (number + 1) d.scene lines done close new
 
 -- all events
 abbrev pub told_by : List DoneLine → Close → List Told

@@ -35,8 +35,8 @@ DoesFrom number before input after = Does number before.model before.adapters be
     before.counts after.counts after.model after.adapters after.device
 
 -- the first events of a script are those of a line and the first of what is left behind it
-abbrev pub DoesWithRest : (number : ℕ) (before : Moment) (input : Option (List ℕ)) (after : Moment) (rest : Option (List ℕ))
-    → Type 0
+abbrev pub DoesWithRest : (number : ℕ) (before : Moment) (input : Option (List ℕ))
+    (after : Moment) (rest : Option (List ℕ)) → Type 0
 DoesWithRest number before input after rest =
     (total : Counts) (last : ModelData) (standings : List Standing) (state : Option State)
     → Does (number + 1) after.model after.adapters after.device rest after.counts total last standings state

@@ -36,9 +36,10 @@ pub record StaysReady (m new : ModelData) (adapters : List Standing) (state : Op
 
 -- ---- source and sink
 
--- No count of faults falls, and the call ends the script by a fault only where the count of that stream rose: the source's went
--- from `source` to `source_now`. The sink isn't ended, and its bytes go where they went.
-pub record Leaves {K : Type 0} (sink : Sink K) (source source_now : ℕ) (old new : K) (status : Option Status) : Type 0 where
+-- No count of faults falls, and the call ends the script by a fault only where the count of that stream rose:
+-- the source's went from `source` to `source_now`. The sink isn't ended, and its bytes go where they went.
+pub record Leaves {K : Type 0} (sink : Sink K) (source source_now : ℕ) (old new : K)
+    (status : Option Status) : Type 0 where
   pub source_later : source ≤ source_now
   pub sink_later : sink.faults old ≤ sink.faults new
   pub ends_kept : sink.ends new ≡ sink.ends old
@@ -53,15 +54,16 @@ pub record ReadsOn (old new : Reading) (turn : Turn) : Type 0 where
   pub going : turn ≡ Next → new.refused ≡ false
   pub ended : old.ended ≡ true → new.ended ≡ true
 
--- After a source that failed the call can be made again: the source was still being read, the reader may be asked for the line that
--- was cut, and nothing is kept back of what was written.
+-- After a source that failed the call can be made again: the source was still being read, the reader may be asked for
+-- the line that was cut, and nothing is kept back of what was written.
 pub record CanGoOn (old new : Reading) (is_out : Type 0) : Type 0 where
   pub unended : old.ended ≡ false
   pub again : new.refused ≡ false
   pub out : is_out
 
 -- So it is where the source failed in the midst of a line: no byte is lost, and the reader holds no whole line.
-pub record CutsLine (old : Reading) (left : Option (List ℕ)) (new : Reading) (rest : Option (List ℕ)) (is_out : Type 0) : Type 0 where
+pub record CutsLine (old : Reading) (left : Option (List ℕ)) (new : Reading) (rest : Option (List ℕ))
+    (is_out : Type 0) : Type 0 where
   pub none_lost : Keeps (input_of old left) (input_of new rest)
   pub none_whole : first_line new.pending ≡ new.pending
   pub still : new.ended ≡ false
@@ -69,7 +71,8 @@ pub record CutsLine (old : Reading) (left : Option (List ℕ)) (new : Reading) (
 
 -- ---- the reader, the source and the sink, behind a line or a script
 
-pub record LeavesLines {K : Type 0} (sink : Sink K) (is_out : Type 0) (old new : Reading) (source source_now : ℕ) (out now : K) (turn : Turn) : Type 0 where
+pub record LeavesLines {K : Type 0} (sink : Sink K) (is_out : Type 0) (old new : Reading) (source source_now : ℕ)
+    (out now : K) (turn : Turn) : Type 0 where
   pub reads : ReadsOn old new turn
   pub goes_on : turn ≡ Stop SourceFault → CanGoOn old new is_out
   pub leaves : Leaves sink source source_now out now (stop_of turn)

@@ -20,7 +20,8 @@ abbrev pub moment : ModelData → List Standing → Option State → Option (Lis
 moment model adapters device text counts =
     record { model = model; adapters = adapters; device = device; text = text; counts = counts }
 
--- a model, adapters as their callers see them, a device that may tell its state, a sink that may tell its bytes, and counts
+-- a model, adapters as their callers see them, a device that may tell its state, a sink that
+-- may tell its bytes, and counts
 abbrev pub moment_of : {A D K : Type 0} → (A → Standing) → (D → Option State) → (K → Option (List ℕ))
     → ModelData → List A → D → K → Counts → Moment
 moment_of standing state written model adapters device sink counts =

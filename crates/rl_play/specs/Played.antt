@@ -1,5 +1,7 @@
 -- What was written and done of a line, and of a script, against what they come to.
-use Rattle.std.specs.Prelude.{◌≡◌, ℕ, ◌+◌, ◌≤◌, List, [], ◌∷◌, ◌++◌, true, false, Option, Some, None, IfSome, Result, Ok, Err, Bool}
+use Rattle.std.specs.Prelude.{
+  ◌≡◌, ℕ, ◌+◌, ◌≤◌, List, [], ◌∷◌, ◌++◌, true, false, Option, Some, None, IfSome, Result, Ok, Err, Bool
+}
 use Rattle.std.specs.Io.KnownBytes.{Appends, Keeps}
 use Rattle.rl_access.specs.Model.{ModelData}
 use Rattle.rl_bus.specs.Standing.{Standing}
@@ -68,7 +70,8 @@ pub record RanOn (comes : Result Entry LineRefusal) (old new : Option (List ℕ)
 
 -- the script ended at it
 pub record Stopped (number : ℕ) (comes : Result Entry LineRefusal) (status : Status) (old new : Option (List ℕ))
-    (counts now : Counts) (w : World) (model : ModelData) (adapters : List Standing) (device : Option State) : Type 0 where
+    (counts now : Counts) (w : World)
+    (model : ModelData) (adapters : List Standing) (device : Option State) : Type 0 where
   pub refused : (why : LineRefusal) → comes ≡ Err why
       → EndsAs (stops number why counts w) status old new now model adapters device
   pub broken : (entry : Entry) → comes ≡ Ok entry → (is_complete status ≡ false) × AppendsFront old new entry.text
@@ -77,7 +80,8 @@ pub record Stopped (number : ℕ) (comes : Result Entry LineRefusal) (status : S
 
 abbrev pub IsTurn : (number : ℕ) → Result Entry LineRefusal → (old new : Option (List ℕ)) → (counts now : Counts)
     → World → ModelData → List Standing → Option State → Turn → Type 0
-IsTurn number comes old new counts now w model adapters device Next = RanOn comes old new counts now model adapters device
+IsTurn number comes old new counts now w model adapters device Next =
+    RanOn comes old new counts now model adapters device
 IsTurn number comes old new counts now w model adapters device (Stop status) =
     Stopped number comes status old new counts now w model adapters device
 
@@ -103,7 +107,8 @@ pub record PassesTo (e : Ending) (next : Option Ending) (old new : Option (List 
   pub written : Appends old new text
 
 -- one line of a script was run and written, and the script is the rest
-abbrev pub GoesOn : (number : ℕ) (before : Moment) (input : Option (List ℕ)) (after : Moment) (rest : Option (List ℕ)) → Type 0
+abbrev pub GoesOn : (number : ℕ) (before : Moment) (input : Option (List ℕ))
+    (after : Moment) (rest : Option (List ℕ)) → Type 0
 GoesOn number before input after rest =
     IfSome (to_come number before input) (λ e. PassesTo e (to_come (number + 1) after rest) before.text after.text)
 
@@ -114,8 +119,9 @@ Ends number before input after status = IfSome (to_come number before input) (λ
 
 -- a whole script ended, with its whole log or a front of it, and its counts were added to those before
 abbrev pub PlaysScript : (before : Moment) → (input : Option (List ℕ)) → (after : Moment) → Status → Type 0
-PlaysScript before input after status = IfSome (coming 1 no_counts before.model before.adapters before.device input) (λ e.
-    IsWrittenOut e status before.text after.text before.counts after.counts after.model after.adapters after.device)
+PlaysScript before input after status =
+    IfSome (coming 1 no_counts before.model before.adapters before.device input) (λ e.
+      IsWrittenOut e status before.text after.text before.counts after.counts after.model after.adapters after.device)
 
 -- ---- a script whose source failed
 
@@ -132,8 +138,8 @@ abbrev pub with_ends : List (List ℕ) → List ℕ
 with_ends [] = []
 with_ends (line ∷ lines) = line ++ 10 ∷ with_ends lines
 
--- An input was taken up to the midst of a line: some lines whole, and then some bytes of the next one. What comes next are these
--- bytes, and then those that the source has left.
+-- An input was taken up to the midst of a line: some lines whole, and then some bytes of the next one.
+-- What comes next are these bytes, and then those that the source has left.
 pub record CutsBehind (bytes : List ℕ) (next left : Option (List ℕ)) : Type 0 where
   pub whole : List (List ℕ)
   pub cut : List ℕ
@@ -163,17 +169,20 @@ BreaksFrom number before input left last =
     Breaks number before.model before.adapters before.device input left before.text last
 
 -- a script breaks off as what is left of it behind a line does
-abbrev pub BreaksAsRest : (number : ℕ) (before : Moment) (input : Option (List ℕ)) (after : Moment) (rest : Option (List ℕ))
-    → Type 0
+abbrev pub BreaksAsRest : (number : ℕ) (before : Moment) (input : Option (List ℕ))
+    (after : Moment) (rest : Option (List ℕ)) → Type 0
 BreaksAsRest number before input after rest =
-    (left last : Option (List ℕ)) → BreaksFrom (number + 1) after rest left last → BreaksFrom number before input left last
+    (left last : Option (List ℕ))
+    → BreaksFrom (number + 1) after rest left last → BreaksFrom number before input left last
 
 -- ---- the next line of a script
 
 -- over any device: as what is left behind it is played, the whole is
-abbrev pub PlaysWithRest : (number : ℕ) (before : Point) (input : Option (List ℕ)) (after : Point) (rest : Option (List ℕ)) → Type 0
+abbrev pub PlaysWithRest : (number : ℕ) (before : Point) (input : Option (List ℕ))
+    (after : Point) (rest : Option (List ℕ)) → Type 0
 PlaysWithRest number before input after rest =
-    (last : Point) (status : Status) → PlaysInput (number + 1) after rest last status → PlaysInput number before input last status
+    (last : Point) (status : Status)
+    → PlaysInput (number + 1) after rest last status → PlaysInput number before input last status
 
 -- It was read and run at one moment, and the script is the rest, or ended at it.
 pub record PlaysLine (number : ℕ) (before : Point) (input : Option (List ℕ)) (after : Point)
@@ -187,7 +196,8 @@ pub record PlaysLine (number : ℕ) (before : Point) (input : Option (List ℕ))
   pub later_fault : turn ≡ Next → ended ≡ false → BreaksAsRest number (moment_at before) input (moment_at after) rest
   -- after a source that failed the reader has the line that was cut
   pub cut : turn ≡ Stop SourceFault → KeepsCut input rest left
-  pub later_cut : turn ≡ Next → ended ≡ false → (next others : Option (List ℕ)) → KeepsCut rest next others → KeepsCut input next others
+  pub later_cut : turn ≡ Next → ended ≡ false → (next others : Option (List ℕ)) → KeepsCut rest next others
+      → KeepsCut input next others
   pub done_next : turn ≡ Next → DoesWithRest number (moment_at before) input (moment_at after) rest
   pub done_stop : (status : Status) → turn ≡ Stop status → DoesFrom number (moment_at before) input (moment_at after)
   -- at most so many lines are run, and a status that goes by the counts goes by these
@@ -197,7 +207,8 @@ pub record PlaysLine (number : ℕ) (before : Point) (input : Option (List ℕ))
 -- ---- the lines that are left
 
 -- They were played from one moment to the other. This is next of the input, and this is what its source has left.
-pub record PlaysThrough (before : Point) (input next left : Option (List ℕ)) (after : Point) (status : Status) : Type 0 where
+pub record PlaysThrough (before : Point) (input next left : Option (List ℕ)) (after : Point)
+    (status : Status) : Type 0 where
   pub on_any_device : PlaysInput 1 before input after status
   -- where the device tells its state
   pub log : Ends 1 (moment_at before) input (moment_at after) status

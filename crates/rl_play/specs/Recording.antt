@@ -14,7 +14,8 @@ use Rattle.rl_log.specs.Recording.{with_event}
 -- ---- the recorder
 
 -- the event's text was written, and the event is counted
-pub record IsWritten (old new : Option (List ℕ)) (counts now : Counts) (model : ModelData) (event : Event) : Type 0 where
+pub record IsWritten (old new : Option (List ℕ)) (counts now : Counts) (model : ModelData)
+    (event : Event) : Type 0 where
   pub text : Appends old new (event_text model event)
   pub counted : now ≡ with_event counts event
 

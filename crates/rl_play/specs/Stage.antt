@@ -29,8 +29,8 @@ abbrev pub recorded : {A D K : Type 0} → (A → Standing) → (D → ℕ) → 
 recorded standing errors state written model adapters device rec =
     spot standing errors state written model adapters device rec.sink.now rec.counts
 
--- A recorder was told of the events of some work: each was written and counted, and the next call may follow. It failed only where the
--- sink has failed once more. The sink is the same, was ended as often, and its bytes go where they went.
+-- A recorder was told of the events of some work: each was written and counted, and the next call may follow. It failed
+-- only where the sink has failed once more. The sink is the same, was ended as often, and its bytes go where they went.
 pub record IsRecorded {K E : Type 0} (k : Sink K) (work : Work) (before after : Point) (old new : Writing K)
     (result : Result Tally E) : Type 0 where
   pub logs : LogsTallied work before after result
@@ -52,10 +52,10 @@ pub record IsSameStage {D K X : Type 0} {V : X → Type 0} (stage new : Stage D 
   pub out : new.out.ghost_name ≡ stage.out.ghost_name
   pub counts : new.counts.ghost_name ≡ stage.counts.ghost_name
 
--- The next call may follow, on the same stage. A call fails where the sink has failed once more, and leaves how often this was
--- ended and where its bytes go.
-pub record StaysOn {D K X : Type 0} {V : X → Type 0} {T E : Type 0} (d : Device D) (k : Sink K) (adapters : List Standing)
-    (stage new : Stage D K X V) (result : Result T E) : Type 0 where
+-- The next call may follow, on the same stage. A call fails where the sink has failed once more, and leaves how often
+-- this was ended and where its bytes go.
+pub record StaysOn {D K X : Type 0} {V : X → Type 0} {T E : Type 0} (d : Device D) (k : Sink K)
+    (adapters : List Standing) (stage new : Stage D K X V) (result : Result T E) : Type 0 where
   pub ready : StaysReady stage.model.now new.model.now adapters (d.state new.device.now)
   pub sink : SinkStays k stage.out.now new.out.now result
   pub same : IsSameStage stage new

@@ -37,7 +37,8 @@ single op = planned (step op stop)
 -- values to consecutive locations of a memory
 abbrev pub burst_write_work : ModelData → (mem : ℕ) → (map : Option ℕ) → (first : ℕ) → (values : List ℕ) → Work
 burst_write_work m mem map first values =
-    burst (write_grant m mem map first values) (op.BurstWrite mem map first (length values)) (writes_of mem map first values)
+    burst (write_grant m mem map first values) (op.BurstWrite mem map first (length values))
+      (writes_of mem map first values)
 
 -- so many consecutive locations
 abbrev pub burst_read_work : ModelData → (mem : ℕ) → (map : Option ℕ) → (first count : ℕ) → Work
@@ -53,7 +54,8 @@ work_of m (line.BurstWrite mem first values map) =
 work_of m (line.BurstRead mem first count map) =
     with_both (mem_named m.chip mem) (map_asked m.layout map)
     (λ i t. burst_read_work m i t first count)
-work_of m (line.Seq which over) = option_map (λ block. sequence which over (plan_of which m block)) (block_asked m.chip over)
+work_of m (line.Seq which over) =
+    option_map (λ block. sequence which over (plan_of which m block)) (block_asked m.chip over)
 work_of m line = option_map single (op_named m line)
 
 -- of a line that is one operation

@@ -21,10 +21,12 @@ word_of item = if item.op.write then item.op.word else item.answer.word
 -- its address, its word in two digits a byte, a binary digit for each lane, and its tag
 abbrev pub transfer_text : (port_bytes : ℕ) → TraceItem → List ℕ
 transfer_text port_bytes item =
-    joined (hex_digits item.op.address ∷ codes " 0x" ∷ padded (2 * port_bytes) (word_of item) ∷ codes " " ∷ lanes_text port_bytes item.op.lanes ∷ codes " #" ∷ decimal item.tag ∷ [])
+    joined (hex_digits item.op.address ∷ codes " 0x" ∷ padded (2 * port_bytes) (word_of item)
+    ∷ codes " " ∷ lanes_text port_bytes item.op.lanes ∷ codes " #" ∷ decimal item.tag ∷ [])
 
 -- behind two spaces and the name of its port's root map
 unfoldable pub item_line : LayoutData → TraceItem → List ℕ
 item_line l item =
     let port = port_at l item.port in
-    joined (codes "  " ∷ (map_at l port.map).name ∷ way_text item.op.write ∷ transfer_text port.bytes item ∷ answer_text item.answer.failed ∷ [])
+    joined (codes "  " ∷ (map_at l port.map).name ∷ way_text item.op.write
+    ∷ transfer_text port.bytes item ∷ answer_text item.answer.failed ∷ [])

@@ -1,5 +1,7 @@
 -- A source and a sink in memory.
-use Rattle.std.specs.Prelude.{ℕ, ◌+◌, ◌-◌, ◌^◌, ◌==◌, ◌||◌, min, List, ◌++◌, length, take, drop, Bool, if◌then◌else◌, Result, Ok, Err}
+use Rattle.std.specs.Prelude.{
+  ℕ, ◌+◌, ◌-◌, ◌^◌, ◌==◌, ◌||◌, min, List, ◌++◌, length, take, drop, Bool, if◌then◌else◌, Result, Ok, Err
+}
 use Rattle.std.specs.List.{list_any}
 use Rattle.rl_bus.specs.declared.device.Failed.{Failed}
 
@@ -47,7 +49,8 @@ after_read s (Err e) = record s { calls = next s.calls; faults = next s.faults }
 
 abbrev pub write_answer : SinkData → List ℕ → Result ℕ Failed
 write_answer s bytes =
-    if s.room - length s.taken == 0 || is_failing s.fails s.calls then Err (record {}) else Ok (min (min (length bytes) (s.room - length s.taken)) s.piece)
+    if s.room - length s.taken == 0 || is_failing s.fails s.calls then Err (record {})
+    else Ok (min (min (length bytes) (s.room - length s.taken)) s.piece)
 
 abbrev pub after_write : SinkData → List ℕ → Result ℕ Failed → SinkData
 after_write s bytes (Ok n) = record s { taken = s.taken ++ take n bytes; calls = next s.calls }

@@ -1,5 +1,8 @@
 -- The separator of an input: the first line that is `---`.
-use Rattle.std.specs.Prelude.{◌≡◌, ℕ, ◌+◌, ◌<◌, ◌≤◌, List, [], ◌∷◌, ◌++◌, Bool, true, false, ◌&&◌, ◌==◌, if◌then◌else◌, length, take, drop, codes, Option, Some, None}
+use Rattle.std.specs.Prelude.{
+  ◌≡◌, ℕ, ◌+◌, ◌<◌, ◌≤◌, List, [], ◌∷◌, ◌++◌, Bool, true, false, ◌&&◌, ◌==◌, if◌then◌else◌, length,
+  take, drop, codes, Option, Some, None
+}
 use Rattle.std.specs.Io.BufRead.{strip_last}
 use Rattle.std.specs.Str.{bytes_eq}
 use Rattle.rl_report.specs.declared.opening.Head.{Head}
@@ -16,7 +19,9 @@ is_separator line = bytes_eq (strip_last 13 line) (codes "---")
 -- where the separator begins, of the bytes from this place on; `starts` says that a line begins there
 abbrev pub separator_from : ℕ → Bool → List ℕ → Option ℕ
 separator_from at starts [] = None
-separator_from at starts (b ∷ bs) = if starts && is_separator (first_line (b ∷ bs)) then Some at else separator_from (at + 1) (b == 10) bs
+separator_from at starts (b ∷ bs) =
+    if starts && is_separator (first_line (b ∷ bs)) then Some at
+    else separator_from (at + 1) (b == 10) bs
 
 -- where the separator of an input begins
 abbrev pub separator_at : List ℕ → Option ℕ
@@ -33,7 +38,8 @@ pub record FindsHead (bytes head : List ℕ) (new : Reading) (left : Option (Lis
   pub front : head ++ drop (length head) bytes ≡ bytes
   pub rest : input_of new left ≡ Some (after_line (drop (length head) bytes))
   -- only at the end of the input the separator may lack its 10
-  pub whole : new.ended ≡ false → drop (length head) bytes ≡ first_line (drop (length head) bytes) ++ 10 ∷ after_line (drop (length head) bytes)
+  pub whole : new.ended ≡ false
+      → drop (length head) bytes ≡ first_line (drop (length head) bytes) ++ 10 ∷ after_line (drop (length head) bytes)
 
 -- what is answered for an input
 abbrev pub HeadIs : List ℕ → Head → List ℕ → Reading → Option (List ℕ) → Type 0
@@ -61,7 +67,8 @@ pub record BeginsWithSeparator (held : List ℕ) (starts ended : Bool) (size : �
 pub record BeginsWithText (held : List ℕ) (starts : Bool) (size : ℕ) (ends : Bool) : Type 0 where
   pub some : 0 < size
   pub within : size ≤ length held
-  pub passed : (at : ℕ) (rest : List ℕ) → separator_from at starts (take size held ++ rest) ≡ separator_from (at + size) ends rest
+  pub passed : (at : ℕ) (rest : List ℕ)
+      → separator_from at starts (take size held ++ rest) ≡ separator_from (at + size) ends rest
 
 -- No separator begins in the last bytes.
 pub record HasNone (held : List ℕ) (starts ended : Bool) : Type 0 where

@@ -1,5 +1,8 @@
 -- The text of an operation: the canonical spelling of the line of a script that asks for it.
-use Rattle.std.specs.Prelude.{◌≡◌, ℕ, ◌^◌, ◌<◌, List, [], ◌∷◌, codes, decimal, map, take, slice_get, length, unwrap_or, Bool, true, false, IfSome, Option, Some, None, option_map}
+use Rattle.std.specs.Prelude.{
+  ◌≡◌, ℕ, ◌^◌, ◌<◌, List, [], ◌∷◌, codes, decimal, map, take, slice_get, length, unwrap_or, Bool, true, false,
+  IfSome, Option, Some, None, option_map
+}
 use Rattle.rl_model.specs.declared.rows.Item.TheVariants as item
 use Rattle.rl_model.specs.Rows.{ChipData}
 use Rattle.rl_model.specs.Chip.{path_of_item, field_path}
@@ -24,7 +27,8 @@ use Rattle.rl_report.specs.declared.operation.Subject.TheVariants.{Reg, Field, M
 -- ---- an operation as a command on one item
 
 abbrev pub spoken : Item → Subject → (first second : ℕ) → (map : Option ℕ) → Spoken
-spoken command subject first second map = record { command = command; subject = subject; first = first; second = second; map = map }
+spoken command subject first second map =
+    record { command = command; subject = subject; first = first; second = second; map = map }
 
 -- none for a burst and a reset, which are no such command
 abbrev pub spoken_of : Op → Option Spoken
@@ -104,7 +108,8 @@ line_of m o = option_map (spoken_line m) (spoken_of o)
 -- a burst, with its count in decimal
 abbrev pub counted_text : ModelData → (name : List ℕ) → (mem first count : ℕ) → (map : Option ℕ) → List ℕ
 counted_text m name mem first count map =
-    in_words (name ∷ path_of_item m.chip (item.Mem mem) ∷ spelled first ∷ codes "count" ∷ decimal count ∷ map_words (map_name m.layout map))
+    in_words (name ∷ path_of_item m.chip (item.Mem mem) ∷ spelled first
+    ∷ codes "count" ∷ decimal count ∷ map_words (map_name m.layout map))
 
 abbrev pub burst_text : ModelData → Op → List ℕ
 burst_text m (op.BurstWrite mem map first count) = counted_text m (command_name command.BurstWrite) mem first count map

@@ -1,5 +1,7 @@
 -- The text of what came of an operation: how it ended, what the register holds afterwards, and which fields differ.
-use Rattle.std.specs.Prelude.{ℕ, ◌*◌, ◌==◌, List, [], ◌∷◌, codes, decimal, flat_map, Bool, true, false, not, ◌&&◌, if◌then◌else◌, Option, Some, None}
+use Rattle.std.specs.Prelude.{
+  ℕ, ◌*◌, ◌==◌, List, [], ◌∷◌, codes, decimal, flat_map, Bool, true, false, not, ◌&&◌, if◌then◌else◌, Option, Some, None
+}
 use Rattle.std.specs.List.{range_with_len}
 use Rattle.rl_policy.specs.Bits.{bit}
 use Rattle.rl_model.specs.declared.rows.Item.{Item}
@@ -12,7 +14,9 @@ use Rattle.rl_access.specs.declared.event.End.TheVariants as end
 use Rattle.rl_access.specs.declared.event.Op.{Op}
 use Rattle.rl_access.specs.declared.event.Op.TheVariants as op
 use Rattle.rl_access.specs.declared.event.Refused.{Refused}
-use Rattle.rl_access.specs.declared.event.Refused.TheVariants.{NotPlaced, NotObserved, NoRight, NoBackdoor, NotVolatile, NotWritable, OutOfRange, TooWide}
+use Rattle.rl_access.specs.declared.event.Refused.TheVariants.{
+  NotPlaced, NotObserved, NoRight, NoBackdoor, NotVolatile, NotWritable, OutOfRange, TooWide
+}
 use Rattle.rl_access.specs.Operation.{register_of, digits_of, location_size}
 use Rattle.rl_report.specs.Numbers.{padded}
 use Rattle.rl_report.specs.Pieces.{joined}
@@ -60,7 +64,9 @@ is_check _ = false
 
 -- a field whose bit is set
 abbrev pub name_text : ChipData → (reg differ place : ℕ) → List ℕ
-name_text c reg differ place = if bit differ place then joined (codes " " ∷ (field_in (fields_of c reg) place).name ∷ []) else []
+name_text c reg differ place =
+    if bit differ place then joined (codes " " ∷ (field_in (fields_of c reg) place).name ∷ [])
+    else []
 
 -- the differing fields of a register, in field order
 abbrev pub names_text : ChipData → (reg differ : ℕ) → List ℕ
@@ -71,14 +77,18 @@ abbrev pub has_differ : Event → Bool
 has_differ e = is_check e.op && not (e.differ == 0)
 
 abbrev pub desired_text : ChipData → Event → (reg : ℕ) → List ℕ
-desired_text c e reg = if is_show e.op && is_done e.end then joined (codes " desired 0x" ∷ padded (2 * size_of c reg) e.desired ∷ []) else []
+desired_text c e reg =
+    if is_show e.op && is_done e.end then joined (codes " desired 0x" ∷ padded (2 * size_of c reg) e.desired ∷ [])
+    else []
 
 abbrev pub differ_text : ChipData → Event → (reg : ℕ) → List ℕ
 differ_text c e reg = if has_differ e then joined (codes " differ" ∷ names_text c reg e.differ ∷ []) else []
 
 -- the register afterwards, if the operation concerns one
 abbrev pub after_text : ChipData → Event → Option ℕ → List ℕ
-after_text c e (Some reg) = joined (desired_text c e reg ∷ codes " mirror 0x" ∷ padded (2 * size_of c reg) e.mirrored ∷ differ_text c e reg ∷ [])
+after_text c e (Some reg) =
+    joined (desired_text c e reg ∷ codes " mirror 0x" ∷ padded (2 * size_of c reg) e.mirrored
+    ∷ differ_text c e reg ∷ [])
 after_text c e None = if has_differ e then codes " differ" else []
 
 abbrev pub is_refused : End → Bool

@@ -1,5 +1,8 @@
 -- Which registers, memories, places and bits a sequence goes over.
-use Rattle.std.specs.Prelude.{ℕ, zero, suc, ◌+◌, ◌-◌, ◌*◌, ◌^◌, ◌%◌, ◌==◌, nat_le, bit_and, Bool, true, false, not, if◌then◌else◌, ◌&&◌, ◌||◌, length, unwrap_or, Option, None, Some}
+use Rattle.std.specs.Prelude.{
+  ℕ, zero, suc, ◌+◌, ◌-◌, ◌*◌, ◌^◌, ◌%◌, ◌==◌, nat_le, bit_and, Bool, true, false, not, if◌then◌else◌, ◌&&◌,
+  ◌||◌, length, unwrap_or, Option, None, Some
+}
 use Rattle.std.specs.Option.{option_map_or}
 use Rattle.rl_map.specs.Layout.{LayoutData, place_at, has_right, same_item}
 use Rattle.rl_model.specs.Chip.{backdoor_of, skip_of, is_inside, path_at, path_of_item}
@@ -85,7 +88,8 @@ has_writable_field c reg =
 
 abbrev pub is_accessed : ChipData → ℕ → Option ℕ → Bool
 is_accessed c reg block =
-    (is_reg_tested c reg block (exclusion_from Access) && unwrap_or (backdoor_of c (Reg reg)) false) && has_writable_field c reg
+    (is_reg_tested c reg block (exclusion_from Access) && unwrap_or (backdoor_of c (Reg reg)) false)
+    && has_writable_field c reg
 
 -- how many numbers below the count
 abbrev pub count_below : ℕ → (ℕ → Bool) → ℕ

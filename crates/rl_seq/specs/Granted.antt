@@ -14,7 +14,8 @@ pub record IsModelFor (c : ChipData) (l : LayoutData) (m : ModelData) : Type 0 w
   pub chip : m.chip ≡ c
   pub layout : m.layout ≡ l
 
--- each operation of the plan is granted, from any model of the chip and the layout, and so from the one that the steps before leave
+-- each operation of the plan is granted, from any model of the chip and the layout, and so from the one
+-- that the steps before leave
 abbrev pub IsGranted : ChipData → LayoutData → Plan → Type 0
 IsGranted c l stop = Unit {0}
 IsGranted c l (step op p) = ((m : ModelData) → IsModelFor c l m → IsOk (grant m op)) × IsGranted c l p
@@ -22,4 +23,5 @@ IsGranted c l (look f) = (m : ModelData) → IsModelFor c l m → IsGranted c l 
 
 -- each of the five, so that a sequence of refusals can't pass
 abbrev pub NoStepIsRefused : Type 0
-NoStepIsRefused = (which : Sequence) (c : ChipData) (l : LayoutData) (block : Option ℕ) → IsGranted c l (plan_of which c l block)
+NoStepIsRefused =
+    (which : Sequence) (c : ChipData) (l : LayoutData) (block : Option ℕ) → IsGranted c l (plan_of which c l block)

@@ -1,4 +1,5 @@
--- Operations that are done one after another, some of them made from the model as it then is. A bus error doesn't end them.
+-- Operations that are done one after another, some of them made from the model as it then is.
+-- A bus error doesn't end them.
 use Rattle.std.specs.Prelude.{◌≡◌, ℕ, zero, suc, Bool, if◌then◌else◌, List, [], ◌∷◌, Result, OnOk, IfOk, MatchResult}
 use Rattle.rl_access.specs.declared.event.Event.{Event}
 use Rattle.rl_access.specs.declared.event.Op.{Op}
@@ -44,8 +45,8 @@ Breaks (step op p) s (t ∷ u ∷ told) new = (mid : Scene) × IsOneStep s mid o
 Breaks (look f) s told new = Breaks (f s.model) s told new
 
 -- the plan was followed, and each event handed over and counted; at `Err` the recorder failed at the last one
-pub record Walks {R T E : Type 0} (takes breaks : R → ModelData → Event → R → Type 0) (old rec : R) (s new : Scene) (before after : Tally)
-    (p : Plan) (r : Result T E) : Type 0 where
+pub record Walks {R T E : Type 0} (takes breaks : R → ModelData → Event → R → Type 0) (old rec : R) (s new : Scene)
+    (before after : Tally) (p : Plan) (r : Result T E) : Type 0 where
   pub told : List Told
   pub handed : HandsOver takes breaks old told rec r
   pub counts : OnOk r (after ≡ counted_all before told)

@@ -28,7 +28,7 @@ pub record IsSameRun {D R X : Type 0} {V : X → Type 0} (run new : Running D R 
   pub recorder : new.recorder.ghost_name ≡ run.recorder.ghost_name
 
 -- the plan was followed, from these adapters to those, and it is still the same run
-pub record GoesOn {D R X : Type 0} {V : X → Type 0} {T E : Type 0} (r : Recorder R) (d : Device D) (before after : List Standing) (run new : Running D R X V) (p : Plan)
-    (result : Result T E) : Type 0 where
+pub record GoesOn {D R X : Type 0} {V : X → Type 0} {T E : Type 0} (r : Recorder R) (d : Device D)
+    (before after : List Standing) (run new : Running D R X V) (p : Plan) (result : Result T E) : Type 0 where
   pub follows : Follows r (stage_at d before run) (stage_at d after new) run.tally new.tally p result
   pub same : IsSameRun run new

@@ -1,5 +1,6 @@
--- The five sequences, each as the operations that it stands for. Each goes over the registers or the memories that it chooses,
--- and over the places of each that have the rights it needs. It follows the description alone, and what is mirrored at each moment.
+-- The five sequences, each as the operations that it stands for. Each goes over the registers or the memories
+-- that it chooses, and over the places of each that have the rights it needs. It follows the description alone,
+-- and what is mirrored at each moment.
 use Rattle.std.specs.Prelude.{ℕ, zero, suc, ◌+◌, ◌*◌, ◌^◌, ◌==◌, bit_xor, not, ◌&&◌, Bool, length, Option, Some}
 use Rattle.rl_map.specs.Layout.{LayoutData, place_at}
 use Rattle.rl_model.specs.Fields.{size_of}
@@ -11,7 +12,10 @@ use Rattle.rl_access.specs.declared.event.Op.TheVariants as op
 use Rattle.rl_access.specs.Rules.{memory_size}
 use Rattle.rl_seq.specs.declared.sequence.Sequence.{Sequence}
 use Rattle.rl_seq.specs.declared.sequence.Sequence.TheVariants.{HwReset, BitBash, Access, Shared, MemWalk}
-use Rattle.rl_seq.specs.Choice.{is_reg_tested, is_accessed, is_shared, is_walked, is_of, may_read, may_write, is_bit_compared, low_bits, turned_round, exclusion_from}
+use Rattle.rl_seq.specs.Choice.{
+  is_reg_tested, is_accessed, is_shared, is_walked, is_of, may_read, may_write, is_bit_compared,
+  low_bits, turned_round, exclusion_from
+}
 use Rattle.rl_seq.specs.Plan.{Plan, stop, step, look, followed_by, only_if, each_below}
 
 abbrev pub map_at : LayoutData → ℕ → ℕ
@@ -32,7 +36,8 @@ bash_once reg map bit = look (λ m.
 
 -- uvm_reg_bit_bash_seq (IEEE 1800.2-2017, Annex E) turns a compared bit round twice. The steps are this project's own.
 abbrev pub bash_bit : ChipData → (reg map bit : ℕ) → Plan
-bash_bit c reg map bit = only_if (is_bit_compared c reg bit) (followed_by (bash_once reg map bit) (bash_once reg map bit))
+bash_bit c reg map bit =
+    only_if (is_bit_compared c reg bit) (followed_by (bash_once reg map bit) (bash_once reg map bit))
 
 -- ---- access: over the bus and checked by the backdoor, and then the other way round
 
@@ -51,7 +56,8 @@ access_at c reg map = look (λ m. access_with c reg map (mirrored_of m.mirror re
 -- ---- shared access: a write, and then a check at each other place that may be read
 
 abbrev pub write_turned : ChipData → LayoutData → (reg place value : ℕ) → Plan → Plan
-write_turned c l reg place value rest = step (op.Write reg (Some (map_at l place)) (turned_round c (Reg reg) value)) rest
+write_turned c l reg place value rest =
+    step (op.Write reg (Some (map_at l place)) (turned_round c (Reg reg) value)) rest
 
 abbrev pub check_other : LayoutData → (reg written place : ℕ) → Plan
 check_other l reg written place =
@@ -63,7 +69,8 @@ abbrev pub share_at : ChipData → LayoutData → (reg place : ℕ) → Plan
 share_at c l reg place = look (λ m.
     write_turned c l reg place (mirrored_of m.mirror reg) (each_below (length l.places) (check_other l reg place)))
 
--- ---- memory walk: each location takes its number turned round; then the one before it is checked, and takes its own number
+-- ---- memory walk: each location takes its number turned round;
+-- then the one before it is checked, and takes its own number
 
 abbrev pub fill : ChipData → (mem map k : ℕ) → Plan
 fill c mem map k = step (op.MemWrite mem (Some map) k (turned_round c (Mem mem) k)) stop
@@ -85,7 +92,8 @@ check_last c mem map k = only_if (k + 1 == memory_size c mem) (check_filled c me
 -- uvm_mem_walk_seq (IEEE 1800.2-2017, Annex E) fills a location of a memory and goes back to the one before it. The
 -- steps are this project's own.
 abbrev pub walk_location : ChipData → (mem map k : ℕ) → Plan
-walk_location c mem map k = followed_by (fill c mem map k) (followed_by (settle_before c mem map k) (check_last c mem map k))
+walk_location c mem map k =
+    followed_by (fill c mem map k) (followed_by (settle_before c mem map k) (check_last c mem map k))
 
 -- ---- what each goes over
 

@@ -1,5 +1,8 @@
 -- A sequence at a place, as the walk goes about it: turn by turn, and part by part. A part is one operation, or none.
-use Rattle.std.specs.Prelude.{◌≡◌, ℕ, zero, suc, ◌+◌, ◌*◌, ◌^◌, ◌<◌, ◌==◌, ◌%◌, bit_xor, not, ◌&&◌, if◌then◌else◌, length, true, Bool, Option, None, Some}
+use Rattle.std.specs.Prelude.{
+  ◌≡◌, ℕ, zero, suc, ◌+◌, ◌*◌, ◌^◌, ◌<◌, ◌==◌, ◌%◌, bit_xor, not, ◌&&◌, if◌then◌else◌,
+  length, true, Bool, Option, None, Some
+}
 use Rattle.rl_map.specs.Layout.{LayoutData}
 use Rattle.rl_model.specs.Fields.{size_of}
 use Rattle.rl_model.specs.Rows.{ChipData}
@@ -64,7 +67,8 @@ parts_of c (Walk mem map) k = 4
 -- a write, and then a check
 abbrev pub bash_part : MirrorData → (reg map bit part : ℕ) → Op
 bash_part mirror reg map bit part =
-    if part % 2 == 0 then op.Write reg (Some map) (bit_xor (mirrored_of mirror reg) (2 ^ bit)) else op.Check reg (Some map)
+    if part % 2 == 0 then op.Write reg (Some map) (bit_xor (mirrored_of mirror reg) (2 ^ bit))
+    else op.Check reg (Some map)
 
 abbrev pub access_part : ChipData → (reg map value part : ℕ) → Op
 access_part c reg map value part =
@@ -80,7 +84,8 @@ some_if b op = if b then Some op else None
 abbrev pub share_part : ChipData → LayoutData → (reg place value turn : ℕ) → Option Op
 share_part c l reg place value zero = Some (op.Write reg (Some (map_at l place)) (turned_round c (Reg reg) value))
 share_part c l reg place value (suc other) =
-    some_if (not (other == place) && (is_of l other (Reg reg) && may_read l other)) (op.Check reg (Some (map_at l other)))
+    some_if (not (other == place) && (is_of l other (Reg reg) && may_read l other))
+      (op.Check reg (Some (map_at l other)))
 
 -- of the location before, if there is one
 abbrev pub of_before : (ℕ → Op) → ℕ → Option Op

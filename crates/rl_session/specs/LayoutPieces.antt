@@ -19,7 +19,8 @@ heading_text chip l place =
 -- a word of a port of so many bytes, whose root map has this name
 abbrev pub word_line : List ℕ → ℕ → Word → List ℕ
 word_line root port_bytes w =
-    joined (codes "  " ∷ root ∷ codes " 0x" ∷ hex_digits w.address ∷ codes ":" ∷ lanes_text port_bytes w ∷ codes "\n" ∷ [])
+    joined (codes "  " ∷ root ∷ codes " 0x" ∷ hex_digits w.address
+    ∷ codes ":" ∷ lanes_text port_bytes w ∷ codes "\n" ∷ [])
 
 -- the words of a place's first location
 abbrev pub words_text : LayoutData → ℕ → List ℕ

@@ -27,13 +27,15 @@ abbrev pub LeavesScript : List ℕ → Option (List ℕ) → Type 0
 LeavesScript bytes left = (head : List ℕ) → head_of bytes ≡ Ok head → IsUnread (behind (separator_at bytes) bytes) left
 
 -- They describe this, for adapters of these kinds.
-pub record OpensWith (bytes : List ℕ) (kinds : List AdapterKind) (desc : DescData) (lines : Reading) (left : Option (List ℕ)) : Type 0 where
+pub record OpensWith (bytes : List ℕ) (kinds : List AdapterKind) (desc : DescData) (lines : Reading)
+    (left : Option (List ℕ)) : Type 0 where
   pub opening : opening_of bytes kinds ≡ Ok desc
   pub head : List ℕ
   pub reads : ReadsHead bytes head lines left
 
 -- A session opens with this, by whatever it may be refused for, and the reader has its script.
-pub record OpensAs (described : Result DescData (List ℕ)) (bytes : List ℕ) (desc : DescData) (lines : Reading) (left : Option (List ℕ)) : Type 0 where
+pub record OpensAs (described : Result DescData (List ℕ)) (bytes : List ℕ) (desc : DescData) (lines : Reading)
+    (left : Option (List ℕ)) : Type 0 where
   pub opening : described ≡ Ok desc
   pub rest : input_of lines left ≡ Some (behind (separator_at bytes) bytes)
 

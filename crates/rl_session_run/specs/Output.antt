@@ -10,7 +10,8 @@ use Rattle.rl_session.specs.Judged.{Judged, first_world}
 
 -- ---- what was written of it
 
--- the whole text, with its status, and the adapters stand so; where it didn't come to its last line, a front of the text
+-- the whole text, with its status, and the adapters stand so;
+-- where it didn't come to its last line, a front of the text
 pub record IsJudged (j : Judged) (status : Status) (old new : Option (List ℕ)) (adapters : List Standing) : Type 0 where
   pub tells : Tells status j.status old new j.text
   pub adapters_are : is_complete status ≡ true → adapters ≡ j.adapters

@@ -21,8 +21,8 @@ abbrev pub first_point : DescData → List Standing → (text : Option (List ℕ
 first_point desc adapters text =
     record { scene = scene (first_world desc adapters).model adapters 0 None; text = text; counts = no_counts }
 
--- Lines were played from there on: the text of events was written, each of which performs its line's operation from where the
--- one before ended.
+-- Lines were played from there on: the text of events was written, each of which performs its line's operation from
+-- where the one before ended.
 pub record PlaysLines (desc : DescData) (lines : List (List ℕ)) (status : Status) (old new : Option (List ℕ))
     (adapters now : List Standing) (errors : ℕ) : Type 0 where
   pub last : Point
@@ -33,7 +33,8 @@ pub record PlaysLines (desc : DescData) (lines : List (List ℕ)) (status : Stat
   pub errors_are : last.scene.errors ≡ errors
 
 -- the lines of an input, where the source tells its bytes
-abbrev pub PlaysRest : DescData → (input : Option (List ℕ)) → Status → (old new : Option (List ℕ)) → (adapters now : List Standing)
+abbrev pub PlaysRest : DescData → (input : Option (List ℕ)) → Status → (old new : Option (List ℕ))
+    → (adapters now : List Standing)
     → (errors : ℕ) → Type 0
 PlaysRest desc input status old new adapters now errors =
     IfSome input (λ bytes. PlaysLines desc (lines_of bytes) status old new adapters now errors)
@@ -46,17 +47,17 @@ pub record IsUnreached (status : Status) (old new : Option (List ℕ)) (adapters
   pub unwritten : Keeps old new
   pub untouched : now ≡ adapters
 
--- From what a session opens with and its bytes to its status, from what its log had before to what it has after, from the
--- adapters as they stood to how they stand; and how often the device failed that is handed out, where one is.
-pub record RunsSession (opening : Result DescData (List ℕ)) (bytes : List ℕ) (status : Status) (old new : Option (List ℕ))
-    (adapters now : List Standing) (errors : Option ℕ) : Type 0 where
-  -- Where it is refused before its script, exactly the line that says so is written, and the status is `Refused`. After any
-  -- fault, and where memory ran out, a front of that line was written.
+-- From what a session opens with and its bytes to its status, from what its log had before to what it has after,
+-- from the adapters as they stood to how they stand; and how often the device failed that is handed out, where one is.
+pub record RunsSession (opening : Result DescData (List ℕ)) (bytes : List ℕ) (status : Status)
+    (old new : Option (List ℕ)) (adapters now : List Standing) (errors : Option ℕ) : Type 0 where
+  -- Where it is refused before its script, exactly the line that says so is written, and the status is `Refused`.
+  -- After any fault, and where memory ran out, a front of that line was written.
   pub refused : (line : List ℕ) → opening ≡ Err line → Tells status Refused old new line
   -- The adapters then stand as before.
   pub untouched : (line : List ℕ) → opening ≡ Err line → now ≡ adapters
-  -- Where it isn't, its script is played, with the status that goes by what happened. After a fault, and where memory ran out,
-  -- a front of that was written.
+  -- Where it isn't, its script is played, with the status that goes by what happened. After a fault, and where memory
+  -- ran out, a front of that was written.
   pub played : (desc : DescData) → opening ≡ Ok desc
       → PlaysLines desc (script_of bytes) status old new adapters now (unwrap_or errors 0)
   -- Where no device is handed out, it didn't come to its script.

@@ -19,15 +19,18 @@ pub record StaysOpen {K : Type 0} (written : K → Option (List ℕ)) (faults en
   pub later : faults old ≤ faults new
   pub ends_kept : ends new ≡ ends old
 
--- A session whose log isn't ended yet: no fault is made up, and the status is never that of other words. The source's count of faults
--- went from `source` to `source_now`.
-pub record LeavesOpen {K : Type 0} (sink : Sink K) (status : Status) (source source_now : ℕ) (old new : K) : Type 0 where
+-- A session whose log isn't ended yet: no fault is made up, and the status is never that of other words.
+-- The source's count of faults went from `source` to `source_now`.
+pub record LeavesOpen {K : Type 0} (sink : Sink K) (status : Status) (source source_now : ℕ)
+    (old new : K) : Type 0 where
   pub source_later : source ≤ source_now
   pub cause : IsCaused status source source_now (sink.faults old) (sink.faults new)
   pub stays : StaysOpen sink.written sink.faults sink.ends old new
 
--- A whole session: its log keeps the bytes that it had before, and is ended, once, exactly where its last line was written.
-pub record LeavesEnded {K : Type 0} (sink : Sink K) (status : Status) (source source_now : ℕ) (old new : K) : Type 0 where
+-- A whole session: its log keeps the bytes that it had before, and is ended, once,
+-- exactly where its last line was written.
+pub record LeavesEnded {K : Type 0} (sink : Sink K) (status : Status) (source source_now : ℕ)
+    (old new : K) : Type 0 where
   pub keeps_earlier : KeepsEarlier (sink.written old) (sink.written new)
   pub source_later : source ≤ source_now
   pub log_later : sink.faults old ≤ sink.faults new

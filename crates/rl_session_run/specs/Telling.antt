@@ -20,10 +20,10 @@ abbrev pub Stops : {X : Type 0} → (opening : Result X (List ℕ)) → Status �
 Stops (Ok x) status old new = (is_complete status ≡ false) × Keeps old new
 Stops (Err line) status old new = Tells status Refused old new line
 
--- A check of a description that could be run on the device model, by what else `over` refuses: it passes and writes nothing, or it ends
--- the session with the line that says so.
-pub record Checks {K T : Type 0} (sink : Sink K) (over : Result DescData (List ℕ) → Result DescData (List ℕ)) (desc : DescData)
-    (result : Result T Status) (old new : K) : Type 0 where
+-- A check of a description that could be run on the device model, by what else `over` refuses:
+-- it passes and writes nothing, or it ends the session with the line that says so.
+pub record Checks {K T : Type 0} (sink : Sink K) (over : Result DescData (List ℕ) → Result DescData (List ℕ))
+    (desc : DescData) (result : Result T Status) (old new : K) : Type 0 where
   pub allowed : OnOk result (over (Ok desc) ≡ Ok desc)
   pub unwritten : OnOk result (new ≡ old)
   pub stops : IfErr result (λ status. Stops (over (Ok desc)) status (sink.written old) (sink.written new))

@@ -21,4 +21,5 @@ pub record HasNoFault (kinds : List AdapterKind) : Type 0 where
 
 -- so it is wherever the plain adapter and that of an APB are at hand
 abbrev pub DescriptionHasNoFault : Type 0
-DescriptionHasNoFault = (kinds : List AdapterKind) → IsAtHand plain_kind kinds → IsAtHand apb_kind kinds → HasNoFault kinds
+DescriptionHasNoFault =
+    (kinds : List AdapterKind) → IsAtHand plain_kind kinds → IsAtHand apb_kind kinds → HasNoFault kinds

@@ -23,10 +23,13 @@ good_end m reg place (Some value) items = Done
 
 -- the item is the last one, and its number is the count of those before it
 abbrev pub end_with : ModelData → Woven → TraceItem → End
-end_with m v item = if item.answer.failed then BusError (length v.items) else good_end m v.access.reg v.place v.access.value (v.items ++ item ∷ [])
+end_with m v item =
+    if item.answer.failed then BusError (length v.items)
+    else good_end m v.access.reg v.place v.access.value (v.items ++ item ∷ [])
 
 abbrev pub event_with : ModelData → Woven → TraceItem → Event
-event_with m v item = register_event (named m (op_of v.access)) v.access.reg (v.items ++ item ∷ []) (quiet (end_with m v item) m)
+event_with m v item =
+    register_event (named m (op_of v.access)) v.access.reg (v.items ++ item ∷ []) (quiet (end_with m v item) m)
 
 abbrev pub end_of : ModelData → Woven → TraceItem → Option Event
 end_of m v item = if is_over v item then Some (event_with m v item) else None
@@ -38,7 +41,8 @@ event_told over event = if over then Some event else None
 abbrev pub step_told : Sent → Event → Step
 step_told sent event = record { item = sent.item; end = event_told sent.over event }
 
--- ---- a step: the next word of the access goes out, the predictor sees its item, and the event tells of the access that is over
+-- ---- a step: the next word of the access goes out, the predictor sees its item,
+-- and the event tells of the access that is over
 
 pub record IsStepOf (s new : Scene) (v : Woven) (step : Step) : Type 0 where
   pub sent : IsWordSent s new v.place (length v.items) v.access.value step.item

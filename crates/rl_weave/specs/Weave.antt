@@ -1,6 +1,11 @@
 -- A weave as data: what is added to it, and what a step leaves of it.
-use Rattle.std.specs.Prelude.{◌≡◌, ℕ, ◌+◌, ◌-◌, ◌^◌, ◌<◌, ◌≤◌, ◌==◌, ◌||◌, nat_lt, not, Bool, true, false, if◌then◌else◌, List}
-use Rattle.std.specs.Prelude.{[], ◌∷◌, ◌++◌, length, slice_set, filter, position, All, AllPairs, Option, None, Some, unwrap_or, Result, Ok, Err, sum_by}
+use Rattle.std.specs.Prelude.{
+  ◌≡◌, ℕ, ◌+◌, ◌-◌, ◌^◌, ◌<◌, ◌≤◌, ◌==◌, ◌||◌, nat_lt, not, Bool, true, false, if◌then◌else◌, List
+}
+use Rattle.std.specs.Prelude.{
+  [], ◌∷◌, ◌++◌, length, slice_set, filter, position, All, AllPairs, Option, None, Some,
+  unwrap_or, Result, Ok, Err, sum_by
+}
 use Rattle.rl_model.specs.declared.rows.Item.TheVariants.{Reg}
 use Rattle.rl_map.specs.Layout.{place_of, words_of}
 use Rattle.rl_access.specs.declared.event.Refused.{Refused}
@@ -10,7 +15,9 @@ use Rattle.rl_access.specs.Model.{ModelData}
 use Rattle.rl_access.specs.Rules.{Grant, grant, item_size}
 use Rattle.rl_weave.specs.declared.access.Access.{Access}
 use Rattle.rl_weave.specs.declared.access.WeaveFault.{WeaveFault}
-use Rattle.rl_weave.specs.declared.access.WeaveFault.TheVariants.{TooMany, NotPlaced, NotObserved, NoRight, TooWide, SameRegister}
+use Rattle.rl_weave.specs.declared.access.WeaveFault.TheVariants.{
+  TooMany, NotPlaced, NotObserved, NoRight, TooWide, SameRegister
+}
 use Rattle.rl_weave.specs.declared.woven.Woven.{Woven}
 use Rattle.rl_weave.specs.Access.{op_of, woven_at, IsWovenOn}
 
@@ -68,7 +75,8 @@ abbrev pub place_used : ModelData → Access → ℕ
 place_used m a = unwrap_or (place_of m.layout (Reg a.reg) a.map) 0
 
 abbrev pub woven_of : ModelData → Access → Woven
-woven_of m a = record { access = a; place = place_used m a; words = length (words_of m.layout (place_used m a) 0); items = [] }
+woven_of m a =
+    record { access = a; place = place_used m a; words = length (words_of m.layout (place_used m a) 0); items = [] }
 
 abbrev pub appended : WeaveData → Woven → WeaveData
 appended w v = record w { accesses = w.accesses ++ v ∷ []; still_open = w.still_open ++ length w.accesses ∷ [] }
@@ -102,7 +110,9 @@ number_granted w reg (Err fault) = Err fault
 
 -- the number of an access, or its first fault
 abbrev pub number_of : WeaveData → ModelData → Access → Result ℕ WeaveFault
-number_of w m a = if nat_lt (length w.accesses) 64 then number_granted w a.reg (place_granted (grant m (op_of a))) else Err TooMany
+number_of w m a =
+    if nat_lt (length w.accesses) 64 then number_granted w a.reg (place_granted (grant m (op_of a)))
+    else Err TooMany
 
 -- ---- a step
 

@@ -27,7 +27,8 @@ use Rattle.rl_weave_laws.specs.Runs.{Turn, RunsTo, events_of}
 
 -- ---- an open access
 
--- The model grants it. Its items are its first words in order, none of them failed, and the predictor has gathered exactly these.
+-- The model grants it. Its items are its first words in order, none of them failed, and the predictor
+-- has gathered exactly these.
 pub record IsBegun (m : ModelData) (v : Woven) : Type 0 where
   pub numbers : IsNumbered m v.access
   pub granted : grant m (op_of v.access) ≡ Ok v.place
@@ -93,7 +94,8 @@ pub record IsWordTaken (s new : Scene) (w : WeaveData) (which : ℕ) (step : Ste
 abbrev pub EachWordIsTaken : Type 0
 EachWordIsTaken =
     (s new : Scene) (w : WeaveData) (which : ℕ) (step : Step)
-    → IsModel s.model → IsWeave w → IsOpen w which → AreBegun s.model w → IsStepOf s new (woven_at w.accesses which) step
+    → IsModel s.model → IsWeave w → IsOpen w which → AreBegun s.model w
+    → IsStepOf s new (woven_at w.accesses which) step
     → IsWordTaken s new w which step
 
 -- ---- a register, while words of other accesses go between
@@ -109,7 +111,8 @@ abbrev pub NoneCompletes : (i : ℕ) → List Turn → Type 0
 NoneCompletes i [] = Unit {0}
 NoneCompletes i (t ∷ turns) = (t.which ≡ i → IfSome t.step.end (λ e. is_bus_error e.end ≡ true)) × NoneCompletes i turns
 
--- An access that ended by a bus error, or is still open, left what is believed of its register, whatever words went between.
+-- An access that ended by a bus error, or is still open, left what is believed of its register,
+-- whatever words went between.
 abbrev pub BusErrorKeepsRegister : Type 0
 BusErrorKeepsRegister =
     (s new : Scene) (w left : WeaveData) (turns : List Turn) (i : ℕ)
@@ -123,7 +126,8 @@ abbrev pub turns_text : ModelData → List Turn → List ℕ
 turns_text m [] = []
 turns_text m (t ∷ turns) = step_text m t.step.item t.step.end ++ turns_text m turns
 
--- On the device model, with whatever flaws, the words of a group are such steps. It writes their lines and counts their events.
+-- On the device model, with whatever flaws, the words of a group are such steps.
+-- It writes their lines and counts their events.
 pub record IsGroupRun (g : Weaving) (errors : ℕ) : Type 0 where
   pub turns : List Turn
   pub left : WeaveData

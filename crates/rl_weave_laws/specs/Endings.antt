@@ -21,7 +21,8 @@ pub record EndsStopped (e : Ending) (first count : ℕ) (text : List ℕ) : Type
   pub text_is : e.text ≡ text ++ refused_woven_text number why
   pub status_is : e.status ≡ Refused
 
--- The log of a woven script is that of the groups that are run and one last line, which tells the counts or which line is refused.
+-- The log of a woven script is that of the groups that are run and one last line, which tells the
+-- counts or which line is refused.
 abbrev pub EveryWovenLogEnds : Type 0
 EveryWovenLogEnds =
     (number : ℕ) (g : Weaving) (lines : List (List ℕ))

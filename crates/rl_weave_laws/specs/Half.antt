@@ -1,5 +1,8 @@
 -- A weave that is half done, on a device without flaws, beside the plain machine.
-use Rattle.std.specs.Prelude.{◌≡◌, ℕ, ◌<◌, Bool, true, false, if◌then◌else◌, List, [], ◌∷◌, length, map, take, Option, None, Some, Ok, is_some, unwrap_or, IfSome, Contains}
+use Rattle.std.specs.Prelude.{
+  ◌≡◌, ℕ, ◌<◌, Bool, true, false, if◌then◌else◌, List, [], ◌∷◌, length, map, take, Option, None, Some,
+  Ok, is_some, unwrap_or, IfSome, Contains
+}
 use Rattle.rl_bus.specs.State.{State}
 use Rattle.rl_model.specs.Fields.{fields_of}
 use Rattle.rl_model.specs.Rows.{ChipData}
@@ -58,8 +61,8 @@ abbrev pub gathered_of : Bool → List TraceItem → Gathered
 gathered_of write [] = no_words
 gathered_of write (item ∷ items) = record { write = write; words = map told_by (item ∷ items) }
 
--- Since the device stood as `begun`, some words of the access were sent: its register is the machine's old one with these
--- words, and the items and the list of its place tell of them.
+-- Since the device stood as `begun`, some words of the access were sent: its register is the machine's old one with
+-- these words, and the items and the list of its place tell of them.
 pub record IsHalfDone (begun : State) (p : Machine) (m : ModelData) (d : State) (v : Woven) : Type 0 where
   pub numbers : IsNumbered m v.access
   pub granted : grant m (op_of v.access) ≡ Ok v.place
@@ -67,8 +70,10 @@ pub record IsHalfDone (begun : State) (p : Machine) (m : ModelData) (d : State) 
   pub holds : Holds m.chip begun v.access.reg (register_at m.chip p v.access.reg)
   pub marked : IsMarkedAlone m.chip begun v.access.reg
   pub under_way : IsUnderWay m.layout begun d v.place v.access.reg (carried v.access) (writes v.access) (length v.items)
-  pub ops : map (λ i. i.op) v.items ≡ take (length v.items) (whole_ops m.layout v.place (carried v.access) (writes v.access))
-  pub answers : map (λ i. i.answer) v.items ≡ answers_of begun (place_at m.layout v.place).port (map (λ i. i.op) v.items)
+  pub ops : map (λ i. i.op) v.items
+      ≡ take (length v.items) (whole_ops m.layout v.place (carried v.access) (writes v.access))
+  pub answers : map (λ i. i.answer) v.items
+      ≡ answers_of begun (place_at m.layout v.place).port (map (λ i. i.op) v.items)
   pub gathered : gathered_at m.gathered v.place ≡ gathered_of (writes v.access) v.items
 
 -- ---- a weave
@@ -79,15 +84,16 @@ IsOpen w i = Contains w.still_open i
 abbrev pub NoneOpen : WeaveData → (Woven → Type 0) → Type 0
 NoneOpen w P = (i : ℕ) → IsOpen w i → P (woven_at w.accesses i) → ⊥
 
--- The mirror is the machine's. So is each register that no open access has, and the rest of the device and of the predictor
--- is as between accesses.
+-- The mirror is the machine's. So is each register that no open access has, and the rest of the device and of the
+-- predictor is as between accesses.
 pub record IsHalf (begun : State) (p : Machine) (m : ModelData) (d : State) (w : WeaveData) : Type 0 where
   pub begun_ready : IsReady m.chip m.layout begun
   pub steady : HasNoVolatile m.chip
   pub device : IsDevice m.chip m.layout d
   pub mirror : m.mirror ≡ mirror_of p
   pub open_ones : (i : ℕ) → IsOpen w i → IsHalfDone begun p m d (woven_at w.accesses i)
-  pub holds : (reg : ℕ) → reg < length m.chip.regs → NoneOpen w (λ v. v.access.reg ≡ reg) → Holds m.chip d reg (register_at m.chip p reg)
+  pub holds : (reg : ℕ) → reg < length m.chip.regs → NoneOpen w (λ v. v.access.reg ≡ reg)
+      → Holds m.chip d reg (register_at m.chip p reg)
   pub marked : (reg : ℕ) → reg < length m.chip.regs → NoneOpen w (λ v. v.access.reg ≡ reg) → IsMarkedAlone m.chip d reg
   pub beats : (port address : ℕ) → NoneOpen w (λ v. Occupies m.layout port address v.place 0) → d.beats port address ≡ 0
   pub gathered : (place : ℕ) → NoneOpen w (λ v. v.place ≡ place) → gathered_at m.gathered place ≡ no_words
@@ -105,7 +111,8 @@ FreshIsUnsent = (w : WeaveData) → IsWeave w → w.fresh ≡ true → IsUnsent 
 abbrev pub FreshIsHalf : Type 0
 FreshIsHalf =
     (s : Scene) (p : Machine) (w : WeaveData)
-    → IsModel s.model → (a : Agree s) → s.model ≡ seen s.model.chip s.model.layout p → IsWeave w → IsWeaveOn s.model w → IsUnsent w
+    → IsModel s.model → (a : Agree s) → s.model ≡ seen s.model.chip s.model.layout p
+    → IsWeave w → IsWeaveOn s.model w → IsUnsent w
     → IsHalf a.device p s.model a.device w
 
 -- the machine after a step: a last word steps it
@@ -118,18 +125,25 @@ register_after_word c p v item =
     let r = register_at c p v.access.reg in
     if is_over v item then register_after (fields_of c v.access.reg) (step_of v.access.value) r else r
 
-pub record IsHalfAfter (begun : State) (p : Machine) (s new : Scene) (w : WeaveData) (which : ℕ) (step : Step) : Type 0 where
+pub record IsHalfAfter (begun : State) (p : Machine) (s new : Scene) (w : WeaveData)
+    (which : ℕ) (step : Step) : Type 0 where
   pub device : State
   pub told : new.device ≡ Some device
   pub quiet : step.item.answer.failed ≡ false
-  pub half : IsHalf begun (machine_after_word s.model p (woven_at w.accesses which) step.item) new.model device (stepped w which step.item)
-  pub event : IfSome step.end (λ e. without_items e ≡ (machine_step s.model.chip s.model.layout p (op_of (woven_at w.accesses which).access)).event)
-  pub own : IsAlike s.model.chip (woven_at w.accesses which).access.reg (register_after_word s.model.chip p (woven_at w.accesses which) step.item)
-      (register_at s.model.chip (machine_after_word s.model p (woven_at w.accesses which) step.item) (woven_at w.accesses which).access.reg)
+  pub half : IsHalf begun (machine_after_word s.model p (woven_at w.accesses which) step.item)
+      new.model device (stepped w which step.item)
+  pub event : IfSome step.end (λ e. without_items e
+      ≡ (machine_step s.model.chip s.model.layout p (op_of (woven_at w.accesses which).access)).event)
+  pub own : IsAlike s.model.chip (woven_at w.accesses which).access.reg
+      (register_after_word s.model.chip p (woven_at w.accesses which) step.item)
+      (register_at s.model.chip (machine_after_word s.model p (woven_at w.accesses which) step.item)
+        (woven_at w.accesses which).access.reg)
   pub others : (reg : ℕ) → reg < length s.model.chip.regs → (reg ≡ (woven_at w.accesses which).access.reg → ⊥)
-      → IsAlike s.model.chip reg (register_at s.model.chip p reg) (register_at s.model.chip (machine_after_word s.model p (woven_at w.accesses which) step.item) reg)
-  pub answers : IfSome step.end (λ e. e.end ≡ answered s.model.chip (woven_at w.accesses which).access.reg (woven_at w.accesses which).access.value (register_at s.model.chip p (woven_at w.accesses
-      which).access.reg))
+      → IsAlike s.model.chip reg (register_at s.model.chip p reg)
+        (register_at s.model.chip (machine_after_word s.model p (woven_at w.accesses which) step.item) reg)
+  pub answers : IfSome step.end (λ e. e.end
+      ≡ answered s.model.chip (woven_at w.accesses which).access.reg (woven_at w.accesses which).access.value
+        (register_at s.model.chip p (woven_at w.accesses which).access.reg))
 
 abbrev pub StepKeepsHalf : Type 0
 StepKeepsHalf =

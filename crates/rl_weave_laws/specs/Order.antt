@@ -16,12 +16,14 @@ use Rattle.rl_weave_laws.specs.Runs.{Turn, RunsTo, op_at, events_of}
 abbrev pub added : WeaveData → List Op
 added w = map (op_at w) w.still_open
 
--- Once no access is open, the model is that of the plain machine which takes the accesses one after another in the order of
--- adding, and the events without their items are the machine's in some order.
+-- Once no access is open, the model is that of the plain machine which takes the accesses one after another in the
+-- order of adding, and the events without their items are the machine's in some order.
 abbrev pub OrderDoesNotMatter : Type 0
 OrderDoesNotMatter =
     (s new : Scene) (p : Machine) (w left : WeaveData) (turns : List Turn)
-    → IsModel s.model → Agree s → s.model ≡ seen s.model.chip s.model.layout p → IsWeave w → IsWeaveOn s.model w → IsUnsent w
+    → IsModel s.model → Agree s → s.model ≡ seen s.model.chip s.model.layout p
+    → IsWeave w → IsWeaveOn s.model w → IsUnsent w
     → RunsTo w s turns left new → IsModel new.model → left.still_open ≡ []
     → let course = through s.model.chip s.model.layout p (added w) in
-    (new.model ≡ seen s.model.chip s.model.layout course.machine) × IsPermutation course.events (map without_items (events_of turns))
+    (new.model ≡ seen s.model.chip s.model.layout course.machine)
+    × IsPermutation course.events (map without_items (events_of turns))

@@ -26,8 +26,9 @@ pub record Turn : Type 0 where
 -- each step is of an access that is then open
 abbrev pub RunsTo : WeaveData → Scene → List Turn → WeaveData → Scene → Type 0
 RunsTo w s [] left new = (left ≡ w) × (new ≡ s)
-RunsTo w s (t ∷ turns) left new = (next : Scene) × IsModel s.model × IsOpen w t.which × IsStepOf s next (woven_at w.accesses t.which) t.step × RunsTo (stepped w t.which t.step.item) next turns left
-    new
+RunsTo w s (t ∷ turns) left new =
+    (next : Scene) × IsModel s.model × IsOpen w t.which × IsStepOf s next (woven_at w.accesses t.which) t.step
+    × RunsTo (stepped w t.which t.step.item) next turns left new
 
 -- the operations of the accesses in the order in which they end
 abbrev pub ended : WeaveData → List Turn → List Op
@@ -48,15 +49,17 @@ abbrev pub events_of : List Turn → List Event
 events_of [] = []
 events_of (t ∷ turns) = with_event t.step.end (events_of turns)
 
--- Once no access is open the device and the model agree again. They, and the events without their items, are those of a plain
--- machine that takes the accesses one after another, in the order in which they ended.
+-- Once no access is open the device and the model agree again. They, and the events without their items, are those of a
+-- plain machine that takes the accesses one after another, in the order in which they ended.
 abbrev pub WeaveIsPlain : Type 0
 WeaveIsPlain =
     (s new : Scene) (p : Machine) (w left : WeaveData) (turns : List Turn)
-    → IsModel s.model → Agree s → s.model ≡ seen s.model.chip s.model.layout p → IsWeave w → IsWeaveOn s.model w → IsUnsent w
+    → IsModel s.model → Agree s → s.model ≡ seen s.model.chip s.model.layout p
+    → IsWeave w → IsWeaveOn s.model w → IsUnsent w
     → RunsTo w s turns left new → IsModel new.model → left.still_open ≡ []
     → let course = through s.model.chip s.model.layout p (ended w turns) in
-    Agree new × (new.model ≡ seen s.model.chip s.model.layout course.machine) × (map without_items (events_of turns) ≡ course.events)
+    Agree new × (new.model ≡ seen s.model.chip s.model.layout course.machine)
+    × (map without_items (events_of turns) ≡ course.events)
 
 -- So it is with the locations of the memories: the device has each as the machine has it, and no access changed one.
 abbrev pub WeaveKeepsMemories : Type 0
@@ -79,18 +82,23 @@ abbrev pub TellSteps : ChipData → Machine → WeaveData → List Turn → Type
 TellSteps c p w [] = Unit {0}
 TellSteps c p w (t ∷ turns) =
     let a = (woven_at w.accesses t.which).access in
-    IfSome t.step.end (λ e. e.end ≡ answered c a.reg a.value (register_at c p a.reg)) × TellSteps c p (stepped w t.which t.step.item) turns
+    IfSome t.step.end (λ e. e.end ≡ answered c a.reg a.value (register_at c p a.reg))
+    × TellSteps c p (stepped w t.which t.step.item) turns
 
--- The machine's register of each access that is over took the step of the access, and every other one stands as it stood.
+-- The machine's register of each access that is over took the step of the access,
+-- and every other one stands as it stood.
 pub record IsOnceEach (c : ChipData) (p q : Machine) (w left : WeaveData) (turns : List Turn) : Type 0 where
   pub taken : (i : ℕ) → IsOpen w i → ¬ IsOpen left i → let a = (woven_at w.accesses i).access in
-      IsAlike c a.reg (register_after (fields_of c a.reg) (step_of a.value) (register_at c p a.reg)) (register_at c q a.reg)
-  pub others : (reg : ℕ) → reg < length c.regs → NoneOpen w (λ v. v.access.reg ≡ reg) → IsAlike c reg (register_at c p reg) (register_at c q reg)
+      IsAlike c a.reg (register_after (fields_of c a.reg) (step_of a.value) (register_at c p a.reg))
+        (register_at c q a.reg)
+  pub others : (reg : ℕ) → reg < length c.regs → NoneOpen w (λ v. v.access.reg ≡ reg)
+      → IsAlike c reg (register_at c p reg) (register_at c q reg)
   pub tells : TellSteps c p w turns
 
 abbrev pub EachStepsOnce : Type 0
 EachStepsOnce =
     (s new : Scene) (p : Machine) (w left : WeaveData) (turns : List Turn)
-    → IsModel s.model → Agree s → s.model ≡ seen s.model.chip s.model.layout p → IsWeave w → IsWeaveOn s.model w → IsUnsent w
+    → IsModel s.model → Agree s → s.model ≡ seen s.model.chip s.model.layout p
+    → IsWeave w → IsWeaveOn s.model w → IsUnsent w
     → RunsTo w s turns left new
     → IsOnceEach s.model.chip p (through s.model.chip s.model.layout p (ended w turns)).machine w left turns

@@ -47,8 +47,9 @@ unfoldable pub plain_groups : ChipData → LayoutData → (number : ℕ) → Wea
     → List (List ℕ) → List (List (List ℕ))
 plain_groups c l number g p held [] = held ∷ []
 plain_groups c l number g p held (line ∷ lines) =
-    groups_on (comes_of g (said number line)) (says_blank (said number line)) (plain_comes_of c l p (said number line)) p held
-    (λ g p held. plain_groups c l (number + 1) g p held lines)
+    groups_on (comes_of g (said number line)) (says_blank (said number line))
+      (plain_comes_of c l p (said number line)) p held
+      (λ g p held. plain_groups c l (number + 1) g p held lines)
 
 -- ---- what is written
 
@@ -65,8 +66,9 @@ pub record SaysStopped (last : List ℕ) : Type 0 where
   pub why : WovenRefusal
   pub is : last ≡ refused_woven_text number why
 
--- A woven log beside the plain log. Without its item lines it is the lines of each group in some order, and then a last line. The
--- plain log is the lines of each group as they stand in the script, and then the same last line; or it goes on where the weave stops.
+-- A woven log beside the plain log. Without its item lines it is the lines of each group in some order, and
+-- then a last line. The plain log is the lines of each group as they stand in the script, and then the same last line;
+-- or it goes on where the weave stops.
 pub record HasGroups (groups : List (List (List ℕ))) (plain text : List ℕ) : Type 0 where
   pub orders : List (List (List ℕ))
   pub same : AreOrders groups orders
@@ -92,9 +94,10 @@ session_groups n desc bytes adapters =
     plain_groups desc.chip desc.layout 1 (counting n no_counts (first_world desc adapters)) (first_machine desc.chip) []
     (script_of bytes)
 
--- A session whose description declares no flaw and no volatile field has the plain log's groups. One that is refused before its
--- script has no groups, and its log is the plain log.
-abbrev pub IsWovenPlain : (n : ℕ) → Result DescData (List ℕ) → (bytes : List ℕ) → List Standing → (text : List ℕ) → Type 0
+-- A session whose description declares no flaw and no volatile field has the plain log's groups.
+-- One that is refused before its script has no groups, and its log is the plain log.
+abbrev pub IsWovenPlain : (n : ℕ) → Result DescData (List ℕ) → (bytes : List ℕ)
+    → List Standing → (text : List ℕ) → Type 0
 IsWovenPlain n (Ok desc) bytes adapters text =
     IsSteady desc → HasGroups (session_groups n desc bytes adapters) (plain_by (Ok desc) bytes) text
 IsWovenPlain n (Err line) bytes adapters text = plain_part text ≡ plain_by (Err line) bytes
@@ -104,7 +107,8 @@ pub record IsWovenLogPlain (n : ℕ) (bytes : List ℕ) (adapters : List Standin
   pub same : IsWovenPlain n (opening_of bytes (kinds_of adapters)) bytes adapters (woven_judged n bytes adapters).text
 
 -- a text was written that is so
-pub record WritesWovenPlain (n : ℕ) (bytes : List ℕ) (adapters : List Standing) (old new : Option (List ℕ)) : Type 0 where
+pub record WritesWovenPlain (n : ℕ) (bytes : List ℕ) (adapters : List Standing)
+    (old new : Option (List ℕ)) : Type 0 where
   pub text : List ℕ
   pub written : Appends old new text
   pub same : IsWovenPlain n (opening_of bytes (kinds_of adapters)) bytes adapters text
@@ -112,9 +116,12 @@ pub record WritesWovenPlain (n : ℕ) (bytes : List ℕ) (adapters : List Standi
 -- of every session that opens with a description of which a model is sound
 abbrev pub WovenLogIsPlain : Type 0
 WovenLogIsPlain =
-    (n : ℕ) (bytes : List ℕ) (adapters : List Standing) (desc : DescData) → opening_of bytes (kinds_of adapters) ≡ Ok desc
+    (n : ℕ) (bytes : List ℕ) (adapters : List Standing) (desc : DescData)
+    → opening_of bytes (kinds_of adapters) ≡ Ok desc
     → IsModel (first_world desc adapters).model → IsWovenLogPlain n bytes adapters
 
 -- of every session, where fewer than 2 ^ 32 adapters take no address past 64 bits
 abbrev pub EveryWovenLogPlain : Type 0
-EveryWovenLogPlain = (n : ℕ) (bytes : List ℕ) (adapters : List Standing) → AreKinds (kinds_of adapters) → IsWovenLogPlain n bytes adapters
+EveryWovenLogPlain =
+    (n : ℕ) (bytes : List ℕ) (adapters : List Standing)
+    → AreKinds (kinds_of adapters) → IsWovenLogPlain n bytes adapters

@@ -69,7 +69,8 @@ abbrev pub to_come : (number : ℕ) → Setting → (input : Option (List ℕ)) 
 to_come number s input = coming number s s.device input
 
 -- one line was taken in, and the script is the rest
-abbrev pub GoesOn : (number : ℕ) (before : Setting) (input : Option (List ℕ)) (after : Setting) (rest : Option (List ℕ)) → Type 0
+abbrev pub GoesOn : (number : ℕ) (before : Setting) (input : Option (List ℕ))
+    (after : Setting) (rest : Option (List ℕ)) → Type 0
 GoesOn number before input after rest =
     IfSome (to_come number before input) (λ e. PassesTo e (to_come (number + 1) after rest) before.text after.text)
 
@@ -80,8 +81,8 @@ Ends number before input after status =
 
 -- ---- a script whose source failed
 
--- Bytes were taken from the front of an input. Exactly the log of the groups was written whose blank line, with its 10, is
--- among them.
+-- Bytes were taken from the front of an input. Exactly the log of the groups was written whose blank line,
+-- with its 10, is among them.
 abbrev pub BreaksAfter : (number : ℕ) → Weaving → (bytes : List ℕ) → (left old new : Option (List ℕ)) → Type 0
 BreaksAfter number g bytes left old new = LinesBreak (closed_text number g) bytes left old new
 
@@ -95,10 +96,11 @@ abbrev pub BreaksFrom : (number : ℕ) → (before : Setting) → (input left la
 BreaksFrom number before input left last = Breaks number before before.device input left last
 
 -- a script breaks off as what is left of it behind a line does
-abbrev pub BreaksAsRest : (number : ℕ) (before : Setting) (input : Option (List ℕ)) (after : Setting)
-    (rest : Option (List ℕ)) → Type 0
+abbrev pub BreaksAsRest : (number : ℕ) (before : Setting) (input : Option (List ℕ))
+    (after : Setting) (rest : Option (List ℕ)) → Type 0
 BreaksAsRest number before input after rest =
-    (left last : Option (List ℕ)) → BreaksFrom (number + 1) after rest left last → BreaksFrom number before input left last
+    (left last : Option (List ℕ))
+    → BreaksFrom (number + 1) after rest left last → BreaksFrom number before input left last
 
 -- ---- the next line of a script
 
@@ -121,7 +123,8 @@ EndsGroup before after status = IfSome before.device (λ d.
     EndsSo (finished (group (weaving_at before d))) status before.text after)
 
 -- the lines that are left were taken in, from a setting on, and this is left of the input
-pub record WeavesLines (before : Setting) (input left : Option (List ℕ)) (after : Setting) (status : Status) : Type 0 where
+pub record WeavesLines (before : Setting) (input left : Option (List ℕ)) (after : Setting)
+    (status : Status) : Type 0 where
   pub log : Ends 1 before input after status
   pub at_fault : status ≡ SourceFault → BreaksFrom 1 before input left after.text
   pub counted : IsCounted status after.counts
@@ -148,9 +151,10 @@ abbrev pub BreaksWeave : (n : ℕ) → (before : Moment) → (input left last : 
 BreaksWeave n before input left last = BreaksFrom 1 (first_setting n before) input left last
 
 -- The lines that are left were woven, from a generator that begins at n, and this is left of the input.
-pub record WeavesThrough (n : ℕ) (before : Moment) (input left : Option (List ℕ)) (after : Moment) (status : Status) : Type 0 where
-  -- Where the device tells its state and the source its bytes: what is written is the log of the lines that are left, with its
-  -- status and its counts. After any fault, and where memory ran out, it is a front of that log.
+pub record WeavesThrough (n : ℕ) (before : Moment) (input left : Option (List ℕ)) (after : Moment)
+    (status : Status) : Type 0 where
+  -- Where the device tells its state and the source its bytes: what is written is the log of the lines that are left,
+  -- with its status and its counts. After any fault, and where memory ran out, it is a front of that log.
   pub log : WeavesScript n before input after status
   -- After a source that failed, what is written is exactly the log of the groups whose closing blank line was taken.
   pub at_fault : status ≡ SourceFault → BreaksWeave n before input left after.text
