@@ -60,7 +60,7 @@ class Kit:
         crate = self.crate(folder)
         os.makedirs(f"{folder}/out", exist_ok=True)
         crate.held, stamp = [], crate.stamp()
-        status = crate.build_and_run(["--jobs", jobs], [])
+        status = crate.run(["--jobs", jobs], [])
         if not self.is_same(crate, stamp):
             os.remove(f"{folder}/out/{crate.name}.stamp")
             return 1
