@@ -9,5 +9,5 @@ wishbone_kind = record {
   most_address = 0xffff_ffff;
   aligned = true;
   write_lanes = true;
-  read_lanes = true
+  read_lanes = true;
 }

@@ -1,8 +1,5 @@
 -- The words that the contracts of this crate use, passed on from one place. Declares nothing.
-pub use Rattle.rl_session_run.specs.Prelude.{
-  AwaitsScript, EndedOnce, IsBuiltWith, IsCaused, IsModel, KeepsEarlier, LeavesScript, Rose, Standing, TakesNoHead,
-  WritesJudged, first_world, is_complete, kinds_of, output_of
-}
+pub use Rattle.rl_session_run.specs.Prelude.{AwaitsScript, EndedOnce, IsBuiltWith, IsCaused, IsModel, KeepsEarlier, LeavesScript, Rose, Standing, TakesNoHead, WritesJudged, first_world, is_complete, kinds_of, output_of}
 pub use Rattle.rl_play.specs.Prelude.{Leaves, Tells}
 pub use Rattle.rl_map.specs.LayoutText.{layout_text}
 pub use Rattle.rl_plain_log_laws.specs.PlainLog.{IsPlainLog}

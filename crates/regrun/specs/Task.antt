@@ -33,7 +33,7 @@ pub record Runs (status : Status) (input left : Option (List ℕ)) (before after
   -- the text of each of them in order.
   pub events : is_complete status ≡ true → IfSome input (λ bytes.
       IfOk (opening_of bytes (kinds_of before.adapters)) (λ desc.
-        WritesEvents (script_of bytes) (judged_events bytes before.adapters) before.text after.text))
+      WritesEvents (script_of bytes) (judged_events bytes before.adapters) before.text after.text))
   -- The other half. Where the description declares no flaw and no volatile field, and wherever the session
   -- is refused before its script, what `run` wrote as a whole is, without its item lines, the log of a plain machine
   -- that steps whole registers.

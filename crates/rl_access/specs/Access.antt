@@ -34,7 +34,7 @@ outgoing_of a write = record {
   index = 0;
   chosen = a.chosen;
   value = if write then a.value else 0;
-  write = write
+  write = write;
 }
 
 -- what the answers to a read bring, where no item failed

@@ -11,10 +11,7 @@ use Rattle.rl_access.specs.declared.trace.TraceItem.{TraceItem}
 use Rattle.rl_access.specs.Items.{AreItemsOf, AreSent, HasCauses, items_of, moved_on_by_all, port_for, adapter_for}
 use Rattle.rl_access.specs.Event.{EventFits}
 use Rattle.rl_access.specs.Model.{ModelData, IsDeviceOf, IsReady, IsSameChip}
-use Rattle.rl_access.specs.Rules.{
-  grant, named, sends, Outcome, outcome, event_of, refused_event, found_by, device_after, access_ops, register_event,
-  write_outcome, read_outcome
-}
+use Rattle.rl_access.specs.Rules.{grant, named, sends, Outcome, outcome, event_of, refused_event, found_by, device_after, access_ops, register_event, write_outcome, read_outcome}
 
 -- what a call meets and leaves
 pub record Scene : Type 0 where
@@ -43,7 +40,7 @@ pub record IsDone (s new : Scene) (op : Op) (place : ℕ) (event : Event) : Type
   -- the items are those of its operations, and each adapter moves by them
   pub items :
       AreItemsOf (standing_at s.adapters (adapter_for s.model.layout place)) (port_for s.model.layout place)
-        (sends s.model op place) event.trace
+      (sends s.model op place) event.trace
   pub adapters : new.adapters ≡ moved_on_by_all s.adapters (adapter_for s.model.layout place) event.trace
   pub cause : HasCauses s.errors new.errors event.trace
   -- the event and the model are what the rules make of these
@@ -54,8 +51,8 @@ pub record IsDone (s new : Scene) (op : Op) (place : ℕ) (event : Event) : Type
   pub answers : (d : State)
       → s.device ≡ Some d
       → event.trace
-        ≡ items_of (standing_at s.adapters (adapter_for s.model.layout place)) d (port_for s.model.layout place)
-            (sends s.model op place)
+      ≡ items_of (standing_at s.adapters (adapter_for s.model.layout place)) d (port_for s.model.layout place)
+      (sends s.model op place)
   pub goes : new.device ≡ option_map (device_after s.model op sampled event.trace) s.device
 
 -- ---- one access to a register, in an operation that has this name
@@ -108,7 +105,7 @@ abbrev pub PerformsOffBus :
 PerformsOffBus errors state m new before after op event =
     (adapters : List Standing)
     → Performs (scene m adapters (errors before) (state before))
-        (scene new adapters (errors after) (state after)) op event
+    (scene new adapters (errors after) (state after)) op event
 
 -- what such an operation leaves for the next call: the device goes with the model,
 -- the chip and the layout are the same, and the event can be told of the model

@@ -1,8 +1,5 @@
 -- Items that are sent one after another, until one fails.
-use Rattle.std.specs.Prelude.{
-  ◌≡◌, ℕ, ◌^◌, ◌<◌, ◌≤◌, List, [], ◌∷◌, map, Bool, false, ◌||◌, Option, Some, option_map, IsTrue, slice_set,
-  if◌then◌else◌
-}
+use Rattle.std.specs.Prelude.{◌≡◌, ℕ, ◌^◌, ◌<◌, ◌≤◌, List, [], ◌∷◌, map, Bool, false, ◌||◌, Option, Some, option_map, IsTrue, slice_set, if◌then◌else◌}
 use Rattle.std.specs.Bool.{MatchBool}
 use Rattle.std.specs.List.{position}
 use Rattle.rl_bus.specs.Causes.{Rose}

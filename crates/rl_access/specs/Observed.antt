@@ -1,8 +1,5 @@
 -- What a predictor makes of an item that it sees.
-use Rattle.std.specs.Prelude.{
-  ◌≡◌, ℕ, ◌^◌, ◌<◌, ◌==◌, Bool, true, false, if◌then◌else◌, List, [], ◌∷◌, length, map, slice_get, slice_set, Option,
-  None, Some, is_some, unwrap_or
-}
+use Rattle.std.specs.Prelude.{◌≡◌, ℕ, ◌^◌, ◌<◌, ◌==◌, Bool, true, false, if◌then◌else◌, List, [], ◌∷◌, length, map, slice_get, slice_set, Option, None, Some, is_some, unwrap_or}
 use Rattle.rl_bus.specs.declared.op.Answer.{Answer}
 use Rattle.rl_bus.specs.declared.op.BusOp.{BusOp}
 use Rattle.rl_model.specs.declared.rows.Item.{Item}
@@ -116,7 +113,7 @@ observed_all c l port (item ∷ items) gathered m =
 abbrev pub implied : ChipData → LayoutData → (place : ℕ) → Option ℕ → List TraceItem → MirrorData → MirrorData
 implied c l place None items m =
     predict_read c (reg_in (place_at l place).item)
-      (joined l place 0 (all_bytes (place_at l place).bytes) (words_answered items)) every_field m
+    (joined l place 0 (all_bytes (place_at l place).bytes) (words_answered items)) every_field m
 implied c l place (Some value) items m = predict_write c (reg_in (place_at l place).item) value every_field m
 
 -- the items are those of a whole access to a register under an explicit root

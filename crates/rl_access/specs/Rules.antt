@@ -1,8 +1,5 @@
 -- The rules of events: which operation is refused and why, what any other one sends, and what it makes of the items.
-use Rattle.std.specs.Prelude.{
-  ℕ, ◌-◌, ◌*◌, ◌^◌, nat_lt, nat_le, ◌+◌, ◌==◌, Bool, true, false, if◌then◌else◌, List, [], slice_get, slice_set, Option,
-  None, Some, unwrap_or, Result, Ok, Err
-}
+use Rattle.std.specs.Prelude.{ℕ, ◌-◌, ◌*◌, ◌^◌, nat_lt, nat_le, ◌+◌, ◌==◌, Bool, true, false, if◌then◌else◌, List, [], slice_get, slice_set, Option, None, Some, unwrap_or, Result, Ok, Err}
 use Rattle.std.specs.Option.{option_map_or}
 use Rattle.rl_policy.specs.Bits.{bit, from_bits, put_bit}
 use Rattle.rl_bus.specs.declared.op.BusOp.{BusOp}
@@ -21,19 +18,14 @@ use Rattle.rl_mirror.specs.Compared.{differ}
 use Rattle.rl_model.specs.Fields.{field_of, first_of, size_of, fields_of}
 use Rattle.rl_mirror.specs.Fields.{owned, part_of}
 use Rattle.rl_mirror.specs.Mirror.{mirrored_of, desired_of, marks_in}
-use Rattle.rl_mirror.specs.Prediction.{
-  predict_write, predict_read, predict_raw, reset, set, needs_update, update_word_of, neutral_around, written, shown,
-  left_by_read
-}
+use Rattle.rl_mirror.specs.Prediction.{predict_write, predict_read, predict_raw, reset, set, needs_update, update_word_of, neutral_around, written, shown, left_by_read}
 use Rattle.rl_access.specs.declared.event.End.{End}
 use Rattle.rl_access.specs.declared.event.End.TheVariants as end
 use Rattle.rl_access.specs.declared.event.Event.{Event}
 use Rattle.rl_access.specs.declared.event.Op.{Op}
 use Rattle.rl_access.specs.declared.event.Op.TheVariants as op
 use Rattle.rl_access.specs.declared.event.Refused.{Refused}
-use Rattle.rl_access.specs.declared.event.Refused.TheVariants.{
-  NotPlaced, NotObserved, NoRight, NoBackdoor, NotVolatile, NotWritable, OutOfRange, TooWide
-}
+use Rattle.rl_access.specs.declared.event.Refused.TheVariants.{NotPlaced, NotObserved, NoRight, NoBackdoor, NotVolatile, NotWritable, OutOfRange, TooWide}
 use Rattle.rl_access.specs.declared.trace.TraceItem.{TraceItem}
 use Rattle.rl_access.specs.declared.access.Access.{Access}
 use Rattle.rl_access.specs.declared.predictor.Gathered.{Gathered}
@@ -191,7 +183,7 @@ whole m reg place value = record {
   place = place;
   chosen = all_bytes (size_of m.chip reg);
   fields = every_field;
-  value = value
+  value = value;
 }
 
 -- one field and its bytes, with 0 outside the field
@@ -203,7 +195,7 @@ field_alone m field place value =
       place = place;
       chosen = bytes_of_field f;
       fields = 2 ^ (field - first_of m.chip f.reg);
-      value = from_bits 64 (put_bit f.lsb f.width (bit value) (bit 0))
+      value = from_bits 64 (put_bit f.lsb f.width (bit value) (bit 0));
     }
 
 -- what was gathered of the place is forgotten where its root is explicit
@@ -234,7 +226,7 @@ quiet e m = record { end = e; model = m; differ = 0 }
 abbrev pub write_outcome : ModelData → End → Access → List TraceItem → Outcome
 write_outcome m good a items =
     or_error (failed_at items) m
-      (quiet good (record m { mirror = predict_write m.chip a.reg a.value a.fields m.mirror }))
+    (quiet good (record m { mirror = predict_write m.chip a.reg a.value a.fields m.mirror }))
 
 abbrev pub value_of : ModelData → Access → List TraceItem → ℕ
 value_of m a items = joined m.layout a.place 0 a.chosen (words_answered items)
@@ -281,7 +273,7 @@ field_read m field place =
 
 abbrev pub forgetting_field : ModelData → (field place : ℕ) → Bool → ModelData
 forgetting_field m field place write = record m {
-  gathered = if is_alone m field place write then m.gathered else forgotten m.layout place m.gathered
+  gathered = if is_alone m field place write then m.gathered else forgotten m.layout place m.gathered;
 }
 
 -- ---- a memory
@@ -296,7 +288,7 @@ outgoing_at m mem place index value write = record {
   index = index;
   chosen = location_bytes m mem;
   value = value;
-  write = write
+  write = write;
 }
 
 -- What a read of a location brings (uvm_mem::read, IEEE 1800.2-2017, 18.6).

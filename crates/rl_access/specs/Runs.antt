@@ -1,8 +1,6 @@
 -- Operations that are done one after another, each told to a recorder,
 -- up to and with the first that ends by a bus error.
-use Rattle.std.specs.Prelude.{
-  ◌≡◌, ℕ, zero, suc, ◌+◌, ◌^◌, false, nat_lt, List, [], ◌∷◌, length, Option, Result, IfOk, MatchResult
-}
+use Rattle.std.specs.Prelude.{◌≡◌, ℕ, zero, suc, ◌+◌, ◌^◌, false, nat_lt, List, [], ◌∷◌, length, Option, Result, IfOk, MatchResult}
 use Rattle.std.specs.Bool.{MatchBool}
 use Rattle.std.specs.List.{list_all}
 use Rattle.rl_access.specs.declared.event.Event.{Event}
@@ -59,7 +57,7 @@ pub record IsRun {R E : Type 0} (takes breaks : R → ModelData → Event → R 
   pub handed : HandsOver takes breaks old told rec r
   pub run :
       MatchResult r (λ tally. RunsThrough s ops told new × (tally ≡ counted_all no_tally told))
-        (λ failed. RunsInto s ops told new)
+      (λ failed. RunsInto s ops told new)
 
 -- the one event of a refused operation
 pub record IsRefusedRun {R E : Type 0} (takes breaks : R → ModelData → Event → R → Type 0) (old rec : R) (s new : Scene)
@@ -76,7 +74,7 @@ abbrev pub IsBurst :
     → Result Tally E → Type 0
 IsBurst takes breaks old rec s new granted op ops r =
     MatchResult granted (λ place. IsRun takes breaks old rec s new ops r)
-      (λ why. IsRefusedRun takes breaks old rec s new op why r)
+    (λ why. IsRefusedRun takes breaks old rec s new op why r)
 
 -- ---- bursts
 
@@ -84,7 +82,7 @@ IsBurst takes breaks old rec s new granted op ops r =
 abbrev pub write_grant : ModelData → (mem : ℕ) → Option ℕ → (first : ℕ) → List ℕ → Grant
 write_grant m mem map first values =
     only_where (grant m (op.BurstWrite mem map first (length values)))
-      (list_all (λ v. nat_lt v (256 ^ location_size m.chip mem)) values) TooWide
+    (list_all (λ v. nat_lt v (256 ^ location_size m.chip mem)) values) TooWide
 
 -- A burst write: one write for each value, at consecutive locations (uvm_mem::burst_write, IEEE 1800.2-2017, 18.6).
 abbrev pub writes_of : (mem : ℕ) → Option ℕ → (first : ℕ) → List ℕ → List Op

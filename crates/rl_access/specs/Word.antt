@@ -15,7 +15,7 @@ pub record IsWordSent (s new : Scene) (place k : ℕ) (value : Option ℕ) (item
   -- it went to the place's port, with the next tag of the port's adapter, which alone moved
   pub item_is :
       item ≡ item_of (standing_at s.adapters (adapter_for s.model.layout place)) (port_for s.model.layout place)
-        item.op item.answer
+      item.op item.answer
   pub adapters : new.adapters ≡ moved_on s.adapters (adapter_for s.model.layout place) item.op item.answer
   -- it failed only where the device's count of errors rose
   pub cause : AnswerHasCause s.errors new.errors item.answer

@@ -9,9 +9,7 @@ use Rattle.rl_access.specs.declared.trace.TraceItem.{TraceItem}
 use Rattle.rl_access.specs.Call.{Scene, scene, Performs}
 use Rattle.rl_access.specs.Items.{items_of, moved_on_by_all, port_for, adapter_for}
 use Rattle.rl_access.specs.Model.{ModelData}
-use Rattle.rl_access.specs.Rules.{
-  Grant, grant, named, sends, Outcome, outcome, event_of, refused_event, found_by, device_after
-}
+use Rattle.rl_access.specs.Rules.{Grant, grant, named, sends, Outcome, outcome, event_of, refused_event, found_by, device_after}
 
 pub record World : Type 0 where
   pub model : ModelData

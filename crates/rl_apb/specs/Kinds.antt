@@ -10,5 +10,5 @@ apb_kind = record {
   most_address = 0xffff_ffff;
   aligned = true;
   write_lanes = true;
-  read_lanes = false
+  read_lanes = false;
 }

@@ -1,9 +1,6 @@
 -- A list with a number for each word, or none where no words queue:
 -- the beat of an address stands with the first word there.
-use Rattle.std.specs.Prelude.{
-  ◌≡◌, ℕ, ◌<◌, ◌≤◌, ◌&&◌, ◌==◌, true, Bool, if◌then◌else◌, List, [], length, Option, Some, None, unwrap_or, slice_index,
-  slice_index_or, position, filter
-}
+use Rattle.std.specs.Prelude.{◌≡◌, ℕ, ◌<◌, ◌≤◌, ◌&&◌, ◌==◌, true, Bool, if◌then◌else◌, List, [], length, Option, Some, None, unwrap_or, slice_index, slice_index_or, position, filter}
 use Rattle.std.specs.List.{list_any}
 use Rattle.rl_bus.specs.declared.table.WordRow.{WordRow}
 use Rattle.rl_bus.specs.declared.table.Cell.TheVariants.{Reg}
@@ -28,7 +25,7 @@ no_word = record {
   writes = true;
   cell = Reg 0;
   place = 0;
-  lanes = record { enabled = 0; bytes = [] }
+  lanes = record { enabled = 0; bytes = [] };
 }
 
 -- a place has a word at the address

@@ -76,5 +76,5 @@ state_of t c beats items = record {
   marks = c.marks.items;
   locations = c.locations.items;
   beats = beats;
-  items = items
+  items = items;
 }

@@ -28,7 +28,7 @@ abbrev pub reg_written : RegOf → Lanes → (bits marks word : ℕ) → ℕ
 reg_written r lanes bits marks word =
     let word = spread_bit lanes (bit word) in
     held r.setup r.reg (λ b.
-      bit_written (policy_at r.setup r.reg b) (bit bits b) (bit marks b) (word b) (lane_bit lanes b))
+    bit_written (policy_at r.setup r.reg b) (bit bits b) (bit marks b) (word b) (lane_bit lanes b))
 
 -- The bits of the register whose first write is spent, after a write in these lanes.
 abbrev pub reg_marked : RegOf → Lanes → (marks : ℕ) → ℕ

@@ -11,5 +11,5 @@ plain_kind = record {
   most_address = 0xffff_ffff_ffff_ffff;
   aligned = false;
   write_lanes = true;
-  read_lanes = true
+  read_lanes = true;
 }

@@ -1,8 +1,5 @@
 -- What a device has and never changes: its tables and its flaws.
-use Rattle.std.specs.Prelude.{
-  ℕ, ◌+◌, Bool, false, ◌&&◌, ◌||◌, ◌==◌, nat_le, if◌then◌else◌, List, Option, Some, None, option_map, position, find,
-  filter, get_or
-}
+use Rattle.std.specs.Prelude.{ℕ, ◌+◌, Bool, false, ◌&&◌, ◌||◌, ◌==◌, nat_le, if◌then◌else◌, List, Option, Some, None, option_map, position, find, filter, get_or}
 use Rattle.std.specs.List.{list_any}
 use Rattle.std.specs.Option.{option_or}
 use Rattle.rl_policy.specs.Bits.{is_within, from_bits}

@@ -1,8 +1,5 @@
 -- The bytes of a cell in the lanes of a bus word.
-use Rattle.std.specs.Prelude.{
-  ℕ, zero, suc, ◌+◌, ◌*◌, ◌/◌, ◌%◌, ◌<◌, ◌==◌, Bool, false, ◌&&◌, if◌then◌else◌, Option, Some, None, is_some,
-  slice_index, bit_and
-}
+use Rattle.std.specs.Prelude.{ℕ, zero, suc, ◌+◌, ◌*◌, ◌/◌, ◌%◌, ◌<◌, ◌==◌, Bool, false, ◌&&◌, if◌then◌else◌, Option, Some, None, is_some, slice_index, bit_and}
 use Rattle.rl_policy.specs.Bits.{bit}
 use Rattle.rl_bus.specs.declared.table.Lanes.{Lanes}
 

@@ -52,7 +52,7 @@ no_kind = record {
   most_address = 0;
   aligned = false;
   write_lanes = false;
-  read_lanes = false
+  read_lanes = false;
 }
 
 abbrev pub nobody : Standing

@@ -1,7 +1,5 @@
 -- The device as data, and what each call does to it.
-use Rattle.std.specs.Prelude.{
-  ℕ, ◌+◌, ◌-◌, ◌%◌, ◌^◌, min, Bool, true, false, not, ◌&&◌, ◌||◌, ◌==◌, nat_lt, if◌then◌else◌
-}
+use Rattle.std.specs.Prelude.{ℕ, ◌+◌, ◌-◌, ◌%◌, ◌^◌, min, Bool, true, false, not, ◌&&◌, ◌||◌, ◌==◌, nat_lt, if◌then◌else◌}
 use Rattle.std.specs.Prelude.{List, length, Option, Some, None, is_some, slice_get, slice_index, slice_set, replicate}
 use Rattle.std.specs.List.{range_with_len}
 use Rattle.std.specs.Prelude.{map}
@@ -12,9 +10,7 @@ use Rattle.rl_bus.specs.declared.table.Cell.{Cell}
 use Rattle.rl_bus.specs.declared.table.Cell.TheVariants.{Reg, Loc}
 use Rattle.rl_bus.specs.declared.table.WordRow.{WordRow}
 use Rattle.rl_policy.specs.Access.{bit_written, mark_written, bit_answered, bit_left}
-use Rattle.rl_bus.specs.Setup.{
-  Setup, field_of, mem_of, field_at, policy_at, held, reset_of, location, is_deaf, words_at, is_of_place, is_named
-}
+use Rattle.rl_bus.specs.Setup.{Setup, field_of, mem_of, field_at, policy_at, held, reset_of, location, is_deaf, words_at, is_of_place, is_named}
 use Rattle.rl_bus.specs.Spread.{spread_bit, lane_bit, gathered_bit, lanes_in}
 
 -- What a device holds at a moment. The device model is this project's own.
@@ -56,7 +52,7 @@ word_shown s op w = from_bits 64 (gathered_bit (lanes_in w.lanes op.lanes) (show
 abbrev pub after_reading : State → (lanes : ℕ → Bool) → Cell → State
 after_reading s lanes (Reg r) = record s {
   bits = slice_set s.bits r
-    (held s.setup r (λ b. bit_left (policy_at s.setup r b) (bit (slice_index s.bits r) b) (lanes b)));
+      (held s.setup r (λ b. bit_left (policy_at s.setup r b) (bit (slice_index s.bits r) b) (lanes b)));
 }
 after_reading s lanes (Loc mem index) = s
 
@@ -67,7 +63,7 @@ after_writing s word lanes (Reg r) =
     let m = slice_index s.marks r in
     record s {
       bits = slice_set s.bits r
-        (held s.setup r (λ b. bit_written (policy_at s.setup r b) (bit x b) (bit m b) (word b) (lanes b)));
+          (held s.setup r (λ b. bit_written (policy_at s.setup r b) (bit x b) (bit m b) (word b) (lanes b)));
       marks = slice_set s.marks r (from_bits 64 (λ b. mark_written (policy_at s.setup r b) (bit m b) (lanes b)));
     }
 after_writing s word lanes (Loc mem index) =
@@ -75,7 +71,7 @@ after_writing s word lanes (Loc mem index) =
     if (mem_of s.setup mem).writable
     then record s {
       locations = slice_set s.locations at
-        (from_bits 64 (λ b. if lanes b then word b else bit (slice_index s.locations at) b))
+          (from_bits 64 (λ b. if lanes b then word b else bit (slice_index s.locations at) b));
     }
     else s
 
@@ -132,7 +128,7 @@ peeked s (Loc mem index) = slice_index s.locations (location s.setup mem index)
 unfoldable pub poked : State → Cell → ℕ → State
 poked s (Reg r) value = record s {
   bits = slice_set s.bits r
-    (held s.setup r (λ b. if is_some (field_at s.setup r b) then bit value b else bit (slice_index s.bits r) b));
+      (held s.setup r (λ b. if is_some (field_at s.setup r b) then bit value b else bit (slice_index s.bits r) b));
 }
 poked s (Loc mem index) value = record s {
   locations = slice_set s.locations (location s.setup mem index) (value % 256 ^ (mem_of s.setup mem).bytes);
@@ -144,7 +140,7 @@ hw_set s field value =
     let f = field_of s.setup field in
     record s {
       bits = slice_set s.bits f.reg
-        (held s.setup f.reg (put_bit f.lsb f.width (bit value) (bit (slice_index s.bits f.reg))))
+          (held s.setup f.reg (put_bit f.lsb f.width (bit value) (bit (slice_index s.bits f.reg))));
     }
 
 -- bit b of a register after a reset: the field that it belongs to may have a value for the kind

@@ -1,14 +1,8 @@
 -- How a description spells its keys.
 use Rattle.std.specs.Prelude.{ℕ, List, codes}
 use Rattle.rl_desc.specs.declared.key.Key.{Key}
-use Rattle.rl_desc.specs.declared.key.Key.TheVariants.{
-  Block, File, Reg, Mem, Map, Place, Flaw, Name, Of, Bytes, Backdoor, Skip, Field, Lsb, Width, Policy, Volatile,
-  Compare, Alone, Reset
-}
-use Rattle.rl_desc.specs.declared.key.Key.TheVariants.{
-  Size, Access, Endian, Addressing, Base, Parent, Offset, Adapter, Predict, Item, Rights, Kind, On, Value, Bit, From,
-  To, Nth
-}
+use Rattle.rl_desc.specs.declared.key.Key.TheVariants.{Block, File, Reg, Mem, Map, Place, Flaw, Name, Of, Bytes, Backdoor, Skip, Field, Lsb, Width, Policy, Volatile, Compare, Alone, Reset}
+use Rattle.rl_desc.specs.declared.key.Key.TheVariants.{Size, Access, Endian, Addressing, Base, Parent, Offset, Adapter, Predict, Item, Rights, Kind, On, Value, Bit, From, To, Nth}
 
 abbrev pub key_name : Key → List ℕ
 key_name Block = codes "block"

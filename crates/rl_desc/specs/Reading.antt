@@ -23,18 +23,12 @@ use Rattle.rl_desc.specs.declared.words.FlawKind.{FlawKind}
 use Rattle.rl_desc.specs.declared.words.FlawKind.TheVariants as kind
 use Rattle.rl_desc.specs.declared.flaw.FlawPart.{FlawPart}
 use Rattle.rl_desc.specs.declared.flaw.FlawPart.TheVariants as flaw
-use Rattle.rl_desc.specs.Words.{
-  policy_named, kind_named, access_named, addressing_named, rights, rights_named, predict_named, flaw_kind_named, skip
-}
+use Rattle.rl_desc.specs.Words.{policy_named, kind_named, access_named, addressing_named, rights, rights_named, predict_named, flaw_kind_named, skip}
 use Rattle.rl_desc.specs.Data.{DocumentData}
 use Rattle.rl_desc.specs.Shapes.{text, truth, number, word, exclusions, resets}
 use Rattle.rl_desc.specs.Refusals.{or_else, first, at_spot}
-use Rattle.rl_desc.specs.Columns.{
-  required, held, held_or, only, column_fault, row_fault, in_rows, rows_at, top_columns, scope_columns
-}
-use Rattle.rl_desc.specs.Columns.{
-  reg_columns, field_columns, mem_columns, map_columns, place_columns, flaw_columns, flaw_keys
-}
+use Rattle.rl_desc.specs.Columns.{required, held, held_or, only, column_fault, row_fault, in_rows, rows_at, top_columns, scope_columns}
+use Rattle.rl_desc.specs.Columns.{reg_columns, field_columns, mem_columns, map_columns, place_columns, flaw_columns, flaw_keys}
 
 -- ---- the first fault
 

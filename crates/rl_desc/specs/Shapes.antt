@@ -1,13 +1,7 @@
 -- What a key may hold: the value, or why it is refused.
-use Rattle.std.specs.Prelude.{
-  ℕ, pos, negsuc, Bool, true, ◌&&◌, ◌||◌, is_some, if◌then◌else◌, List, [], ◌∷◌, codes, Option, Some, None, Result, Ok,
-  Err
-}
+use Rattle.std.specs.Prelude.{ℕ, pos, negsuc, Bool, true, ◌&&◌, ◌||◌, is_some, if◌then◌else◌, List, [], ◌∷◌, codes, Option, Some, None, Result, Ok, Err}
 use Rattle.std.specs.Int.RustNames.{bit_or}
-use Rattle.toml.specs.Data.{
-  Data, string, integer, boolean, array, Items, no_items, item, Members, no_members, member, as_str, as_integer,
-  as_table
-}
+use Rattle.toml.specs.Data.{Data, string, integer, boolean, array, Items, no_items, item, Members, no_members, member, as_str, as_integer, as_table}
 use Rattle.rl_desc.specs.declared.key.Key.{Key}
 use Rattle.rl_desc.specs.declared.fault.DescCause.{DescCause}
 use Rattle.rl_desc.specs.declared.fault.DescCause.TheVariants.{WrongType, BadValue}

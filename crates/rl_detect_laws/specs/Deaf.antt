@@ -1,13 +1,9 @@
 -- Which sequence finds a deaf memory: `mem_walk`; and a deaf register: `access_test`.
-use Rattle.std.specs.Prelude.{
-  ◌≡◌, ◌≢◌, ℕ, ◌+◌, ◌^◌, ◌<◌, Bool, true, false, not, All, List, [], ◌∷◌, length, slice_index, sum_by, Option, Some
-}
+use Rattle.std.specs.Prelude.{◌≡◌, ◌≢◌, ℕ, ◌+◌, ◌^◌, ◌<◌, Bool, true, false, not, All, List, [], ◌∷◌, length, slice_index, sum_by, Option, Some}
 use Rattle.rl_policy.specs.Bits.{bit}
 use Rattle.rl_policy.specs.Table.{after_write}
 use Rattle.rl_policy.specs.declared.policy.Policy.{Policy}
-use Rattle.rl_policy.specs.declared.policy.Policy.TheVariants.{
-  Rw, Wrc, Wrs, Wc, Ws, Wsrc, Wcrs, W1s, W1t, W0c, W0t, W1src, W0crs, W1
-}
+use Rattle.rl_policy.specs.declared.policy.Policy.TheVariants.{Rw, Wrc, Wrs, Wc, Ws, Wsrc, Wcrs, W1s, W1t, W0c, W0t, W1src, W0crs, W1}
 use Rattle.rl_bus.specs.declared.table.Cell.TheVariants.{Reg, Loc}
 use Rattle.rl_bus.specs.declared.table.ItemRow.{ItemRow}
 use Rattle.rl_bus.specs.Setup.{Flaws, location, is_deaf}

@@ -1,7 +1,5 @@
 -- A bank as data: the entries behind a window, in the device and in the model.
-use Rattle.std.specs.Prelude.{
-  ◌≡◌, ℕ, ◌<◌, ◌≤◌, ◌==◌, nat_lt, not, ◌&&◌, Bool, if◌then◌else◌, List, length, replicate, slice_index
-}
+use Rattle.std.specs.Prelude.{◌≡◌, ℕ, ◌<◌, ◌≤◌, ◌==◌, nat_lt, not, ◌&&◌, Bool, if◌then◌else◌, List, length, replicate, slice_index}
 use Rattle.std.specs.Prelude.{slice_set, Option, None, Some, option_map, Result, Err, MatchOption, MatchResult}
 use Rattle.std.specs.Option.{option_map_or}
 use Rattle.rl_bus.specs.State.{State, peeked, poked}

@@ -1,7 +1,5 @@
 -- Which two registers are a window to so many entries.
-use Rattle.std.specs.Prelude.{
-  ℕ, ◌^◌, ◌==◌, nat_lt, nat_le, not, ◌&&◌, Bool, true, false, if◌then◌else◌, length, Option, None, Some
-}
+use Rattle.std.specs.Prelude.{ℕ, ◌^◌, ◌==◌, nat_lt, nat_le, not, ◌&&◌, Bool, true, false, if◌then◌else◌, length, Option, None, Some}
 use Rattle.std.specs.List.{list_all}
 use Rattle.rl_policy.specs.Table.{spends_mark}
 use Rattle.rl_policy.specs.declared.policy.Policy.{Policy}
@@ -11,9 +9,7 @@ use Rattle.rl_model.specs.Fields.{fields_of, field_in}
 use Rattle.rl_model.specs.Rows.{ChipData}
 use Rattle.rl_indirect.specs.declared.window.Window.{Window}
 use Rattle.rl_indirect.specs.declared.window.WindowFault.{WindowFault}
-use Rattle.rl_indirect.specs.declared.window.WindowFault.TheVariants.{
-  SameRegister, BadIndex, BadData, BadSize, IndexOutside
-}
+use Rattle.rl_indirect.specs.declared.window.WindowFault.TheVariants.{SameRegister, BadIndex, BadData, BadSize, IndexOutside}
 
 abbrev pub is_rw : Policy → Bool
 is_rw Rw = true

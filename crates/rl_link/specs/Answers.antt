@@ -1,8 +1,5 @@
 -- What a line of the peer says, and what it answers.
-use Rattle.std.specs.Prelude.{
-  ℕ, ◌-◌, ◌^◌, ◌==◌, ◌&&◌, ◌||◌, not, Bool, true, false, if◌then◌else◌, List, [], ◌∷◌, codes, length,
-  take, drop, nat_lt, Result, Ok, Err
-}
+use Rattle.std.specs.Prelude.{ℕ, ◌-◌, ◌^◌, ◌==◌, ◌&&◌, ◌||◌, not, Bool, true, false, if◌then◌else◌, List, [], ◌∷◌, codes, length, take, drop, nat_lt, Result, Ok, Err}
 use Rattle.std.specs.List.{prefix_len, suffix_len, position_or_len, list_any, list_all}
 use Rattle.std.specs.Char.{is_ascii_whitespace, is_digit}
 use Rattle.std.specs.Str.{bytes_eq}
@@ -74,7 +71,7 @@ said_by text = said_behind (first_word text) (bare (drop (length (first_word tex
 abbrev pub is_passed : List ℕ → Bool
 is_passed text =
     not (bytes_eq (first_word text) (codes "ok")
-      || (bytes_eq (first_word text) (codes "error") || bytes_eq (first_word text) (codes "none")))
+    || (bytes_eq (first_word text) (codes "error") || bytes_eq (first_word text) (codes "none")))
 
 -- what a line says
 unfoldable pub said_in : List ℕ → Said

@@ -5,9 +5,7 @@ use Rattle.rl_report.specs.Lines.{first_line}
 use Rattle.rl_report.specs.declared.sink.Sink.{Ghosts as Sink}
 use Rattle.rl_report.specs.declared.source.Source.{Ghosts as Source}
 use Rattle.rl_link.specs.declared.answer.Cause.{Cause}
-use Rattle.rl_link.specs.declared.answer.Cause.TheVariants.{
-  Unsent, Unread, Closed, TooLong, TooMany, Unasked, Unclear, TooWide, Backdoor, Memory
-}
+use Rattle.rl_link.specs.declared.answer.Cause.TheVariants.{Unsent, Unread, Closed, TooLong, TooMany, Unasked, Unclear, TooWide, Backdoor, Memory}
 use Rattle.rl_link.specs.declared.answer.Said.{Said}
 use Rattle.rl_link.specs.declared.talk.Talk.{Talk}
 use Rattle.rl_link.specs.Answers.{said_in}
@@ -49,7 +47,7 @@ abbrev pub MisanswersBy : {S K A : Type 0} → Source S → (answer : Said → R
     → (old new : Talk S K) → Cause → Type 0
 MisanswersBy s answer old new cause =
     IfSome (coming old.held (s.left old.source)) (λ bytes.
-      Misanswers answer bytes cause (coming new.held (s.left new.source)))
+    Misanswers answer bytes cause (coming new.held (s.left new.source)))
 
 -- Why a link broke that asked: the sink failed; an answer was held that nothing was asked for; the source failed;
 -- it ended; a line is too long; too many lines are no answer; or the answer is none that the request can have.

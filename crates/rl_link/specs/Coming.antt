@@ -1,7 +1,5 @@
 -- What comes from the peer, and which line of it answers.
-use Rattle.std.specs.Prelude.{
-  ◌≡◌, ℕ, ◌+◌, ◌^◌, ◌<◌, Bool, List, [], ◌∷◌, ◌++◌, if◌then◌else◌, length, Option, Some, IfSome, Ok
-}
+use Rattle.std.specs.Prelude.{◌≡◌, ℕ, ◌+◌, ◌^◌, ◌<◌, Bool, List, [], ◌∷◌, ◌++◌, if◌then◌else◌, length, Option, Some, IfSome, Ok}
 use Rattle.std.specs.Io.KnownBytes.{prepend_known}
 use Rattle.rl_report.specs.Lines.{first_line, after_line, whole_lines}
 use Rattle.rl_bus.specs.declared.op.Answer.{Answer}

@@ -4,9 +4,7 @@ use Rattle.rl_report.specs.Lines.{first_line}
 use Rattle.rl_report.specs.Pieces.{joined}
 use Rattle.rl_link.specs.declared.link.Break.{Break}
 use Rattle.rl_link.specs.declared.answer.Cause.{Cause}
-use Rattle.rl_link.specs.declared.answer.Cause.TheVariants.{
-  Unsent, Unread, Closed, TooLong, TooMany, Unasked, Unclear, TooWide, Backdoor, Memory
-}
+use Rattle.rl_link.specs.declared.answer.Cause.TheVariants.{Unsent, Unread, Closed, TooLong, TooMany, Unasked, Unclear, TooWide, Backdoor, Memory}
 
 abbrev pub cause_text : Cause → List ℕ
 cause_text Unsent = codes "the request couldn't be sent"

@@ -1,7 +1,5 @@
 -- What a talk takes from its peer.
-use Rattle.std.specs.Prelude.{
-  ◌≡◌, ℕ, ◌+◌, ◌-◌, ◌^◌, ◌≤◌, Bool, true, false, List, codes, Option, IfSome, IsNone, IsSome, min
-}
+use Rattle.std.specs.Prelude.{◌≡◌, ℕ, ◌+◌, ◌-◌, ◌^◌, ◌≤◌, Bool, true, false, List, codes, Option, IfSome, IsNone, IsSome, min}
 use Rattle.std.specs.Io.KnownBytes.{Appends}
 use Rattle.rl_bus.specs.Causes.{Rose}
 use Rattle.rl_bus.specs.declared.op.Answer.{Answer}

@@ -73,7 +73,7 @@ closed_text which over tally = closing_text which over tally.steps tally.differe
 abbrev pub framed : Sequence → Option (List ℕ) → Course → Entry
 framed which over c = record {
   text = joined (begin_text which over ∷ events_text c.told
-    ∷ closed_text which over (counted_all no_tally c.told) ∷ []);
+      ∷ closed_text which over (counted_all no_tally c.told) ∷ []);
   course = c;
 }
 

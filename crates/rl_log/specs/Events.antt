@@ -1,7 +1,5 @@
 -- The events of a script, each between the models before it and after it, and the laws of every one of them.
-use Rattle.std.specs.Prelude.{
-  ◌≡◌, ◌≢◌, ◌↔◌, ◌⊎◌, ℕ, ◌+◌, ◌<◌, false, List, [], ◌∷◌, ◌++◌, length, All, Option, Result, Ok, Err
-}
+use Rattle.std.specs.Prelude.{◌≡◌, ◌≢◌, ◌↔◌, ◌⊎◌, ℕ, ◌+◌, ◌<◌, false, List, [], ◌∷◌, ◌++◌, length, All, Option, Result, Ok, Err}
 use Rattle.rl_model.specs.Fields.{fields_of, field_in}
 use Rattle.rl_mirror.specs.Mirror.{mirrored_of}
 use Rattle.rl_access.specs.declared.event.End.TheVariants as end

@@ -1,7 +1,5 @@
 -- What holds of every script: how its log ends, where a burst stops, what a line may be, and when a run has passed.
-use Rattle.std.specs.Prelude.{
-  ◌≡◌, ◌↔◌, ◌⊎◌, ℕ, ◌+◌, ◌<◌, ◌≤◌, Bool, true, false, List, [], ◌∷◌, ◌++◌, length, map, Some, Ok
-}
+use Rattle.std.specs.Prelude.{◌≡◌, ◌↔◌, ◌⊎◌, ℕ, ◌+◌, ◌<◌, ◌≤◌, Bool, true, false, List, [], ◌∷◌, ◌++◌, length, map, Some, Ok}
 use Rattle.rl_access.specs.declared.event.Op.{Op}
 use Rattle.rl_access.specs.Tally.{is_bus_error}
 use Rattle.rl_access.specs.World.{World, Step}

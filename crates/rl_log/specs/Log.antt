@@ -1,7 +1,5 @@
 -- The judged log: what a session writes, how it ends, and what stands afterwards.
-use Rattle.std.specs.Prelude.{
-  ℕ, ◌+◌, nat_lt, if◌then◌else◌, List, [], ◌∷◌, ◌++◌, length, Option, Some, None, Result, Ok, Err
-}
+use Rattle.std.specs.Prelude.{ℕ, ◌+◌, nat_lt, if◌then◌else◌, List, [], ◌∷◌, ◌++◌, length, Option, Some, None, Result, Ok, Err}
 use Rattle.std.specs.Io.BufRead.{strip_last}
 use Rattle.rl_script.specs.declared.fault.LineFault.{LineFault}
 use Rattle.rl_script.specs.declared.fault.LineFault.TheVariants as fault
@@ -11,10 +9,7 @@ use Rattle.rl_log.specs.declared.counts.Counts.{Counts}
 use Rattle.rl_log.specs.declared.status.Status.{Status}
 use Rattle.rl_log.specs.declared.status.Status.TheVariants.{Refused}
 use Rattle.rl_log.specs.declared.refusal.LineRefusal.{LineRefusal}
-use Rattle.rl_log.specs.declared.refusal.LineRefusal.TheVariants.{
-  TooLong, NotAscii, NoSuchCommand, WrongCount, BadName, BadNumber, NumberTooLarge,
-  CountOutOfRange, NoSuchName, TooManyLines
-}
+use Rattle.rl_log.specs.declared.refusal.LineRefusal.TheVariants.{TooLong, NotAscii, NoSuchCommand, WrongCount, BadName, BadNumber, NumberTooLarge, CountOutOfRange, NoSuchName, TooManyLines}
 use Rattle.rl_log.specs.Endings.{end_status}
 use Rattle.rl_log.specs.Entry.{Entry, entry_of}
 use Rattle.rl_log.specs.Recording.{with_events}

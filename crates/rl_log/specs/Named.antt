@@ -1,8 +1,5 @@
 -- The numbers of the names in a line, and the operation that a line names.
-use Rattle.std.specs.Prelude.{
-  ℕ, ◌+◌, List, length, map as each, take, drop, position, bytes_eq, if◌then◌else◌, Option,
-  Some, None, option_map, option_and_then
-}
+use Rattle.std.specs.Prelude.{ℕ, ◌+◌, List, length, map as each, take, drop, position, bytes_eq, if◌then◌else◌, Option, Some, None, option_map, option_and_then}
 use Rattle.rl_model.specs.Rows.{ChipData}
 use Rattle.rl_model.specs.Chip.{field_path}
 use Rattle.rl_map.specs.Layout.{LayoutData, map_named}

@@ -1,9 +1,7 @@
 -- The statuses.
 use Rattle.std.specs.Prelude.{ℕ, Bool, true, false}
 use Rattle.rl_log.specs.declared.status.Status.{Status}
-use Rattle.rl_log.specs.declared.status.Status.TheVariants.{
-  Passed, Found, Refused, SourceFault, SinkFault, Memory, Words
-}
+use Rattle.rl_log.specs.declared.status.Status.TheVariants.{Passed, Found, Refused, SourceFault, SinkFault, Memory, Words}
 
 abbrev pub code_of : Status → ℕ
 code_of Passed = 0

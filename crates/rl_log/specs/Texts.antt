@@ -3,10 +3,7 @@ use Rattle.std.specs.Prelude.{ℕ, List, [], ◌∷◌, codes, decimal}
 use Rattle.rl_report.specs.Pieces.{joined}
 use Rattle.rl_log.specs.declared.counts.Counts.{Counts}
 use Rattle.rl_log.specs.declared.refusal.LineRefusal.{LineRefusal}
-use Rattle.rl_log.specs.declared.refusal.LineRefusal.TheVariants.{
-  TooLong, NotAscii, NoSuchCommand, WrongCount, BadName, BadNumber, NumberTooLarge,
-  CountOutOfRange, NoSuchName, TooManyLines
-}
+use Rattle.rl_log.specs.declared.refusal.LineRefusal.TheVariants.{TooLong, NotAscii, NoSuchCommand, WrongCount, BadName, BadNumber, NumberTooLarge, CountOutOfRange, NoSuchName, TooManyLines}
 
 abbrev pub reason_text : LineRefusal → List ℕ
 reason_text TooLong = codes "too long"

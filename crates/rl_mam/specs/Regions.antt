@@ -1,8 +1,5 @@
 -- The regions of a memory: which locations they take, and why a region is refused.
-use Rattle.std.specs.Prelude.{
-  ◌≡◌, ℕ, ◌+◌, ◌<◌, ◌≤◌, ◌==◌, nat_lt, nat_le, not, if◌then◌else◌, List, [], ◌∷◌, Option, None, Some, Result,
-  Ok, Err, find, filter, insert, All, Any
-}
+use Rattle.std.specs.Prelude.{◌≡◌, ℕ, ◌+◌, ◌<◌, ◌≤◌, ◌==◌, nat_lt, nat_le, not, if◌then◌else◌, List, [], ◌∷◌, Option, None, Some, Result, Ok, Err, find, filter, insert, All, Any}
 use Rattle.std.specs.List.{position_or_len}
 use Rattle.rl_mam.specs.declared.region.Region.{Region}
 use Rattle.rl_mam.specs.declared.region.MamFault.{MamFault}

@@ -1,8 +1,5 @@
 -- The first clash of rows: by the later place, then by the address, then by the earlier place.
-use Rattle.std.specs.Prelude.{
-  ◌≡◌, ℕ, ◌<◌, ◌≤◌, ◌==◌, nat_lt, Bool, true, ◌&&◌, ◌||◌, if◌then◌else◌, List, length, Option, Some, None, option_map,
-  slice_index_or
-}
+use Rattle.std.specs.Prelude.{◌≡◌, ℕ, ◌<◌, ◌≤◌, ◌==◌, nat_lt, Bool, true, ◌&&◌, ◌||◌, if◌then◌else◌, List, length, Option, Some, None, option_map, slice_index_or}
 use Rattle.rl_bus.specs.declared.table.WordRow.{WordRow}
 use Rattle.rl_model.specs.declared.fault.Array.TheVariants as array
 use Rattle.rl_model.specs.Rules.{or_else}

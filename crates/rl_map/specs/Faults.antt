@@ -1,11 +1,6 @@
 -- The first condition that fails for maps and places.
-use Rattle.std.specs.Prelude.{
-  ◌≡◌, ◌≢◌, ℕ, ◌+◌, ◌*◌, ◌%◌, ◌==◌, min, nat_lt, nat_le, ◌&&◌, ◌||◌, Bool, true, false, not, List, [], ◌∷◌, ◌++◌, length
-}
-use Rattle.std.specs.Prelude.{
-  map, filter, fold, flat_map, slice_index_or, Option, Some, None, is_some, is_none, option_map, unwrap_or, Result, Ok,
-  Err, position
-}
+use Rattle.std.specs.Prelude.{◌≡◌, ◌≢◌, ℕ, ◌+◌, ◌*◌, ◌%◌, ◌==◌, min, nat_lt, nat_le, ◌&&◌, ◌||◌, Bool, true, false, not, List, [], ◌∷◌, ◌++◌, length}
+use Rattle.std.specs.Prelude.{map, filter, fold, flat_map, slice_index_or, Option, Some, None, is_some, is_none, option_map, unwrap_or, Result, Ok, Err, position}
 use Rattle.std.specs.List.{list_any, range_with_len}
 use Rattle.rl_model.specs.declared.fault.Array.{Array}
 use Rattle.rl_model.specs.declared.fault.Array.TheVariants as array
@@ -16,12 +11,8 @@ use Rattle.rl_model.specs.Rows.{ChipData}
 use Rattle.rl_model.specs.Rules.{is_name, or_else, first_failing, row_of}
 use Rattle.rl_bus.specs.declared.op.AdapterKind.{AdapterKind}
 use Rattle.rl_map.specs.declared.fault.MapCause.{MapCause}
-use Rattle.rl_map.specs.declared.fault.MapCause.TheVariants.{
-  TooMany, BadName, DuplicateName, NoSuchMap, TooDeep, BadBytes, NoSuchAdapter, NoSuchItem
-}
-use Rattle.rl_map.specs.declared.fault.MapCause.TheVariants.{
-  PlacedTwice, MemInFifo, AddressOverflow, Unaligned, SharedAddress
-}
+use Rattle.rl_map.specs.declared.fault.MapCause.TheVariants.{TooMany, BadName, DuplicateName, NoSuchMap, TooDeep, BadBytes, NoSuchAdapter, NoSuchItem}
+use Rattle.rl_map.specs.declared.fault.MapCause.TheVariants.{PlacedTwice, MemInFifo, AddressOverflow, Unaligned, SharedAddress}
 use Rattle.rl_map.specs.declared.fault.MapFault.{MapFault}
 use Rattle.rl_map.specs.declared.fault.MapFault.TheVariants.{Bad, Memory}
 use Rattle.rl_map.specs.declared.path.Level.{Level}
@@ -35,10 +26,7 @@ use Rattle.rl_map.specs.Access.{through}
 use Rattle.rl_map.specs.Seat.{access_of, seat_of}
 use Rattle.rl_map.specs.Words.{item_words}
 use Rattle.rl_map.specs.Layout.{no_map, no_port, location_of, same_item, has_right}
-use Rattle.rl_map.specs.Maps.{
-  MapTables, no_tables, with_map, tables_of, path_under, level_of, kind_number, kind_with, map_number, item_at,
-  place_row
-}
+use Rattle.rl_map.specs.Maps.{MapTables, no_tables, with_map, tables_of, path_under, level_of, kind_number, kind_with, map_number, item_at, place_row}
 
 -- ---- the order of refusals
 
@@ -79,7 +67,7 @@ abbrev pub maps_fault : List AdapterKind → MapTables → List MapNode → Opti
 maps_fault kinds t [] = None
 maps_fault kinds t (m ∷ ms) =
     or_else (first_of (row_at array.Map (length t.maps)) (map_checks kinds t.maps m))
-      (maps_fault kinds (with_map kinds t m) ms)
+    (maps_fault kinds (with_map kinds t m) ms)
 
 -- ---- places
 
@@ -93,7 +81,7 @@ abbrev pub placed_by : MapTables → PlaceRow → Placed
 placed_by t row = record {
   row = row;
   path = (slice_index_or t.maps row.map no_map).path;
-  port = slice_index_or t.ports row.port no_port
+  port = slice_index_or t.ports row.port no_port;
 }
 
 abbrev pub placed : ChipData → MapTables → PlacePart → Placed

@@ -1,7 +1,5 @@
 -- What holds of every path and every item.
-use Rattle.std.specs.Prelude.{
-  ◌≡◌, ℕ, zero, suc, ◌+◌, ◌*◌, ◌/◌, ◌%◌, ◌<◌, ◌≤◌, ◌==◌, if◌then◌else◌, List, [], ◌∷◌, All, false
-}
+use Rattle.std.specs.Prelude.{◌≡◌, ℕ, zero, suc, ◌+◌, ◌*◌, ◌/◌, ◌%◌, ◌<◌, ◌≤◌, ◌==◌, if◌then◌else◌, List, [], ◌∷◌, All, false}
 use Rattle.std.specs.Int.{div_ceil}
 use Rattle.rl_map.specs.declared.path.Level.{Level}
 use Rattle.rl_map.specs.declared.seat.Access.{Access}
@@ -39,7 +37,7 @@ byte_climb base (level ∷ up) offset address bytes byte order =
     let count = div_ceil bytes level.bytes in
     let chunk = byte / level.bytes in
     byte_climb base up level.offset (address_of level.kind (offset + address) level.bytes count chunk)
-      level.bytes (byte % level.bytes)
+    level.bytes (byte % level.bytes)
     (order * count + place_in_time level.kind count chunk)
 
 -- location `index` of an item stands that many items further, in whole words of its own map
@@ -47,7 +45,7 @@ abbrev pub byte_seat_of : List Level → ℕ → Location → ℕ → Seat
 byte_seat_of [] base item byte = record { order = 0; address = base + item.index; lane = byte }
 byte_seat_of (level ∷ up) base item byte =
     byte_climb base (level ∷ up) item.offset (item.index * level.bytes * div_ceil item.bytes level.bytes)
-      item.bytes byte 0
+    item.bytes byte 0
 
 -- where no map counts words, the seats are those by byte addresses
 abbrev pub ByteAddressedAlike : Type 0

@@ -1,10 +1,6 @@
 -- A layout as data, and what it answers.
-use Rattle.std.specs.Prelude.{
-  ◌≡◌, ℕ, ◌+◌, ◌*◌, ◌/◌, ◌^◌, ◌<◌, ◌≤◌, ◌==◌, nat_lt, Bool, true, false, ◌&&◌, if◌then◌else◌, List, [], ◌∷◌
-}
-use Rattle.std.specs.Prelude.{
-  length, map, All, slice_index_or, slice_get, Option, Some, None, filter, position, bytes_eq, codes
-}
+use Rattle.std.specs.Prelude.{◌≡◌, ℕ, ◌+◌, ◌*◌, ◌/◌, ◌^◌, ◌<◌, ◌≤◌, ◌==◌, nat_lt, Bool, true, false, ◌&&◌, if◌then◌else◌, List, [], ◌∷◌}
+use Rattle.std.specs.Prelude.{length, map, All, slice_index_or, slice_get, Option, Some, None, filter, position, bytes_eq, codes}
 use Rattle.rl_policy.specs.Bits.{bit}
 use Rattle.rl_model.specs.declared.rows.Item.{Item}
 use Rattle.rl_model.specs.declared.rows.Item.TheVariants as item
@@ -50,7 +46,7 @@ no_kind = record {
   most_address = 0;
   aligned = false;
   write_lanes = false;
-  read_lanes = false
+  read_lanes = false;
 }
 
 abbrev pub no_port : PortRow
@@ -65,7 +61,7 @@ no_place = record {
   bytes = 0;
   size = 0;
   port = 0;
-  fifo = false
+  fifo = false;
 }
 
 abbrev pub map_at : LayoutData → ℕ → MapRow
@@ -210,7 +206,7 @@ pub record HasWords (l : LayoutData) (place index : ℕ) : Type 0 where
   -- each of them is one that the port's adapter carries
   pub on :
       All (IsWordOn (port_at l (place_at l place).port).kind (port_at l (place_at l place).port).bytes)
-        (words_of l place index)
+      (words_of l place index)
   -- each byte of the location stands in one of them, at the lane that its seat says, and nothing else does
   pub partition : IsPartition (place_seats l place index) (words_of l place index)
   pub parts : AreParts (words_of l place index)
@@ -226,7 +222,7 @@ pub record HasWords (l : LayoutData) (place index : ℕ) : Type 0 where
   pub alone : (place_at l place).fifo ≡ false
       → (i k : ℕ) → i < length (words_of l place index) → k < length (words_of l place index)
       → (slice_index_or (words_of l place index) i no_word).address
-        ≡ (slice_index_or (words_of l place index) k no_word).address
+      ≡ (slice_index_or (words_of l place index) k no_word).address
       → i ≡ k
 
 -- a row is that of a word of a location

@@ -1,7 +1,5 @@
 -- The layout as text.
-use Rattle.std.specs.Prelude.{
-  ℕ, true, false, if◌then◌else◌, List, ◌∷◌, ◌++◌, length, flat_map, reverse, codes, decimal, slice_index
-}
+use Rattle.std.specs.Prelude.{ℕ, true, false, if◌then◌else◌, List, ◌∷◌, ◌++◌, length, flat_map, reverse, codes, decimal, slice_index}
 use Rattle.std.specs.List.{range_with_len}
 use Rattle.rl_policy.specs.Bits.{bit}
 use Rattle.rl_policy.specs.Numbers.{spelled}

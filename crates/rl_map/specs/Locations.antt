@@ -50,7 +50,7 @@ pub record AreWordsOf (maps : List MapRow) (ports : List PortRow) (places : List
   pub each : (place : ℕ) → place < length places
       → let row = slice_index_or places place no_place in
       AreLocations (path_in maps row) (port_for ports row).base (location_of row 0) row.size
-        (slice_index_or kept place no_words)
+      (slice_index_or kept place no_words)
 
 -- what a layout keeps of its places' words
 pub record AreKept (l : LayoutData) (kept : List PlaceWords) : Type 0 where

@@ -1,10 +1,6 @@
 -- What a layout keeps of the maps, the ports and the places that it was built of.
-use Rattle.std.specs.Prelude.{
-  ◌≡◌, ℕ, ◌+◌, ◌<◌, nat_lt, if◌then◌else◌, List, [], ◌∷◌, ◌++◌, length, map, flat_map, take, drop
-}
-use Rattle.std.specs.Prelude.{
-  fold, slice_get, slice_index_or, Option, Some, None, option_map, unwrap_or, position, bytes_eq
-}
+use Rattle.std.specs.Prelude.{◌≡◌, ℕ, ◌+◌, ◌<◌, nat_lt, if◌then◌else◌, List, [], ◌∷◌, ◌++◌, length, map, flat_map, take, drop}
+use Rattle.std.specs.Prelude.{fold, slice_get, slice_index_or, Option, Some, None, option_map, unwrap_or, position, bytes_eq}
 use Rattle.std.specs.List.{range_with_len}
 use Rattle.std.specs.Option.{option_or}
 use Rattle.rl_model.specs.declared.rows.Item.{Item}
@@ -50,7 +46,7 @@ abbrev pub map_row : ℕ → List MapRow → MapNode → MapRow
 map_row ports earlier m = record {
   name = m.name;
   path = path_under earlier m.parent (level_of m);
-  port = port_under ports earlier m.parent
+  port = port_under ports earlier m.parent;
 }
 
 -- ---- ports
@@ -74,7 +70,7 @@ port_row kinds number m =
       bytes = m.bytes;
       adapter = unwrap_or adapter 0;
       kind = kind_with kinds adapter;
-      explicit = m.explicit
+      explicit = m.explicit;
     }
 
 -- the ports, and a root among them
@@ -105,9 +101,9 @@ tables_of kinds maps = fold (with_map kinds) no_tables maps
 abbrev pub item_at : ChipData → List ℕ → Option Item
 item_at chip path =
     option_or
-      (option_map (λ n. item.Reg n) (position (bytes_eq path) (take (length chip.regs) (drop chip.scopes chip.paths))))
-      (option_map (λ n. item.Mem n)
-        (position (bytes_eq path) (take (length chip.mems) (drop (chip.scopes + length chip.regs) chip.paths))))
+    (option_map (λ n. item.Reg n) (position (bytes_eq path) (take (length chip.regs) (drop chip.scopes chip.paths))))
+    (option_map (λ n. item.Mem n)
+    (position (bytes_eq path) (take (length chip.mems) (drop (chip.scopes + length chip.regs) chip.paths))))
 
 abbrev pub item_bytes : ChipData → Item → ℕ
 item_bytes chip i = unwrap_or (bytes_of chip i) 0

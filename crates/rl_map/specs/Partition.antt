@@ -1,8 +1,5 @@
 -- The words of an item are a partition of its bytes.
-use Rattle.std.specs.Prelude.{
-  ◌≡◌, ℕ, ◌%◌, ◌^◌, ◌<◌, ◌≤◌, IsTrue, IsBitSet, Bool, true, false, ◌||◌, List, [], ◌∷◌, length, slice_index,
-  slice_index_or
-}
+use Rattle.std.specs.Prelude.{◌≡◌, ℕ, ◌%◌, ◌^◌, ◌<◌, ◌≤◌, IsTrue, IsBitSet, Bool, true, false, ◌||◌, List, [], ◌∷◌, length, slice_index, slice_index_or}
 use Rattle.rl_bus.specs.Spread.{lane_bit, AreInCell}
 use Rattle.rl_bus.specs.declared.op.AdapterKind.{AdapterKind}
 use Rattle.rl_map.specs.declared.seat.Seat.{Seat}
@@ -53,18 +50,18 @@ pub record IsPartition (seats : List Seat) (words : List Word) : Type 0 where
   pub placed : (j : ℕ) → j < length seats
       → (number_of seats (slice_index_or seats j no_seat).order < length words)
       × Carries (slice_index_or words (number_of seats (slice_index_or seats j no_seat).order) no_word)
-          (slice_index_or seats j no_seat).lane j
+      (slice_index_or seats j no_seat).lane j
   pub lane_in : (j : ℕ) → j < length seats → (slice_index_or seats j no_seat).lane < 8
   -- each enabled lane of each word has a byte of the item, whose seat is that word and that lane
   pub sound : (k lane : ℕ) → k < length words → lane < 8 → IsBitSet (slice_index_or words k no_word).lanes lane
       → let byte = slice_index (slice_index_or words k no_word).bytes lane in
       (byte < length seats) × (number_of seats (slice_index_or seats byte no_seat).order ≡ k)
       × (slice_index_or seats byte no_seat
-         ≡ record {
-             order = (slice_index_or words k no_word).order;
-             address = (slice_index_or words k no_word).address;
-             lane = lane
-           })
+      ≡ record {
+        order = (slice_index_or words k no_word).order;
+        address = (slice_index_or words k no_word).address;
+        lane = lane;
+      })
   -- the words stand by ascending order
   pub ascending : (i k : ℕ)
       → i < k → k < length words

@@ -16,7 +16,7 @@ access_of item byte = record {
   offset = item.offset;
   address = item.index;
   byte = byte;
-  order = 0
+  order = 0;
 }
 
 -- The order, the bus address and the lane of a byte. That a narrower child map is right-justified is this project's
@@ -54,7 +54,7 @@ AddressesApart path base item = (m n i j : ℕ) → i < item.bytes → j < item.
     → IsAligned (access_of (record item { index = m }) i) path
     → IsAligned (access_of (record item { index = n }) j) path
     → (seat_of path base (record item { index = m }) i).address
-      ≡ (seat_of path base (record item { index = n }) j).address
+    ≡ (seat_of path base (record item { index = n }) j).address
     → (m ≡ n)
-      × ((seat_of path base (record item { index = m }) i).order
-         ≡ (seat_of path base (record item { index = n }) j).order)
+    × ((seat_of path base (record item { index = m }) i).order
+    ≡ (seat_of path base (record item { index = n }) j).order)

@@ -1,19 +1,12 @@
 -- The conditions of maps and places, step by step.
-use Rattle.std.specs.Prelude.{
-  ◌≡◌, ℕ, ◌+◌, nat_lt, nat_le, ◌&&◌, not, List, [], ◌∷◌, ◌++◌, length, map, Option, Some, None, is_some, is_none,
-  unwrap_or, Result, Ok, Err, if◌then◌else◌
-}
+use Rattle.std.specs.Prelude.{◌≡◌, ℕ, ◌+◌, nat_lt, nat_le, ◌&&◌, not, List, [], ◌∷◌, ◌++◌, length, map, Option, Some, None, is_some, is_none, unwrap_or, Result, Ok, Err, if◌then◌else◌}
 use Rattle.rl_model.specs.declared.fault.Array.TheVariants as array
 use Rattle.rl_model.specs.Rows.{ChipData}
 use Rattle.rl_model.specs.Rules.{is_name, or_else}
 use Rattle.rl_bus.specs.declared.op.AdapterKind.{AdapterKind}
 use Rattle.rl_map.specs.declared.fault.MapCause.{MapCause}
-use Rattle.rl_map.specs.declared.fault.MapCause.TheVariants.{
-  TooMany, BadName, DuplicateName, NoSuchMap, TooDeep, BadBytes, NoSuchAdapter
-}
-use Rattle.rl_map.specs.declared.fault.MapCause.TheVariants.{
-  NoSuchItem, PlacedTwice, MemInFifo, AddressOverflow, Unaligned
-}
+use Rattle.rl_map.specs.declared.fault.MapCause.TheVariants.{TooMany, BadName, DuplicateName, NoSuchMap, TooDeep, BadBytes, NoSuchAdapter}
+use Rattle.rl_map.specs.declared.fault.MapCause.TheVariants.{NoSuchItem, PlacedTwice, MemInFifo, AddressOverflow, Unaligned}
 use Rattle.rl_map.specs.declared.fault.MapFault.{MapFault}
 use Rattle.rl_map.specs.declared.parts.MapNode.{MapNode}
 use Rattle.rl_map.specs.declared.parts.PlacePart.{PlacePart}
@@ -21,10 +14,7 @@ use Rattle.rl_map.specs.declared.rows.MapRow.{MapRow}
 use Rattle.rl_map.specs.declared.rows.PortRow.{PortRow}
 use Rattle.rl_map.specs.declared.rows.PlaceRow.{PlaceRow}
 use Rattle.rl_map.specs.Maps.{path_under, level_of, map_number, kind_number, kind_with, item_at, place_row}
-use Rattle.rl_map.specs.Faults.{
-  Check, first_of, row_at, has_parent, is_width, Placed, is_mem, word_count, is_placed, some_byte, is_above,
-  is_unaligned, shared
-}
+use Rattle.rl_map.specs.Faults.{Check, first_of, row_at, has_parent, is_width, Placed, is_mem, word_count, is_placed, some_byte, is_above, is_unaligned, shared}
 use Rattle.rl_map.specs.Building.{placed_in}
 
 -- ---- the cause alone
@@ -92,7 +82,7 @@ place_of_part chip maps ports part = placed_in maps ports (place_row chip maps p
 abbrev pub own_fault : ChipData → List MapRow → List PortRow → List PlaceRow → ℕ → PlacePart → Option MapFault
 own_fault chip maps ports earlier words part =
     first_of (row_at array.Place (length earlier))
-      (own_checks chip maps earlier words part (place_of_part chip maps ports part))
+    (own_checks chip maps earlier words part (place_of_part chip maps ports part))
 
 -- ---- all places but for shared addresses
 
@@ -102,7 +92,7 @@ own_faults chip maps ports earlier words [] = None
 own_faults chip maps ports earlier words (part ∷ parts) =
     or_else (own_fault chip maps ports earlier words part)
     (own_faults chip maps ports (earlier ++ place_row chip maps part ∷ [])
-      (words + word_count (place_of_part chip maps ports part)) parts)
+    (words + word_count (place_of_part chip maps ports part)) parts)
 
 -- the places before it
 abbrev pub accepted : ChipData → List MapRow → List PortRow → List PlaceRow → ℕ → List PlacePart → List PlaceRow
@@ -110,8 +100,8 @@ accepted chip maps ports earlier words [] = []
 accepted chip maps ports earlier words (part ∷ parts) =
     if is_some (own_fault chip maps ports earlier words part) then []
     else place_row chip maps part
-      ∷ accepted chip maps ports (earlier ++ place_row chip maps part ∷ [])
-          (words + word_count (place_of_part chip maps ports part)) parts
+    ∷ accepted chip maps ports (earlier ++ place_row chip maps part ∷ [])
+    (words + word_count (place_of_part chip maps ports part)) parts
 
 -- ---- shared addresses alone
 
@@ -123,6 +113,6 @@ abbrev pub shared_faults : List MapRow → List PortRow → List PlaceRow → Li
 shared_faults maps ports earlier [] = None
 shared_faults maps ports earlier (p ∷ ps) =
     or_else
-      (first_of (row_at array.Place (length earlier))
-        (shared_check (map (placed_in maps ports) earlier) (placed_in maps ports p)))
+    (first_of (row_at array.Place (length earlier))
+    (shared_check (map (placed_in maps ports) earlier) (placed_in maps ports p)))
     (shared_faults maps ports (earlier ++ p ∷ []) ps)

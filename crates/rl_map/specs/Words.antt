@@ -1,8 +1,5 @@
 -- The words of an item: the bytes that one bus item carries.
-use Rattle.std.specs.Prelude.{
-  ℕ, ◌+◌, ◌^◌, Bool, ◌==◌, ◌&&◌, if◌then◌else◌, Option, zero, suc, List, [], ◌∷◌, ◌++◌, map, filter, None, Some,
-  is_some, unwrap_or
-}
+use Rattle.std.specs.Prelude.{ℕ, ◌+◌, ◌^◌, Bool, ◌==◌, ◌&&◌, if◌then◌else◌, Option, zero, suc, List, [], ◌∷◌, ◌++◌, map, filter, None, Some, is_some, unwrap_or}
 use Rattle.std.specs.List.{list_any, range_with_len}
 use Rattle.rl_bus.specs.declared.table.Lanes.{Lanes}
 use Rattle.rl_map.specs.declared.path.Level.{Level}

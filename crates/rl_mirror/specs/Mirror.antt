@@ -49,4 +49,4 @@ abbrev pub HasNoWish : ChipData → MirrorData → (reg : ℕ) → Type 0
 HasNoWish c m reg =
     (k : ℕ) → k < length (fields_of c reg)
     → part_of (field_in (fields_of c reg) k).shape (desired_of m reg)
-      ≡ part_of (field_in (fields_of c reg) k).shape (mirrored_of m reg)
+    ≡ part_of (field_in (fields_of c reg) k).shape (mirrored_of m reg)

@@ -1,13 +1,9 @@
 -- What accesses, resets and `set` do to what is believed of a register.
-use Rattle.std.specs.Prelude.{
-  ℕ, ◌+◌, ◌-◌, Bool, false, not, ◌&&◌, ◌||◌, ◌==◌, if◌then◌else◌, List, length, map, replicate, slice_set, get_or
-}
+use Rattle.std.specs.Prelude.{ℕ, ◌+◌, ◌-◌, Bool, false, not, ◌&&◌, ◌||◌, ◌==◌, if◌then◌else◌, List, length, map, replicate, slice_set, get_or}
 use Rattle.std.specs.List.{range_with_len}
 use Rattle.std.specs.Option.{option_map_or}
 use Rattle.rl_policy.specs.Bits.{bit, put_bit, from_bits}
-use Rattle.rl_policy.specs.Table.{
-  after_write, after_read, value_read, update_bit, neutral_bit, is_write_only, spends_mark
-}
+use Rattle.rl_policy.specs.Table.{after_write, after_read, value_read, update_bit, neutral_bit, is_write_only, spends_mark}
 use Rattle.rl_policy.specs.declared.policy.Policy.{Policy}
 use Rattle.rl_model.specs.Chip.{value_for}
 use Rattle.rl_model.specs.Rows.{FieldSeen, ChipData}
@@ -44,7 +40,7 @@ neutral_word fields mirrored = word_by_field fields (λ k b. neutral_bit (policy
 unfoldable pub learned_by_write : List FieldSeen → (chosen marks : ℕ → Bool) → (mirrored word kept : ℕ) → ℕ
 learned_by_write fields chosen marks mirrored word kept =
     word_by_field fields (λ k b.
-      if chosen k then after_write (policy_in fields k) (bit mirrored b) (bit word b) (marks k) else bit kept b)
+    if chosen k then after_write (policy_in fields k) (bit mirrored b) (bit word b) (marks k) else bit kept b)
 
 -- What is known of a bit after a read. That a read tells nothing of a write-only field is this project's own.
 abbrev pub learned_bit : Policy → (read kept : Bool) → Bool
@@ -57,7 +53,7 @@ told_bits fields chosen = word_by_field fields (λ k b. bit chosen k && not (is_
 unfoldable pub learned_by_read : List FieldSeen → (chosen : ℕ → Bool) → (read kept : ℕ) → ℕ
 learned_by_read fields chosen read kept =
     word_by_field fields (λ k b.
-      if chosen k then learned_bit (policy_in fields k) (bit read b) (bit kept b) else bit kept b)
+    if chosen k then learned_bit (policy_in fields k) (bit read b) (bit kept b) else bit kept b)
 
 -- ---- a reset
 
@@ -89,9 +85,9 @@ spent_after c reg fields spent =
 unfoldable pub predict_write : ChipData → (reg word fields : ℕ) → MirrorData → MirrorData
 predict_write c reg word fields m =
     let after = λ (kept : ℕ).
-      learned_by_write (fields_of c reg) (bit fields) (marks_in c m.spent reg) (mirrored_of m reg) word kept in
+    learned_by_write (fields_of c reg) (bit fields) (marks_in c m.spent reg) (mirrored_of m reg) word kept in
     record (with_values m reg (after (mirrored_of m reg)) (after (desired_of m reg))) {
-      spent = spent_after c reg fields m.spent
+      spent = spent_after c reg fields m.spent;
     }
 
 -- A read of the chosen fields answered this (uvm_reg_field::predict with UVM_PREDICT_READ, IEEE 1800.2-2017, 18.5).
@@ -108,7 +104,7 @@ predict_raw c reg value m = with_values m reg (owned (fields_of c reg) value) (o
 unfoldable pub reset : ChipData → (kind : ℕ) → MirrorData → MirrorData
 reset c kind m =
     let after = λ (values : List ℕ).
-      map (λ reg. after_reset (fields_of c reg) kind (get_or values reg 0)) (range_with_len 0 (length values)) in
+    map (λ reg. after_reset (fields_of c reg) kind (get_or values reg 0)) (range_with_len 0 (length values)) in
     record {
       mirrored = after m.mirrored;
       desired = after m.desired;
@@ -133,10 +129,10 @@ unfoldable pub set : ChipData → (field v : ℕ) → MirrorData → MirrorData
 set c field v m =
     let f = field_of c field in
     let wish = λ (b : ℕ).
-      after_write f.shape.policy (bit (desired_of m f.shape.reg) (f.shape.lsb + b)) (bit v b) (is_spent m field) in
+    after_write f.shape.policy (bit (desired_of m f.shape.reg) (f.shape.lsb + b)) (bit v b) (is_spent m field) in
     record m {
       desired = slice_set m.desired f.shape.reg
-        (from_bits 64 (put_bit f.shape.lsb f.shape.width wish (bit (desired_of m f.shape.reg))))
+          (from_bits 64 (put_bit f.shape.lsb f.shape.width wish (bit (desired_of m f.shape.reg))));
     }
 
 -- ---- words to send
@@ -156,5 +152,5 @@ unfoldable pub neutral_around : ChipData → (field v : ℕ) → MirrorData → 
 neutral_around c field v m =
     let f = field_of c field in
     from_bits 64
-      (put_bit f.shape.lsb f.shape.width (bit v)
-        (bit (neutral_word (fields_of c f.shape.reg) (mirrored_of m f.shape.reg))))
+    (put_bit f.shape.lsb f.shape.width (bit v)
+    (bit (neutral_word (fields_of c f.shape.reg) (mirrored_of m f.shape.reg))))

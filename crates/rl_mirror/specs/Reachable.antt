@@ -20,7 +20,7 @@ IsReached c m n =
     let f = field_of c n in
     (b : ℕ) → covers f.shape b ≡ true
     → IsTrue (is_reached f.shape.policy
-        (bit (mirrored_of m f.shape.reg) b) (bit (desired_of m f.shape.reg) b) (is_spent m n))
+    (bit (mirrored_of m f.shape.reg) b) (bit (desired_of m f.shape.reg) b) (is_spent m n))
 
 -- An update reaches the desired value of each field. A field that each write sets or clears as a whole may wait at its
 -- mirrored value, which an update doesn't keep.

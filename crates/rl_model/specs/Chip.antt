@@ -1,11 +1,6 @@
 -- What a chip answers.
-use Rattle.std.specs.Prelude.{
-  ◌≡◌, ◌≢◌, ◌⊎◌, true, false, nat_le, IsSomeAnd, sum_by, ℕ, ◌+◌, ◌*◌, ◌^◌, ◌<◌, ◌≤◌, ◌==◌, nat_lt, ◌&&◌, Bool,
-  if◌then◌else◌
-}
-use Rattle.std.specs.Prelude.{
-  List, [], ◌∷◌, ◌++◌, length, take, slice_get, slice_index, Option, Some, None, option_map, unwrap_or, bytes_eq
-}
+use Rattle.std.specs.Prelude.{◌≡◌, ◌≢◌, ◌⊎◌, true, false, nat_le, IsSomeAnd, sum_by, ℕ, ◌+◌, ◌*◌, ◌^◌, ◌<◌, ◌≤◌, ◌==◌, nat_lt, ◌&&◌, Bool, if◌then◌else◌}
+use Rattle.std.specs.Prelude.{List, [], ◌∷◌, ◌++◌, length, take, slice_get, slice_index, Option, Some, None, option_map, unwrap_or, bytes_eq}
 use Rattle.rl_model.specs.declared.rows.Item.{Item}
 use Rattle.rl_model.specs.declared.rows.Item.TheVariants.{Reg, Mem}
 use Rattle.std.specs.List.{list_any}

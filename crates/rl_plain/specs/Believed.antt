@@ -33,7 +33,7 @@ pub record IsBelievedStep (s new : Scene) (op : Op) (event : Event) (place reg :
   pub same : IsSameChip s.model new.model
   pub here : mirrored_of new.model.mirror reg
       ≡ (register_after (fields_of s.model.chip reg) (step_of s.model op place)
-        (believed s.model.chip s.model.mirror reg)).bits
+      (believed s.model.chip s.model.mirror reg)).bits
   pub others : LeavesOthers s new reg
   pub ends : event.end ≡ end_of s.model op place (believed s.model.chip s.model.mirror reg)
   pub no_error : is_bus_error event.end ≡ false

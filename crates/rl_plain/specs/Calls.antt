@@ -1,7 +1,5 @@
 -- Each call on a device without flaws is the plain machine's.
-use Rattle.std.specs.Prelude.{
-  ◌≡◌, ℕ, ◌<◌, List, [], ◌∷◌, length, map, take, All, slice_index, Option, Some, Ok, Err, sum_by
-}
+use Rattle.std.specs.Prelude.{◌≡◌, ℕ, ◌<◌, List, [], ◌∷◌, length, map, take, All, slice_index, Option, Some, Ok, Err, sum_by}
 use Rattle.rl_bus.specs.Setup.{location}
 use Rattle.rl_bus.specs.State.{State, first_state}
 use Rattle.rl_model.specs.Rows.{ChipData}

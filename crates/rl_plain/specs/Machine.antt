@@ -1,8 +1,5 @@
 -- The plain machine: it steps whole registers, with no maps, words, enables, beats or adapters.
-use Rattle.std.specs.Prelude.{
-  ℕ, ◌+◌, ◌-◌, ◌==◌, Bool, true, false, not, ◌&&◌, if◌then◌else◌, List, [], length, map, get_or, replicate,
-  slice_set, Option, None, Some, Ok, Err
-}
+use Rattle.std.specs.Prelude.{ℕ, ◌+◌, ◌-◌, ◌==◌, Bool, true, false, not, ◌&&◌, if◌then◌else◌, List, [], length, map, get_or, replicate, slice_set, Option, None, Some, Ok, Err}
 use Rattle.std.specs.List.{range_with_len}
 use Rattle.rl_policy.specs.Bits.{bit, from_bits, put_bit}
 use Rattle.rl_policy.specs.Table.{after_write, is_write_only}

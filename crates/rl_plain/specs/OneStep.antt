@@ -79,7 +79,7 @@ end_of m (op.Mirror reg map) place r = end.Value (ranswer (fields_of m.chip reg)
 end_of m (op.Check reg map) place r = end.Value (ranswer (fields_of m.chip reg) every r)
 end_of m (op.FieldRead field map) place r =
     end.Value (part_of (field_of m.chip field).shape
-      (ranswer (fields_of m.chip (reg_of m.chip field)) (reached_fields m field place false) r))
+    (ranswer (fields_of m.chip (reg_of m.chip field)) (reached_fields m field place false) r))
 end_of m (op.Update reg map) place r =
     if needs_update m.mirror reg then end.Sent (update_word_of m.chip reg m.mirror)
     else end.Nothing

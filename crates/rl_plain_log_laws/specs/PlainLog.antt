@@ -1,8 +1,6 @@
 -- The log of the plain machine, which steps whole registers: it runs the lines of a session,
 -- and its events have no items.
-use Rattle.std.specs.Prelude.{
-  ◌≡◌, ℕ, ◌+◌, List, [], ◌∷◌, ◌++◌, length, map as each, Option, Some, option_map, Result, Ok, Err
-}
+use Rattle.std.specs.Prelude.{◌≡◌, ℕ, ◌+◌, List, [], ◌∷◌, ◌++◌, length, map as each, Option, Some, option_map, Result, Ok, Err}
 use Rattle.std.specs.Option.{ok_or}
 use Rattle.std.specs.Io.KnownBytes.{Appends}
 use Rattle.rl_bus.specs.declared.op.AdapterKind.{AdapterKind}
@@ -58,7 +56,7 @@ plain_entry c l done = record { text = events_text (told_in c l done); told = to
 abbrev pub plain_framed : Sequence → Option (List ℕ) → ChipData → LayoutData → Course → PlainEntry
 plain_framed which over c l done = record {
   text = joined (begin_text which over ∷ events_text (told_in c l done)
-    ∷ closed_text which over (counted_all no_tally (told_in c l done)) ∷ []);
+      ∷ closed_text which over (counted_all no_tally (told_in c l done)) ∷ []);
   told = told_in c l done;
   machine = done.machine;
 }
@@ -68,13 +66,13 @@ abbrev pub plain_entry_of : ChipData → LayoutData → Machine → Line → Opt
 plain_entry_of c l p line.Blank = Some (plain_entry c l (through c l p []))
 plain_entry_of c l p (line.BurstWrite mem first values map) = with_both (mem_named c mem) (map_asked l map)
     (λ i t. plain_entry c l (burst c l p (write_grant (seen c l p) i t first values)
-      (op.BurstWrite i t first (length values)) (writes_of i t first values)))
+    (op.BurstWrite i t first (length values)) (writes_of i t first values)))
 plain_entry_of c l p (line.BurstRead mem first count map) = with_both (mem_named c mem) (map_asked l map)
     (λ i t. plain_entry c l (burst c l p (grant (seen c l p) (op.BurstRead i t first count))
-      (op.BurstRead i t first count) (reads_of i t first count)))
+    (op.BurstRead i t first count) (reads_of i t first count)))
 plain_entry_of c l p (line.Seq which over) =
     option_map (λ block. plain_framed which over c l (along c l p (plan_of which (seen c l p) block)))
-      (block_asked c over)
+    (block_asked c over)
 plain_entry_of c l p line = option_map (λ op. plain_entry c l (through c l p (op ∷ []))) (op_named (seen c l p) line)
 
 abbrev pub plain_comes_of : ChipData → LayoutData → Machine → Result Line LineRefusal → Result PlainEntry LineRefusal
@@ -93,7 +91,7 @@ unfoldable pub plain_from : ChipData → LayoutData → (number : ℕ) → Count
 plain_from c l number counts p [] = end_text counts
 plain_from c l number counts p (line ∷ lines) =
     plain_goes_on number counts (plain_comes_of c l p (said number line))
-      (λ counts p. plain_from c l (number + 1) counts p lines)
+    (λ counts p. plain_from c l (number + 1) counts p lines)
 
 -- ---- a session
 

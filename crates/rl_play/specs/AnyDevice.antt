@@ -1,9 +1,6 @@
 -- What a script does over any device, one that tells its state or one that tells nothing:
 -- events, each of which performs its operation from where the one before ended.
-use Rattle.std.specs.Prelude.{
-  ◌≡◌, ◌⊎◌, ℕ, ◌+◌, List, [], ◌∷◌, ◌++◌, true, false, Option, Some, None, IfSome, Result, Ok,
-  Err, OnOk, OnErr, IfOk, MatchResult
-}
+use Rattle.std.specs.Prelude.{◌≡◌, ◌⊎◌, ℕ, ◌+◌, List, [], ◌∷◌, ◌++◌, true, false, Option, Some, None, IfSome, Result, Ok, Err, OnOk, OnErr, IfOk, MatchResult}
 use Rattle.std.specs.Io.KnownBytes.{Appends}
 use Rattle.rl_access.specs.declared.event.Tally.{Tally}
 use Rattle.rl_access.specs.Call.{Scene, scene_of}

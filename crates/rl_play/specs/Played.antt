@@ -1,7 +1,5 @@
 -- What was written and done of a line, and of a script, against what they come to.
-use Rattle.std.specs.Prelude.{
-  ◌≡◌, ℕ, ◌+◌, ◌≤◌, List, [], ◌∷◌, ◌++◌, true, false, Option, Some, None, IfSome, Result, Ok, Err, Bool
-}
+use Rattle.std.specs.Prelude.{◌≡◌, ℕ, ◌+◌, ◌≤◌, List, [], ◌∷◌, ◌++◌, true, false, Option, Some, None, IfSome, Result, Ok, Err, Bool}
 use Rattle.std.specs.Io.KnownBytes.{Appends, Keeps}
 use Rattle.rl_access.specs.Model.{ModelData}
 use Rattle.rl_bus.specs.Standing.{Standing}
@@ -121,7 +119,7 @@ Ends number before input after status = IfSome (to_come number before input) (λ
 abbrev pub PlaysScript : (before : Moment) → (input : Option (List ℕ)) → (after : Moment) → Status → Type 0
 PlaysScript before input after status =
     IfSome (coming 1 no_counts before.model before.adapters before.device input) (λ e.
-      IsWrittenOut e status before.text after.text before.counts after.counts after.model after.adapters after.device)
+    IsWrittenOut e status before.text after.text before.counts after.counts after.model after.adapters after.device)
 
 -- ---- a script whose source failed
 

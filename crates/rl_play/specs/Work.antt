@@ -38,7 +38,7 @@ single op = planned (step op stop)
 abbrev pub burst_write_work : ModelData → (mem : ℕ) → (map : Option ℕ) → (first : ℕ) → (values : List ℕ) → Work
 burst_write_work m mem map first values =
     burst (write_grant m mem map first values) (op.BurstWrite mem map first (length values))
-      (writes_of mem map first values)
+    (writes_of mem map first values)
 
 -- so many consecutive locations
 abbrev pub burst_read_work : ModelData → (mem : ℕ) → (map : Option ℕ) → (first count : ℕ) → Work

@@ -1,10 +1,7 @@
 -- The names of the policies.
 use Rattle.std.specs.Prelude.{ℕ, List, codes}
 use Rattle.rl_policy.specs.declared.policy.Policy.{Policy}
-use Rattle.rl_policy.specs.declared.policy.Policy.TheVariants.{
-  Ro, Rw, Rc, Rs, Wrc, Wrs, Wc, Ws, Wsrc, Wcrs, W1c, W1s, W1t, W0c, W0s, W0t, W1src, W1crs, W0src, W0crs, Wo, Woc, Wos,
-  W1, Wo1
-}
+use Rattle.rl_policy.specs.declared.policy.Policy.TheVariants.{Ro, Rw, Rc, Rs, Wrc, Wrs, Wc, Ws, Wsrc, Wcrs, W1c, W1s, W1t, W0c, W0s, W0t, W1src, W1crs, W0src, W0crs, Wo, Woc, Wos, W1, Wo1}
 
 -- The bytes of the policy's name, in capitals (uvm_reg_field, IEEE 1800.2-2017, 18.5).
 abbrev pub name_of : Policy → List ℕ

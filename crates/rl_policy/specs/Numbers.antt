@@ -1,8 +1,5 @@
 -- Numbers as text.
-use Rattle.std.specs.Prelude.{
-  ℕ, ◌-◌, ◌^◌, ◌/◌, ◌%◌, ◌==◌, Bool, ◌&&◌, ◌||◌, if◌then◌else◌, List, [], ◌∷◌, length, drop, map, nat_lt, slice_index,
-  Option, Some, None
-}
+use Rattle.std.specs.Prelude.{ℕ, ◌-◌, ◌^◌, ◌/◌, ◌%◌, ◌==◌, Bool, ◌&&◌, ◌||◌, if◌then◌else◌, List, [], ◌∷◌, length, drop, map, nat_lt, slice_index, Option, Some, None}
 use Rattle.std.specs.List.{list_all}
 use Rattle.std.specs.Char.{digit_char, is_digit}
 use Rattle.std.specs.Int.Digits.{digits_of}

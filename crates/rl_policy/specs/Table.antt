@@ -2,10 +2,7 @@
 -- and m the mirrored one, and s the spent mark.
 use Rattle.std.specs.Prelude.{Bool, true, false, not, ◌&&◌, ◌||◌, if◌then◌else◌}
 use Rattle.rl_policy.specs.declared.policy.Policy.{Policy}
-use Rattle.rl_policy.specs.declared.policy.Policy.TheVariants.{
-  Ro, Rw, Rc, Rs, Wrc, Wrs, Wc, Ws, Wsrc, Wcrs, W1c, W1s, W1t, W0c, W0s, W0t, W1src, W1crs, W0src, W0crs, Wo, Woc, Wos,
-  W1, Wo1
-}
+use Rattle.rl_policy.specs.declared.policy.Policy.TheVariants.{Ro, Rw, Rc, Rs, Wrc, Wrs, Wc, Ws, Wsrc, Wcrs, W1c, W1s, W1t, W0c, W0s, W0t, W1src, W1crs, W0src, W0crs, Wo, Woc, Wos, W1, Wo1}
 
 -- one of two, and not both
 abbrev pub either_alone : Bool → Bool → Bool

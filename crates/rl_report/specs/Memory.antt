@@ -1,7 +1,5 @@
 -- A source and a sink in memory.
-use Rattle.std.specs.Prelude.{
-  ℕ, ◌+◌, ◌-◌, ◌^◌, ◌==◌, ◌||◌, min, List, ◌++◌, length, take, drop, Bool, if◌then◌else◌, Result, Ok, Err
-}
+use Rattle.std.specs.Prelude.{ℕ, ◌+◌, ◌-◌, ◌^◌, ◌==◌, ◌||◌, min, List, ◌++◌, length, take, drop, Bool, if◌then◌else◌, Result, Ok, Err}
 use Rattle.std.specs.List.{list_any}
 use Rattle.rl_bus.specs.declared.device.Failed.{Failed}
 

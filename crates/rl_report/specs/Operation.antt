@@ -1,8 +1,5 @@
 -- The text of an operation: the canonical spelling of the line of a script that asks for it.
-use Rattle.std.specs.Prelude.{
-  ◌≡◌, ℕ, ◌^◌, ◌<◌, List, [], ◌∷◌, codes, decimal, map, take, slice_get, length, unwrap_or, Bool, true, false,
-  IfSome, Option, Some, None, option_map
-}
+use Rattle.std.specs.Prelude.{◌≡◌, ℕ, ◌^◌, ◌<◌, List, [], ◌∷◌, codes, decimal, map, take, slice_get, length, unwrap_or, Bool, true, false, IfSome, Option, Some, None, option_map}
 use Rattle.rl_model.specs.declared.rows.Item.TheVariants as item
 use Rattle.rl_model.specs.Rows.{ChipData}
 use Rattle.rl_model.specs.Chip.{path_of_item, field_path}

@@ -1,7 +1,5 @@
 -- The text of what came of an operation: how it ended, what the register holds afterwards, and which fields differ.
-use Rattle.std.specs.Prelude.{
-  ℕ, ◌*◌, ◌==◌, List, [], ◌∷◌, codes, decimal, flat_map, Bool, true, false, not, ◌&&◌, if◌then◌else◌, Option, Some, None
-}
+use Rattle.std.specs.Prelude.{ℕ, ◌*◌, ◌==◌, List, [], ◌∷◌, codes, decimal, flat_map, Bool, true, false, not, ◌&&◌, if◌then◌else◌, Option, Some, None}
 use Rattle.std.specs.List.{range_with_len}
 use Rattle.rl_policy.specs.Bits.{bit}
 use Rattle.rl_model.specs.declared.rows.Item.{Item}
@@ -14,9 +12,7 @@ use Rattle.rl_access.specs.declared.event.End.TheVariants as end
 use Rattle.rl_access.specs.declared.event.Op.{Op}
 use Rattle.rl_access.specs.declared.event.Op.TheVariants as op
 use Rattle.rl_access.specs.declared.event.Refused.{Refused}
-use Rattle.rl_access.specs.declared.event.Refused.TheVariants.{
-  NotPlaced, NotObserved, NoRight, NoBackdoor, NotVolatile, NotWritable, OutOfRange, TooWide
-}
+use Rattle.rl_access.specs.declared.event.Refused.TheVariants.{NotPlaced, NotObserved, NoRight, NoBackdoor, NotVolatile, NotWritable, OutOfRange, TooWide}
 use Rattle.rl_access.specs.Operation.{register_of, digits_of, location_size}
 use Rattle.rl_report.specs.Numbers.{padded}
 use Rattle.rl_report.specs.Pieces.{joined}

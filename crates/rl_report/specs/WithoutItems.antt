@@ -1,7 +1,5 @@
 -- A text without the lines that begin with two spaces, as those of bus items do.
-use Rattle.std.specs.Prelude.{
-  ◌≡◌, ℕ, ◌==◌, Bool, true, false, not, if◌then◌else◌, List, [], ◌∷◌, length, take, filter, codes, bytes_eq, All, None
-}
+use Rattle.std.specs.Prelude.{◌≡◌, ℕ, ◌==◌, Bool, true, false, not, if◌then◌else◌, List, [], ◌∷◌, length, take, filter, codes, bytes_eq, All, None}
 use Rattle.std.specs.List.{concat}
 use Rattle.rl_model.specs.Rules.{is_name}
 use Rattle.rl_model.specs.Data.{PartsData}

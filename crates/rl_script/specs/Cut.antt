@@ -1,7 +1,5 @@
 -- The operands of a command on an item, each read from its word once the words are cut.
-use Rattle.std.specs.Prelude.{
-  ℕ, Bool, true, false, ◌&&◌, nat_le, if◌then◌else◌, List, [], ◌∷◌, drop, Option, Some, None, Result, Ok, Err
-}
+use Rattle.std.specs.Prelude.{ℕ, Bool, true, false, ◌&&◌, nat_le, if◌then◌else◌, List, [], ◌∷◌, drop, Option, Some, None, Result, Ok, Err}
 use Rattle.rl_policy.specs.Numbers.{number_of}
 use Rattle.rl_script.specs.declared.fault.LineFault.{LineFault}
 use Rattle.rl_script.specs.declared.fault.LineFault.TheVariants.{WrongCount, CountOutOfRange}

@@ -12,10 +12,7 @@ use Rattle.rl_access.specs.declared.event.Op.TheVariants as op
 use Rattle.rl_access.specs.Rules.{memory_size}
 use Rattle.rl_seq.specs.declared.sequence.Sequence.{Sequence}
 use Rattle.rl_seq.specs.declared.sequence.Sequence.TheVariants.{HwReset, BitBash, Access, Shared, MemWalk}
-use Rattle.rl_seq.specs.Choice.{
-  is_reg_tested, is_accessed, is_shared, is_walked, is_of, may_read, may_write, is_bit_compared,
-  low_bits, turned_round, exclusion_from
-}
+use Rattle.rl_seq.specs.Choice.{is_reg_tested, is_accessed, is_shared, is_walked, is_of, may_read, may_write, is_bit_compared, low_bits, turned_round, exclusion_from}
 use Rattle.rl_seq.specs.Plan.{Plan, stop, step, look, followed_by, only_if, each_below}
 
 abbrev pub map_at : LayoutData → ℕ → ℕ

@@ -1,8 +1,5 @@
 -- A sequence at a place, as the walk goes about it: turn by turn, and part by part. A part is one operation, or none.
-use Rattle.std.specs.Prelude.{
-  ◌≡◌, ℕ, zero, suc, ◌+◌, ◌*◌, ◌^◌, ◌<◌, ◌==◌, ◌%◌, bit_xor, not, ◌&&◌, if◌then◌else◌,
-  length, true, Bool, Option, None, Some
-}
+use Rattle.std.specs.Prelude.{◌≡◌, ℕ, zero, suc, ◌+◌, ◌*◌, ◌^◌, ◌<◌, ◌==◌, ◌%◌, bit_xor, not, ◌&&◌, if◌then◌else◌, length, true, Bool, Option, None, Some}
 use Rattle.rl_map.specs.Layout.{LayoutData}
 use Rattle.rl_model.specs.Fields.{size_of}
 use Rattle.rl_model.specs.Rows.{ChipData}
@@ -85,7 +82,7 @@ abbrev pub share_part : ChipData → LayoutData → (reg place value turn : ℕ)
 share_part c l reg place value zero = Some (op.Write reg (Some (map_at l place)) (turned_round c (Reg reg) value))
 share_part c l reg place value (suc other) =
     some_if (not (other == place) && (is_of l other (Reg reg) && may_read l other))
-      (op.Check reg (Some (map_at l other)))
+    (op.Check reg (Some (map_at l other)))
 
 -- of the location before, if there is one
 abbrev pub of_before : (ℕ → Op) → ℕ → Option Op

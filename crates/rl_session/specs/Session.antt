@@ -1,7 +1,5 @@
 -- How a session opens: the bytes before its separator, and what they describe.
-use Rattle.std.specs.Prelude.{
-  ℕ, nat_lt, if◌then◌else◌, List, [], length, drop, Option, Some, None, Result, Ok, Err, take, codes, nat_le
-}
+use Rattle.std.specs.Prelude.{ℕ, nat_lt, if◌then◌else◌, List, [], length, drop, Option, Some, None, Result, Ok, Err, take, codes, nat_le}
 use Rattle.rl_desc.specs.Data.{DescData}
 use Rattle.rl_report.specs.Lines.{lines_of, after_line}
 use Rattle.rl_report.specs.Opening.{separator_at}

@@ -1,15 +1,10 @@
 -- The session that is made from a number, and the line that is written of it.
-use Rattle.std.specs.Prelude.{
-  ℕ, zero, suc, ◌+◌, ◌*◌, ◌/◌, ◌%◌, ◌^◌, ◌==◌, if◌then◌else◌, List, [], ◌∷◌, ◌++◌, codes, decimal, slice_index_or
-}
+use Rattle.std.specs.Prelude.{ℕ, zero, suc, ◌+◌, ◌*◌, ◌/◌, ◌%◌, ◌^◌, ◌==◌, if◌then◌else◌, List, [], ◌∷◌, ◌++◌, codes, decimal, slice_index_or}
 use Rattle.io.specs.Digits.{last_digits}
 use Rattle.rl_policy.specs.Numbers.{hex_digits}
 use Rattle.rl_policy.specs.Names.{name_of}
 use Rattle.rl_policy.specs.declared.policy.Policy.{Policy}
-use Rattle.rl_policy.specs.declared.policy.Policy.TheVariants.{
-  Ro, Rw, Rc, Rs, Wrc, Wrs, Wc, Ws, Wsrc, Wcrs, W1c, W1s, W1t, W0c, W0s, W0t, W1src, W1crs,
-  W0src, W0crs, Wo, Woc, Wos, W1, Wo1
-}
+use Rattle.rl_policy.specs.declared.policy.Policy.TheVariants.{Ro, Rw, Rc, Rs, Wrc, Wrs, Wc, Ws, Wsrc, Wcrs, W1c, W1s, W1t, W0c, W0s, W0t, W1src, W1crs, W0src, W0crs, Wo, Woc, Wos, W1, Wo1}
 use Rattle.rl_report.specs.Pieces.{joined}
 use Rattle.rl_log.specs.declared.counts.Counts.{Counts}
 use Rattle.rl_session.specs.declared.soak.Rows.{Rows}

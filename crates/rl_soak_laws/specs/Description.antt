@@ -1,7 +1,5 @@
 -- What the description of the session that is made from a number is: a table, and what its rows say.
-use Rattle.std.specs.Prelude.{
-  ◌≡◌, ℕ, zero, suc, ◌+◌, ◌*◌, pos, true, false, List, [], ◌∷◌, map as each, codes, Some, None
-}
+use Rattle.std.specs.Prelude.{◌≡◌, ℕ, zero, suc, ◌+◌, ◌*◌, pos, true, false, List, [], ◌∷◌, map as each, codes, Some, None}
 use Rattle.std.specs.List.{range_with_len}
 use Rattle.toml.specs.Data.{Data, string, integer, array, table, Items, no_items, item, Members, no_members, member}
 use Rattle.rl_policy.specs.Names.{name_of}

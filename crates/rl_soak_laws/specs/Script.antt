@@ -1,7 +1,5 @@
 -- What the script of the session that is made from a number reads as.
-use Rattle.std.specs.Prelude.{
-  ◌≡◌, ℕ, zero, suc, ◌+◌, List, [], ◌∷◌, ◌++◌, map as each, codes, decimal, slice_index_or, None, Ok
-}
+use Rattle.std.specs.Prelude.{◌≡◌, ℕ, zero, suc, ◌+◌, List, [], ◌∷◌, ◌++◌, map as each, codes, decimal, slice_index_or, None, Ok}
 use Rattle.rl_script.specs.declared.line.Line.{Line}
 use Rattle.rl_script.specs.declared.line.Line.TheVariants as line
 use Rattle.rl_script.specs.declared.line.Sequence.TheVariants.{BitBash}

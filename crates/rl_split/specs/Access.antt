@@ -1,7 +1,5 @@
 -- The operations of an access, and the value that their answers bring.
-use Rattle.std.specs.Prelude.{
-  ℕ, ◌-◌, ◌^◌, ◌<◌, Bool, false, not, ◌&&◌, ◌||◌, ◌==◌, if◌then◌else◌, List, [], ◌∷◌, map, filter, slice_index
-}
+use Rattle.std.specs.Prelude.{ℕ, ◌-◌, ◌^◌, ◌<◌, Bool, false, not, ◌&&◌, ◌||◌, ◌==◌, if◌then◌else◌, List, [], ◌∷◌, map, filter, slice_index}
 use Rattle.rl_policy.specs.Bits.{bit, from_bits}
 use Rattle.rl_bus.specs.declared.op.AdapterKind.{AdapterKind}
 use Rattle.rl_bus.specs.declared.op.BusOp.{BusOp}

@@ -1,7 +1,5 @@
 -- The law of split accesses: the items of an access to a register, one after another, are one step of the register.
-use Rattle.std.specs.Prelude.{
-  ◌≡◌, ℕ, ◌-◌, ◌^◌, ◌<◌, Bool, true, false, List, [], length, map, All, slice_index, slice_set, Option, Some, None
-}
+use Rattle.std.specs.Prelude.{◌≡◌, ℕ, ◌-◌, ◌^◌, ◌<◌, Bool, true, false, List, [], length, map, All, slice_index, slice_set, Option, Some, None}
 use Rattle.rl_policy.specs.Bits.{bit, from_bits}
 use Rattle.rl_model.specs.declared.rows.Item.TheVariants.{Reg, Mem}
 use Rattle.rl_model.specs.Rows.{FieldSeen, ChipData}
@@ -115,7 +113,7 @@ NarrowWriteIsStep =
     → let reg = (field_at c field).reg in
     IsPlaceOf c l place reg true → IsReady c l s → Holds c s reg r
     → IsWrite c l s place reg (only (field - first_of c reg)) value r
-        (ops_of l place 0 (bytes_of_field (field_at c field)) value true)
+    (ops_of l place 0 (bytes_of_field (field_at c field)) value true)
 
 abbrev pub NarrowReadIsStep : Type 0
 NarrowReadIsStep =
@@ -125,7 +123,7 @@ NarrowReadIsStep =
     let chosen = bytes_of_field (field_at c field) in
     IsPlaceOf c l place reg false → IsReady c l s → Holds c s reg r
     → IsRead c l s place reg (only (field - first_of c reg)) r (ops_of l place 0 chosen 0 false)
-        (joined l place 0 chosen)
+    (joined l place 0 chosen)
 
 -- ---- memories: an access to all bytes of a location stores or brings its value
 
@@ -148,9 +146,9 @@ pub record IsStore (c : ChipData) (l : LayoutData) (s : State) (place mem index 
   pub answers : answers_of s (row_at l place).port ops ≡ map written_answer ops
   pub state : state_after_all s (row_at l place).port ops
       ≡ record s {
-          locations = slice_set s.locations (location s.setup mem index) value;
-          items = counted_on (length ops) s.items
-        }
+        locations = slice_set s.locations (location s.setup mem index) value;
+        items = counted_on (length ops) s.items;
+      }
   pub ready : IsReady c l (state_after_all s (row_at l place).port ops)
 
 -- no item failed, the answers bring the location's value, and the device stays

@@ -34,7 +34,7 @@ abbrev pub has_neighbour : ChipData → ℕ → Bool
 has_neighbour c field =
     let reg = (field_at c field).reg in
     list_any (λ n. not (n == field) && share_byte (field_at c n) (field_at c field))
-      (range_with_len (first_of c reg) (count_of c reg))
+    (range_with_len (first_of c reg) (count_of c reg))
 
 -- An individually accessible field is accessed alone (uvm_reg_field::write and read, IEEE 1800.2-2017, 18.5). The
 -- conditions are this project's own: it is marked alone and has no neighbour in its bytes; prediction is implicit; no

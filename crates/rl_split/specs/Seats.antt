@@ -38,7 +38,7 @@ pub record IsCarried (l : LayoutData) (place index chosen value : ℕ) (write : 
   pub lane : bit (op_at l place index chosen value write byte).lanes (seat_at l place index byte).lane ≡ true
   pub bits : (i : ℕ) → i < 8
       → bit (op_at l place index chosen value write byte).word (8 * (seat_at l place index byte).lane + i)
-        ≡ (write && bit value (8 * byte + i))
+      ≡ (write && bit value (8 * byte + i))
 
 -- so it is with each chosen byte
 abbrev pub OperationsAreBySeats : Type 0

@@ -44,7 +44,7 @@ wstep fields chosen word r = record {
 -- A read of the chosen fields, each by its policy (uvm_reg_field, IEEE 1800.2-2017, 18.5).
 unfoldable pub rstep : List FieldSeen → (chosen : ℕ → Bool) → Register → Register
 rstep fields chosen r = record r {
-  bits = from_bits 64 (λ b. left_bit fields chosen (place_at fields b) (bit r.bits b))
+  bits = from_bits 64 (λ b. left_bit fields chosen (place_at fields b) (bit r.bits b));
 }
 
 -- What a read of the chosen fields answers.

@@ -83,7 +83,7 @@ OthersStayUnderWay =
     → IsPlaceOf c l other its_reg its_write → (its_reg ≡ reg → ⊥)
     → IsUnderWay l before s other its_reg its_value its_write j
     → IsUnderWay l before (state_after s (row_at l place).port (whole_op l place value write k))
-        other its_reg its_value its_write j
+    other its_reg its_value its_write j
 
 -- once all words were sent, the register took one step, and the beats at its addresses are 0
 pub record IsOver (c : ChipData) (l : LayoutData) (s : State) (place reg : ℕ) (r : Register) : Type 0 where

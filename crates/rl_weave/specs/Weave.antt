@@ -1,11 +1,6 @@
 -- A weave as data: what is added to it, and what a step leaves of it.
-use Rattle.std.specs.Prelude.{
-  ◌≡◌, ℕ, ◌+◌, ◌-◌, ◌^◌, ◌<◌, ◌≤◌, ◌==◌, ◌||◌, nat_lt, not, Bool, true, false, if◌then◌else◌, List
-}
-use Rattle.std.specs.Prelude.{
-  [], ◌∷◌, ◌++◌, length, slice_set, filter, position, All, AllPairs, Option, None, Some,
-  unwrap_or, Result, Ok, Err, sum_by
-}
+use Rattle.std.specs.Prelude.{◌≡◌, ℕ, ◌+◌, ◌-◌, ◌^◌, ◌<◌, ◌≤◌, ◌==◌, ◌||◌, nat_lt, not, Bool, true, false, if◌then◌else◌, List}
+use Rattle.std.specs.Prelude.{[], ◌∷◌, ◌++◌, length, slice_set, filter, position, All, AllPairs, Option, None, Some, unwrap_or, Result, Ok, Err, sum_by}
 use Rattle.rl_model.specs.declared.rows.Item.TheVariants.{Reg}
 use Rattle.rl_map.specs.Layout.{place_of, words_of}
 use Rattle.rl_access.specs.declared.event.Refused.{Refused}
@@ -15,9 +10,7 @@ use Rattle.rl_access.specs.Model.{ModelData}
 use Rattle.rl_access.specs.Rules.{Grant, grant, item_size}
 use Rattle.rl_weave.specs.declared.access.Access.{Access}
 use Rattle.rl_weave.specs.declared.access.WeaveFault.{WeaveFault}
-use Rattle.rl_weave.specs.declared.access.WeaveFault.TheVariants.{
-  TooMany, NotPlaced, NotObserved, NoRight, TooWide, SameRegister
-}
+use Rattle.rl_weave.specs.declared.access.WeaveFault.TheVariants.{TooMany, NotPlaced, NotObserved, NoRight, TooWide, SameRegister}
 use Rattle.rl_weave.specs.declared.woven.Woven.{Woven}
 use Rattle.rl_weave.specs.Access.{op_of, woven_at, IsWovenOn}
 

@@ -1,8 +1,5 @@
 -- A weave that is half done, on a device without flaws, beside the plain machine.
-use Rattle.std.specs.Prelude.{
-  ◌≡◌, ℕ, ◌<◌, Bool, true, false, if◌then◌else◌, List, [], ◌∷◌, length, map, take, Option, None, Some,
-  Ok, is_some, unwrap_or, IfSome, Contains
-}
+use Rattle.std.specs.Prelude.{◌≡◌, ℕ, ◌<◌, Bool, true, false, if◌then◌else◌, List, [], ◌∷◌, length, map, take, Option, None, Some, Ok, is_some, unwrap_or, IfSome, Contains}
 use Rattle.rl_bus.specs.State.{State}
 use Rattle.rl_model.specs.Fields.{fields_of}
 use Rattle.rl_model.specs.Rows.{ChipData}
@@ -137,13 +134,13 @@ pub record IsHalfAfter (begun : State) (p : Machine) (s new : Scene) (w : WeaveD
   pub own : IsAlike s.model.chip (woven_at w.accesses which).access.reg
       (register_after_word s.model.chip p (woven_at w.accesses which) step.item)
       (register_at s.model.chip (machine_after_word s.model p (woven_at w.accesses which) step.item)
-        (woven_at w.accesses which).access.reg)
+      (woven_at w.accesses which).access.reg)
   pub others : (reg : ℕ) → reg < length s.model.chip.regs → (reg ≡ (woven_at w.accesses which).access.reg → ⊥)
       → IsAlike s.model.chip reg (register_at s.model.chip p reg)
-        (register_at s.model.chip (machine_after_word s.model p (woven_at w.accesses which) step.item) reg)
+      (register_at s.model.chip (machine_after_word s.model p (woven_at w.accesses which) step.item) reg)
   pub answers : IfSome step.end (λ e. e.end
       ≡ answered s.model.chip (woven_at w.accesses which).access.reg (woven_at w.accesses which).access.value
-        (register_at s.model.chip p (woven_at w.accesses which).access.reg))
+      (register_at s.model.chip p (woven_at w.accesses which).access.reg))
 
 abbrev pub StepKeepsHalf : Type 0
 StepKeepsHalf =

@@ -90,7 +90,7 @@ TellSteps c p w (t ∷ turns) =
 pub record IsOnceEach (c : ChipData) (p q : Machine) (w left : WeaveData) (turns : List Turn) : Type 0 where
   pub taken : (i : ℕ) → IsOpen w i → ¬ IsOpen left i → let a = (woven_at w.accesses i).access in
       IsAlike c a.reg (register_after (fields_of c a.reg) (step_of a.value) (register_at c p a.reg))
-        (register_at c q a.reg)
+      (register_at c q a.reg)
   pub others : (reg : ℕ) → reg < length c.regs → NoneOpen w (λ v. v.access.reg ≡ reg)
       → IsAlike c reg (register_at c p reg) (register_at c q reg)
   pub tells : TellSteps c p w turns

@@ -48,8 +48,8 @@ unfoldable pub plain_groups : ChipData → LayoutData → (number : ℕ) → Wea
 plain_groups c l number g p held [] = held ∷ []
 plain_groups c l number g p held (line ∷ lines) =
     groups_on (comes_of g (said number line)) (says_blank (said number line))
-      (plain_comes_of c l p (said number line)) p held
-      (λ g p held. plain_groups c l (number + 1) g p held lines)
+    (plain_comes_of c l p (said number line)) p held
+    (λ g p held. plain_groups c l (number + 1) g p held lines)
 
 -- ---- what is written
 

@@ -1,8 +1,6 @@
 -- The words that the contracts of this crate use, passed on from one place. Declares nothing.
 pub use Rattle.rl_access.specs.Event.{EventFits, ItemFits}
-pub use Rattle.rl_play.specs.Prelude.{
-  IsReady, IsSameChip, IsCounted, Tells, said_by, heard, stop_of, NotByCounts, Leaves, LeavesLines, moment_of
-}
+pub use Rattle.rl_play.specs.Prelude.{IsReady, IsSameChip, IsCounted, Tells, said_by, heard, stop_of, NotByCounts, Leaves, LeavesLines, moment_of}
 pub use Rattle.rl_play.specs.Prelude.{SinkStays, input_of, read_of, line_said}
 pub use Rattle.rl_report.specs.Item.{item_line}
 pub use Rattle.rl_report.specs.Pieces.{PutsText}

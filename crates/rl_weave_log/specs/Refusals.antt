@@ -3,9 +3,7 @@ use Rattle.std.specs.Prelude.{ℕ, List, codes}
 use Rattle.rl_log.specs.Texts.{refused_text}
 use Rattle.rl_play.specs.Texts.{refused_so_text}
 use Rattle.rl_weave.specs.declared.access.WeaveFault.{WeaveFault}
-use Rattle.rl_weave.specs.declared.access.WeaveFault.TheVariants.{
-  TooMany, NotPlaced, NotObserved, NoRight, TooWide, SameRegister
-}
+use Rattle.rl_weave.specs.declared.access.WeaveFault.TheVariants.{TooMany, NotPlaced, NotObserved, NoRight, TooWide, SameRegister}
 use Rattle.rl_weave_log.specs.declared.refusal.WovenRefusal.{WovenRefusal}
 use Rattle.rl_weave_log.specs.declared.refusal.WovenRefusal.TheVariants.{Line, NotWoven, Access}
 

@@ -1,8 +1,5 @@
 -- The log of a woven script: what it writes, how it ends, and what stands afterwards.
-use Rattle.std.specs.Prelude.{
-  ℕ, zero, suc, ◌+◌, ◌==◌, if◌then◌else◌, Bool, true, false, List, [], ◌∷◌, ◌++◌, length, get_or,
-  Option, Some, None, Result, Ok, Err
-}
+use Rattle.std.specs.Prelude.{ℕ, zero, suc, ◌+◌, ◌==◌, if◌then◌else◌, Bool, true, false, List, [], ◌∷◌, ◌++◌, length, get_or, Option, Some, None, Result, Ok, Err}
 use Rattle.rl_bus.specs.declared.op.BusOp.{BusOp}
 use Rattle.rl_bus.specs.Standing.{standing_at, moved_on}
 use Rattle.rl_bus.specs.State.{state_after, answer_of}
