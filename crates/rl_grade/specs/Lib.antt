@@ -1,9 +1,11 @@
 pub mod Adapters
 pub mod Drive
 pub mod Find
+pub mod First
 pub mod Flaws
 pub mod Heard
 pub mod Job
+pub mod Parts
 pub mod Place
 pub mod Prelude
 pub mod Reading

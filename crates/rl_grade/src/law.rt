@@ -1,5 +1,7 @@
-//! What holds of the lists of single flaws, and of a script and its tasks. Each function does nothing; its contract is
-//! the law.
+//! What holds of the lists of single flaws, of shares and finds, and of a script and its tasks. Each function does
+//! nothing; its contract is the law.
+ghost use Rattle.rl_grade.specs.First.{FindIsFirst};
+ghost use Rattle.rl_grade.specs.Parts.{EachIsInOne, PlacesAddUp, ShareIsByNumber, WholeHasAll};
 ghost use Rattle.rl_grade.specs.Run.{HeardAreEvents, RunDoesTasks, RunStopsThere};
 ghost use Rattle.rl_grade.specs.Single.{NoneIsLeftOut, NoneIsMadeUp, NoneStandsTwice, PlacesAreApart};
 
@@ -23,6 +25,21 @@ pub fn none_stands_twice()
 /// No flaw stands in the lists of two places.
 pub fn places_are_apart()
     ensures { PlacesAreApart }
+{}
+
+/// The only share of one has every flaw, and of several shares exactly one has each flaw. A share has those flaws of a
+/// list whose number it takes, whether they are gone over at once or place by place.
+pub fn shares_have_each_flaw_once()
+    ensures whole { WholeHasAll }
+    ensures one { EachIsInOne }
+    ensures by_number { ShareIsByNumber }
+    ensures places { PlacesAddUp }
+{}
+
+/// A flaw is found exactly where some event shows more with it than the one of its number without it: names another
+/// field, or ends by a bus error where that one doesn't. The answer is the first such event.
+pub fn a_find_is_the_first_event_that_shows_more()
+    ensures { FindIsFirst }
 {}
 
 /// The tasks that `read_script` reads are what a run of the script does: from each first state whose model has the same
