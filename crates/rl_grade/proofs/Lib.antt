@@ -11,5 +11,12 @@ pub mod Made
 mod Parts
 mod Pushed
 mod Reading
+mod HiddenBits
+mod HiddenFields
+mod HiddenFlaws
+mod HiddenOnes
+mod Related
+mod RelatedSteps
+mod ResetRows
 mod Running
 mod Started

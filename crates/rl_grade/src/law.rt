@@ -1,6 +1,7 @@
 //! What holds of the lists of single flaws, of shares and finds, and of a script and its tasks. Each function does
 //! nothing; its contract is the law.
 ghost use Rattle.rl_grade.specs.First.{FindIsFirst};
+ghost use Rattle.rl_grade.specs.Alike.{HiddenChangesNoEvent, HiddenIsNotFound};
 ghost use Rattle.rl_grade.specs.Parts.{EachIsInOne, PlacesAddUp, ShareIsByNumber, WholeHasAll};
 ghost use Rattle.rl_grade.specs.Run.{HeardAreEvents, RunDoesTasks, RunStopsThere};
 ghost use Rattle.rl_grade.specs.Single.{NoneIsLeftOut, NoneIsMadeUp, NoneStandsTwice, PlacesAreApart};
@@ -57,4 +58,11 @@ pub fn a_run_stops_at_the_refused_line()
 /// The events of the lines are those of the judged log.
 pub fn what_is_heard_are_the_events()
     ensures { HeardAreEvents }
+{}
+
+/// A flaw that `is_hidden` names changes nothing that a script does: from the first state on, each event, each bus item
+/// and what is believed after it are those of the device without the flaw. So no script finds it.
+pub fn a_hidden_flaw_changes_no_event()
+    ensures events { HiddenChangesNoEvent }
+    ensures found { HiddenIsNotFound }
 {}

@@ -5,6 +5,7 @@
 //! a run with one flaw, begun afresh, then goes up to the first event that shows more. No text is made.
 #![tactic(auto)]
 
+mod bits;
 mod drive;
 mod flaws;
 mod fresh;
