@@ -144,9 +144,10 @@ alike_heard w own other volatile h =
       written = λ so heard v l x m y n k.
           let tests = and_parts (is_same (spends_mark own) (spends_mark other)) _ (needed w.written _ parts.0 so) in
           let effect : after_write own x v m ≡ after_write other x v m = effect_same own (after_write other) tests.1 x v m in
-          let spends : spends_mark own ≡ spends_mark other = same_is _ _ tests.0 in
-          (by_lane l _ _ y x (ap (λ b. after_write other b v n) k.0 ∙ ap (after_write other x v) k.1 ∙ sym effect) k.0,
-          ap (λ b. b || (l && spends_mark other)) k.1 ∙ ap (λ b. m || (l && b)) (sym spends));
+          let spends : spends_mark own ≡ spends_mark other = same_is _ _ tests.0 in (
+            by_lane l _ _ y x (ap (λ b. after_write other b v n) k.0 ∙ ap (after_write other x v) k.1 ∙ sym effect) k.0,
+            ap (λ b. b || (l && spends_mark other)) k.1 ∙ ap (λ b. m || (l && b)) (sym spends),
+          );
       unheard = λ so is. absurd cc;
       put = λ so v x m y n k. (refl, k.1);
       keep = λ x m y n k. k;
@@ -214,9 +215,10 @@ fixed_closes v w own other stuck deaf volatile h =
           (at_value l v _ x (read_to v own reads.0 x k.0) k.0, stuck_at_it v stuck _ third.0 (at_value l v _ y (read_to v other more.0 y k.1) k.1));
       written = λ so heard new l x m y n k.
           let writes = and_parts (keeps_written v own) _ (needed w.written _ fourth.0 so) in
-          let heeds : keeps_written v other ≡ true = heard_keeps deaf (keeps_written v other) heard writes.1 in
-          (at_value l v _ x (written_to v own writes.0 x new m k.0) k.0,
-          stuck_at_it v stuck _ third.0 (at_value l v _ y (written_to v other heeds y new n k.1) k.1));
+          let heeds : keeps_written v other ≡ true = heard_keeps deaf (keeps_written v other) heard writes.1 in (
+            at_value l v _ x (written_to v own writes.0 x new m k.0) k.0,
+            stuck_at_it v stuck _ third.0 (at_value l v _ y (written_to v other heeds y new n k.1) k.1),
+          );
       unheard = λ so is new l x m y n k.
           let writes = and_parts (keeps_written v own) _ (needed w.written _ fourth.0 so) in
           (at_value l v _ x (written_to v own writes.0 x new m k.0) k.0, k.1);

@@ -38,7 +38,7 @@ pub record OnFields (c : ChipData) (l : LayoutData) (g : Flaws) (touched : ℕ �
   pub memory : (m i : ℕ) → is_deaf (flawed (bare c l) g) (Loc m i) ≡ true → is_reached l.rows (item.Mem m) true ≡ true
       → (mem_of (bare c l) m).writable ≡ false
   pub closes : (n i : ℕ) → n < length c.fields → i < (field_of c n).shape.width → touched n i ≡ true
-      → Closes (chosen n i) (ways_to c l (reg_of c n)) deaf (field_of c n).shape.volatile (Some (field_of c n).shape.policy) (Some (other n)) S
+      → Closes (chosen n i) (ways_to c l.rows (reg_of c n)) deaf (field_of c n).shape.volatile (Some (field_of c n).shape.policy) (Some (other n)) S
   pub resets : (n i : ℕ) → n < length c.fields → i < (field_of c n).shape.width → touched n i ≡ true → (kind : ℕ)
       → ResetsTo (chosen n i) S (value_bit (reset_of (bare c l) n kind) i) (value_bit (reset_of (flawed (bare c l) g) n kind) i)
   pub first : (n i : ℕ) → n < length c.fields → i < (field_of c n).shape.width → touched n i ≡ true
@@ -73,33 +73,33 @@ module _ (c : ChipData) (l : LayoutData) (g : Flaws) (touched : ℕ → ℕ → 
   -- ---- what is kept
 
   field_closes : (n i : ℕ) → n < length c.fields → i < (field_of c n).shape.width → (k : Bool) → touched n i ≡ k
-      → Closes (if k then chosen n i else alike) (ways_to c l (reg_of c n)) (is_deaf u (Reg (reg_of c n))) (field_of c n).shape.volatile
+      → Closes (if k then chosen n i else alike) (ways_to c l.rows (reg_of c n)) (is_deaf u (Reg (reg_of c n))) (field_of c n).shape.volatile
       (Some (policy_of t n)) (Some (policy_of u n)) (stuck_at u (reg_of c n) ((field_of c n).shape.lsb + i))
   field_closes n i inside low true so =
-      let w = ways_to c l (reg_of c n) in
+      let w = ways_to c l.rows (reg_of c n) in
       let v = (field_of c n).shape.volatile in
       subst (λ d. Closes (chosen n i) w d v (Some (policy_of t n)) (Some (policy_of u n)) (stuck_at u (reg_of c n) ((field_of c n).shape.lsb + i))) (sym (f.unheard n i so))
       (subst (λ p. Closes (chosen n i) w deaf v (Some p) (Some (policy_of u n)) (stuck_at u (reg_of c n) ((field_of c n).shape.lsb + i))) (sym (own_policy n inside))
       (subst (λ p. Closes (chosen n i) w deaf v (Some (field_of c n).shape.policy) (Some p) (stuck_at u (reg_of c n) ((field_of c n).shape.lsb + i))) (sym (f.policy n i inside so))
       (subst (λ s. Closes (chosen n i) w deaf v (Some (field_of c n).shape.policy) (Some (other n)) s) (sym (f.stuck n i inside low so)) (f.closes n i inside low so))))
   field_closes n i inside low false so =
-      let w = ways_to c l (reg_of c n) in
+      let w = ways_to c l.rows (reg_of c n) in
       let v = (field_of c n).shape.volatile in
       subst (λ d. Closes alike w d v (Some (policy_of t n)) (Some (policy_of u n)) (stuck_at u (reg_of c n) ((field_of c n).shape.lsb + i))) (sym (f.hears n i so))
       (subst (λ p. Closes alike w false v (Some (policy_of t n)) (Some p) (stuck_at u (reg_of c n) ((field_of c n).shape.lsb + i))) (sym (f.policies n i so))
       (subst (λ s. Closes alike w false v (Some (policy_of t n)) (Some (policy_of t n)) s) (sym (f.loose n i inside low so)) (untouched w v (Some (policy_of t n)))))
 
   bit_closes : (r b : ℕ) (o : Option ℕ) → field_at t r b ≡ o
-      → Closes (way_in o b) (ways_to c l r) (is_deaf u (Reg r)) (option_map_or (λ n. (field_of c n).shape.volatile) o false) (option_map (policy_of t) o)
+      → Closes (way_in o b) (ways_to c l.rows r) (is_deaf u (Reg r)) (option_map_or (λ n. (field_of c n).shape.volatile) o false) (option_map (policy_of t) o)
       (option_map (policy_of u) o) (stuck_at u r b)
   bit_closes r b None is =
-      subst (λ s. Closes alike (ways_to c l r) (is_deaf u (Reg r)) false None None s) (sym (f.rest r b is)) (outside (ways_to c l r) (is_deaf u (Reg r)) false)
+      subst (λ s. Closes alike (ways_to c l.rows r) (is_deaf u (Reg r)) false None None s) (sym (f.rest r b is)) (outside (ways_to c l.rows r) (is_deaf u (Reg r)) false)
   bit_closes r b (Some n) is =
       let h = at_field c l r b n is in
       let at = bit_of c n r b h in
       let i = b - (field_of c n).shape.lsb in
-      subst (λ q. Closes (way_in (Some n) b) (ways_to c l q) (is_deaf u (Reg q)) (field_of c n).shape.volatile (Some (policy_of t n)) (Some (policy_of u n)) (stuck_at u q b)) h.reg
-      (subst (λ j. Closes (way_in (Some n) b) (ways_to c l (reg_of c n)) (is_deaf u (Reg (reg_of c n))) (field_of c n).shape.volatile (Some (policy_of t n)) (Some (policy_of u n))
+      subst (λ q. Closes (way_in (Some n) b) (ways_to c l.rows q) (is_deaf u (Reg q)) (field_of c n).shape.volatile (Some (policy_of t n)) (Some (policy_of u n)) (stuck_at u q b)) h.reg
+      (subst (λ j. Closes (way_in (Some n) b) (ways_to c l.rows (reg_of c n)) (is_deaf u (Reg (reg_of c n))) (field_of c n).shape.volatile (Some (policy_of t n)) (Some (policy_of u n))
       (stuck_at u (reg_of c n) j)) at.0 (field_closes n i h.inside at.1 (touched n i) refl))
 
   -- ---- resets

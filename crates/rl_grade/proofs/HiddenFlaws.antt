@@ -155,7 +155,7 @@ pub record Bits (c : ChipData) (l : LayoutData) (g : Flaws) (way : ℕ → ℕ �
   pub memory : (m i : ℕ) → is_deaf (flawed (bare c l) g) (Loc m i) ≡ true → is_reached l.rows (item.Mem m) true ≡ true
       → (mem_of (bare c l) m).writable ≡ false
   pub closes : (r b : ℕ)
-      → Closes (way r b) (ways_to c l r) (is_deaf (flawed (bare c l) g) (Reg r)) (volatile_at c l r b) (policy_at (bare c l) r b)
+      → Closes (way r b) (ways_to c l.rows r) (is_deaf (flawed (bare c l) g) (Reg r)) (volatile_at c l r b) (policy_at (bare c l) r b)
       (policy_at (flawed (bare c l) g) r b) (stuck_at (flawed (bare c l) g) r b)
   pub resets : (r b kind : ℕ)
       → ResetsTo (way r b) (stuck_at (flawed (bare c l) g) r b) (reset_bit (bare c l) kind (field_at (bare c l) r b) b)
@@ -215,10 +215,10 @@ module _ (c : ChipData) (l : LayoutData) (g : Flaws) (way : ℕ → ℕ → Way)
     first = λ r b. first_stands (way r b) (stuck_at u r b) _ _ (bits.first r b);
     same = λ r b back x m y n h. (bits.closes r b).same back x m y n h;
     poked = λ r b back v x m y n h.
-        put_or_keep (way r b) (ways_to c l r) (is_deaf u (Reg r)) (volatile_at c l r b) (policy_at t r b) (policy_at u r b) (stuck_at u r b) (bits.closes r b)
+        put_or_keep (way r b) (ways_to c l.rows r) (is_deaf u (Reg r)) (volatile_at c l r b) (policy_at t r b) (policy_at u r b) (stuck_at u r b) (bits.closes r b)
         _ (λ so. inl back) v x m y n h;
     moved = λ f b moves v x m y n h.
         let r = (row_of_field t f).reg in
-        put_or_keep (way r b) (ways_to c l r) (is_deaf u (Reg r)) (volatile_at c l r b) (policy_at t r b) (policy_at u r b) (stuck_at u r b) (bits.closes r b)
+        put_or_keep (way r b) (ways_to c l.rows r) (is_deaf u (Reg r)) (volatile_at c l r b) (policy_at t r b) (policy_at u r b) (stuck_at u r b) (bits.closes r b)
         (is_within (row_of_field t f).lsb (row_of_field t f).width b) (λ so. inr (moves_here f b moves so)) v x m y n h;
   }

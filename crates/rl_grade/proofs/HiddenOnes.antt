@@ -66,7 +66,7 @@ module _ (c : ChipData) (l : LayoutData) where
   moves n = (field_of c n).shape.volatile
 
   abbrev ways : ℕ → Ways
-  ways n = ways_to c l (reg_of c n)
+  ways n = ways_to c l.rows (reg_of c n)
 
   abbrev way_with : (ℕ → Policy) → Option Bool → Bool → ℕ → ℕ → Way
   way_with other S deaf n i = its_way (field_of c n) i (ways n) (own n) (other n) S deaf (moves n)
@@ -157,16 +157,16 @@ module _ (c : ChipData) (l : LayoutData) where
     needs true test h so = h
     needs false test h so = absurd cc
 
-    deaf_hidden : is_deafness_hidden c l q ≡ true → (n i : ℕ) → n < length c.fields → i < (field_of c n).shape.width → ((reg_of c n == q) || false) ≡ true
+    deaf_hidden : is_deafness_hidden c l.rows q ≡ true → (n i : ℕ) → n < length c.fields → i < (field_of c n).shape.width → ((reg_of c n == q) || false) ≡ true
         → is_bit_hidden (ways n) (deaf_bit (field_of c n)) (field_of c n) i ≡ true
     deaf_hidden h n i inside low so =
         let is : reg_of c n ≡ q = is_it (reg_of c n) so in
-        let all = AllPass-from_list_all (λ (f : FieldSeen). not (f.shape.reg == q) || is_field_hidden (ways_to c l q) (deaf_bit f) f) c.fields h n no_field inside in
+        let all = AllPass-from_list_all (λ (f : FieldSeen). not (f.shape.reg == q) || is_field_hidden (ways_to c l.rows q) (deaf_bit f) f) c.fields h n no_field inside in
         let field = needs (reg_of c n == q) _ all (eq-eqb (reg_of c n) q is) in
         each_bit (ways n) (deaf_bit (field_of c n)) (field_of c n) i
-        (subst (λ r. is_field_hidden (ways_to c l r) (deaf_bit (field_of c n)) (field_of c n) ≡ true) (sym is) field) low
+        (subst (λ r. is_field_hidden (ways_to c l.rows r) (deaf_bit (field_of c n)) (field_of c n) ≡ true) (sym is) field) low
 
-    deaf_register : is_deafness_hidden c l q ≡ true
+    deaf_register : is_deafness_hidden c l.rows q ≡ true
         → OnFields c l deaf_to (λ n i. (reg_of c n == q) || false) (way_with own None true) own true None
     unfolding setup_of
     deaf_register h = record {

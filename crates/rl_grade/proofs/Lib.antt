@@ -15,6 +15,7 @@ mod HiddenBits
 mod HiddenFields
 mod HiddenFlaws
 mod HiddenOnes
+pub mod HiddenTests
 mod Related
 mod RelatedSteps
 mod ResetRows

@@ -278,7 +278,7 @@ module _ (t : Setup) (g : Flaws) (R : ℕ → ℕ → Bool → Bool → Bool →
         fit = set_fit R r (held t r f) (from_bits 64 k) (held u r f') (from_bits 64 k') xs ms ys ns _ _ _ _ fit
             (set_at r (held t r f) xs) (set_at r (from_bits 64 k) ms) (set_at r (held u r f') ys) (set_at r (from_bits 64 k') ns)
             (λ b inside low. holds_bits r b f f' (from_bits 64 k) (from_bits 64 k') low
-                (holds_marks r b k k' _ _ low (keeps.written r b reached heard (word b) (lanes b) _ _ _ _ (fit.bits r b inside low))));
+            (holds_marks r b k k' _ _ low (keeps.written r b reached heard (word b) (lanes b) _ _ _ _ (fit.bits r b inside low))));
       }
 
   -- a write that the other device doesn't take
@@ -304,9 +304,9 @@ module _ (t : Setup) (g : Flaws) (R : ℕ → ℕ → Bool → Bool → Bool →
         fit = set_fit R r (held t r f) (from_bits 64 k) (slice_index ys r) (slice_index ns r) xs ms ys ns _ _ _ _ fit
             (set_at r (held t r f) xs) (set_at r (from_bits 64 k) ms) (kept_at r ys) (kept_at r ns)
             (λ b inside low.
-                subst (λ z. R r b z (bit (from_bits 64 k) b) (bit (slice_index ys r) b) (bit (slice_index ns r) b)) (sym (held_bit t r b f low))
-                (subst (λ z. R r b (or_else (stuck_at t r b) (f b)) z (bit (slice_index ys r) b) (bit (slice_index ns r) b)) (sym (bit-from_bits 64 k b low))
-                (keeps.unheard r b reached deaf (word b) (lanes b) _ _ _ _ (fit.bits r b inside low))));
+            subst (λ z. R r b z (bit (from_bits 64 k) b) (bit (slice_index ys r) b) (bit (slice_index ns r) b)) (sym (held_bit t r b f low))
+            (subst (λ z. R r b (or_else (stuck_at t r b) (f b)) z (bit (slice_index ys r) b) (bit (slice_index ns r) b)) (sym (bit-from_bits 64 k b low))
+            (keeps.unheard r b reached deaf (word b) (lanes b) _ _ _ _ (fit.bits r b inside low))));
       }
 
   if_deaf : (a b : Bool) (d e v w : State) → a ≡ false → (b ≡ true → Related v e) → (b ≡ false → Related v w)

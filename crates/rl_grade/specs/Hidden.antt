@@ -1,11 +1,12 @@
 -- Flaws that no script can show: each bit that the flaw could change is alike with and without it, or has its first value at each
 -- moment, or is never looked at.
-use Rattle.std.specs.Prelude.{◌≡◌, ℕ, ◌==◌, Bool, true, false, not, ◌&&◌, ◌||◌, if◌then◌else◌, List, [], unwrap_or, Option, Some, None}
+use Rattle.std.specs.Prelude.{ℕ, ◌<◌, ◌==◌, Bool, true, false, not, ◌&&◌, ◌||◌, if◌then◌else◌, List, length, unwrap_or, Option, Some, None}
 use Rattle.std.specs.List.{list_all, range_with_len}
 use Rattle.rl_policy.specs.Bits.{bit}
 use Rattle.rl_policy.specs.Table.{after_read, after_write, is_write_only, spends_mark}
 use Rattle.rl_policy.specs.declared.policy.Policy.{Policy}
-use Rattle.rl_model.specs.Chip.{backdoor_of, value_for}
+use Rattle.rl_bus.specs.declared.table.WordRow.{WordRow}
+use Rattle.rl_model.specs.Chip.{HasItem, backdoor_of, value_for}
 use Rattle.rl_model.specs.Fields.{field_of}
 use Rattle.rl_model.specs.Rows.{ChipData, FieldSeen}
 use Rattle.rl_model.specs.declared.rows.Item.TheVariants.{Reg, Mem}
@@ -88,10 +89,10 @@ resets_alike f i = list_all (λ (r : Reset). is_same (bit r.value i) (first_bit 
 abbrev pub is_bit_hidden : Ways → FlawedBit → FieldSeen → (i : ℕ) → Bool
 is_bit_hidden w b f i = is_alike w b || (is_unseen w b || (is_fixed (first_bit f i) w b && resets_alike f i))
 
-abbrev pub ways_to : ChipData → LayoutData → (reg : ℕ) → Ways
-ways_to c l reg = record {
-  written = is_reached l.rows (Reg reg) true;
-  read = is_reached l.rows (Reg reg) false;
+abbrev pub ways_to : ChipData → List WordRow → (reg : ℕ) → Ways
+ways_to c rows reg = record {
+  written = is_reached rows (Reg reg) true;
+  read = is_reached rows (Reg reg) false;
   backdoor = unwrap_or (backdoor_of c (Reg reg)) false;
 }
 
@@ -111,20 +112,36 @@ deaf_bit f = record { own = f.shape.policy; other = f.shape.policy; stuck = None
 abbrev pub is_field_hidden : Ways → FlawedBit → FieldSeen → Bool
 is_field_hidden w b f = list_all (is_bit_hidden w b f) (range_with_len 0 f.shape.width)
 
--- each bit of the fields of the register is hidden
-abbrev pub is_deafness_hidden : ChipData → LayoutData → (reg : ℕ) → Bool
-is_deafness_hidden c l reg =
-    list_all (λ (f : FieldSeen). not (f.shape.reg == reg) || is_field_hidden (ways_to c l reg) (deaf_bit f) f) c.fields
+-- writes to a register reach nothing: each bit of the field is hidden, if it is the register's
+abbrev pub is_deaf_hidden : Ways → (reg : ℕ) → FieldSeen → Bool
+is_deaf_hidden w reg f = not (f.shape.reg == reg) || is_field_hidden w (deaf_bit f) f
 
--- no script can show the flaw
+-- of each field
+abbrev pub is_deafness_hidden : ChipData → List WordRow → (reg : ℕ) → Bool
+is_deafness_hidden c rows reg =
+    list_all (is_deaf_hidden (ways_to c rows reg) reg) c.fields
+
+-- what a flaw names is in the chip
+abbrev pub IsThere : ChipData → Flaw → Type 0
+IsThere c (Stuck field i v) = field < length c.fields
+IsThere c (OtherPolicy field p) = field < length c.fields
+IsThere c (OtherReset field kind value) = field < length c.fields
+IsThere c (Deaf item) = HasItem c item
+IsThere c (ErrorRange port from to) = Unit {0}
+IsThere c (ErrorNth nth) = Unit {0}
+
+-- no script can show the flaw, over these words
+abbrev pub is_hidden_by : ChipData → List WordRow → Flaw → Bool
+is_hidden_by c rows (Stuck field i v) =
+    let f = field_of c field in is_bit_hidden (ways_to c rows f.shape.reg) (stuck_bit f v) f i
+is_hidden_by c rows (OtherPolicy field p) =
+    let f = field_of c field in is_field_hidden (ways_to c rows f.shape.reg) (other_bit f p) f
+is_hidden_by c rows (OtherReset field kind value) =
+    let f = field_of c field in is_unseen (ways_to c rows f.shape.reg) (sound_bit f)
+is_hidden_by c rows (Deaf (Reg reg)) = is_deafness_hidden c rows reg
+is_hidden_by c rows (Deaf (Mem mem)) = not (is_writable c mem) || not (is_reached rows (Mem mem) true)
+is_hidden_by c rows (ErrorRange port from to) = false
+is_hidden_by c rows (ErrorNth nth) = false
+
 abbrev pub is_hidden : ChipData → LayoutData → Flaw → Bool
-is_hidden c l (Stuck field i v) =
-    let f = field_of c field in is_bit_hidden (ways_to c l f.shape.reg) (stuck_bit f v) f i
-is_hidden c l (OtherPolicy field p) =
-    let f = field_of c field in is_field_hidden (ways_to c l f.shape.reg) (other_bit f p) f
-is_hidden c l (OtherReset field kind value) =
-    let f = field_of c field in is_unseen (ways_to c l f.shape.reg) (sound_bit f)
-is_hidden c l (Deaf (Reg reg)) = is_deafness_hidden c l reg
-is_hidden c l (Deaf (Mem mem)) = not (is_writable c mem) || not (is_reached l.rows (Mem mem) true)
-is_hidden c l (ErrorRange port from to) = false
-is_hidden c l (ErrorNth nth) = false
+is_hidden c l flaw = is_hidden_by c l.rows flaw

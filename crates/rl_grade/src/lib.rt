@@ -10,6 +10,7 @@ mod drive;
 mod flaws;
 mod fresh;
 mod grade;
+mod hidden;
 mod job;
 pub mod law;
 mod place;
@@ -20,6 +21,7 @@ mod seen;
 
 pub use flaws::{field_flaws, item_flaws, session_flaws};
 pub use grade::{Graded, PlaceGrade, Share, grade_place};
+pub use hidden::is_hidden;
 pub use job::{Job, Task};
 pub use place::{Place, flaws_at};
 pub use run::{Shown, Tried, show, try_flaw};
