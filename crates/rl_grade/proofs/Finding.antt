@@ -26,22 +26,22 @@ pub fits_on : (c d : ChipData) (l k : LayoutData) (tasks : List Task) → c ≡ 
 fits_on c d l k tasks chip layout h =
     subst (λ x. TasksFit x (length l.maps) tasks) (sym chip) (subst (λ (y : LayoutData). TasksFit d (length y.maps) tasks) (sym layout) h)
 
-abbrev find_of : List Seen → Heard → Find
+abbrev pub find_of : List Seen → Heard → Find
 find_of base h = record { line = h.line; op = h.told.event.op; new = new_in base h.told.event }
 
-passed_on : (base : List Seen) (h : Heard) (heard : List Heard) → shows (new_in base h.told.event) ≡ false
+pub passed_on : (base : List Seen) (h : Heard) (heard : List Heard) → shows (new_in base h.told.event) ≡ false
     → first_find base (h ∷ heard) ≡ first_find (drop 1 base) heard
 unfolding first_find
 passed_on base h heard quiet =
     ap (λ b. if b then Some (find_of base h) else first_find (drop 1 base) heard) quiet
 
-found_here : (base : List Seen) (h : Heard) (heard : List Heard) → shows (new_in base h.told.event) ≡ true
+pub found_here : (base : List Seen) (h : Heard) (heard : List Heard) → shows (new_in base h.told.event) ≡ true
     → first_find base (h ∷ heard) ≡ Some (find_of base h)
 unfolding first_find
 found_here base h heard more =
     ap (λ b. if b then Some (find_of base h) else first_find (drop 1 base) heard) more
 
-none_left : (base : List Seen) → first_find base [] ≡ None
+pub none_left : (base : List Seen) → first_find base [] ≡ None
 unfolding first_find
 none_left base = refl
 

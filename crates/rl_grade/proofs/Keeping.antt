@@ -60,7 +60,7 @@ granted_keeps : (w : World) (o : Op) (g : Grant) → IsSameChip w.model (step_by
 granted_keeps w o (Ok place) = outcome_keeps w.model o place _ _
 granted_keeps w o (Err why) = same w.model
 
-step_keeps : (w : World) (o : Op) → IsSameChip w.model (step_of w o).world.model
+pub step_keeps : (w : World) (o : Op) → IsSameChip w.model (step_of w o).world.model
 unfolding step_of
 step_keeps w o = granted_keeps w o (grant w.model o)
 

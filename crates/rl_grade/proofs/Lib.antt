@@ -3,11 +3,21 @@ pub mod Complete
 pub mod Distinct
 mod Driving
 mod Finding
+mod First
 mod Grading
 mod Keeping
 mod Listed
 pub mod Made
+mod Parts
 mod Pushed
 mod Reading
+mod HiddenBits
+mod HiddenFields
+mod HiddenFlaws
+mod HiddenOnes
+pub mod HiddenTests
+mod Related
+mod RelatedSteps
+mod ResetRows
 mod Running
 mod Started

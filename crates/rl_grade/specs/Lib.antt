@@ -1,11 +1,16 @@
 pub mod Adapters
+pub mod Alike
 pub mod Drive
 pub mod Find
+pub mod First
 pub mod Flaws
+pub mod Hidden
 pub mod Heard
 pub mod Job
+pub mod Parts
 pub mod Place
 pub mod Prelude
+pub mod Reached
 pub mod Reading
 pub mod Record
 pub mod Run

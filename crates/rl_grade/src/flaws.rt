@@ -114,7 +114,7 @@ fn is_tried(chip: &Chip, cell: Cell) -> bool
     }
 }
 
-fn is_of(cell: Cell, item: Item) -> bool
+pub(crate) fn is_of(cell: Cell, item: Item) -> bool
     ensures { result ≡ is_of cell item }
 {
     match (cell, item) {

@@ -1,5 +1,8 @@
-//! What holds of the lists of single flaws, and of a script and its tasks. Each function does nothing; its contract is
-//! the law.
+//! What holds of the lists of single flaws, of shares and finds, and of a script and its tasks. Each function does
+//! nothing; its contract is the law.
+ghost use Rattle.rl_grade.specs.First.{FindIsFirst};
+ghost use Rattle.rl_grade.specs.Alike.{HiddenChangesNoEvent, HiddenIsNotFound};
+ghost use Rattle.rl_grade.specs.Parts.{EachIsInOne, PlacesAddUp, ShareIsByNumber, WholeHasAll};
 ghost use Rattle.rl_grade.specs.Run.{HeardAreEvents, RunDoesTasks, RunStopsThere};
 ghost use Rattle.rl_grade.specs.Single.{NoneIsLeftOut, NoneIsMadeUp, NoneStandsTwice, PlacesAreApart};
 
@@ -25,6 +28,21 @@ pub fn places_are_apart()
     ensures { PlacesAreApart }
 {}
 
+/// The only share of one has every flaw, and of several shares exactly one has each flaw. A share has those flaws of a
+/// list whose number it takes, whether they are gone over at once or place by place.
+pub fn shares_have_each_flaw_once()
+    ensures whole { WholeHasAll }
+    ensures one { EachIsInOne }
+    ensures by_number { ShareIsByNumber }
+    ensures places { PlacesAddUp }
+{}
+
+/// A flaw is found exactly where some event shows more with it than the one of its number without it: names another
+/// field, or ends by a bus error where that one doesn't. The answer is the first such event.
+pub fn a_find_is_the_first_event_that_shows_more()
+    ensures { FindIsFirst }
+{}
+
 /// The tasks that `read_script` reads are what a run of the script does: from each first state whose model has the same
 /// chip and layout, whatever its flaws, their events are those of the lines, each with the number of its line, and the
 /// run comes to its end.
@@ -40,4 +58,11 @@ pub fn a_run_stops_at_the_refused_line()
 /// The events of the lines are those of the judged log.
 pub fn what_is_heard_are_the_events()
     ensures { HeardAreEvents }
+{}
+
+/// A flaw that `is_hidden` names changes nothing that a script does: from the first state on, each event, each bus item
+/// and what is believed after it are those of the device without the flaw. So no script finds it.
+pub fn a_hidden_flaw_changes_no_event()
+    ensures events { HiddenChangesNoEvent }
+    ensures found { HiddenIsNotFound }
 {}

@@ -5,10 +5,12 @@
 //! a run with one flaw, begun afresh, then goes up to the first event that shows more. No text is made.
 #![tactic(auto)]
 
+mod bits;
 mod drive;
 mod flaws;
 mod fresh;
 mod grade;
+mod hidden;
 mod job;
 pub mod law;
 mod place;
@@ -19,6 +21,7 @@ mod seen;
 
 pub use flaws::{field_flaws, item_flaws, session_flaws};
 pub use grade::{Graded, PlaceGrade, Share, grade_place};
+pub use hidden::is_hidden;
 pub use job::{Job, Task};
 pub use place::{Place, flaws_at};
 pub use run::{Shown, Tried, show, try_flaw};

@@ -1,0 +1,8 @@
+use Rattle.rl_grade.proofs.HiddenOnes.{changes_no_event, not_found}
+use Rattle.rl_grade.proofs.law.a_hidden_flaw_changes_no_event.Goals as goal
+
+pub returns-clause-events : goal.returns-clause-events
+returns-clause-events c = changes_no_event
+
+pub returns-clause-found : goal.returns-clause-found
+returns-clause-found c = not_found

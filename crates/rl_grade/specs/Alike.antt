@@ -1,0 +1,35 @@
+-- That a hidden flaw changes no event of any script.
+use Rattle.std.specs.Prelude.{◌≡◌, true, List, [], None}
+use Rattle.rl_bus.specs.Standing.{Standing}
+use Rattle.rl_desc.specs.Data.{DescData}
+use Rattle.rl_model.specs.Chip.{IsSound}
+use Rattle.rl_flaw.specs.declared.flaw.Flaw.{Flaw}
+use Rattle.rl_flaw.specs.Flaws.{IsFlawOf}
+use Rattle.rl_session.specs.Judged.{first_world}
+use Rattle.rl_grade.specs.declared.job.Task.{Task}
+use Rattle.rl_grade.specs.Find.{all_seen, first_find}
+use Rattle.rl_grade.specs.Hidden.{is_hidden}
+use Rattle.rl_grade.specs.Job.{heard_by}
+use Rattle.rl_grade.specs.Place.{with_flaw}
+
+-- a description without flaws
+abbrev pub without_flaws : DescData → DescData
+without_flaws d = record { chip = d.chip; layout = d.layout; flaws = [] }
+
+-- it is one of the description, and no script can show it
+pub record IsHiddenIn (d : DescData) (flaw : Flaw) : Type 0 where
+  pub sound : IsSound d.chip
+  pub one : IsFlawOf d.chip d.layout flaw
+  pub hidden : is_hidden d.chip d.layout flaw ≡ true
+
+-- what the tasks do with the flaw, from the first state on, is what they do without it
+abbrev pub HiddenChangesNoEvent : Type 0
+HiddenChangesNoEvent =
+    (d : DescData) (flaw : Flaw) (adapters : List Standing) (tasks : List Task) → IsHiddenIn d flaw
+    → heard_by (first_world (with_flaw d flaw) adapters) tasks ≡ heard_by (first_world (without_flaws d) adapters) tasks
+
+-- and so no script finds it
+abbrev pub HiddenIsNotFound : Type 0
+HiddenIsNotFound =
+    (d : DescData) (flaw : Flaw) (adapters : List Standing) (tasks : List Task) → IsHiddenIn d flaw
+    → first_find (all_seen (heard_by (first_world (without_flaws d) adapters) tasks)) (heard_by (first_world (with_flaw d flaw) adapters) tasks) ≡ None
