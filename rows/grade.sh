@@ -115,7 +115,6 @@ judge 'a refused description' refuses 2 'refused description map 1: bad bytes' "
 judge 'no words' asks
 judge 'another word' asks walk
 judge 'a word too many' asks run 1/3 2
-judge 'a share of missed' asks missed 1/3
 for share in 0/3 4/3 1/0 1 1/ /3 1/3/5 0x1/3 1/x ' 1/3' -1/3 18446744073709551616/18446744073709551617; do
     judge "the share $share" asks run "$share"
 done

@@ -3,12 +3,11 @@
 #![tactic(auto)]
 
 ghost use Rattle.std.specs.Prelude.{◌<◌};
-ghost use Rattle.rl_grade_report.specs.Asked.{share_of};
 
 use rl_apb::fresh_adapters;
 use rl_bus::Adapters;
 use rl_cli::{code_of, words};
-use rl_grade_report::{Asked, Meter, asked_by, run_grade};
+use rl_grade_report::{Asked, Meter, asked_by, exit_code, run_grade};
 use rl_log::Status;
 use rl_report::{StdSink, StdSource};
 use std::alloc::AllocError;
@@ -42,7 +41,7 @@ impl<R: Eprint> Shown<'_, R> {
 
 // Grades the session on standard input, with a plain and an APB adapter for the root maps.
 fn grade(rt: &HostRuntime, asked: Asked) -> Result<Status, AllocError>
-    requires { 0 < (share_of asked).every }
+    requires { 0 < asked.share.every }
 {
     let alloc = rt.alloc();
     let (plain, apb) = fresh_adapters();
@@ -70,7 +69,7 @@ fn grade(rt: &HostRuntime, asked: Asked) -> Result<Status, AllocError>
 // Says what can be asked for. Answers the exit status.
 fn tell_words(rt: &HostRuntime) -> u8 {
     let _ = eprintln!(rt;
-        "regrun-grade: `run`, `run K/N` with K from 1 to N, or `missed` is asked for, and a session on standard input"
+        "regrun-grade: `run`, `missed`, `found`, `lines` or `json` is asked for, then `K/N` with K from 1 to N if so wanted, then `at-least P` with P up to 100 if so wanted, and a session on standard input"
     );
     Status::Words.code()
 }
@@ -81,7 +80,7 @@ fn run(rt: &HostRuntime) -> io::Result<u8> {
     let Some(asked) = asked_by(&words) else {
         return Ok(tell_words(rt));
     };
-    Ok(grade(rt, asked)?.code())
+    Ok(exit_code(grade(rt, asked)?))
 }
 
 fn main(rt: HostRuntime) -> ExitCode {

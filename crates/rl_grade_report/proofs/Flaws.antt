@@ -1,5 +1,5 @@
 -- What a list of graded flaws has, of those that are missed.
-use Rattle.std.proofs.Common.{◌≡◌, ℕ, true, false, List, [], ◌∷◌, ◌++◌, All, map, filter, length, refl}
+use Rattle.std.proofs.Common.{List, All, filter}
 use Rattle.std.specs.Prelude.{is_none}
 use Rattle.std.proofs.lemmas.List.Elements.{All-filter, All-map}
 use Rattle.rl_model.specs.Rows.{ChipData}

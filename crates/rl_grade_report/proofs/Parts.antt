@@ -1,5 +1,5 @@
 -- Texts and lists of which one part more is appended.
-use Rattle.std.proofs.Common.{◌≡◌, ℕ, zero, suc, ◌+◌, Bool, true, false, if◌then◌else◌, List, [], ◌∷◌, ◌++◌, map, filter, codes, refl, sym, ap, ◌∙◌, append_assoc, append-nil, zero-add}
+use Rattle.std.proofs.Common.{◌≡◌, ℕ, ◌+◌, Bool, true, false, if◌then◌else◌, List, [], ◌∷◌, ◌++◌, map, filter, codes, refl, sym, ap, ◌∙◌, append_assoc, append-nil, zero-add}
 use Rattle.std.specs.List.{flat_map, range_with_len}
 use Rattle.std.proofs.lemmas.List.{map-append, map-id}
 use Rattle.std.proofs.lemmas.List.Elements.{filter-append}
@@ -17,6 +17,15 @@ joined_more (x ∷ xs) ys = append_assoc x (joined xs) (joined ys) ∙ ap (λ t.
 pub joined_last : (xs : List (List ℕ)) (y : List ℕ) → joined xs ++ y ≡ joined (xs ++ y ∷ [])
 unfolding joined
 joined_last xs y = ap (λ t. joined xs ++ t) (sym (append-nil y)) ∙ joined_more xs (y ∷ [])
+
+pub five_parts : (a b c d e : List ℕ) → (((a ++ b) ++ c) ++ d) ++ e ≡ joined (a ∷ b ∷ c ∷ d ∷ e ∷ [])
+unfolding joined
+five_parts a b c d e = simp (append_assoc, append-nil)
+
+-- a text, and pieces behind it
+pub then_pieces : (a b : List ℕ) (xs : List (List ℕ)) → (a ++ b) ++ joined xs ≡ joined (a ∷ b ∷ xs)
+unfolding joined
+then_pieces a b xs = append_assoc a b (joined xs)
 
 -- ---- the text of each of a list
 

@@ -1,33 +1,33 @@
 -- What was told of a session that is graded.
-use Rattle.std.proofs.Common.{◌≡◌, ◌≢◌, ◌==◌, if◌then◌else◌, Bool, ℕ, ◌≤◌, true, false, List, [], ◌∷◌, length, Result, Ok, Err, IfErr, Some, None, IfSome, refl, sym, ap, subst, ◌∙◌, arith}
+use Rattle.std.proofs.Common.{◌≡◌, ◌≢◌, ◌==◌, if◌then◌else◌, Bool, ℕ, ◌≤◌, true, false, List, [], ◌∷◌, length, Result, Ok, Err, IfErr, IfOk, Some, None, IfSome, refl, sym, ap, subst, ◌∙◌, arith}
 use Rattle.std.specs.declared.option.Option.{Option}
 use Rattle.std.specs.Io.KnownBytes.{Keeps}
-use Rattle.std.proofs.lemmas.Bool.{eqb-true}
+use Rattle.std.proofs.lemmas.Bool.{eqb-true, true≢false}
 use Rattle.rl_access.specs.Model.{ModelData}
 use Rattle.rl_access.specs.World.{IsAt, World, world}
-use Rattle.rl_bus.specs.Causes.{Rose}
 use Rattle.rl_bus.specs.Standing.{Standing, kinds_of}
 use Rattle.rl_bus.specs.State.{State}
 use Rattle.rl_flaw.specs.declared.flaw.Flaw.{Flaw}
 use Rattle.rl_desc.specs.Data.{DescData}
 use Rattle.rl_report.specs.declared.sink.Sink.{Ghosts as Sink}
 use Rattle.rl_report.specs.Lines.{lines_of}
-use Rattle.rl_report.specs.Opening.{separator_at}
 use Rattle.rl_report.specs.Pieces.{Puts}
 use Rattle.rl_report.specs.Reading.{Reading, input_of}
 use Rattle.rl_log.specs.declared.status.Status.{Status}
-use Rattle.rl_log.specs.declared.status.Status.TheVariants.{Passed, Refused, SinkFault, SourceFault}
+use Rattle.rl_log.specs.declared.status.Status.TheVariants.{Passed, Found, Refused, SinkFault, SourceFault, Memory, Words}
 use Rattle.rl_log.specs.Causes.{IsCaused}
 use Rattle.rl_log.specs.Statuses.{is_complete}
 use Rattle.rl_log.specs.Telling.{Tells}
 use Rattle.rl_log.specs.Earlier.{KeepsEarlier}
 use Rattle.rl_log.proofs.TellingLemmas.{tells_all, tells_front, tells_none, tells_written}
+use Rattle.std.proofs.KnownBytes.{Keeps-refl}
 use Rattle.rl_play.proofs.EndingLemmas.{append_none}
 use Rattle.rl_session.specs.Judged.{first_world}
-use Rattle.rl_session.specs.Session.{behind, opening_of, script_of}
+use Rattle.rl_session.specs.Session.{opening_of, script_of}
 use Rattle.rl_session_run.specs.Opening.{OpensAs}
-use Rattle.rl_session_run.specs.Stays.{LeavesOpen, StaysOpen}
+use Rattle.rl_session_run.specs.Stays.{LeavesEnded, LeavesOpen, StaysOpen}
 use Rattle.rl_session_run.specs.Telling.{Stops}
+use Rattle.rl_session_run.proofs.StaysLemmas.{open_given_up, open_same}
 use Rattle.rl_grade.specs.declared.job.Task.{Task}
 use Rattle.rl_grade.specs.declared.script.ScriptFault.{ScriptFault}
 use Rattle.rl_grade.specs.declared.script.ScriptFault.TheVariants as fault
@@ -36,30 +36,54 @@ use Rattle.rl_grade.specs.Job.{heard_by}
 use Rattle.rl_grade.specs.Reading.{refused_line}
 use Rattle.rl_grade.specs.Script.{tasks_from}
 use Rattle.rl_grade_report.specs.declared.asked.Asked.{Asked}
-use Rattle.rl_grade_report.specs.Grading.{Grading, grading_of, opened_graded, report, script_graded, tasks_graded}
+use Rattle.rl_grade_report.specs.declared.totals.Totals.{Totals}
+use Rattle.rl_grade_report.specs.Asked.{is_marked, status_at}
+use Rattle.rl_grade_report.specs.Grading.{Grading, graded_as, grading_of, grading_with, opened_graded, script_graded, tasks_graded}
+use Rattle.rl_grade_report.specs.Mark.{mark_of}
 use Rattle.rl_grade_report.specs.Opening.{flaws_text, unflawed}
 use Rattle.rl_grade_report.specs.Progress.{TellsGraded, desc_of, status_of}
 use Rattle.rl_grade_report.specs.Refusal.{EndsUnread}
+use Rattle.rl_grade_report.specs.Totals.{is_below}
 
 -- ---- a text and its status
 
-pub told_by : {T : Type 0} (r : Result T Status) (old new : Option (List ℕ)) (text : List ℕ) → Puts old new text r
-    → IfErr r (λ s. is_complete s ≡ false) → Tells (status_of r) Passed old new text
-told_by (Ok x) old new text p broken = tells_all Passed old new text p.whole
-told_by (Err s) old new text p broken = tells_front s Passed old new text broken p.part
+pub complete_if : (below : Bool) → is_complete (if below then Found else Passed) ≡ true
+complete_if true = refl
+complete_if false = refl
 
-caused_by : {T : Type 0} (r : Result T Status) (source source_now sink sink_now : ℕ)
+told_by : (r : Result Status Status) (expected : Status) (old new : Option (List ℕ)) (text : List ℕ) → Puts old new text r
+    → IfOk r (λ s. s ≡ expected) → IfErr r (λ s. is_complete s ≡ false) → Tells (status_of r) expected old new text
+told_by (Ok s) expected old new text p same broken = subst (λ s. Tells s expected old new text) (sym same) (tells_all expected old new text p.whole)
+told_by (Err s) expected old new text p same broken = tells_front s expected old new text broken p.part
+
+caused_by : (r : Result Status Status) (source source_now sink sink_now : ℕ) → IfOk r (λ s. is_complete s ≡ true)
     → IfErr r (λ s. IsCaused s 0 0 sink sink_now) → IsCaused (status_of r) source source_now sink sink_now
-caused_by (Ok x) source source_now sink sink_now h =
+caused_by (Ok Passed) source source_now sink sink_now whole h =
     record { source_fault = λ e. absurd (cc); sink_fault = λ e. absurd (cc); known = λ e. cc }
-caused_by (Err s) source source_now sink sink_now h =
+caused_by (Ok Found) source source_now sink sink_now whole h =
+    record { source_fault = λ e. absurd (cc); sink_fault = λ e. absurd (cc); known = λ e. cc }
+caused_by (Ok Refused) source source_now sink sink_now whole h =
+    record { source_fault = λ e. absurd (cc); sink_fault = λ e. absurd (cc); known = λ e. cc }
+caused_by (Ok SourceFault) source source_now sink sink_now whole h = absurd (true≢false (sym whole))
+caused_by (Ok SinkFault) source source_now sink sink_now whole h = absurd (true≢false (sym whole))
+caused_by (Ok Memory) source source_now sink sink_now whole h = absurd (true≢false (sym whole))
+caused_by (Ok Words) source source_now sink sink_now whole h = absurd (true≢false (sym whole))
+caused_by (Err s) source source_now sink sink_now whole h =
     record { source_fault = λ e. absurd (omega (arith, h.source_fault e)); sink_fault = h.sink_fault; known = h.known }
 
-pub leaves_graded : {K T : Type 0} (sink : Sink K) (r : Result T Status) (source source_now : ℕ) (old new : K) → source ≤ source_now
-    → IfErr r (λ s. IsCaused s 0 0 (sink.faults old) (sink.faults new)) → StaysOpen sink.written sink.faults sink.ends old new
-    → LeavesOpen sink (status_of r) source source_now old new
-leaves_graded sink r source source_now old new later cause stays =
-    record { source_later = later; cause = caused_by r source source_now (sink.faults old) (sink.faults new) cause; stays = stays }
+whole_by : (asked : Asked) (totals : Totals) (r : Result Status Status) → IfOk r (λ s. s ≡ status_at asked totals)
+    → IfOk r (λ s. is_complete s ≡ true)
+whole_by asked totals (Ok s) same = ap is_complete same ∙ complete_if (is_below asked.bound totals)
+whole_by asked totals (Err s) same = tt
+
+pub leaves_graded : {K : Type 0} (sink : Sink K) (asked : Asked) (totals : Totals) (r : Result Status Status) (source source_now : ℕ) (old new : K)
+    → source ≤ source_now → IfOk r (λ s. s ≡ status_at asked totals) → IfErr r (λ s. IsCaused s 0 0 (sink.faults old) (sink.faults new))
+    → StaysOpen sink.written sink.faults sink.ends old new → LeavesOpen sink (status_of r) source source_now old new
+leaves_graded sink asked totals r source source_now old new later same cause stays = record {
+  source_later = later;
+  cause = caused_by r source source_now (sink.faults old) (sink.faults new) (whole_by asked totals r same) cause;
+  stays = stays;
+}
 
 -- ---- a script
 
@@ -76,48 +100,53 @@ desc_is m desc standings is none =
     let with : List Flaw → DescData = λ flaws. record { chip = desc.chip; layout = desc.layout; flaws = flaws } in
     ap desc_of is ∙ ap with (sym none)
 
-pub script_told : {T : Type 0} (input : Option (List ℕ)) (asked : Asked) (desc : DescData) (m : ModelData) (st : State)
-    (standings : List Standing) (tasks : List Task) (r : Result T Status) (old new : Option (List ℕ)) → standings ≡ fresh_standings
-    → IsAt m standings (Some st) (first_world desc standings) → desc.flaws ≡ []
-    → IfSome input (λ bytes. tasks_from m 1 (lines_of bytes) ≡ Ok tasks)
-    → Puts old new (report asked (desc_of m) tasks (heard_by (world m standings st) tasks)) r → IfErr r (λ s. is_complete s ≡ false)
-    → IfSome input (λ bytes. TellsGraded (script_graded asked desc (lines_of bytes)) (status_of r) old new)
-script_told None asked desc m st standings tasks r old new fresh h none given p broken = tt
-script_told (Some bytes) asked desc m st standings tasks r old new fresh h none given p broken =
-    let lines = lines_of bytes in
-    let text : report asked (desc_of m) tasks (heard_by (world m standings st) tasks)
-    ≡ report asked desc tasks (heard_by (first_world desc fresh_standings) tasks) =
-    ap (λ d. report asked d tasks (heard_by (world m standings st) tasks)) (desc_is m desc standings h.model_is none)
-    ∙ ap (λ w. report asked desc tasks (heard_by w tasks)) (world_is m st desc standings fresh h) in
-    let put = subst (λ t. Puts old new t r) text p in
-    let read = subst (λ m. tasks_from m 1 lines ≡ Ok tasks) h.model_is given in
-    subst (λ t. TellsGraded (tasks_graded asked desc t) (status_of r) old new) (sym read)
-    (told_by r old new (report asked desc tasks (heard_by (first_world desc fresh_standings) tasks)) put broken)
+module _ (asked : Asked) (mark : Option ℕ) where
+  -- what is graded of these events, from this description
+  abbrev graded_of : DescData → List Task → World → Grading
+  graded_of desc tasks w = graded_as asked mark desc tasks (heard_by w tasks)
+
+  pub script_told : (input : Option (List ℕ)) (desc : DescData) (m : ModelData) (st : State)
+      (standings : List Standing) (tasks : List Task) (r : Result Status Status) (old new : Option (List ℕ)) → standings ≡ fresh_standings
+      → IsAt m standings (Some st) (first_world desc standings) → desc.flaws ≡ []
+      → IfSome input (λ bytes. tasks_from m 1 (lines_of bytes) ≡ Ok tasks)
+      → Puts old new (graded_of (desc_of m) tasks (world m standings st)).text r
+      → IfOk r (λ s. s ≡ (graded_of (desc_of m) tasks (world m standings st)).status) → IfErr r (λ s. is_complete s ≡ false)
+      → IfSome input (λ bytes. TellsGraded (script_graded asked mark desc (lines_of bytes)) (status_of r) old new)
+  script_told None desc m st standings tasks r old new fresh h none given p same broken = tt
+  script_told (Some bytes) desc m st standings tasks r old new fresh h none given p same broken =
+      let lines = lines_of bytes in
+      let is : graded_of (desc_of m) tasks (world m standings st) ≡ graded_of desc tasks (first_world desc fresh_standings) =
+      ap (λ d. graded_of d tasks (world m standings st)) (desc_is m desc standings h.model_is none)
+      ∙ ap (graded_of desc tasks) (world_is m st desc standings fresh h) in
+      let g = graded_of (desc_of m) tasks (world m standings st) in
+      let told = subst (λ (g : Grading). Tells (status_of r) g.status old new g.text) is (told_by r g.status old new g.text p same broken) in
+      let read = subst (λ m. tasks_from m 1 lines ≡ Ok tasks) h.model_is given in
+      subst (λ t. TellsGraded (tasks_graded asked mark desc t) (status_of r) old new) (sym read) told
 
 early : (g : Grading) (status : Status) (old new : Option (List ℕ)) → is_complete status ≡ false → Keeps old new
     → TellsGraded g status old new
 early g status old new broken kept = tells_none status g.status old new g.text broken kept
 
-pub script_early : (input : Option (List ℕ)) (asked : Asked) (desc : DescData) (status : Status) (old new : Option (List ℕ))
+pub script_early : (input : Option (List ℕ)) (asked : Asked) (mark : Option ℕ) (desc : DescData) (status : Status) (old new : Option (List ℕ))
     → is_complete status ≡ false → Keeps old new
-    → IfSome input (λ bytes. TellsGraded (script_graded asked desc (lines_of bytes)) status old new)
-script_early None asked desc status old new broken kept = tt
-script_early (Some bytes) asked desc status old new broken kept =
-    early (script_graded asked desc (lines_of bytes)) status old new broken kept
+    → IfSome input (λ bytes. TellsGraded (script_graded asked mark desc (lines_of bytes)) status old new)
+script_early None asked mark desc status old new broken kept = tt
+script_early (Some bytes) asked mark desc status old new broken kept =
+    early (script_graded asked mark desc (lines_of bytes)) status old new broken kept
 
-pub script_unread : (input : Option (List ℕ)) (asked : Asked) (desc : DescData) (m : ModelData) (standings : List Standing)
+pub script_unread : (input : Option (List ℕ)) (asked : Asked) (mark : Option ℕ) (desc : DescData) (m : ModelData) (standings : List Standing)
     (why : ScriptFault) (status : Status) (old new : Option (List ℕ)) → m ≡ (first_world desc standings).model
     → IfSome (refused_line why) (λ at. IfSome input (λ bytes. tasks_from m 1 (lines_of bytes) ≡ Err at))
     → EndsUnread why status old new
-    → IfSome input (λ bytes. TellsGraded (script_graded asked desc (lines_of bytes)) status old new)
-script_unread None asked desc m standings why status old new is given ends = tt
-script_unread (Some bytes) asked desc m standings (fault.Line number reason) status old new is given ends =
+    → IfSome input (λ bytes. TellsGraded (script_graded asked mark desc (lines_of bytes)) status old new)
+script_unread None asked mark desc m standings why status old new is given ends = tt
+script_unread (Some bytes) asked mark desc m standings (fault.Line number reason) status old new is given ends =
     let read = subst (λ m. tasks_from m 1 (lines_of bytes) ≡ Err (record { number = number; why = reason })) is given in
-    subst (λ t. TellsGraded (tasks_graded asked desc t) status old new) (sym read) ends
-script_unread (Some bytes) asked desc m standings fault.Source status old new is given ends =
-    early (script_graded asked desc (lines_of bytes)) status old new ends.0 ends.1
-script_unread (Some bytes) asked desc m standings fault.Memory status old new is given ends =
-    early (script_graded asked desc (lines_of bytes)) status old new ends.0 ends.1
+    subst (λ t. TellsGraded (tasks_graded asked mark desc t) status old new) (sym read) ends
+script_unread (Some bytes) asked mark desc m standings fault.Source status old new is given ends =
+    early (script_graded asked mark desc (lines_of bytes)) status old new ends.0 ends.1
+script_unread (Some bytes) asked mark desc m standings fault.Memory status old new is given ends =
+    early (script_graded asked mark desc (lines_of bytes)) status old new ends.0 ends.1
 
 -- ---- what passes the check
 
@@ -134,37 +163,107 @@ none_flawed desc is = no_flaws desc.flaws (passes desc (length desc.flaws == 0) 
 
 -- ---- a session
 
-stopped : (asked : Asked) (lines : List (List ℕ)) (opening : Result DescData (List ℕ)) (status : Status) (old new : Option (List ℕ))
-    → Stops opening status old new → TellsGraded (opened_graded asked lines opening) status old new
-stopped asked lines (Ok desc) status old new s = early (script_graded asked desc lines) status old new s.0 s.1
-stopped asked lines (Err line) status old new s = s
+stopped : (asked : Asked) (mark : Option ℕ) (lines : List (List ℕ)) (opening : Result DescData (List ℕ)) (status : Status) (old new : Option (List ℕ))
+    → Stops opening status old new → TellsGraded (opened_graded asked mark lines opening) status old new
+stopped asked mark lines (Ok desc) status old new s = early (script_graded asked mark desc lines) status old new s.0 s.1
+stopped asked mark lines (Err line) status old new s = s
 
-pub session_stopped : (input : Option (List ℕ)) (asked : Asked) (standings : List Standing) (status : Status) (old new : Option (List ℕ))
+pub session_stopped : (input : Option (List ℕ)) (asked : Asked) (mark : Option ℕ) (standings : List Standing) (status : Status) (old new : Option (List ℕ))
     → standings ≡ fresh_standings → IfSome input (λ bytes. Stops (unflawed (opening_of bytes (kinds_of standings))) status old new)
-    → IfSome input (λ bytes. TellsGraded (grading_of asked bytes) status old new)
-session_stopped None asked standings status old new fresh s = tt
-session_stopped (Some bytes) asked standings status old new fresh s =
-    stopped asked (script_of bytes) (unflawed (opening_of bytes (kinds_of fresh_standings))) status old new
+    → IfSome input (λ bytes. TellsGraded (grading_with asked mark bytes) status old new)
+session_stopped None asked mark standings status old new fresh s = tt
+session_stopped (Some bytes) asked mark standings status old new fresh s =
+    stopped asked mark (script_of bytes) (unflawed (opening_of bytes (kinds_of fresh_standings))) status old new
     (subst (λ a. Stops (unflawed (opening_of bytes (kinds_of a))) status old new) fresh s)
 
-pub session_graded : {K : Type 0} (written : K → Option (List ℕ)) (input : Option (List ℕ)) (asked : Asked) (standings : List Standing)
+pub session_graded : {K : Type 0} (written : K → Option (List ℕ)) (input : Option (List ℕ)) (asked : Asked) (mark : Option ℕ) (standings : List Standing)
     (desc : DescData) (lines : Reading) (left : Option (List ℕ)) (status : Status) (old mid new : K) → standings ≡ fresh_standings
     → IfSome input (λ bytes. OpensAs (unflawed (opening_of bytes (kinds_of standings))) bytes desc lines left) → mid ≡ old
-    → IfSome (input_of lines left) (λ bytes. TellsGraded (script_graded asked desc (lines_of bytes)) status (written mid) (written new))
-    → IfSome input (λ bytes. TellsGraded (grading_of asked bytes) status (written old) (written new))
-session_graded written None asked standings desc lines left status old mid new fresh opens same t = tt
-session_graded written (Some bytes) asked standings desc lines left status old mid new fresh opens same t =
-    let told = subst (λ i. IfSome i (λ bytes. TellsGraded (script_graded asked desc (lines_of bytes)) status (written mid) (written new)))
+    → IfSome (input_of lines left) (λ bytes. TellsGraded (script_graded asked mark desc (lines_of bytes)) status (written mid) (written new))
+    → IfSome input (λ bytes. TellsGraded (grading_with asked mark bytes) status (written old) (written new))
+session_graded written None asked mark standings desc lines left status old mid new fresh opens same t = tt
+session_graded written (Some bytes) asked mark standings desc lines left status old mid new fresh opens same t =
+    let told = subst (λ i. IfSome i (λ bytes. TellsGraded (script_graded asked mark desc (lines_of bytes)) status (written mid) (written new)))
     opens.rest t in
     let opening = subst (λ a. unflawed (opening_of bytes (kinds_of a)) ≡ Ok desc) fresh opens.opening in
-    let graded = subst (λ o. TellsGraded (opened_graded asked (script_of bytes) o) status (written mid) (written new)) (sym opening) told in
-    subst (λ k. TellsGraded (grading_of asked bytes) status (written k) (written new)) same graded
+    let graded = subst (λ o. TellsGraded (opened_graded asked mark (script_of bytes) o) status (written mid) (written new)) (sym opening) told in
+    subst (λ k. TellsGraded (grading_with asked mark bytes) status (written k) (written new)) same graded
 
-pub session_ended : (input : Option (List ℕ)) (asked : Asked) (status result : Status) (old mid new : Option (List ℕ))
+pub session_ended : (input : Option (List ℕ)) (asked : Asked) (mark : Option ℕ) (status result : Status) (old mid new : Option (List ℕ))
     → (result ≢ SinkFault → result ≡ status) → KeepsEarlier old new → Keeps mid new
-    → IfSome input (λ bytes. TellsGraded (grading_of asked bytes) status old mid)
-    → IfSome input (λ bytes. TellsGraded (grading_of asked bytes) result old new)
-session_ended None asked status result old mid new same earlier kept t = tt
-session_ended (Some bytes) asked status result old mid new same earlier kept t =
-    let g = grading_of asked bytes in
+    → IfSome input (λ bytes. TellsGraded (grading_with asked mark bytes) status old mid)
+    → IfSome input (λ bytes. TellsGraded (grading_with asked mark bytes) result old new)
+session_ended None asked mark status result old mid new same earlier kept t = tt
+session_ended (Some bytes) asked mark status result old mid new same earlier kept t =
+    let g = grading_with asked mark bytes in
     tells_written status result g.status old mid new [] g.text same earlier (subst (Keeps mid) (sym (append_none new)) kept) (λ c. kept) t
+
+-- ---- whether the mark is told
+
+module _ (asked : Asked) (bytes : List ℕ) where
+  abbrev with_mark : Bool → Grading
+  with_mark marked = grading_with asked (if marked then Some (mark_of bytes) else None) bytes
+
+  pub marked_is : is_marked asked ≡ true → grading_of asked bytes ≡ grading_with asked (Some (mark_of bytes)) bytes
+  marked_is at = ap with_mark at
+
+  pub unmarked_is : is_marked asked ≡ false → grading_of asked bytes ≡ grading_with asked None bytes
+  unmarked_is at = ap with_mark at
+
+pub told_marked : (input : Option (List ℕ)) (asked : Asked) (status : Status) (old new : Option (List ℕ)) → is_marked asked ≡ true
+    → IfSome input (λ bytes. TellsGraded (grading_with asked (Some (mark_of bytes)) bytes) status old new)
+    → IfSome input (λ bytes. TellsGraded (grading_of asked bytes) status old new)
+told_marked None asked status old new at t = tt
+told_marked (Some bytes) asked status old new at t = subst (λ g. TellsGraded g status old new) (sym (marked_is asked bytes at)) t
+
+pub told_unmarked : (input : Option (List ℕ)) (asked : Asked) (status : Status) (old new : Option (List ℕ)) → is_marked asked ≡ false
+    → IfSome input (λ bytes. TellsGraded (grading_with asked None bytes) status old new)
+    → IfSome input (λ bytes. TellsGraded (grading_of asked bytes) status old new)
+told_unmarked None asked status old new at t = tt
+told_unmarked (Some bytes) asked status old new at t = subst (λ g. TellsGraded g status old new) (sym (unmarked_is asked bytes at)) t
+
+-- ---- a session that was read whole
+
+pub whole_told : (input : Option (List ℕ)) (asked : Asked) (whole : List ℕ) (mark : ℕ) (status : Status) (old new : Option (List ℕ))
+    → IfSome input (λ bytes. whole ≡ bytes) → mark ≡ mark_of whole
+    → TellsGraded (grading_with asked (Some mark) whole) status old new
+    → IfSome input (λ bytes. TellsGraded (grading_with asked (Some (mark_of bytes)) bytes) status old new)
+whole_told None asked whole mark status old new same is t = tt
+whole_told (Some bytes) asked whole mark status old new same is t =
+    subst (λ bytes. TellsGraded (grading_with asked (Some (mark_of bytes)) bytes) status old new) same
+    (subst (λ mark. TellsGraded (grading_with asked (Some mark) whole) status old new) is t)
+
+pub unread_told : (input : Option (List ℕ)) (asked : Asked) (status : Status) (old : Option (List ℕ)) → is_complete status ≡ false
+    → IfSome input (λ bytes. TellsGraded (grading_with asked (Some (mark_of bytes)) bytes) status old old)
+unread_told None asked status old broken = tt
+unread_told (Some bytes) asked status old broken =
+    early (grading_with asked (Some (mark_of bytes)) bytes) status old old broken (Keeps-refl old)
+
+-- nothing came of it but that its source was read
+pub unread_leaves : {K : Type 0} (sink : Sink K) (status : Status) (source source_now : ℕ) (log : K) → source ≤ source_now
+    → is_complete status ≡ false → IsCaused status source source_now 0 0 → LeavesEnded sink status source source_now log log
+unread_leaves sink status source source_now log later broken cause = open_given_up sink status source source_now log log broken (record {
+  source_later = later;
+  cause = record {
+    source_fault = cause.source_fault;
+    sink_fault = λ e. absurd (omega (arith, cause.sink_fault e));
+    known = cause.known;
+  };
+  stays = open_same sink.written sink.faults sink.ends log log refl;
+})
+
+-- a source in memory never fails
+pub whole_leaves : {K : Type 0} (sink : Sink K) (status : Status) (source source_now : ℕ) (old new : K) → source ≤ source_now
+    → LeavesEnded sink status 0 0 old new → LeavesEnded sink status source source_now old new
+whole_leaves sink status source source_now old new later left = record {
+  keeps_earlier = left.keeps_earlier;
+  source_later = later;
+  log_later = left.log_later;
+  cause = record {
+    source_fault = λ e. absurd (omega (arith, left.cause.source_fault e));
+    sink_fault = left.cause.sink_fault;
+    known = left.cause.known;
+  };
+  ended = left.ended;
+  not_ended = left.not_ended;
+}

@@ -1,5 +1,5 @@
 -- How many flaws of each kind are found and missed.
-use Rattle.std.specs.Prelude.{ℕ, ◌+◌, nat_lt, ◌&&◌, ◌||◌, Bool, List, [], ◌∷◌, ◌++◌, map, filter, flat_map, count_by, codes, decimal, is_some, is_none}
+use Rattle.std.specs.Prelude.{ℕ, nat_lt, ◌&&◌, ◌||◌, Bool, List, [], ◌∷◌, ◌++◌, map, filter, flat_map, count_by, codes, decimal, is_some, is_none}
 use Rattle.rl_grade.specs.declared.grade.Graded.{Graded}
 use Rattle.rl_report.specs.Pieces.{joined}
 use Rattle.rl_grade_report.specs.declared.counts.Counts.{Counts}

@@ -1,14 +1,14 @@
 -- What is written of a session that is graded, and its status.
-use Rattle.std.specs.Prelude.{ℕ, ◌+◌, List, [], ◌∷◌, ◌++◌, length, Result, Ok, Err}
-use Rattle.rl_model.specs.Rows.{ChipData}
-use Rattle.rl_map.specs.Layout.{LayoutData}
+use Rattle.std.specs.Prelude.{ℕ, ◌+◌, Bool, if◌then◌else◌, List, [], ◌∷◌, ◌++◌, length, codes, decimal, Option, Some, None, Result, Ok, Err}
+use Rattle.rl_policy.specs.Numbers.{hex_digits}
 use Rattle.rl_desc.specs.Data.{DescData}
 use Rattle.rl_log.specs.declared.status.Status.{Status}
-use Rattle.rl_log.specs.declared.status.Status.TheVariants.{Passed, Refused}
+use Rattle.rl_log.specs.declared.status.Status.TheVariants.{Refused}
 use Rattle.rl_log.specs.Texts.{refused_text}
 use Rattle.rl_session.specs.Judged.{first_world}
 use Rattle.rl_session.specs.Session.{script_of}
 use Rattle.rl_grade.specs.declared.grade.Graded.{Graded}
+use Rattle.rl_grade.specs.declared.grade.Share.{Share}
 use Rattle.rl_grade.specs.declared.job.Task.{Task}
 use Rattle.rl_grade.specs.declared.place.Place.{Place}
 use Rattle.rl_grade.specs.declared.seen.Seen.{Seen}
@@ -21,12 +21,18 @@ use Rattle.rl_grade.specs.Record.{items_from}
 use Rattle.rl_grade.specs.Script.{RefusedLine, tasks_from}
 use Rattle.rl_grade.specs.Share.{grades_of}
 use Rattle.rl_grade_report.specs.declared.totals.Totals.{Totals}
+use Rattle.rl_report.specs.Pieces.{joined}
 use Rattle.rl_grade_report.specs.Lines.{line_text}
-use Rattle.rl_grade_report.specs.Row.{rows_text}
-use Rattle.rl_grade_report.specs.Totals.{capped, end_text, with_graded}
+use Rattle.rl_grade_report.specs.Row.{found_text, rows_text}
+use Rattle.rl_grade_report.specs.Totals.{capped, end_text, totals_of}
 use Rattle.rl_grade_report.specs.declared.asked.Asked.{Asked}
-use Rattle.rl_grade_report.specs.declared.asked.Asked.TheVariants.{Run, Missed}
-use Rattle.rl_grade_report.specs.Asked.{share_of}
+use Rattle.rl_grade_report.specs.declared.asked.Tell.{Tell}
+use Rattle.rl_grade_report.specs.declared.asked.Tell.TheVariants.{Run, Missed, Found, Lines, Json}
+use Rattle.rl_grade_report.specs.declared.facts.Facts.{Facts}
+use Rattle.rl_grade_report.specs.Asked.{is_json, is_marked, is_part, status_at}
+use Rattle.rl_grade_report.specs.Firsts.{lines_text}
+use Rattle.rl_grade_report.specs.Json.{json_text}
+use Rattle.rl_grade_report.specs.Mark.{mark_of}
 use Rattle.rl_grade_report.specs.Opening.{graded_opening}
 use Rattle.rl_grade_report.specs.Places.{places_of}
 
@@ -40,40 +46,85 @@ pub record Base : Type 0 where
 
 -- the flaws of a place that are tried, where so many stand before the place
 abbrev pub graded_at : Asked → DescData → Base → (before : ℕ) → Place → List Graded
-graded_at asked d base before place =
-    grades_of d base.tasks base.seen (share_of asked) before (flaws_at d base.items place)
+graded_at asked d base before place = grades_of d base.tasks base.seen asked.share before (flaws_at d base.items place)
 
 -- how many stand before the next place; a count that has come to its end stays there
 abbrev pub flaws_behind : DescData → Base → (before : ℕ) → Place → ℕ
 flaws_behind d base before place = capped (before + length (flaws_at d base.items place))
 
--- a line for `run`, and rows for `missed`
-abbrev pub place_text : Asked → DescData → Place → List Graded → List ℕ
-place_text (Run share) d place graded = line_text d.chip d.layout place graded
+-- those of one place after another
+unfoldable pub graded_from : Asked → DescData → Base → (before : ℕ) → List Place → List Graded
+graded_from asked d base before [] = []
+graded_from asked d base before (place ∷ places) =
+    graded_at asked d base before place ++ graded_from asked d base (flaws_behind d base before place) places
+
+-- all that are tried
+abbrev pub all_graded : Asked → DescData → Base → List Graded
+all_graded asked d base = graded_from asked d base 0 (places_of d.chip)
+
+-- ---- what is told
+
+-- a line for `run`, rows for `missed` and `found`
+abbrev pub place_text : Tell → DescData → Place → List Graded → List ℕ
+place_text Run d place graded = line_text d.chip d.layout place graded
 place_text Missed d place graded = rows_text d.chip d.layout graded
+place_text Found d place graded = found_text d.chip d.layout graded
+place_text Lines d place graded = []
+place_text Json d place graded = []
 
-abbrev pub last_text : Asked → Totals → List ℕ
-last_text (Run share) totals = end_text totals
-last_text Missed totals = []
+-- place by place
+unfoldable pub places_text : Asked → DescData → Base → (before : ℕ) → List Place → List ℕ
+places_text asked d base before [] = []
+places_text asked d base before (place ∷ places) =
+    place_text asked.tell d place (graded_at asked d base before place)
+    ++ places_text asked d base (flaws_behind d base before place) places
 
--- place by place, and the totals at the end
-unfoldable pub places_text : Asked → DescData → Base → (before : ℕ) → Totals → List Place → List ℕ
-places_text asked d base before totals [] = last_text asked totals
-places_text asked d base before totals (place ∷ places) =
-    place_text asked d place (graded_at asked d base before place)
-    ++ places_text asked d base (flaws_behind d base before place) (with_graded totals (graded_at asked d base before place)) places
+-- which share of which session
+abbrev pub share_line : Share → (mark : ℕ) → List ℕ
+share_line share mark =
+    joined (codes "# share " ∷ decimal share.first ∷ codes "/" ∷ decimal share.every ∷ codes " of session 0x" ∷ hex_digits mark
+    ∷ codes "\n" ∷ [])
+
+abbrev pub head_of : (json : Bool) → Share → (mark : Option ℕ) → List ℕ
+head_of json share None = []
+head_of json share (Some mark) = if json then [] else share_line share mark
+
+-- before the places: a share that isn't all says which it is
+abbrev pub head_text : Asked → Facts → List ℕ
+head_text asked facts = head_of (is_json asked.tell) asked.share facts.mark
+
+-- the totals of a share of rows, as a comment
+abbrev pub part_text : Asked → Totals → List ℕ
+part_text asked totals = if is_part asked then codes "# " ++ end_text totals else []
+
+abbrev pub last_of : Tell → Asked → Facts → DescData → List Task → List Graded → List ℕ
+last_of Run asked facts d tasks graded = end_text (totals_of graded)
+last_of Missed asked facts d tasks graded = part_text asked (totals_of graded)
+last_of Found asked facts d tasks graded = part_text asked (totals_of graded)
+last_of Lines asked facts d tasks graded = lines_text tasks graded ++ end_text (totals_of graded)
+last_of Json asked facts d tasks graded = json_text asked facts d.chip d.layout graded
+
+-- behind the places
+abbrev pub last_text : Asked → Facts → DescData → List Task → List Graded → List ℕ
+last_text asked facts d tasks graded = last_of asked.tell asked facts d tasks graded
 
 -- ---- a script
-
-abbrev pub no_totals : Totals
-no_totals = record { flaws = 0; found = 0 }
 
 abbrev pub base_of : List Task → List Heard → Base
 base_of tasks heard = record { tasks = tasks; seen = all_seen heard; items = items_from 0 heard }
 
--- the whole text, by tasks and by the events that they have without a flaw
-abbrev pub report : Asked → DescData → List Task → List Heard → List ℕ
-report asked d tasks heard = places_text asked d (base_of tasks heard) 0 no_totals (places_of d.chip)
+abbrev pub facts_of : (mark : Option ℕ) → Base → Facts
+facts_of mark base = record { mark = mark; lines = length base.tasks; events = length base.seen; items = base.items }
+
+-- the whole text, by what the script shows without a flaw
+abbrev pub reported : Asked → (mark : Option ℕ) → DescData → Base → List ℕ
+reported asked mark d base =
+    (head_text asked (facts_of mark base) ++ places_text asked d base 0 (places_of d.chip))
+    ++ last_text asked (facts_of mark base) d base.tasks (all_graded asked d base)
+
+-- by tasks and by the events that they have without a flaw
+abbrev pub report : Asked → (mark : Option ℕ) → DescData → List Task → List Heard → List ℕ
+report asked mark d tasks heard = reported asked mark d (base_of tasks heard)
 
 -- what is written, and the status
 pub record Grading : Type 0 where
@@ -83,21 +134,34 @@ pub record Grading : Type 0 where
 abbrev pub refused_with : List ℕ → Grading
 refused_with line = record { text = line; status = Refused }
 
--- the tasks are done over adapters that have sent nothing
-abbrev pub tasks_graded : Asked → DescData → Result (List Task) RefusedLine → Grading
-tasks_graded asked d (Ok tasks) =
-    record { text = report asked d tasks (heard_by (first_world d fresh_standings) tasks); status = Passed }
-tasks_graded asked d (Err at) = refused_with (refused_text at.number at.why)
+abbrev pub graded_as : Asked → (mark : Option ℕ) → DescData → List Task → List Heard → Grading
+graded_as asked mark d tasks heard = record {
+  text = report asked mark d tasks heard;
+  status = status_at asked (totals_of (all_graded asked d (base_of tasks heard)));
+}
 
-abbrev pub script_graded : Asked → DescData → (lines : List (List ℕ)) → Grading
-script_graded asked d lines = tasks_graded asked d (tasks_from (first_world d fresh_standings).model 1 lines)
+-- the tasks are done over adapters that have sent nothing
+abbrev pub tasks_graded : Asked → (mark : Option ℕ) → DescData → Result (List Task) RefusedLine → Grading
+tasks_graded asked mark d (Ok tasks) = graded_as asked mark d tasks (heard_by (first_world d fresh_standings) tasks)
+tasks_graded asked mark d (Err at) = refused_with (refused_text at.number at.why)
+
+abbrev pub script_graded : Asked → (mark : Option ℕ) → DescData → (lines : List (List ℕ)) → Grading
+script_graded asked mark d lines = tasks_graded asked mark d (tasks_from (first_world d fresh_standings).model 1 lines)
 
 -- ---- a session
 
-abbrev pub opened_graded : Asked → (lines : List (List ℕ)) → Result DescData (List ℕ) → Grading
-opened_graded asked lines (Ok d) = script_graded asked d lines
-opened_graded asked lines (Err line) = refused_with line
+abbrev pub opened_graded : Asked → (mark : Option ℕ) → (lines : List (List ℕ)) → Result DescData (List ℕ) → Grading
+opened_graded asked mark lines (Ok d) = script_graded asked mark d lines
+opened_graded asked mark lines (Err line) = refused_with line
+
+-- what a session is graded as, where this mark is told
+abbrev pub grading_with : Asked → (mark : Option ℕ) → List ℕ → Grading
+grading_with asked mark bytes = opened_graded asked mark (script_of bytes) (graded_opening bytes)
+
+-- the mark of a session, where its text tells it
+abbrev pub mark_told : Asked → List ℕ → Option ℕ
+mark_told asked bytes = if is_marked asked then Some (mark_of bytes) else None
 
 -- what a session is graded as
 abbrev pub grading_of : Asked → List ℕ → Grading
-grading_of asked bytes = opened_graded asked (script_of bytes) (graded_opening bytes)
+grading_of asked bytes = grading_with asked (mark_told asked bytes) bytes

@@ -1,9 +1,13 @@
 pub mod Asked
 pub mod Counts
+pub mod Ending
+pub mod Firsts
 pub mod Grading
 pub mod Groups
+pub mod Json
 pub mod Kinds
 pub mod Lines
+pub mod Mark
 pub mod Members
 pub mod Opening
 pub mod Places

@@ -1,5 +1,5 @@
 -- The line of a place.
-use Rattle.std.specs.Prelude.{ℕ, ◌==◌, if◌then◌else◌, List, [], ◌∷◌, ◌++◌, length, map, filter, All, codes, is_none, slice_get, unwrap_or, option_map}
+use Rattle.std.specs.Prelude.{ℕ, ◌==◌, if◌then◌else◌, List, [], ◌∷◌, length, map, filter, All, codes, is_none, slice_get, unwrap_or, option_map}
 use Rattle.rl_model.specs.Chip.{field_path, path_of_item}
 use Rattle.rl_model.specs.Rows.{ChipData}
 use Rattle.rl_map.specs.Layout.{LayoutData}

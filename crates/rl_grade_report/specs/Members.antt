@@ -1,7 +1,8 @@
 -- What the missed flaws of one sort are told by.
-use Rattle.std.specs.Prelude.{ℕ, ◌+◌, ◌-◌, ◌==◌, nat_lt, ◌&&◌, not, Bool, if◌then◌else◌, List, [], ◌∷◌, ◌++◌, length, map, flat_map, slice_index, codes, decimal, unwrap_or, bit_xor}
+use Rattle.std.specs.Prelude.{ℕ, ◌+◌, ◌-◌, ◌==◌, nat_lt, ◌&&◌, not, Bool, if◌then◌else◌, List, [], ◌∷◌, length, map, flat_map, slice_index, codes, decimal, unwrap_or, bit_xor}
 use Rattle.std.specs.Int.Count.{count_trailing_zeros}
 use Rattle.std.specs.List.{range_with_len}
+use Rattle.rl_policy.specs.declared.policy.TheConstants.{POLICIES}
 use Rattle.rl_policy.specs.Names.{name_of}
 use Rattle.rl_policy.specs.Numbers.{hex_digits}
 use Rattle.rl_model.specs.Rows.{ChipData}
@@ -53,9 +54,10 @@ word_text (Deaf item) = []
 abbrev pub words_text : List Flaw → List ℕ
 words_text flaws = flat_map word_text flaws
 
--- all policies but the field's own are 24
+-- by name, unless they are all policies but the field's own
 abbrev pub policies_text : List Flaw → List ℕ
-policies_text flaws = if length flaws == 24 then codes " all 24" else words_text flaws
+policies_text flaws =
+    if nat_lt (length flaws + 1) (length POLICIES) then words_text flaws else joined (codes " all " ∷ decimal (length flaws) ∷ [])
 
 -- bits and items by number, policies by name, addresses; of a deaf item there is no more to tell
 abbrev pub members_text : ChipData → (one : Flaw) → List Flaw → List ℕ

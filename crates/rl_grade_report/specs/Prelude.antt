@@ -6,9 +6,12 @@ pub use Rattle.rl_report.specs.Pieces.{Puts}
 pub use Rattle.rl_grade.specs.Prelude.{IsReady, world, bench_state, IsPlaceIn, TasksFit, fresh_standings, heard_by}
 pub use Rattle.rl_grade.specs.Reading.{refused_line}
 pub use Rattle.rl_grade_report.specs.Lines.{AreGraded}
-pub use Rattle.rl_grade_report.specs.Asked.{share_of}
-pub use Rattle.rl_grade_report.specs.Grading.{graded_at, grading_of, last_text, no_totals, place_text, places_text, report, script_graded}
+pub use Rattle.rl_grade_report.specs.Asked.{status_at}
+pub use Rattle.rl_grade_report.specs.Grading.{all_graded, base_of, facts_of, graded_at, graded_from, grading_of, grading_with, head_text}
+pub use Rattle.rl_grade_report.specs.Grading.{last_text, part_text, place_text, places_text, report, reported, script_graded, share_line}
+pub use Rattle.rl_grade_report.specs.Mark.{mark_of}
 pub use Rattle.rl_grade_report.specs.Opening.{unflawed}
 pub use Rattle.rl_grade_report.specs.Places.{mems_places, places_of, reg_places, regs_places}
 pub use Rattle.rl_grade_report.specs.Progress.{IsNext, TellsGraded, base_shown, desc_of, status_of}
 pub use Rattle.rl_grade_report.specs.Refusal.{EndsUnread}
+pub use Rattle.rl_grade_report.specs.Totals.{totals_of}

@@ -1,15 +1,13 @@
 -- How the places are done one after another.
-use Rattle.std.specs.Prelude.{◌≡◌, ℕ, List, [], Result, Ok, Err, Option}
+use Rattle.std.specs.Prelude.{◌≡◌, ℕ, List, [], ◌++◌, Result, Ok, Err, Option}
 use Rattle.rl_access.specs.Model.{ModelData}
 use Rattle.rl_desc.specs.Data.{DescData}
 use Rattle.rl_log.specs.declared.status.Status.{Status}
-use Rattle.rl_log.specs.declared.status.Status.TheVariants.{Passed}
 use Rattle.rl_log.specs.Telling.{Tells}
+use Rattle.rl_grade.specs.declared.grade.Graded.{Graded}
 use Rattle.rl_grade.specs.declared.job.Task.{Task}
 use Rattle.rl_grade.specs.declared.place.Place.{Place}
 use Rattle.rl_grade.specs.declared.run.Shown.{Shown}
-use Rattle.rl_grade_report.specs.declared.totals.Totals.{Totals}
-use Rattle.rl_grade_report.specs.Totals.{with_graded}
 use Rattle.rl_grade_report.specs.declared.asked.Asked.{Asked}
 use Rattle.rl_grade_report.specs.Grading.{Base, Grading, flaws_behind, graded_at}
 
@@ -21,16 +19,16 @@ base_shown tasks shown = record { tasks = tasks; seen = shown.seen.items; items 
 abbrev pub desc_of : ModelData → DescData
 desc_of m = record { chip = m.chip; layout = m.layout; flaws = [] }
 
--- A place was done: the description is the same, its flaws stand before the next place, and those tried are counted.
-pub record IsNext (asked : Asked) (base : Base) (place : Place) (d : DescData) (before : ℕ) (totals : Totals) (d-next : DescData)
-    (before-next : ℕ) (totals-next : Totals) : Type 0 where
+-- A place was done: the description is the same, its flaws stand before the next place, and those tried come behind the earlier ones.
+pub record IsNext (asked : Asked) (base : Base) (place : Place) (d : DescData) (before : ℕ) (graded : List Graded) (d-next : DescData)
+    (before-next : ℕ) (graded-next : List Graded) : Type 0 where
   pub desc_is : d-next ≡ d
   pub number_is : before-next ≡ flaws_behind d base before place
-  pub totals_are : totals-next ≡ with_graded totals (graded_at asked d base before place)
+  pub graded_are : graded-next ≡ graded ++ graded_at asked d base before place
 
--- passed where its text was written, and else the status with which that failed
-abbrev pub status_of : {T : Type 0} → (written : Result T Status) → Status
-status_of (Ok x) = Passed
+-- the status with which the text was written, or with which that failed
+abbrev pub status_of : (written : Result Status Status) → Status
+status_of (Ok status) = status
 status_of (Err status) = status
 
 -- the whole text was told with its status, or a front of it

@@ -1,5 +1,5 @@
 -- The last line of a grading.
-use Rattle.std.specs.Prelude.{ℕ, ◌+◌, ◌-◌, ◌*◌, ◌/◌, ◌%◌, ◌^◌, ◌==◌, min, if◌then◌else◌, List, [], ◌∷◌, ◌++◌, length, count_by, codes, decimal, is_some}
+use Rattle.std.specs.Prelude.{ℕ, ◌+◌, ◌-◌, ◌*◌, ◌/◌, ◌%◌, ◌^◌, ◌==◌, nat_lt, min, Bool, false, if◌then◌else◌, List, [], ◌∷◌, length, count_by, codes, decimal, is_some, Option, Some, None}
 use Rattle.rl_grade.specs.declared.grade.Graded.{Graded}
 use Rattle.rl_report.specs.Pieces.{joined}
 use Rattle.rl_grade_report.specs.declared.totals.Totals.{Totals}
@@ -14,6 +14,17 @@ with_graded t graded = record {
   flaws = capped (t.flaws + length graded);
   found = capped (t.found + count_by (λ g. is_some g.found) graded);
 }
+
+abbrev pub no_totals : Totals
+no_totals = record { flaws = 0; found = 0 }
+
+abbrev pub totals_of : List Graded → Totals
+totals_of graded = with_graded no_totals graded
+
+-- fewer were found than so many of a hundred
+abbrev pub is_below : Option ℕ → Totals → Bool
+is_below None t = false
+is_below (Some percent) t = nat_lt (t.found * 100) (percent * t.flaws)
 
 -- the share that was found in tenths of a per cent, rounded down
 abbrev pub tenths : Totals → ℕ

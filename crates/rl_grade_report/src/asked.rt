@@ -1,30 +1,73 @@
 // What the words of a call ask for.
 ghost use Rattle.std.specs.Prelude.{◌≡◌, ◌<◌, ◌==◌, position, IfSome};
-ghost use Rattle.rl_grade_report.specs.Asked.{whole, share_of, is_decimal, value_of, decimal_of, share_if, share_named};
-ghost use Rattle.rl_grade_report.specs.Asked.{task_named, task_shared, asked_by};
+ghost use Rattle.rl_grade_report.specs.Asked.{whole, is_decimal, value_of, decimal_of, share_if, share_named};
+ghost use Rattle.rl_grade_report.specs.Asked.{tell_named, percent_if, bound_named, asked_if, asked_by};
+ghost use Rattle.rl_grade_report.specs.Asked.{is_json, is_part, is_marked, status_at};
 
+use crate::totals::Totals;
 use rl_grade::Share;
+use rl_log::Status;
 use rl_policy::{NumberText, read_number};
+
+/// What a grading tells.
+#[derive(Clone, Copy, Debug, PartialEq, Eq)]
+pub enum Tell {
+    /// A line for each place, and the totals.
+    Run,
+    /// Each flaw that is missed, as a row of a description.
+    Missed,
+    /// Each flaw that is found, as a row behind the number of the line that finds it first.
+    Found,
+    /// For each line of the script how many flaws it finds first, and the totals.
+    Lines,
+    /// All of it as one object in JSON.
+    Json,
+}
 
 /// What is asked for.
 #[derive(Clone, Copy, Debug, PartialEq, Eq)]
-pub enum Asked {
-    /// A line for each place, of the flaws of a share, and the totals.
-    Run(Share),
-    /// Each flaw that is missed, as a row of a description.
-    Missed,
+pub struct Asked {
+    pub tell: Tell,
+    /// Which flaws are tried.
+    pub share: Share,
+    /// How many of a hundred flaws are to be found at least.
+    pub bound: Option<u64>,
+}
+
+impl Tell {
+    // Whether it is one object.
+    pub(crate) fn is_json(self) -> bool
+        ensures { result ≡ is_json self }
+    {
+        matches!(self, Tell::Json)
+    }
 }
 
 const WHOLE: Share = Share { first: 1, every: 1 };
 
 impl Asked {
-    /// Which flaws are tried.
-    pub fn share(self) -> Share
-        ensures { result ≡ share_of self }
+    // Whether these are not all flaws.
+    pub(crate) fn is_part(self) -> bool
+        ensures { result ≡ is_part self }
     {
-        match self {
-            Asked::Run(share) => share,
-            Asked::Missed => WHOLE,
+        self.share.every != 1
+    }
+
+    // Whether the text names the session by its mark: that of a share, and the object.
+    pub(crate) fn is_marked(self) -> bool
+        ensures { result ≡ is_marked self }
+    {
+        self.is_part() || self.tell.is_json()
+    }
+
+    // How a grading ends that wrote its text.
+    pub(crate) fn status(self, totals: Totals) -> Status
+        ensures { result ≡ status_at self totals }
+    {
+        if totals.is_below(self.bound) {
+            Status::Found
+        } else {
+            Status::Passed
         }
     }
 }
@@ -87,39 +130,75 @@ fn share_named(word: &[u8]) -> Option<Share>
     share_if(decimal_of(&word[..slash]), decimal_of(&word[slash + 1..]))
 }
 
-fn task_named(word: &str) -> Option<Asked>
-    ensures { result ≡ task_named word.now }
+fn tell_named(word: &str) -> Option<Tell>
+    ensures { result ≡ tell_named word.now }
 {
-    if word == "run" {
-        Some(Asked::Run(WHOLE))
-    } else if word == "missed" {
-        Some(Asked::Missed)
-    } else {
-        None
+    match word {
+        "run" => Some(Tell::Run),
+        "missed" => Some(Tell::Missed),
+        "found" => Some(Tell::Found),
+        "lines" => Some(Tell::Lines),
+        "json" => Some(Tell::Json),
+        _ => None,
     }
 }
 
-fn task_shared(word: &str, share: &str) -> Option<Asked>
-    ensures asked { result ≡ task_shared word.now share.now }
-    ensures every { IfSome result (λ asked. 0 < (share_of asked).every) }
+fn percent_if(percent: Option<u64>) -> Option<u64>
+    ensures { result ≡ percent_if percent }
 {
-    if word != "run" {
+    match percent {
+        Some(percent) if percent <= 100 => Some(percent),
+        _ => None,
+    }
+}
+
+// `at-least P`, with P up to 100.
+fn bound_named(word: &str, percent: &str) -> Option<Option<u64>>
+    ensures { result ≡ bound_named word.now percent.now }
+{
+    if word != "at-least" {
         return None;
     }
-    match share_named(share.as_bytes()) {
-        Some(share) => Some(Asked::Run(share)),
+    match percent_if(decimal_of(percent.as_bytes())) {
+        Some(percent) => Some(Some(percent)),
         None => None,
     }
 }
 
-/// What the words ask for: `run`, `run K/N` with K from 1 to N, or `missed`; none where they ask for nothing known.
+fn asked_if(tell: Option<Tell>, share: Option<Share>, bound: Option<Option<u64>>) -> Option<Asked>
+    requires { IfSome share (λ share. 0 < share.every) }
+    ensures asked { result ≡ asked_if tell share bound }
+    ensures every { IfSome result (λ asked. 0 < asked.share.every) }
+{
+    let (Some(tell), Some(share), Some(bound)) = (tell, share, bound) else {
+        return None;
+    };
+    Some(Asked { tell, share, bound })
+}
+
+/// What the words ask for: `run`, `missed`, `found`, `lines` or `json`; then, if so wanted, a share `K/N` with K from 1
+/// to N; then, if so wanted, `at-least P` with P up to 100. None where they ask for nothing known.
 pub fn asked_by(words: &[String]) -> Option<Asked>
     ensures asked { result ≡ asked_by words.now }
-    ensures every { IfSome result (λ asked. 0 < (share_of asked).every) }
+    ensures every { IfSome result (λ asked. 0 < asked.share.every) }
 {
     match words {
-        [word] => task_named(word.as_str()),
-        [word, share] => task_shared(word.as_str(), share.as_str()),
+        [word] => asked_if(tell_named(word.as_str()), Some(WHOLE), Some(None)),
+        [word, share] => asked_if(
+            tell_named(word.as_str()),
+            share_named(share.as_str().as_bytes()),
+            Some(None),
+        ),
+        [word, at_least, percent] => asked_if(
+            tell_named(word.as_str()),
+            Some(WHOLE),
+            bound_named(at_least.as_str(), percent.as_str()),
+        ),
+        [word, share, at_least, percent] => asked_if(
+            tell_named(word.as_str()),
+            share_named(share.as_str().as_bytes()),
+            bound_named(at_least.as_str(), percent.as_str()),
+        ),
         _ => None,
     }
 }

@@ -30,7 +30,7 @@ fn is_missed(it: &Graded, kind: Kind) -> bool
 }
 
 // Those of a kind.
-fn counts_of(graded: &[Graded], kind: Kind) -> Counts
+pub(crate) fn counts_of(graded: &[Graded], kind: Kind) -> Counts
     ensures { result ≡ counts_of graded.now kind }
 {
     let found = graded.iter().filter(|it| is_found(it, kind)).count();
@@ -40,7 +40,7 @@ fn counts_of(graded: &[Graded], kind: Kind) -> Counts
 
 impl Counts {
     // Whether there are any.
-    fn is_told(self) -> bool
+    pub(crate) fn is_told(self) -> bool
         ensures { result ≡ is_told self }
     {
         self.found > 0 || self.missed > 0

@@ -1,22 +1,27 @@
 // A session that is graded.
-ghost use Rattle.std.specs.Prelude.{◌≡◌, ◌≢◌, ◌<◌, ◌^◌, [], Some, false, map, length, All, IfErr, IfOk, IfSome};
-ghost use Rattle.rl_grade_report.specs.Prelude.{AwaitsScript, IsBuiltWith, IsCaused, IsNext, IsPlaceIn, IsReady};
+ghost use Rattle.std.specs.Prelude.{◌≡◌, ◌≢◌, ◌≤◌, ◌<◌, ◌^◌, ◌++◌, [], Some, None, false, map, length, All, IfErr, IfOk, IfSome};
+ghost use Rattle.rl_grade_report.specs.Prelude.{AreGraded, AwaitsScript, IsBuiltWith, IsCaused, IsNext, IsPlaceIn, IsReady};
 ghost use Rattle.rl_grade_report.specs.Prelude.{LeavesEnded, LeavesOpen, Puts, Stays, TasksFit, Tells, TellsGraded};
-ghost use Rattle.rl_grade_report.specs.Prelude.{base_shown, bench_state, desc_of, fresh_standings, graded_at, grading_of};
-ghost use Rattle.rl_grade_report.specs.Prelude.{heard_by, input_of, is_complete, kinds_of, lines_of, no_totals, place_text};
-ghost use Rattle.rl_grade_report.specs.Prelude.{places_of, places_text, report, script_graded, share_of, status_of, world};
+ghost use Rattle.rl_grade_report.specs.Prelude.{all_graded, base_of, base_shown, bench_state, desc_of, facts_of};
+ghost use Rattle.rl_grade_report.specs.Prelude.{fresh_standings, graded_at, graded_from, grading_of, grading_with};
+ghost use Rattle.rl_grade_report.specs.Prelude.{heard_by, input_of, is_complete, kinds_of, lines_of, mark_of};
+ghost use Rattle.rl_grade_report.specs.Prelude.{place_text, places_of, places_text, report, reported, script_graded};
+ghost use Rattle.rl_grade_report.specs.Prelude.{status_at, status_of, totals_of, world};
 
 use crate::asked::Asked;
+use crate::facts::Facts;
+use crate::mark::mark_of;
 use crate::meter::Meter;
 use crate::places::places_of;
 use crate::refusal::{Unflawed, end_unread};
 use crate::totals::Totals;
-use crate::writing::{put_last, put_place};
+use crate::whole::{Bytes, read_all};
+use crate::writing::{put_head, put_last, put_place};
 use rl_access::Model;
 use rl_bench::Bench;
 use rl_bus::{Adapter, Adapters};
 use rl_desc::Desc;
-use rl_grade::{Place, Shown, Task, grade_place, read_script, show};
+use rl_grade::{Graded, Place, Shown, Task, grade_place, read_script, show};
 use rl_log::Status;
 use rl_report::{LineReader, Sink, Source};
 use rl_session::open;
@@ -29,7 +34,8 @@ struct Progress {
     desc: Desc,
     // How many flaws stand before the next place.
     number: u64,
-    totals: Totals,
+    // Those that were tried, each with its answer.
+    graded: Vec<Graded>,
 }
 
 // Tries the flaws of a place, and writes what was found.
@@ -46,11 +52,13 @@ fn grade_next<K: Sink>(
     requires kinds { progress.desc.layout.kinds ≡ kinds_of fresh_standings }
     requires fits { TasksFit progress.desc.chip (length progress.desc.layout.maps) tasks.now }
     requires place { IsPlaceIn progress.desc.chip place }
-    requires every { 0 < (share_of asked).every }
-    ensures bytes { Puts (K.written log.old) (K.written log.new) (place_text asked progress.desc place
+    requires every { 0 < asked.share.every }
+    requires each { AreGraded progress.desc.chip progress.desc.layout progress.graded.items }
+    ensures bytes { Puts (K.written log.old) (K.written log.new) (place_text asked.tell progress.desc place
         (graded_at asked progress.desc (base_shown tasks.now shown.now) progress.number place)) result }
     ensures next { IfOk result (λ next. IsNext asked (base_shown tasks.now shown.now) place
-        progress.desc progress.number progress.totals next.desc next.number next.totals) }
+        progress.desc progress.number progress.graded.items next.desc next.number next.graded.items) }
+    ensures each { IfOk result (λ next. AreGraded progress.desc.chip progress.desc.layout next.graded.items) }
     ensures broken { IfErr result (λ status. is_complete status ≡ false) }
     ensures cause { IfErr result (λ status. IsCaused status 0 0 (K.faults log.old) (K.faults log.new)) }
     ensures stays { Stays K.faults K.ends K.target log.old log.new }
@@ -58,20 +66,23 @@ fn grade_next<K: Sink>(
     let Progress {
         desc,
         number,
-        totals,
+        mut graded,
     } = progress;
-    let Ok(grade) = grade_place(alloc, desc, tasks, shown, place, number, asked.share()) else {
+    let Ok(grade) = grade_place(alloc, desc, tasks, shown, place, number, asked.share) else {
         return Err(Status::Memory);
     };
-    put_place(alloc, asked, &grade.desc, place, &grade.graded, log)?;
+    let Ok(()) = graded.extend_from_slice(&grade.graded) else {
+        return Err(Status::Memory);
+    };
+    put_place(alloc, asked.tell, &grade.desc, place, &grade.graded, log)?;
     Ok(Progress {
         desc: grade.desc,
         number: number.saturating_add(grade.flaws),
-        totals: totals.with(&grade.graded),
+        graded,
     })
 }
 
-// Tries the flaws of the places, and writes what was found.
+// Tries the flaws of the places, and writes what was found at each.
 fn grade_places<K: Sink, M: Meter>(
     alloc: Global,
     asked: Asked,
@@ -81,14 +92,18 @@ fn grade_places<K: Sink, M: Meter>(
     places: &[Place],
     log: &mut K,
     meter: &mut M,
-) -> Result<(), Status>
+) -> Result<Progress, Status>
     requires built_with { IsBuiltWith desc.layout desc.chip }
     requires kinds { desc.layout.kinds ≡ kinds_of fresh_standings }
     requires fits { TasksFit desc.chip (length desc.layout.maps) tasks.now }
     requires places { All (IsPlaceIn desc.chip) places.now }
-    requires every { 0 < (share_of asked).every }
+    requires every { 0 < asked.share.every }
     ensures bytes { Puts (K.written log.old) (K.written log.new)
-        (places_text asked desc (base_shown tasks.now shown.now) 0 no_totals places.now) result }
+        (places_text asked desc (base_shown tasks.now shown.now) 0 places.now) result }
+    ensures desc { IfOk result (λ done. done.desc ≡ desc) }
+    ensures graded { IfOk result (λ done.
+        done.graded.items ≡ graded_from asked desc (base_shown tasks.now shown.now) 0 places.now) }
+    ensures each { IfOk result (λ done. AreGraded desc.chip desc.layout done.graded.items) }
     ensures broken { IfErr result (λ status. is_complete status ≡ false) }
     ensures cause { IfErr result (λ status. IsCaused status 0 0 (K.faults log.old) (K.faults log.new)) }
     ensures stays { Stays K.faults K.ends K.target log.old log.new }
@@ -96,58 +111,80 @@ fn grade_places<K: Sink, M: Meter>(
     let mut progress = Progress {
         desc,
         number: 0,
-        totals: Totals::NONE,
+        graded: Vec::new(alloc),
     };
     for place in places {
         progress = grade_next(alloc, asked, tasks, shown, *place, progress, log)?;
         meter.show(progress.number);
     }
-    put_last(alloc, asked, progress.totals, log)
+    Ok(progress)
+}
+
+// What is told of the session of these tasks.
+fn facts_of(mark: Option<u64>, tasks: &[Task], shown: &Shown) -> Facts
+    ensures { result ≡ facts_of mark (base_shown tasks.now shown.now) }
+{
+    Facts {
+        mark,
+        lines: tasks.len() as u64,
+        events: shown.seen.len() as u64,
+        items: shown.items,
+    }
 }
 
 // Tries the flaws of a description without flaws of its own, where this is what the tasks show.
 fn grade_shown<K: Sink, M: Meter>(
     alloc: Global,
     asked: Asked,
+    mark: Option<u64>,
     desc: Desc,
     tasks: &[Task],
     shown: &Shown,
     log: &mut K,
     meter: &mut M,
-) -> Result<(), Status>
+) -> Result<Status, Status>
     requires built_with { IsBuiltWith desc.layout desc.chip }
     requires kinds { desc.layout.kinds ≡ kinds_of fresh_standings }
     requires fits { TasksFit desc.chip (length desc.layout.maps) tasks.now }
-    requires every { 0 < (share_of asked).every }
+    requires every { 0 < asked.share.every }
     ensures bytes { Puts (K.written log.old) (K.written log.new)
-        (places_text asked desc (base_shown tasks.now shown.now) 0 no_totals (places_of desc.chip)) result }
+        (reported asked mark desc (base_shown tasks.now shown.now)) result }
+    ensures status { IfOk result (λ status.
+        status ≡ status_at asked (totals_of (all_graded asked desc (base_shown tasks.now shown.now)))) }
     ensures broken { IfErr result (λ status. is_complete status ≡ false) }
     ensures cause { IfErr result (λ status. IsCaused status 0 0 (K.faults log.old) (K.faults log.new)) }
     ensures stays { Stays K.faults K.ends K.target log.old log.new }
 {
+    let facts = facts_of(mark, tasks, shown);
     let Ok(places) = places_of(alloc, &desc.chip) else {
         return Err(Status::Memory);
     };
-    grade_places(alloc, asked, desc, tasks, shown, &places, log, meter)
+    put_head(alloc, asked, facts, log)?;
+    let done = grade_places(alloc, asked, desc, tasks, shown, &places, log, meter)?;
+    put_last(alloc, asked, facts, &done.desc, tasks, &done.graded, log)?;
+    Ok(asked.status(Totals::NONE.with(&done.graded)))
 }
 
 // Does the tasks without a flaw, and then tries the flaws.
 fn grade_tasks<K: Sink, M: Meter>(
     alloc: Global,
     asked: Asked,
+    mark: Option<u64>,
     model: Model,
     bench: Bench,
     adapters: &mut Adapters,
     tasks: &[Task],
     log: &mut K,
     meter: &mut M,
-) -> Result<(), Status>
+) -> Result<Status, Status>
     requires ready { IsReady model (map standing adapters.old.items) (Some (bench_state bench)) }
     requires kinds { model.layout.kinds ≡ kinds_of fresh_standings }
     requires fits { TasksFit model.chip (length model.layout.maps) tasks.now }
-    requires every { 0 < (share_of asked).every }
-    ensures bytes { Puts (K.written log.old) (K.written log.new) (report asked (desc_of model) tasks.now
+    requires every { 0 < asked.share.every }
+    ensures bytes { Puts (K.written log.old) (K.written log.new) (report asked mark (desc_of model) tasks.now
         (heard_by (world model (map standing adapters.old.items) (bench_state bench)) tasks.now)) result }
+    ensures status { IfOk result (λ status. status ≡ status_at asked (totals_of (all_graded asked (desc_of model)
+        (base_of tasks.now (heard_by (world model (map standing adapters.old.items) (bench_state bench)) tasks.now))))) }
     ensures broken { IfErr result (λ status. is_complete status ≡ false) }
     ensures cause { IfErr result (λ status. IsCaused status 0 0 (K.faults log.old) (K.faults log.new)) }
     ensures stays { Stays K.faults K.ends K.target log.old log.new }
@@ -163,15 +200,15 @@ fn grade_tasks<K: Sink, M: Meter>(
         layout,
         flaws: Vec::new(alloc),
     };
-    grade_shown(alloc, asked, desc, tasks, &shown, log, meter)
+    grade_shown(alloc, asked, mark, desc, tasks, &shown, log, meter)
 }
 
 // How a grading ends that wrote its text, or a front of it.
-fn status_of(written: Result<(), Status>) -> Status
+fn status_of(written: Result<Status, Status>) -> Status
     ensures { result ≡ status_of written }
 {
     match written {
-        Ok(()) => Status::Passed,
+        Ok(status) => status,
         Err(status) => status,
     }
 }
@@ -180,6 +217,7 @@ fn status_of(written: Result<(), Status>) -> Status
 fn grade_script<S: Source, K: Sink, M: Meter>(
     alloc: Global,
     asked: Asked,
+    mark: Option<u64>,
     desc: Desc,
     lines: &mut LineReader,
     source: &mut S,
@@ -190,9 +228,9 @@ fn grade_script<S: Source, K: Sink, M: Meter>(
     requires awaits { AwaitsScript desc lines.old (kinds_of (map standing adapters.old.items)) }
     requires none { desc.flaws ≡ [] }
     requires fresh { map standing adapters.old.items ≡ fresh_standings }
-    requires every { 0 < (share_of asked).every }
+    requires every { 0 < asked.share.every }
     ensures tells { IfSome (input_of lines.old (S.left source.old)) (λ bytes.
-        TellsGraded (script_graded asked desc (lines_of bytes)) result (K.written log.old) (K.written log.new)) }
+        TellsGraded (script_graded asked mark desc (lines_of bytes)) result (K.written log.old) (K.written log.new)) }
     ensures leaves { LeavesOpen K.Sink result (S.faults source.old) (S.faults source.new) log.old log.new }
 {
     let Ok((model, bench)) = open(alloc, desc) else {
@@ -200,16 +238,67 @@ fn grade_script<S: Source, K: Sink, M: Meter>(
     };
     match read_script(alloc, &model, lines, source) {
         Ok(tasks) => status_of(grade_tasks(
-            alloc, asked, model, bench, adapters, &tasks, log, meter,
+            alloc, asked, mark, model, bench, adapters, &tasks, log, meter,
         )),
         Err(fault) => end_unread(fault, log),
     }
 }
 
-/// Grades a session: tries which single flaws of its device its script finds, and writes for each place what was found,
-/// or each flaw that is missed as a row. The adapters are a plain and an APB adapter that have sent nothing.
+// Grades a session of this mark, or of none that is told.
+fn grade_session<S: Source, K: Sink, M: Meter>(
+    alloc: Global,
+    asked: Asked,
+    mark: Option<u64>,
+    source: &mut S,
+    log: &mut K,
+    adapters: &mut Adapters,
+    meter: &mut M,
+) -> Status
+    requires fresh { map standing adapters.old.items ≡ fresh_standings }
+    requires every { 0 < asked.share.every }
+    ensures tells { IfSome (S.left source.old) (λ bytes.
+        TellsGraded (grading_with asked mark bytes) result (K.written log.old) (K.written log.new)) }
+    ensures leaves { LeavesEnded K.Sink result (S.faults source.old) (S.faults source.new) log.old log.new }
+{
+    let (desc, mut lines) = match open_checked(alloc, source, log, adapters, &Unflawed {}) {
+        Ok(opened) => opened,
+        Err(status) => return end_log(status, log),
+    };
+    let graded = grade_script(
+        alloc, asked, mark, desc, &mut lines, source, log, adapters, meter,
+    );
+    end_log(graded, log)
+}
+
+// Grades a session that is read whole first, for its mark.
+fn grade_marked<S: Source, K: Sink, M: Meter>(
+    alloc: Global,
+    asked: Asked,
+    source: &mut S,
+    log: &mut K,
+    adapters: &mut Adapters,
+    meter: &mut M,
+) -> Status
+    requires fresh { map standing adapters.old.items ≡ fresh_standings }
+    requires every { 0 < asked.share.every }
+    ensures tells { IfSome (S.left source.old) (λ bytes.
+        TellsGraded (grading_with asked (Some (mark_of bytes)) bytes) result (K.written log.old) (K.written log.new)) }
+    ensures leaves { LeavesEnded K.Sink result (S.faults source.old) (S.faults source.new) log.old log.new }
+{
+    let bytes = match read_all(alloc, source) {
+        Ok(bytes) => bytes,
+        Err(status) => return status,
+    };
+    let mark = mark_of(&bytes);
+    let mut whole = Bytes { left: &bytes };
+    grade_session(alloc, asked, Some(mark), &mut whole, log, adapters, meter)
+}
+
+/// Grades a session: tries which single flaws of its device its script finds, and writes what is asked for. The adapters
+/// are a plain and an APB adapter that have sent nothing.
 ///
-/// Nothing is written before the whole script was read. The log is finished once, where its last line was written.
+/// Nothing is written before the whole script was read. The log is finished once, where its last line was written. Where
+/// a bound is asked for and fewer flaws were found, the status is `Found`.
 pub fn run_grade<S: Source, K: Sink, M: Meter>(
     alloc: Global,
     asked: Asked,
@@ -219,7 +308,7 @@ pub fn run_grade<S: Source, K: Sink, M: Meter>(
     meter: &mut M,
 ) -> Status
     requires fresh { map standing adapters.old.items ≡ fresh_standings }
-    requires every { 0 < (share_of asked).every }
+    requires every { 0 < asked.share.every }
 
     // Which sessions are refused and in what words, what is written of the others, and the statuses.
     ensures tells { IfSome (S.left source.old) (λ bytes.
@@ -229,10 +318,8 @@ pub fn run_grade<S: Source, K: Sink, M: Meter>(
     // written. No fault is made up, and the status is never that of other words.
     ensures leaves { LeavesEnded K.Sink result (S.faults source.old) (S.faults source.new) log.old log.new }
 {
-    let (desc, mut lines) = match open_checked(alloc, source, log, adapters, &Unflawed {}) {
-        Ok(opened) => opened,
-        Err(status) => return end_log(status, log),
-    };
-    let graded = grade_script(alloc, asked, desc, &mut lines, source, log, adapters, meter);
-    end_log(graded, log)
+    if asked.is_marked() {
+        return grade_marked(alloc, asked, source, log, adapters, meter);
+    }
+    grade_session(alloc, asked, None, source, log, adapters, meter)
 }

@@ -1,16 +1,22 @@
 //! The text of a grading: a line for each register, field, memory and the session, which counts the flaws found and
-//! missed and tells the missed ones, and each missed one as a row of a description.
+//! missed and tells the missed ones; each missed one, or each that is found, as a row of a description; how many flaws
+//! each line of the script finds first; or all of it as one object in JSON.
 //!
 //! The grading of a session: refuses what can't be graded, tries the flaws place by place, and writes what was found.
 #![tactic(auto)]
 
 mod asked;
 mod counts;
+mod ending;
+mod facts;
+mod firsts;
 mod grading;
 mod groups;
+mod json;
 mod kind;
 pub mod law;
 mod line;
+mod mark;
 mod members;
 mod meter;
 mod pieces;
@@ -18,11 +24,17 @@ mod places;
 mod refusal;
 mod row;
 mod totals;
+mod whole;
 mod writing;
 
-pub use asked::{Asked, asked_by};
+pub use asked::{Asked, Tell, asked_by};
+pub use ending::exit_code;
+pub use facts::Facts;
+pub use firsts::push_lines;
 pub use grading::run_grade;
+pub use json::push_json;
 pub use line::push_line;
+pub use mark::mark_of;
 pub use meter::Meter;
-pub use row::push_rows;
+pub use row::{push_found_rows, push_rows};
 pub use totals::{Totals, push_end};

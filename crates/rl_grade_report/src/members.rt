@@ -11,12 +11,9 @@ use itoa::Buffer;
 use rl_bench::Flaw;
 use rl_map::Layout;
 use rl_model::Chip;
-use rl_policy::{Policy, spell};
+use rl_policy::{POLICIES, Policy, spell};
 use rl_session::{front, push_pieces};
 use std::alloc::{AllocError, Global};
-
-// How many policies a field could have instead of its own.
-const OTHERS: usize = 24;
 
 // Whether the number at a place is one more than the one before it.
 fn follows(numbers: &[u64], place: usize) -> bool
@@ -160,8 +157,10 @@ pub(crate) fn push_members(
 fn push_policies(text: &mut Vec<u8>, flaws: &[Flaw]) -> Result<(), AllocError>
     ensures { OnOk result (text.new.items ≡ text.old.items ++ policies_text flaws.now) }
 {
-    if flaws.len() == OTHERS {
-        return text.extend_from_slice(b" all 24");
+    if flaws.len() + 1 < POLICIES.len() {
+        return push_words(text, flaws);
     }
-    push_words(text, flaws)
+    let mut digits = Buffer::new();
+    let pieces: [&[u8]; 2] = [b" all ", digits.format(flaws.len()).as_bytes()];
+    push_pieces(text, &pieces)
 }

@@ -4,7 +4,7 @@ ghost use Rattle.rl_flaw.specs.Flaws.{IsFlawOf};
 ghost use Rattle.rl_model.specs.Chip.{HasItem};
 ghost use Rattle.rl_grade_report.specs.Lines.{AreGraded};
 ghost use Rattle.rl_grade_report.specs.Row.{of_field, value_line, stuck_row, reset_row, policy_row, range_row, nth_row};
-ghost use Rattle.rl_grade_report.specs.Row.{deaf_row, flaw_row, rows_text};
+ghost use Rattle.rl_grade_report.specs.Row.{deaf_row, flaw_row, rows_text, line_note, found_row, found_text};
 
 use crate::line::push_field;
 use itoa::Buffer;
@@ -174,6 +174,53 @@ pub fn push_rows(
         if it.found.is_none() {
             push_row(text, chip, layout, it.flaw)?;
         }
+    }
+    Ok(())
+}
+
+// Appends the number of the line that finds a flaw, as a comment.
+fn push_note(text: &mut Vec<u8>, line: u64) -> Result<(), AllocError>
+    ensures { OnOk result (text.new.items ≡ text.old.items ++ line_note line) }
+{
+    let mut digits = Buffer::new();
+    let pieces: [&[u8]; 3] = [b"# line ", digits.format(line).as_bytes(), b"\n"];
+    push_pieces(text, &pieces)
+}
+
+// Appends a flaw that is found as a row behind the line that finds it first.
+fn push_found(
+    text: &mut Vec<u8>,
+    chip: &Chip,
+    layout: &Layout,
+    it: &Graded,
+) -> Result<(), AllocError>
+    requires { IsFlawOf chip.now layout.now it.now.flaw }
+    ensures { OnOk result (text.new.items ≡ text.old.items ++ found_row chip.now layout.now it.now) }
+{
+    let Some(find) = it.found else {
+        return Ok(());
+    };
+    push_note(text, find.line)?;
+    push_row(text, chip, layout, it.flaw)
+}
+
+/// Appends each flaw that is found as a row of a description, behind a comment with the number of the line of the
+/// script that finds it first.
+///
+/// # Errors
+///
+/// Want of memory.
+pub fn push_found_rows(
+    text: &mut Vec<u8>,
+    chip: &Chip,
+    layout: &Layout,
+    graded: &[Graded],
+) -> Result<(), AllocError>
+    requires { AreGraded chip.now layout.now graded.now }
+    ensures { OnOk result (text.new.items ≡ text.old.items ++ found_text chip.now layout.now graded.now) }
+{
+    for it in graded {
+        push_found(text, chip, layout, it)?;
     }
     Ok(())
 }

@@ -1,6 +1,6 @@
 // The last line of a grading.
 ghost use Rattle.std.specs.Prelude.{◌≡◌, ◌-◌, ◌++◌, OnOk};
-ghost use Rattle.rl_grade_report.specs.Totals.{tenths, tenths_text, share_text, end_text, with_graded};
+ghost use Rattle.rl_grade_report.specs.Totals.{tenths, tenths_text, share_text, end_text, with_graded, is_below};
 
 use itoa::Buffer;
 use rl_grade::Graded;
@@ -19,7 +19,7 @@ impl Totals {
     pub const NONE: Totals = Totals { flaws: 0, found: 0 };
 
     // How many were missed.
-    fn missed(self) -> u64
+    pub(crate) fn missed(self) -> u64
         ensures { result ≡ self.flaws - self.found }
     {
         self.flaws.saturating_sub(self.found)
@@ -35,10 +35,21 @@ impl Totals {
             found: self.found.saturating_add(found as u64),
         }
     }
+
+    // Whether fewer were found than so many of a hundred.
+    pub(crate) fn is_below(self, bound: Option<u64>) -> bool
+        ensures { result ≡ is_below bound self }
+    {
+        let Some(percent) = bound else {
+            return false;
+        };
+        let least = u128::from(percent) * u128::from(self.flaws);
+        u128::from(self.found) * 100 < least
+    }
 }
 
 // The share that was found in tenths of a per cent, rounded down.
-fn tenths(totals: Totals) -> u128
+pub(crate) fn tenths(totals: Totals) -> u128
     ensures { result ≡ tenths totals }
 {
     if totals.flaws == 0 {

@@ -1,46 +1,111 @@
-// What is written of a place, and at the end.
-ghost use Rattle.std.specs.Prelude.{◌≡◌, false, IfOk, IfErr};
+// What is written before the places, of a place, and at the end.
+ghost use Rattle.std.specs.Prelude.{◌≡◌, ◌++◌, [], false, OnOk, IfOk, IfErr};
 ghost use Rattle.rl_grade_report.specs.Prelude.{AreGraded, IsCaused, IsPlaceIn, Puts, Stays};
-ghost use Rattle.rl_grade_report.specs.Prelude.{is_complete, last_text, place_text};
+ghost use Rattle.rl_grade_report.specs.Prelude.{head_text, is_complete, last_text, part_text, place_text, share_line};
 
-use crate::asked::Asked;
+use crate::asked::{Asked, Tell};
+use crate::facts::Facts;
+use crate::firsts::push_lines;
+use crate::json::push_json;
 use crate::line::push_line;
-use crate::row::push_rows;
+use crate::row::{push_found_rows, push_rows};
 use crate::totals::{Totals, push_end};
+use itoa::Buffer;
 use rl_desc::Desc;
-use rl_grade::{Graded, Place};
+use rl_grade::{Graded, Place, Share, Task};
 use rl_log::Status;
+use rl_policy::spell;
 use rl_report::{Failed, Sink, put_all};
+use rl_session::{front, push_pieces};
 use std::alloc::{AllocError, Global};
+
+// The line that says which share of which session a text is, as a comment.
+fn share_line(alloc: Global, share: Share, mark: u64) -> Result<Vec<u8>, AllocError>
+    ensures { IfOk result (λ text. text.items ≡ share_line share mark) }
+{
+    let mut first = Buffer::new();
+    let mut every = Buffer::new();
+    let mut digits = [0u8; 16];
+    let len = spell(&mut digits, mark);
+    let pieces: [&[u8]; 7] = [
+        b"# share ",
+        first.format(share.first).as_bytes(),
+        b"/",
+        every.format(share.every).as_bytes(),
+        b" of session 0x",
+        front(&digits, len),
+        b"\n",
+    ];
+    let mut text = Vec::new(alloc);
+    push_pieces(&mut text, &pieces)?;
+    Ok(text)
+}
+
+// The text before the places.
+fn head_text(alloc: Global, asked: Asked, facts: Facts) -> Result<Vec<u8>, AllocError>
+    ensures { IfOk result (λ text. text.items ≡ head_text asked facts) }
+{
+    match facts.mark {
+        Some(mark) if !asked.tell.is_json() => share_line(alloc, asked.share, mark),
+        _ => Ok(Vec::new(alloc)),
+    }
+}
 
 // The text of a place.
 fn place_text(
     alloc: Global,
-    asked: Asked,
+    tell: Tell,
     desc: &Desc,
     place: Place,
     graded: &[Graded],
 ) -> Result<Vec<u8>, AllocError>
     requires place { IsPlaceIn desc.now.chip place }
     requires flaws { AreGraded desc.now.chip desc.now.layout graded.now }
-    ensures { IfOk result (λ text. text.items ≡ place_text asked desc.now place graded.now) }
+    ensures { IfOk result (λ text. text.items ≡ place_text tell desc.now place graded.now) }
 {
     let mut text = Vec::new(alloc);
-    match asked {
-        Asked::Run(_) => push_line(alloc, &mut text, &desc.chip, &desc.layout, place, graded)?,
-        Asked::Missed => push_rows(&mut text, &desc.chip, &desc.layout, graded)?,
+    match tell {
+        Tell::Run => push_line(alloc, &mut text, &desc.chip, &desc.layout, place, graded)?,
+        Tell::Missed => push_rows(&mut text, &desc.chip, &desc.layout, graded)?,
+        Tell::Found => push_found_rows(&mut text, &desc.chip, &desc.layout, graded)?,
+        Tell::Lines | Tell::Json => {}
     }
     Ok(text)
 }
 
+// Appends the totals of a share of rows, as a comment.
+fn push_part(text: &mut Vec<u8>, asked: Asked, totals: Totals) -> Result<(), AllocError>
+    ensures { OnOk result (text.new.items ≡ text.old.items ++ part_text asked totals) }
+{
+    if !asked.is_part() {
+        return Ok(());
+    }
+    text.extend_from_slice(b"# ")?;
+    push_end(text, totals)
+}
+
 // The text of the end.
-fn last_text(alloc: Global, asked: Asked, totals: Totals) -> Result<Vec<u8>, AllocError>
-    ensures { IfOk result (λ text. text.items ≡ last_text asked totals) }
+fn last_text(
+    alloc: Global,
+    asked: Asked,
+    facts: Facts,
+    desc: &Desc,
+    tasks: &[Task],
+    graded: &[Graded],
+) -> Result<Vec<u8>, AllocError>
+    requires { AreGraded desc.now.chip desc.now.layout graded.now }
+    ensures { IfOk result (λ text. text.items ≡ last_text asked facts desc.now tasks.now graded.now) }
 {
     let mut text = Vec::new(alloc);
-    match asked {
-        Asked::Run(_) => push_end(&mut text, totals)?,
-        Asked::Missed => {}
+    let totals = Totals::NONE.with(graded);
+    match asked.tell {
+        Tell::Run => push_end(&mut text, totals)?,
+        Tell::Missed | Tell::Found => push_part(&mut text, asked, totals)?,
+        Tell::Lines => {
+            push_lines(&mut text, tasks, graded)?;
+            push_end(&mut text, totals)?;
+        }
+        Tell::Json => push_json(&mut text, asked, facts, &desc.chip, &desc.layout, graded)?,
     }
     Ok(text)
 }
@@ -58,10 +123,28 @@ fn put_text<K: Sink>(text: &[u8], log: &mut K) -> Result<(), Status>
     }
 }
 
+// Writes what stands before the places.
+pub(crate) fn put_head<K: Sink>(
+    alloc: Global,
+    asked: Asked,
+    facts: Facts,
+    log: &mut K,
+) -> Result<(), Status>
+    ensures bytes { Puts (K.written log.old) (K.written log.new) (head_text asked facts) result }
+    ensures broken { IfErr result (λ status. is_complete status ≡ false) }
+    ensures cause { IfErr result (λ status. IsCaused status 0 0 (K.faults log.old) (K.faults log.new)) }
+    ensures stays { Stays K.faults K.ends K.target log.old log.new }
+{
+    let Ok(text) = head_text(alloc, asked, facts) else {
+        return Err(Status::Memory);
+    };
+    put_text(&text, log)
+}
+
 // Writes what is told of a place.
 pub(crate) fn put_place<K: Sink>(
     alloc: Global,
-    asked: Asked,
+    tell: Tell,
     desc: &Desc,
     place: Place,
     graded: &[Graded],
@@ -69,12 +152,12 @@ pub(crate) fn put_place<K: Sink>(
 ) -> Result<(), Status>
     requires place { IsPlaceIn desc.now.chip place }
     requires flaws { AreGraded desc.now.chip desc.now.layout graded.now }
-    ensures bytes { Puts (K.written log.old) (K.written log.new) (place_text asked desc.now place graded.now) result }
+    ensures bytes { Puts (K.written log.old) (K.written log.new) (place_text tell desc.now place graded.now) result }
     ensures broken { IfErr result (λ status. is_complete status ≡ false) }
     ensures cause { IfErr result (λ status. IsCaused status 0 0 (K.faults log.old) (K.faults log.new)) }
     ensures stays { Stays K.faults K.ends K.target log.old log.new }
 {
-    let Ok(text) = place_text(alloc, asked, desc, place, graded) else {
+    let Ok(text) = place_text(alloc, tell, desc, place, graded) else {
         return Err(Status::Memory);
     };
     put_text(&text, log)
@@ -84,15 +167,20 @@ pub(crate) fn put_place<K: Sink>(
 pub(crate) fn put_last<K: Sink>(
     alloc: Global,
     asked: Asked,
-    totals: Totals,
+    facts: Facts,
+    desc: &Desc,
+    tasks: &[Task],
+    graded: &[Graded],
     log: &mut K,
 ) -> Result<(), Status>
-    ensures bytes { Puts (K.written log.old) (K.written log.new) (last_text asked totals) result }
+    requires { AreGraded desc.now.chip desc.now.layout graded.now }
+    ensures bytes { Puts (K.written log.old) (K.written log.new)
+        (last_text asked facts desc.now tasks.now graded.now) result }
     ensures broken { IfErr result (λ status. is_complete status ≡ false) }
     ensures cause { IfErr result (λ status. IsCaused status 0 0 (K.faults log.old) (K.faults log.new)) }
     ensures stays { Stays K.faults K.ends K.target log.old log.new }
 {
-    let Ok(text) = last_text(alloc, asked, totals) else {
+    let Ok(text) = last_text(alloc, asked, facts, desc, tasks, graded) else {
         return Err(Status::Memory);
     };
     put_text(&text, log)

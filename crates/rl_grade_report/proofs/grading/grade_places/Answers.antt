@@ -1,6 +1,6 @@
 use Rattle.std.proofs.Common.{arith, ◌∙◌}
 use Rattle.rl_grade_report.specs.Progress.{base_shown}
-use Rattle.rl_grade_report.proofs.Placed.{place_done, place_stopped, places_done}
+use Rattle.rl_grade_report.proofs.Placed.{all_done, graded_done, place_done, place_stopped, places_done}
 use Rattle.rl_grade_report.proofs.grading.grade_places.Goals as goal
 
 pub grade_next-requires-clause-built_with : goal.grade_next-requires-clause-built_with
@@ -16,15 +16,22 @@ pub grade_next-requires-clause-place : goal.grade_next-requires-clause-place
 grade_next-requires-clause-place g c =
     rw c.loop-place.invariant.desc_is (c.requires.places c.loop-place.place-index _ c.loop-place-test.true)
 
+pub grade_next-requires-clause-each : goal.grade_next-requires-clause-each
+grade_next-requires-clause-each g c = rw c.loop-place.invariant.desc_is c.loop-place.invariant.each
+
 pub loop-place-preserved : goal.loop-place-preserved
 loop-place-preserved g c =
     let i = c.loop-place.invariant in
     let e = c.in_ok-progress.ensures in
+    let base = base_shown c.args.tasks.now c.args.shown.now in
     record {
       desc_is = e.next.desc_is ∙ i.desc_is;
-      put = place_done c.args.asked (base_shown c.args.tasks.now c.args.shown.now) c.args.desc _ _ _ _ _ _ _ _ _ _ c.args.places.now
+      put = place_done c.args.asked base c.args.desc _ _ _ _ _ _ _ _ _ _ c.args.places.now
           c.loop-place.place-index _ c.loop-place-test.true i.desc_is i.put e.bytes.whole e.next;
-      later = omega (arith, e.stays.later);
+      graded = graded_done c.args.asked base c.args.desc _ _ _ _ _ _ _ c.args.places.now
+          c.loop-place.place-index _ c.loop-place-test.true i.desc_is i.graded e.next;
+      each = rw i.desc_is at e.each;
+      later = omega (arith, i.later, e.stays.later);
       ends_kept = e.stays.ends_kept ∙ i.ends_kept;
       same_target = e.stays.same_target ∙ i.same_target;
     }
@@ -32,10 +39,15 @@ loop-place-preserved g c =
 pub returns-in_err-progress-clause-bytes : goal.returns-in_err-progress-clause-bytes
 returns-in_err-progress-clause-bytes g c =
     let i = c.loop-place.invariant in
-    place_stopped c.args.asked (base_shown c.args.tasks.now c.args.shown.now) c.args.desc _ _ _ _ _ _ _ c.args.places.now
+    place_stopped c.args.asked (base_shown c.args.tasks.now c.args.shown.now) c.args.desc _ _ _ _ _ _ c.args.places.now
     c.loop-place.place-index _ _ c.loop-place-test.true i.desc_is i.put c.from_residual.ensures.0 c.in_err-progress.ensures.bytes.part
 
 pub returns-clause-bytes : goal.returns-clause-bytes
 returns-clause-bytes g c =
-    places_done c.args.asked (base_shown c.args.tasks.now c.args.shown.now) c.args.desc _ _ _ _ _ _ c.args.places.now
-    c.loop-place.place-index _ (omega arith) c.loop-place.invariant.put c.put_last.ensures.bytes
+    places_done c.args.asked (base_shown c.args.tasks.now c.args.shown.now) c.args.desc _ _ _ _ c.args.places.now
+    c.loop-place.place-index _ (omega arith) c.loop-place.invariant.put
+
+pub returns-clause-graded : goal.returns-clause-graded
+returns-clause-graded g c =
+    all_done c.args.asked (base_shown c.args.tasks.now c.args.shown.now) c.args.desc _ _ _ c.args.places.now
+    c.loop-place.place-index (omega arith) c.loop-place.invariant.graded

@@ -1,4 +1,4 @@
-use Rattle.std.proofs.Common.{[], ◌∷◌, ◌++◌, ◌-◌, codes, decimal, refl, ap, ◌∙◌, append_assoc}
+use Rattle.std.proofs.Common.{[], ◌∷◌, ◌++◌, ◌-◌, codes, decimal, ap, ◌∙◌}
 use Rattle.rl_report.specs.Pieces.{joined}
 use Rattle.rl_session.proofs.ListingLemmas.{extended, pushed_twice, then_pushed}
 use Rattle.rl_grade_report.specs.Totals.{share_text}

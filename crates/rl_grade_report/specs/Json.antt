@@ -1,0 +1,138 @@
+-- A grading as one object in JSON.
+use Rattle.std.specs.Prelude.{ℕ, ◌/◌, ◌%◌, ◌-◌, ◌==◌, Bool, if◌then◌else◌, List, [], ◌∷◌, ◌++◌, map, filter, codes, decimal, is_none, Option, Some, None}
+use Rattle.rl_policy.specs.declared.policy.Policy.{Policy}
+use Rattle.rl_policy.specs.Names.{name_of}
+use Rattle.rl_policy.specs.Numbers.{hex_digits}
+use Rattle.rl_model.specs.declared.rows.Item.{Item}
+use Rattle.rl_model.specs.Chip.{path_of_item}
+use Rattle.rl_model.specs.Rows.{ChipData}
+use Rattle.rl_map.specs.Layout.{LayoutData}
+use Rattle.rl_flaw.specs.declared.flaw.Flaw.{Flaw}
+use Rattle.rl_flaw.specs.declared.flaw.Flaw.TheVariants.{Stuck, OtherReset, OtherPolicy, Deaf, ErrorRange, ErrorNth}
+use Rattle.rl_grade.specs.declared.grade.Graded.{Graded}
+use Rattle.rl_grade.specs.declared.grade.Share.{Share}
+use Rattle.rl_report.specs.Pieces.{joined}
+use Rattle.rl_grade_report.specs.declared.asked.Asked.{Asked}
+use Rattle.rl_grade_report.specs.declared.counts.Counts.{Counts}
+use Rattle.rl_grade_report.specs.declared.facts.Facts.{Facts}
+use Rattle.rl_grade_report.specs.declared.kind.Kind.{Kind}
+use Rattle.rl_grade_report.specs.declared.kind.TheConstants.{KINDS}
+use Rattle.rl_grade_report.specs.declared.totals.Totals.{Totals}
+use Rattle.rl_grade_report.specs.Counts.{counts_of, is_told, led}
+use Rattle.rl_grade_report.specs.Groups.{kind_text, root_name}
+use Rattle.rl_grade_report.specs.Kinds.{kind_name}
+use Rattle.rl_grade_report.specs.Lines.{field_name}
+use Rattle.rl_grade_report.specs.Totals.{is_below, tenths, totals_of}
+
+-- ---- a flaw, with the keys of a row of a description
+
+abbrev pub of_field_json : ChipData → (kind : List ℕ) → (field : ℕ) → List ℕ
+of_field_json c kind field =
+    joined (codes "\n{\"kind\": \"" ∷ kind ∷ codes "\", \"field\": \"" ∷ field_name c field ∷ [])
+
+abbrev pub value_json : Bool → List ℕ
+value_json value = if value then codes "1}" else codes "0}"
+
+abbrev pub stuck_json : ChipData → (field bit : ℕ) → (value : Bool) → List ℕ
+stuck_json c field bit value =
+    of_field_json c (codes "stuck") field
+    ++ joined (codes "\", \"bit\": " ∷ decimal bit ∷ codes ", \"value\": " ∷ value_json value ∷ [])
+
+abbrev pub reset_json : ChipData → (field kind value : ℕ) → List ℕ
+reset_json c field kind value =
+    of_field_json c (codes "reset") field
+    ++ joined (codes "\", \"on\": \"" ∷ kind_text c kind ∷ codes "\", \"value\": \"0x" ∷ hex_digits value ∷ codes "\"}" ∷ [])
+
+abbrev pub policy_json : ChipData → (field : ℕ) → Policy → List ℕ
+policy_json c field policy =
+    of_field_json c (codes "policy") field ++ joined (codes "\", \"policy\": \"" ∷ name_of policy ∷ codes "\"}" ∷ [])
+
+abbrev pub range_json : LayoutData → (port from to : ℕ) → List ℕ
+range_json l port from to =
+    joined (codes "\n{\"kind\": \"error-range\", \"map\": \"" ∷ root_name l port ∷ codes "\", \"from\": \"0x" ∷ hex_digits from
+    ∷ codes "\", \"to\": \"0x" ∷ hex_digits to ∷ codes "\"}" ∷ [])
+
+abbrev pub nth_json : ℕ → List ℕ
+nth_json nth = joined (codes "\n{\"kind\": \"error-nth\", \"nth\": " ∷ decimal nth ∷ codes "}" ∷ [])
+
+abbrev pub deaf_json : ChipData → Item → List ℕ
+deaf_json c item = joined (codes "\n{\"kind\": \"deaf\", \"item\": \"" ∷ path_of_item c item ∷ codes "\"}" ∷ [])
+
+abbrev pub flaw_json : ChipData → LayoutData → Flaw → List ℕ
+flaw_json c l (Stuck field bit value) = stuck_json c field bit value
+flaw_json c l (OtherReset field kind value) = reset_json c field kind value
+flaw_json c l (OtherPolicy field policy) = policy_json c field policy
+flaw_json c l (ErrorRange port from to) = range_json l port from to
+flaw_json c l (ErrorNth nth) = nth_json nth
+flaw_json c l (Deaf item) = deaf_json c item
+
+-- ---- the session, and its share
+
+abbrev pub mark_json : Option ℕ → List ℕ
+mark_json None = codes "null"
+mark_json (Some mark) = joined (codes "\"0x" ∷ hex_digits mark ∷ codes "\"" ∷ [])
+
+abbrev pub facts_json : Facts → List ℕ
+facts_json facts =
+    joined (codes "{\"session\": {\"mark\": " ∷ mark_json facts.mark ∷ codes ", \"lines\": " ∷ decimal facts.lines
+    ∷ codes ", \"events\": " ∷ decimal facts.events ∷ codes ", \"items\": " ∷ decimal facts.items ∷ codes "},\n" ∷ [])
+
+abbrev pub share_json : Share → List ℕ
+share_json share =
+    joined (codes "\"share\": {\"first\": " ∷ decimal share.first ∷ codes ", \"every\": " ∷ decimal share.every ∷ codes "},\n" ∷ [])
+
+-- ---- the totals
+
+-- in per cent with one decimal, rounded down; null where there is no flaw
+abbrev pub percent_json : Totals → List ℕ
+percent_json t =
+    if t.flaws == 0 then codes "null" else joined (decimal (tenths t / 10) ∷ codes "." ∷ decimal (tenths t % 10) ∷ [])
+
+abbrev pub totals_json : Totals → List ℕ
+totals_json t =
+    joined (codes "\"flaws\": " ∷ decimal t.flaws ∷ codes ", \"found\": " ∷ decimal t.found ∷ codes ", \"missed\": " ∷ decimal (t.flaws - t.found)
+    ∷ codes ", \"percent\": " ∷ percent_json t ∷ codes ",\n" ∷ [])
+
+abbrev pub least_json : Option ℕ → List ℕ
+least_json None = codes "null"
+least_json (Some percent) = decimal percent
+
+abbrev pub passed_json : (below : Bool) → List ℕ
+passed_json below = if below then codes "false" else codes "true"
+
+abbrev pub bound_json : Option ℕ → Totals → List ℕ
+bound_json bound t =
+    joined (codes "\"at_least\": " ∷ least_json bound ∷ codes ", \"passed\": " ∷ passed_json (is_below bound t) ∷ codes ",\n" ∷ [])
+
+-- ---- by kind, and the missed ones
+
+abbrev pub count_json : Kind → Counts → List ℕ
+count_json kind counts =
+    joined (codes "\"" ∷ kind_name kind ∷ codes "\": {\"found\": " ∷ decimal counts.found ∷ codes ", \"missed\": " ∷ decimal counts.missed
+    ∷ codes "}" ∷ [])
+
+-- of the kinds that are there
+abbrev pub kinds_parts : List Graded → List Kind → List (List ℕ)
+kinds_parts graded kinds = map (λ kind. count_json kind (counts_of graded kind)) (filter (λ kind. is_told (counts_of graded kind)) kinds)
+
+abbrev pub kinds_json : List Graded → List ℕ
+kinds_json graded = led [] (kinds_parts graded KINDS)
+
+abbrev pub missed_parts : ChipData → LayoutData → List Graded → List (List ℕ)
+missed_parts c l graded = map (λ g. flaw_json c l g.flaw) (filter (λ g. is_none g.found) graded)
+
+abbrev pub missed_json : ChipData → LayoutData → List Graded → List ℕ
+missed_json c l graded = led [] (missed_parts c l graded)
+
+-- ---- all
+
+abbrev pub head_json : Asked → Facts → Totals → List ℕ
+head_json asked facts t = (facts_json facts ++ share_json asked.share) ++ (totals_json t ++ bound_json asked.bound t)
+
+abbrev pub lists_json : ChipData → LayoutData → List Graded → List ℕ
+lists_json c l graded =
+    joined (codes "\"by_kind\": {" ∷ kinds_json graded ∷ codes "},\n\"missed_flaws\": [" ∷ missed_json c l graded ∷ codes "]}\n" ∷ [])
+
+-- the session, which share of its flaws was tried, how many were found, whether they are enough, and those that are missed
+abbrev pub json_text : Asked → Facts → ChipData → LayoutData → List Graded → List ℕ
+json_text asked facts c l graded = head_json asked facts (totals_of graded) ++ lists_json c l graded

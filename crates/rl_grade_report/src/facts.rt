@@ -1,0 +1,14 @@
+// What a grading tells of its session.
+
+/// What a grading tells of its session.
+#[derive(Clone, Copy, Debug, PartialEq, Eq)]
+pub struct Facts {
+    /// Its mark, where it is told.
+    pub mark: Option<u64>,
+    /// How many lines of its script ask for something.
+    pub lines: u64,
+    /// How many events these have.
+    pub events: u64,
+    /// How many bus items they send.
+    pub items: u64,
+}
