@@ -5,6 +5,7 @@ use crate::kept_source::{Kept, KeptSource};
 use crate::message::Message;
 use crate::script::{Lines, put_refused_line};
 use crate::unread::put_unread;
+use memchr::{memchr, memchr_iter, memchr2_iter, memmem, memrchr};
 use rl_report::{Sink, Source, put_all};
 use std::alloc::Global;
 
@@ -12,32 +13,38 @@ use std::alloc::Global;
 #[derive(Clone, Copy)]
 struct Parts<'a> {
     description: &'a [u8],
-    /// How many lines it has.
-    lines: usize,
     /// Where the script begins.
     script: usize,
 }
 
-// Whether a line is the separator.
-fn is_separator(line: &[u8]) -> bool {
-    line == b"---".as_slice() || line == b"---\r".as_slice()
+// How long the separator is with its line end, where the bytes begin with it, as a line of its own.
+fn separator_len(bytes: &[u8]) -> Option<usize> {
+    match bytes {
+        b"---" | b"---\r" => Some(bytes.len()),
+        [b'-', b'-', b'-', b'\n', ..] => Some(4),
+        [b'-', b'-', b'-', b'\r', b'\n', ..] => Some(5),
+        _ => None,
+    }
 }
 
 // The parts of a session, if it has a separator.
 fn parts_of(bytes: &[u8]) -> Option<Parts<'_>> {
-    let mut start = 0usize;
-    for (lines, line) in bytes.split(|byte| *byte == b'\n').enumerate() {
-        let next = start.saturating_add(line.len()).saturating_add(1);
-        if is_separator(line) {
+    for place in memmem::find_iter(bytes, b"---") {
+        let (description, rest) = bytes.split_at_checked(place)?;
+        let starts = description.is_empty() || description.ends_with(b"\n");
+        if let (true, Some(len)) = (starts, separator_len(rest)) {
             return Some(Parts {
-                description: bytes.get(..start)?,
-                lines,
-                script: next,
+                description,
+                script: place.saturating_add(len),
             });
         }
-        start = next;
     }
     None
+}
+
+// How many lines end in these bytes.
+fn line_ends(bytes: &[u8]) -> usize {
+    memchr_iter(b'\n', bytes).count()
 }
 
 // The lines of the script that are at hand.
@@ -60,7 +67,8 @@ fn put_line_refusal(alloc: Global, message: &mut Message, kept: &Kept, told: &st
     let (number, reason) = told.split_once(": ")?;
     let number = number.parse::<usize>().ok()?;
     let parts = parts_of(kept.front()?)?;
-    message.put_line(parts.lines.saturating_add(1).saturating_add(number))?;
+    let before = line_ends(parts.description).saturating_add(1);
+    message.put_line(before.saturating_add(number))?;
     message.put(reason)?;
     let description = str::from_utf8(parts.description).ok()?;
     // Where no more can be told, the line and the reason are.
@@ -145,35 +153,50 @@ fn has_no_operation(kept: &Kept, parts: &Parts<'_>) -> bool {
             .all(|line| is_blank(line))
 }
 
-// The key of a line: what stands before its first `=`, without a quote, and behind the last brace, comma or blank.
-fn keys_in(line: &str) -> Option<&str> {
-    let line = match line.split_once('#') {
-        Some((before, _)) => before,
-        None => line,
+// Whether a key begins behind these bytes: no letter is right before it, and no `#` in its line.
+fn begins_key(before: &[u8]) -> bool {
+    let line = match memrchr(b'\n', before) {
+        Some(end) => before.get(end..).unwrap_or(before),
+        None => before,
     };
-    for part in line.split('=') {
-        let word = part.trim_end().trim_matches('"');
-        let word = word
-            .rsplit(|letter: char| !letter.is_ascii_alphanumeric())
-            .next()
-            .unwrap_or("");
-        if word.eq_ignore_ascii_case("HARD") && word != "HARD" {
-            return Some(word);
-        }
+    let joins = before
+        .last()
+        .is_some_and(|byte| byte.is_ascii_alphanumeric() || *byte == b'_');
+    !joins && memchr(b'#', line).is_none()
+}
+
+// Whether a key ends before these bytes: a value follows.
+fn ends_key(rest: &[u8]) -> bool {
+    let rest = rest.strip_prefix(b"\"").unwrap_or(rest);
+    rest.trim_ascii_start().starts_with(b"=")
+}
+
+// The key at a place, where it is HARD in other letters.
+fn other_hard(text: &[u8], place: usize) -> Option<&[u8]> {
+    let (before, from) = text.split_at_checked(place)?;
+    let (word, rest) = from.split_at_checked(4)?;
+    let is_other = word.eq_ignore_ascii_case(b"HARD") && word != b"HARD".as_slice();
+    if is_other && begins_key(before) && ends_key(rest) {
+        return Some(word);
     }
     None
 }
 
-// A note on the first reset kind that differs from HARD by the case of its letters.
-fn note_kind(alloc: Global, program: &str, description: &str) -> Option<String> {
-    for (number, line) in description.lines().enumerate() {
-        if let Some(word) = keys_in(line) {
+// Puts that a reset kind is HARD in other letters.
+fn put_kind(message: &mut Message, text: &[u8], place: usize, word: &[u8]) -> Option<()> {
+    message.put("note: ")?;
+    message.put_line(line_ends(text.get(..place)?).saturating_add(1))?;
+    message.put("the reset kind ")?;
+    message.put_word(str::from_utf8(word).ok()?)?;
+    message.put(" is another one than HARD")
+}
+
+// A note on the first reset kind that is HARD in other letters.
+fn note_kind(alloc: Global, program: &str, text: &[u8]) -> Option<String> {
+    for place in memchr2_iter(b'h', b'H', text) {
+        if let Some(word) = other_hard(text, place) {
             let mut message = Message::of(alloc, program)?;
-            message.put("note: ")?;
-            message.put_line(number.saturating_add(1))?;
-            message.put("the reset kind ")?;
-            message.put_word(word)?;
-            message.put(" is another one than HARD")?;
+            put_kind(&mut message, text, place, word)?;
             return message.line();
         }
     }
@@ -211,9 +234,7 @@ fn tell_notes<W: Sink>(
     let Some(parts) = kept.front().and_then(|front| parts_of(front)) else {
         return;
     };
-    if let Ok(description) = str::from_utf8(parts.description) {
-        tell(messages, note_kind(alloc, program, description));
-    }
+    tell(messages, note_kind(alloc, program, parts.description));
     if has_script && has_no_operation(kept, &parts) {
         tell(
             messages,
@@ -225,8 +246,7 @@ fn tell_notes<W: Sink>(
 /// Says on standard error what helps, a line each: of a session that was refused the line of the input, the reason, the
 /// word that is wrong and the name that is nearest to it; of one that was run, what may not be meant.
 ///
-/// Where there is no memory, or no more to tell than the log
-/// does, nothing is said.
+/// Where there is no memory, or no more to tell than the log does, nothing is said.
 pub fn advise<S: Source + Drop, K: Sink + Drop, W: Sink>(
     alloc: Global,
     program: &str,
