@@ -1,7 +1,7 @@
 #!/usr/bin/env bash
-# check.sh: opens each example in Vim in batch mode and asks how the first word of each script line, each map and each
-# comment is highlighted; and that the grammar for other editors is JSON whose patterns Python takes. The last line is
-# 'N passed, M failed, K skipped'.
+# check.sh: opens each example in Vim in batch mode and asks how each line of its description is highlighted, and of its script
+# the first word of each line, each map and each comment; and that the grammar for other editors is JSON whose patterns Python
+# takes, the first of which begins at the first line of a description. The last line is 'N passed, M failed, K skipped'.
 set -u
 here=$(dirname "$(realpath "$0")")
 passed=0 failed=0 skipped=0
@@ -17,7 +17,10 @@ def patterns(node):
     elif isinstance(node, list):
         for below in node:
             patterns(below)
-patterns(json.load(open(sys.argv[1])))
+grammar = json.load(open(sys.argv[1]))
+patterns(grammar)
+begin = re.compile(grammar["patterns"][0]["begin"])
+sys.exit(0 if begin.match("[[reg]]") and not begin.match("---") else 1)
 P
 then passed=$((passed + 1)); else failed=$((failed + 1)); fi
 

@@ -27,11 +27,11 @@ judge() {
     fi
 }
 
-# grades WORDS SESSION WANT: the output of a grading, its status, and that there is no message.
+# grades WORDS SESSION WANT: the output of a grading, its status, and that there is no message but notes.
 grades() {
     # shellcheck disable=SC2086
     "$grade" $1 < "$2" > out 2> messages
-    [ $? = 0 ] && [ ! -s messages ] && cmp "$3" out
+    [ $? = 0 ] && ! grep -v '^regrun-grade: note: ' messages && cmp "$3" out
 }
 
 # beside WORD SESSION: the same beside bench/grade.py, with each flaw alone.
@@ -49,10 +49,10 @@ adds() {
     python3 "$top/bench/add_grades.py" whole > want && python3 "$top/bench/add_grades.py" share1 share2 share3 | cmp want -
 }
 
-# refuses STATUS LINE SESSION WORDS..: what is written in place of a grade.
+# refuses STATUS LINE SESSION WORDS..: what is written in place of a grade, and nothing else is said but where that is.
 refuses() {
     "$grade" "${@:4}" < "$3" > out 2> messages
-    [ $? = "$1" ] && [ ! -s messages ] && printf '%s\n' "$2" | cmp - out
+    [ $? = "$1" ] && ! grep -v '^regrun-grade: line ' messages && printf '%s\n' "$2" | cmp - out
 }
 
 # asks WORDS..: words that ask for nothing.

@@ -34,6 +34,7 @@ CHECKS = [
     ("examples/rtl/run.sh, iverilog", "env TOOL=iverilog bash examples/rtl/run.sh {regrun-link}"),
     ("examples/rtl/run.sh, ghdl", "env TOOL=ghdl bash examples/rtl/run.sh {regrun-link}"),
     ("rows/link.sh", "bash rows/link.sh {regrun-link}"),
+    ("rows/words.sh", "bash rows/words.sh {regrun} {regrun-link} {regrun-waves} {regrun-grade}"),
 ]
 
 

@@ -6,7 +6,7 @@ ghost use Rattle.std.specs.Prelude.{◌<◌};
 
 use rl_apb::fresh_adapters;
 use rl_bus::Adapters;
-use rl_cli::{code_of, words};
+use rl_cli::{KeptSink, KeptSource, advise, code_of, words};
 use rl_grade_report::{Asked, Meter, asked_by, exit_code, run_grade};
 use rl_log::Status;
 use rl_report::{StdSink, StdSource};
@@ -48,8 +48,8 @@ fn grade(rt: &HostRuntime, asked: Asked) -> Result<Status, AllocError>
     let mut adapters: Adapters = Vec::new(alloc);
     adapters.push(Box::new(alloc, plain)?)?;
     adapters.push(Box::new(alloc, apb)?)?;
-    let mut source = StdSource::new(rt.reader());
-    let mut log = StdSink::new(io::writer(rt));
+    let mut source = KeptSource::new(alloc, StdSource::new(rt.reader()));
+    let mut log = KeptSink::new(alloc, StdSink::new(io::writer(rt)));
     let mut meter = Shown {
         rt,
         is_terminal: rt.stderr().is_terminal() && !rt.stdout().is_terminal(),
@@ -63,6 +63,13 @@ fn grade(rt: &HostRuntime, asked: Asked) -> Result<Status, AllocError>
         &mut meter,
     );
     meter.clear();
+    advise(
+        alloc,
+        "regrun-grade",
+        &source,
+        &log,
+        &mut StdSink::new(rt.stderr()),
+    );
     Ok(status)
 }
 

@@ -3,7 +3,7 @@
 
 use rl_apb::fresh_adapters;
 use rl_bus::Adapters;
-use rl_cli::{code_of, create_file, open_file, words};
+use rl_cli::{KeptSink, KeptSource, advise, code_of, create_file, open_file, words};
 use rl_link::{ByLine, Streams, run_linked};
 use rl_log::Status;
 use rl_report::{StdSink, StdSource};
@@ -42,8 +42,8 @@ fn run_files(rt: &HostRuntime, session: &str, path: &str) -> Result<u8, AllocErr
     let mut adapters: Adapters = Vec::new(alloc);
     adapters.push(Box::new(alloc, plain)?)?;
     adapters.push(Box::new(alloc, apb)?)?;
-    let mut session = ByLine::build(alloc, StdSource::new(session))?;
-    let mut log = StdSink::new(log);
+    let mut session = KeptSource::new(alloc, ByLine::build(alloc, StdSource::new(session))?);
+    let mut log = KeptSink::new(alloc, StdSink::new(log));
     let streams = Streams {
         source: StdSource::new(rt.reader()),
         sink: StdSink::new(io::writer(rt)),
@@ -51,6 +51,13 @@ fn run_files(rt: &HostRuntime, session: &str, path: &str) -> Result<u8, AllocErr
         messages: StdSink::new(rt.stderr()),
     };
     let ran = run_linked(alloc, &mut session, &mut log, streams, &mut adapters);
+    advise(
+        alloc,
+        PROGRAM,
+        &session,
+        &log,
+        &mut StdSink::new(rt.stderr()),
+    );
     Ok(ran.code())
 }
 

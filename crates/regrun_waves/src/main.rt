@@ -6,7 +6,7 @@ mod session;
 use crate::session::{Ran, run_waves};
 use rl_apb::fresh_adapters;
 use rl_bus::Adapters;
-use rl_cli::{code_of, create_file, open_file, words};
+use rl_cli::{KeptSink, KeptSource, advise, code_of, create_file, open_file, words};
 use rl_log::Status;
 use rl_report::{StdSink, StdSource};
 use rl_vcd::Fault;
@@ -53,14 +53,21 @@ fn run_files(rt: &HostRuntime, path: &str, waves: &str) -> Result<u8, AllocError
     let mut adapters: Adapters = Vec::new(alloc);
     adapters.push(Box::new(alloc, plain)?)?;
     adapters.push(Box::new(alloc, apb)?)?;
-    let mut session = StdSource::new(session);
-    let mut log = StdSink::new(io::writer(rt));
+    let mut session = KeptSource::new(alloc, StdSource::new(session));
+    let mut log = KeptSink::new(alloc, StdSink::new(io::writer(rt)));
     let ran = run_waves(
         alloc,
         &mut session,
         &mut log,
         StdSink::new(vcd),
         &mut adapters,
+    );
+    advise(
+        alloc,
+        PROGRAM,
+        &session,
+        &log,
+        &mut StdSink::new(rt.stderr()),
     );
     Ok(code_of_dump(rt, waves, &ran))
 }

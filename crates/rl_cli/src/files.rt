@@ -23,8 +23,8 @@ pub fn open_file<R: Files + Eprint>(rt: &R, program: &str, path: &str) -> Option
     had(rt, program, path, fs::open(rt, path))
 }
 
-/// A file to write; one that is there is emptied. Where it can't be opened, one line on standard error says so,
-/// behind the program's name.
+/// A file to write; one that is there is emptied. Where it can't be made, one line on standard error says so, behind the
+/// program's name.
 pub fn create_file<R: Files + Eprint>(rt: &R, program: &str, path: &str) -> Option<R::File> {
     had(rt, program, path, fs::create(rt, path))
 }

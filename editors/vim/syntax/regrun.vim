@@ -8,7 +8,6 @@ unlet! b:current_syntax
 syntax sync fromstart
 syntax case match
 
-syntax region regrunToml start=/\%^/ end=/^---$/me=s-1 contains=@regrunDescription keepend
 syntax match regrunSeparator /^---$/
 
 " what a command is followed by
@@ -26,6 +25,9 @@ syntax match regrunCommand contained /^[ \t]*\zs\%(field-write\|field-read\|back
 syntax match regrunCommand contained /^[ \t]*\zs\%(mem-write\|mem-read\|mem-check\|mem-peek\|mem-poke\|burst-write\|burst-read\)\ze\%([ \t]\|$\)/
 syntax match regrunCommand contained /^[ \t]*\zs\%(other-write\|other-read\)\ze\%([ \t]\|$\)/
 syntax match regrunSequence contained /^[ \t]*\zsseq[ \t]\+\%(hw-reset\|bit-bash\|access\|shared\|mem-walk\)\ze\%([ \t]\|$\)/
+
+" the description, defined last: of two that begin at one place, here the first line, Vim takes the later
+syntax region regrunToml start=/\%^\%(---$\)\@!/ end=/^---$/me=s-1 contains=@regrunDescription keepend
 
 highlight default link regrunSeparator Special
 highlight default link regrunCommand Statement
