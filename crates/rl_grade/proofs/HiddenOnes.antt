@@ -32,12 +32,16 @@ use Rattle.rl_flaw.specs.declared.flaw.Flaw.{Flaw}
 use Rattle.rl_flaw.specs.declared.flaw.Flaw.TheVariants.{Deaf, ErrorNth, ErrorRange, OtherPolicy, OtherReset, Stuck}
 use Rattle.rl_flaw.specs.Flaws.{flaws_of, locations_of, width_of}
 use Rattle.rl_desc.specs.Data.{DescData}
+use Rattle.rl_access.specs.World.{World}
+use Rattle.rl_report.specs.Lines.{lines_of}
+use Rattle.rl_log.specs.Log.{script_from}
+use Rattle.rl_log.specs.Recording.{no_counts}
 use Rattle.rl_session.specs.Judged.{first_world}
 use Rattle.rl_grade.specs.declared.bits.FlawedBit.{FlawedBit}
 use Rattle.rl_grade.specs.declared.bits.Ways.{Ways}
 use Rattle.rl_grade.specs.declared.job.Task.{Task}
 use Rattle.rl_grade.specs.declared.seen.Seen.{Seen}
-use Rattle.rl_grade.specs.Alike.{HiddenChangesNoEvent, HiddenIsNotFound, IsHiddenIn, without_flaws}
+use Rattle.rl_grade.specs.Alike.{HiddenChangesNoEvent, HiddenIsNotFound, HiddenLeavesTheLog, IsHiddenIn, IsSameLog, without_flaws}
 use Rattle.rl_grade.specs.Find.{all_seen, beside, first_find, seen_of, shows}
 use Rattle.rl_grade.specs.Heard.{Heard}
 use Rattle.rl_grade.specs.Hidden.{deaf_bit, is_bit_hidden, is_deafness_hidden, is_field_hidden, is_hidden, is_unseen, other_bit, sound_bit, stuck_bit, ways_to}
@@ -49,7 +53,7 @@ use Rattle.rl_grade.proofs.HiddenBits.{Stands, Way, alike, unseen, unseen_closes
 use Rattle.rl_grade.proofs.HiddenFields.{OnFields, bits, its_way, reg_of, way_closes, way_first, way_in, way_resets}
 use Rattle.rl_grade.proofs.HiddenFlaws.{HasBit, bare, field_there, keeps, own_reset, row_is}
 use Rattle.rl_grade.proofs.Related.{Keeps, first_related, flawed}
-use Rattle.rl_grade.proofs.RelatedSteps.{AreAlike, HasBackdoor, IsVolatile, heard_same}
+use Rattle.rl_grade.proofs.RelatedSteps.{AreAlike, HasBackdoor, IsVolatile, heard_same, script_same}
 
 each_bit : (w : Ways) (b : FlawedBit) (x : FieldSeen) (i : ℕ) → is_field_hidden w b x ≡ true → i < x.shape.width → is_bit_hidden w b x i ≡ true
 each_bit w b x i h low =
@@ -352,14 +356,20 @@ module _ (c : ChipData) (l : LayoutData) where
 width_is : (c : ChipData) (f : ℕ) → f < length c.fields → width_of c f ≡ (field_of c f).shape.width
 width_is c f inside = ap (λ o. unwrap_or (option_map (λ (s : FieldSeen). s.shape.width) o) 0) (slice_get-get_or c.fields f no_field inside)
 
-same_heard : (d : DescData) (flaw : Flaw) (adapters : List Standing) (tasks : List Task) (R : ℕ → ℕ → Bool → Bool → Bool → Bool → Type 0)
-    → Keeps (bare d.chip d.layout) (flaws_of (flaw ∷ [])) R (HasBackdoor d.chip) (IsVolatile d.chip)
-    → heard_by (first_world (with_flaw d flaw) adapters) tasks ≡ heard_by (first_world (without_flaws d) adapters) tasks
+-- what is said of worlds that are related, whatever the relation
+abbrev Says : DescData → Flaw → List Standing → (World → World → Type 0) → Type 1
+Says d flaw adapters P =
+    (R : ℕ → ℕ → Bool → Bool → Bool → Bool → Type 0) → Keeps (bare d.chip d.layout) (flaws_of (flaw ∷ [])) R (HasBackdoor d.chip) (IsVolatile d.chip)
+    → (w v : World) → AreAlike d.chip (bare d.chip d.layout) (flaws_of (flaw ∷ [])) R w v → P w v
+
+by_relation : (d : DescData) (flaw : Flaw) (adapters : List Standing) (P : World → World → Type 0) → Says d flaw adapters P
+    → (R : ℕ → ℕ → Bool → Bool → Bool → Bool → Type 0) → Keeps (bare d.chip d.layout) (flaws_of (flaw ∷ [])) R (HasBackdoor d.chip) (IsVolatile d.chip)
+    → P (first_world (without_flaws d) adapters) (first_world (with_flaw d flaw) adapters)
 unfolding setup_of
-same_heard d flaw adapters tasks R keeps =
+by_relation d flaw adapters P says R keeps =
     let t = bare d.chip d.layout in
     let g = flaws_of (flaw ∷ []) in
-    heard_same d.chip t g R keeps tasks (first_world (without_flaws d) adapters) (first_world (with_flaw d flaw) adapters)
+    says R keeps (first_world (without_flaws d) adapters) (first_world (with_flaw d flaw) adapters)
     (record {
       chip = refl;
       model = refl;
@@ -367,32 +377,44 @@ same_heard d flaw adapters tasks R keeps =
       devices = first_related t g R (HasBackdoor d.chip) (IsVolatile d.chip) keeps (locations_of d.chip);
     })
 
-on_fields : (d : DescData) (flaw : Flaw) (adapters : List Standing) (tasks : List Task) → IsSound d.chip
+on_fields : (d : DescData) (flaw : Flaw) (adapters : List Standing) (P : World → World → Type 0) → Says d flaw adapters P → IsSound d.chip
     → (touched : ℕ → ℕ → Bool) (chosen : ℕ → ℕ → Way) (other : ℕ → Policy) (deaf : Bool) (S : Option Bool)
     → OnFields d.chip d.layout (flaws_of (flaw ∷ [])) touched chosen other deaf S
-    → heard_by (first_world (with_flaw d flaw) adapters) tasks ≡ heard_by (first_world (without_flaws d) adapters) tasks
-on_fields d flaw adapters tasks sound touched chosen other deaf S f =
+    → P (first_world (without_flaws d) adapters) (first_world (with_flaw d flaw) adapters)
+on_fields d flaw adapters P says sound touched chosen other deaf S f =
     let c = d.chip in
     let l = d.layout in
     let g = flaws_of (flaw ∷ []) in
     let way = λ (r b : ℕ). way_in c l g touched chosen other deaf S f (field_at (bare c l) r b) b in
-    same_heard d flaw adapters tasks (λ r b. Stands (way r b)) (keeps c l g way sound (bits c l g touched chosen other deaf S f))
+    by_relation d flaw adapters P says (λ r b. Stands (way r b)) (keeps c l g way sound (bits c l g touched chosen other deaf S f))
 
-pub changes_no_event : HiddenChangesNoEvent
-changes_no_event d (Stuck f j v) adapters tasks h =
+-- what related worlds come to holds of the first ones with a hidden flaw and without it
+first_ones : (d : DescData) (flaw : Flaw) (adapters : List Standing) (P : World → World → Type 0) → Says d flaw adapters P → IsHiddenIn d flaw
+    → P (first_world (without_flaws d) adapters) (first_world (with_flaw d flaw) adapters)
+first_ones d (Stuck f j v) adapters P says h =
     let c = d.chip in
     let within : j < (field_of c f).shape.width = subst (λ w. j < w) (width_is c f h.one.0) h.one.1 in
-    on_fields d (Stuck f j v) adapters tasks h.sound _ _ _ false (Some v) (stuck_one c d.layout h.sound f j v h.one.0 within h.hidden)
-changes_no_event d (OtherPolicy f p) adapters tasks h =
-    on_fields d (OtherPolicy f p) adapters tasks h.sound _ _ _ false None (other_policy d.chip d.layout f p h.hidden)
-changes_no_event d (OtherReset f k v) adapters tasks h =
-    on_fields d (OtherReset f k v) adapters tasks h.sound _ _ _ false None (other_reset d.chip d.layout f k v h.hidden)
-changes_no_event d (Deaf (Reg q)) adapters tasks h =
-    on_fields d (Deaf (Reg q)) adapters tasks h.sound _ _ _ true None (deaf_register d.chip d.layout q h.hidden)
-changes_no_event d (Deaf (Mem q)) adapters tasks h =
-    on_fields d (Deaf (Mem q)) adapters tasks h.sound _ _ _ false None (deaf_one d.chip d.layout q h.hidden)
-changes_no_event d (ErrorRange port from to) adapters tasks h = let no : false ≡ true = h.hidden in absurd cc
-changes_no_event d (ErrorNth nth) adapters tasks h = let no : false ≡ true = h.hidden in absurd cc
+    on_fields d (Stuck f j v) adapters P says h.sound _ _ _ false (Some v) (stuck_one c d.layout h.sound f j v h.one.0 within h.hidden)
+first_ones d (OtherPolicy f p) adapters P says h =
+    on_fields d (OtherPolicy f p) adapters P says h.sound _ _ _ false None (other_policy d.chip d.layout f p h.hidden)
+first_ones d (OtherReset f k v) adapters P says h =
+    on_fields d (OtherReset f k v) adapters P says h.sound _ _ _ false None (other_reset d.chip d.layout f k v h.hidden)
+first_ones d (Deaf (Reg q)) adapters P says h =
+    on_fields d (Deaf (Reg q)) adapters P says h.sound _ _ _ true None (deaf_register d.chip d.layout q h.hidden)
+first_ones d (Deaf (Mem q)) adapters P says h =
+    on_fields d (Deaf (Mem q)) adapters P says h.sound _ _ _ false None (deaf_one d.chip d.layout q h.hidden)
+first_ones d (ErrorRange port from to) adapters P says h = let no : false ≡ true = h.hidden in absurd cc
+first_ones d (ErrorNth nth) adapters P says h = let no : false ≡ true = h.hidden in absurd cc
+
+pub changes_no_event : HiddenChangesNoEvent
+changes_no_event d flaw adapters tasks h =
+    first_ones d flaw adapters (λ w v. heard_by v tasks ≡ heard_by w tasks)
+    (λ R keeps w v alike. heard_same d.chip (bare d.chip d.layout) (flaws_of (flaw ∷ [])) R keeps tasks w v alike) h
+
+pub leaves_the_log : HiddenLeavesTheLog
+leaves_the_log d flaw script adapters h =
+    first_ones d flaw adapters (λ w v. IsSameLog (script_from 1 no_counts w (lines_of script)) (script_from 1 no_counts v (lines_of script)))
+    (λ R keeps w v alike. script_same d.chip (bare d.chip d.layout) (flaws_of (flaw ∷ [])) R keeps (lines_of script) 1 no_counts w v alike) h
 
 -- ---- and so nothing is found
 

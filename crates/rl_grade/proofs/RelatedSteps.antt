@@ -1,5 +1,5 @@
 -- Two worlds of one model whose devices are related: each operation has the same event, and leads to such worlds again.
-use Rattle.std.proofs.Common.{◌≡◌, ℕ, ◌<◌, Bool, true, false, if◌then◌else◌, List, [], ◌∷◌, ◌++◌, length, map, Option, Some, None, Ok, Err, refl, sym, ap, subst, ◌∙◌}
+use Rattle.std.proofs.Common.{◌≡◌, ℕ, ◌+◌, ◌<◌, Bool, true, false, if◌then◌else◌, List, [], ◌∷◌, ◌++◌, length, map, Option, Some, None, option_map, Result, Ok, Err, refl, sym, ap, subst, ◌∙◌}
 use Rattle.std.specs.Prelude.{nat_lt, unwrap_or}
 use Rattle.std.specs.Option.{option_map_or}
 use Rattle.rl_policy.specs.Bits.{bit}
@@ -34,7 +34,20 @@ use Rattle.rl_access.specs.Tally.{is_bus_error}
 use Rattle.rl_access.specs.World.{World, Step, done_at, items_at, step_by, step_of, unchanged, world}
 use Rattle.rl_seq.specs.Plan.{Plan, look, step, stop}
 use Rattle.rl_log.specs.Course.{Course, along, alone, burst, first_then, through, told_of}
-use Rattle.rl_log.specs.Entry.{burst_read_course, burst_write_course, plan_of}
+use Rattle.rl_access.specs.Runs.{counted_all, no_tally}
+use Rattle.rl_script.specs.declared.line.Line.{Line}
+use Rattle.rl_script.specs.declared.line.Line.TheVariants as line
+use Rattle.rl_script.specs.declared.line.Sequence.{Sequence as Named}
+use Rattle.rl_report.specs.Pieces.{joined}
+use Rattle.rl_log.specs.declared.counts.Counts.{Counts}
+use Rattle.rl_log.specs.declared.refusal.LineRefusal.{LineRefusal}
+use Rattle.rl_log.specs.Course.{nothing_done}
+use Rattle.rl_log.specs.Entry.{Entry, begin_text, burst_read_course, burst_write_course, closed_text, framed, op_course, plain, plan_of, sequence_course, with_both}
+use Rattle.rl_log.specs.Log.{Ending, comes_of, goes_on, said, script_from, there}
+use Rattle.rl_log.specs.Named.{block_asked, map_asked, mem_named, op_named}
+use Rattle.rl_log.specs.Recording.{events_text, with_events}
+use Rattle.rl_log.specs.Texts.{refused_text}
+use Rattle.rl_grade.specs.Alike.{IsSameLog}
 use Rattle.rl_grade.specs.declared.job.Job.{Job}
 use Rattle.rl_grade.specs.declared.job.Job.TheVariants.{BurstRead, BurstWrite, One, Sequence}
 use Rattle.rl_grade.specs.declared.job.Task.{Task}
@@ -289,3 +302,99 @@ module _ (c : ChipData) (t : Setup) (g : Flaws) (R : ℕ → ℕ → Bool → Bo
       let same = job_same task.job w v h in
       ap (λ (told : List Told). map (heard_at task.line) told ++ heard_by (course_of task.job v).world tasks) same.told
       ∙ ap (λ more. heard_in task.line (course_of task.job w) ++ more) (heard_same tasks (course_of task.job w).world (course_of task.job v).world same.worlds)
+
+-- ---- a script line by line
+
+pub record IsSameEntry (c : ChipData) (t : Setup) (g : Flaws) (R : ℕ → ℕ → Bool → Bool → Bool → Bool → Type 0) (e f : Entry) : Type 0 where
+  pub text : f.text ≡ e.text
+  pub course : IsSameCourse c t g R e.course f.course
+
+-- both lines are refused for one reason, or both are done alike
+abbrev pub AreSameResults : ChipData → Setup → Flaws → (ℕ → ℕ → Bool → Bool → Bool → Bool → Type 0) → Result Entry LineRefusal → Result Entry LineRefusal → Type 0
+AreSameResults c t g R (Ok e) (Ok f) = IsSameEntry c t g R e f
+AreSameResults c t g R (Err a) (Err b) = b ≡ a
+AreSameResults c t g R (Ok e) (Err b) = ⊥
+AreSameResults c t g R (Err a) (Ok f) = ⊥
+
+module _ (c : ChipData) (t : Setup) (g : Flaws) (R : ℕ → ℕ → Bool → Bool → Bool → Bool → Type 0) (keeps : Keeps t g R (HasBackdoor c) (IsVolatile c)) where
+  abbrev SameResults : Result Entry LineRefusal → Result Entry LineRefusal → Type 0
+  SameResults = AreSameResults c t g R
+
+  plain_same : (x y : Course) → IsSameCourse c t g R x y → IsSameEntry c t g R (plain x) (plain y)
+  plain_same x y h = record { text = ap events_text h.told; course = h }
+
+  framed_same : (which : Named) (over : Option (List ℕ)) (x y : Course) → IsSameCourse c t g R x y
+      → IsSameEntry c t g R (framed which over x) (framed which over y)
+  framed_same which over x y h = record {
+    text = ap (λ (told : List Told). joined (begin_text which over ∷ events_text told ∷ closed_text which over (counted_all no_tally told) ∷ [])) h.told;
+    course = h;
+  }
+
+  both_same : (n : Option ℕ) (map : Option (Option ℕ)) (x y : ℕ → Option ℕ → Course) → ((i : ℕ) (k : Option ℕ) → IsSameCourse c t g R (x i k) (y i k))
+      → SameResults (there (with_both n map (λ i k. plain (x i k)))) (there (with_both n map (λ i k. plain (y i k))))
+  both_same None map x y h = refl
+  both_same (Some i) None x y h = refl
+  both_same (Some i) (Some k) x y h = plain_same (x i k) (y i k) (h i k)
+
+  block_same : (which : Named) (over : Option (List ℕ)) (block : Option (Option ℕ)) (x y : Option ℕ → Course) → ((b : Option ℕ) → IsSameCourse c t g R (x b) (y b))
+      → SameResults (there (option_map (λ b. framed which over (x b)) block)) (there (option_map (λ b. framed which over (y b)) block))
+  block_same which over None x y h = refl
+  block_same which over (Some b) x y h = framed_same which over (x b) (y b) (h b)
+
+  one_same : (o : Option Op) (x y : Op → Course) → ((o : Op) → IsSameCourse c t g R (x o) (y o))
+      → SameResults (there (option_map (λ o. plain (x o)) o)) (there (option_map (λ o. plain (y o)) o))
+  one_same None x y h = refl
+  one_same (Some o) x y h = plain_same (x o) (y o) (h o)
+
+  on_model : (w z : World) → AreAlike c t g R w z → AreAlike c t g R w (world w.model z.adapters z.device)
+  on_model w z h = record { chip = h.chip; model = refl; adapters = h.adapters; devices = h.devices }
+
+  comes_by : (w z : World) → AreAlike c t g R w z → (s : Result Line LineRefusal)
+      → SameResults (comes_of w s) (comes_of (world w.model z.adapters z.device) s)
+  comes_by w z h (Err why) = refl
+  comes_by w z h (Ok line.Blank) =
+      plain_same (nothing_done w) (nothing_done (world w.model z.adapters z.device)) (record { told = refl; worlds = on_model w z h })
+  comes_by w z h (Ok (line.BurstWrite mem first values map)) =
+      both_same (mem_named w.model.chip mem) (map_asked w.model.layout map) (λ i k. burst_write_course i k first values w)
+      (λ i k. burst_write_course i k first values (world w.model z.adapters z.device))
+      (λ i k. writes_same c t g R keeps i k first values w (world w.model z.adapters z.device) (on_model w z h))
+  comes_by w z h (Ok (line.BurstRead mem first count map)) =
+      both_same (mem_named w.model.chip mem) (map_asked w.model.layout map) (λ i k. burst_read_course i k first count w)
+      (λ i k. burst_read_course i k first count (world w.model z.adapters z.device))
+      (λ i k. reads_same c t g R keeps i k first count w (world w.model z.adapters z.device) (on_model w z h))
+  comes_by w z h (Ok (line.Seq which over)) =
+      block_same which over (block_asked w.model.chip over) (λ b. sequence_course which b w) (λ b. sequence_course which b (world w.model z.adapters z.device))
+      (λ b. along_same c t g R keeps (plan_of which w.model b) w (world w.model z.adapters z.device) (on_model w z h))
+  comes_by w z h (Ok l) =
+      one_same (op_named w.model l) (λ o. op_course o w) (λ o. op_course o (world w.model z.adapters z.device))
+      (λ o. alone_same c t g R keeps (step_of w o) (step_of (world w.model z.adapters z.device) o)
+      (same_step c t g R keeps w (world w.model z.adapters z.device) o (on_model w z h)))
+
+  comes_same : (w v : World) (s : Result Line LineRefusal) → AreAlike c t g R w v → SameResults (comes_of w s) (comes_of v s)
+  comes_same w v s h =
+      subst (λ m. SameResults (comes_of w s) (comes_of (world m v.adapters v.device) s)) (sym h.model) (comes_by w v h s)
+
+  goes_same : (number : ℕ) (counts : Counts) (w v : World) (r q : Result Entry LineRefusal) (rest : Counts → World → Ending) → SameResults r q
+      → ((k : Counts) (x y : World) → AreAlike c t g R x y → IsSameLog (rest k x) (rest k y))
+      → IsSameLog (goes_on number counts w r rest) (goes_on number counts v q rest)
+  goes_same number counts w v (Err a) (Err b) rest same more =
+      record { text = ap (refused_text number) same; status = refl; counts = refl }
+  goes_same number counts w v (Ok e) (Ok f) rest same more =
+      let now = ap (with_events counts) same.course.told in
+      let tail = more (with_events counts e.course.told) e.course.world f.course.world same.course.worlds in
+      record {
+        text = ap (λ (x : List ℕ). x ++ (rest (with_events counts f.course.told) f.course.world).text) same.text
+            ∙ ap (λ k. e.text ++ (rest k f.course.world).text) now ∙ ap (λ x. e.text ++ x) tail.text;
+        status = ap (λ k. (rest k f.course.world).status) now ∙ tail.status;
+        counts = ap (λ k. (rest k f.course.world).counts) now ∙ tail.counts;
+      }
+  goes_same number counts w v (Ok e) (Err b) rest same more = absurd same
+  goes_same number counts w v (Err a) (Ok f) rest same more = absurd same
+
+  pub script_same : (lines : List (List ℕ)) (number : ℕ) (counts : Counts) (w v : World) → AreAlike c t g R w v
+      → IsSameLog (script_from number counts w lines) (script_from number counts v lines)
+  unfolding script_from
+  script_same [] number counts w v h = record { text = refl; status = refl; counts = refl }
+  script_same (line ∷ lines) number counts w v h =
+      goes_same number counts w v (comes_of w (said number line)) (comes_of v (said number line)) (λ k x. script_from (number + 1) k x lines)
+      (comes_same w v (said number line) h) (λ k x y alike. script_same lines (number + 1) k x y alike)

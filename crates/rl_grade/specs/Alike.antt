@@ -1,11 +1,12 @@
--- That a hidden flaw changes no event of any script.
-use Rattle.std.specs.Prelude.{◌≡◌, true, List, [], None}
+-- That a hidden flaw changes no event of any script, and no log.
+use Rattle.std.specs.Prelude.{◌≡◌, ℕ, true, List, [], None}
 use Rattle.rl_bus.specs.Standing.{Standing}
 use Rattle.rl_desc.specs.Data.{DescData}
 use Rattle.rl_model.specs.Chip.{IsSound}
 use Rattle.rl_flaw.specs.declared.flaw.Flaw.{Flaw}
 use Rattle.rl_flaw.specs.Flaws.{IsFlawOf}
-use Rattle.rl_session.specs.Judged.{first_world}
+use Rattle.rl_log.specs.Log.{Ending}
+use Rattle.rl_session.specs.Judged.{first_ending, first_world}
 use Rattle.rl_grade.specs.declared.job.Task.{Task}
 use Rattle.rl_grade.specs.Find.{all_seen, first_find}
 use Rattle.rl_grade.specs.Hidden.{is_hidden}
@@ -33,3 +34,17 @@ abbrev pub HiddenIsNotFound : Type 0
 HiddenIsNotFound =
     (d : DescData) (flaw : Flaw) (adapters : List Standing) (tasks : List Task) → IsHiddenIn d flaw
     → first_find (all_seen (heard_by (first_world (without_flaws d) adapters) tasks)) (heard_by (first_world (with_flaw d flaw) adapters) tasks) ≡ None
+
+-- ---- the log
+
+-- the same text, and the same status and counts
+pub record IsSameLog (x y : Ending) : Type 0 where
+  pub text : y.text ≡ x.text
+  pub status : y.status ≡ x.status
+  pub counts : y.counts ≡ x.counts
+
+-- The judged log of a script is the same with the flaw and without it.
+abbrev pub HiddenLeavesTheLog : Type 0
+HiddenLeavesTheLog =
+    (d : DescData) (flaw : Flaw) (script : List ℕ) (adapters : List Standing) → IsHiddenIn d flaw
+    → IsSameLog (first_ending (without_flaws d) script adapters) (first_ending (with_flaw d flaw) script adapters)

@@ -1,7 +1,7 @@
 //! What holds of the lists of single flaws, of shares and finds, and of a script and its tasks. Each function does
 //! nothing; its contract is the law.
 ghost use Rattle.rl_grade.specs.First.{FindIsFirst};
-ghost use Rattle.rl_grade.specs.Alike.{HiddenChangesNoEvent, HiddenIsNotFound};
+ghost use Rattle.rl_grade.specs.Alike.{HiddenChangesNoEvent, HiddenIsNotFound, HiddenLeavesTheLog};
 ghost use Rattle.rl_grade.specs.Parts.{EachIsInOne, PlacesAddUp, ShareIsByNumber, WholeHasAll};
 ghost use Rattle.rl_grade.specs.Run.{HeardAreEvents, RunDoesTasks, RunStopsThere};
 ghost use Rattle.rl_grade.specs.Single.{NoneIsLeftOut, NoneIsMadeUp, NoneStandsTwice, PlacesAreApart};
@@ -61,8 +61,10 @@ pub fn what_is_heard_are_the_events()
 {}
 
 /// A flaw that `is_hidden` names changes nothing that a script does: from the first state on, each event, each bus item
-/// and what is believed after it are those of the device without the flaw. So no script finds it.
+/// and what is believed after it are those of the device without the flaw, and so is the log of each script, byte for
+/// byte. So no script finds it.
 pub fn a_hidden_flaw_changes_no_event()
     ensures events { HiddenChangesNoEvent }
+    ensures log { HiddenLeavesTheLog }
     ensures found { HiddenIsNotFound }
 {}

@@ -1,4 +1,4 @@
-use Rattle.rl_grade.proofs.HiddenOnes.{changes_no_event, not_found}
+use Rattle.rl_grade.proofs.HiddenOnes.{changes_no_event, leaves_the_log, not_found}
 use Rattle.rl_grade.proofs.law.a_hidden_flaw_changes_no_event.Goals as goal
 
 pub returns-clause-events : goal.returns-clause-events
@@ -6,3 +6,6 @@ returns-clause-events c = changes_no_event
 
 pub returns-clause-found : goal.returns-clause-found
 returns-clause-found c = not_found
+
+pub returns-clause-log : goal.returns-clause-log
+returns-clause-log c = leaves_the_log
