@@ -187,5 +187,24 @@ line 'seq shared *\n' 'regrun-waves: note: seq shared * made no step'
 program=3
 line 'read uart.ctrl\nraed uart.ctrl\n' 'regrun-grade: line 44: no such command: raed (read?)'
 
+# By hand: each line's log comes before the next line is typed, and a session that comes in small pieces is told of all the same.
+if python3 - "${programs[0]}" "$tmp/chip" > "$tmp/said" 2>&1 << 'P'
+import subprocess, sys
+streams = dict.fromkeys(("stdin", "stdout", "stderr"), subprocess.PIPE)
+with subprocess.Popen([sys.argv[1], "run"], bufsize=0, **streams) as it:
+    session = open(sys.argv[2], "rb").read() + b"read uart.ctrl\n"
+    for place in range(0, len(session), 7):
+        it.stdin.write(session[place:place + 7])
+    log = [it.stdout.readline() for _ in range(2)]
+    assert log[0].startswith(b"read uart.ctrl @apb0: ok"), log
+    for piece in (b"read ua", b"rt.ct", b"lr\n"):
+        it.stdin.write(piece)
+    it.stdin.close()
+    assert it.stdout.read() == b"refused line 2: no such name\n"
+    assert it.stderr.read() == b"regrun: line 44: no such name: uart.ctlr (uart.ctrl?)\n"
+P
+then : > "$tmp/said"; fi
+judge 'by hand' ''
+
 echo "$passed passed, $failed failed"
 [ "$failed" = 0 ]
