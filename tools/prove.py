@@ -2,15 +2,16 @@
 """prove.py CRATE JOBS: proves a crate and builds it, a library or a program, and prints a line; all that is said is in build/log.
 
 A library is proved from nothing and written by its statements, without its proofs: each crate above reads all that it
-stands on, and the proofs took most of that time. A program is proved, compiled, linked and run on no words, which it answers
-by status 6. No command of `rt` writes statements for one library, and `rt run` lets no other program be proved beside it.
+stands on, and the proofs took most of that time. A program is proved, compiled, linked and run on a word that it doesn't know,
+which it answers by status 6. No command of `rt` writes statements for one library, and `rt run` lets no other program be proved beside it.
 So the kit's own part bin/rtlib.py is asked for the words of the prover, and for the stamp by which `rt` knows what is built.
 Where a kit has no such part, and where `rt check` has kept work of a library, `rt lib` and `rt run` do it in their time.
 """
 import os, shutil, signal, subprocess, sys, time
 
 TOP = os.path.dirname(os.path.dirname(os.path.realpath(__file__)))
-NO_WORDS = 6
+UNKNOWN_WORD = 6
+WORD = "no-such-word"
 
 
 class Kit:
@@ -60,7 +61,7 @@ class Kit:
         crate = self.crate(folder)
         os.makedirs(f"{folder}/out", exist_ok=True)
         crate.held, stamp = [], crate.stamp()
-        status = crate.run(["--jobs", jobs], [])
+        status = crate.run(["--jobs", jobs], [WORD])
         if not self.is_same(crate, stamp):
             os.remove(f"{folder}/out/{crate.name}.stamp")
             return 1
@@ -82,8 +83,8 @@ def build_library(folder, jobs):
 def build_program(folder):
     """One job: each further one is a copy of all that the program stands on."""
     kit = kit_or_none()
-    status = kit.build_program(folder, "1") if kit else subprocess.call(["rt", "run", "--jobs", "1"])
-    return 0 if status == NO_WORDS else status or 1
+    status = kit.build_program(folder, "1") if kit else subprocess.call(["rt", "run", "--jobs", "1", "--", WORD])
+    return 0 if status == UNKNOWN_WORD else status or 1
 
 
 def write_to(log):

@@ -13,7 +13,7 @@ COUNTS = re.compile(r"^(\d+) passed, (\d+) failed(?:, (\d+) skipped.*)?$")
 # The seconds after which a check is ended.
 LIMIT = int(os.environ.get("LIMIT", "1200"))
 NOT_INSTALLED = 77
-PROGRAMS = ("regrun-grade", "regrun", "regrun-waves", "regrun-link")
+PROGRAMS = ("regrun-grade", "regrun", "regrun-plan", "regrun-waves", "regrun-link")
 
 # Each check: its name, the programs that it needs, and its command, in which `{regrun}` and so on stand for their paths; those
 # that take long first. A check whose name is a file that isn't there isn't one of this checkout.
@@ -25,6 +25,7 @@ CHECKS = [
     ("docs/check.sh", "bash docs/check.sh"),
     ("rows/check.sh, limits", "bash rows/check.sh {regrun} limits"),
     ("rows/grade.sh", "bash rows/grade.sh {regrun-grade} {regrun}"),
+    ("rows/plan.py", "python3 rows/plan.py {regrun-plan} {regrun-grade} {regrun}"),
     ("docs/DETECTION.md", "bash docs/check.sh {regrun-grade}"),
     ("rows/check.sh, sessions", "bash rows/check.sh {regrun} sessions"),
     ("examples/rtl/run.sh, verilator", "env TOOL=verilator bash examples/rtl/run.sh {regrun-link}"),

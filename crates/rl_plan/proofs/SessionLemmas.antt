@@ -1,0 +1,79 @@
+-- What was told of a session for whose description a plan is made.
+use Rattle.std.proofs.Common.{◌≡◌, ◌≢◌, ℕ, ◌≤◌, List, [], Result, Ok, Err, Some, None, IfSome, refl, sym, subst, arith}
+use Rattle.std.specs.declared.option.Option.{Option}
+use Rattle.std.specs.Io.KnownBytes.{Keeps}
+use Rattle.rl_bus.specs.Causes.{HasCause}
+use Rattle.rl_bus.specs.declared.op.AdapterKind.{AdapterKind}
+use Rattle.rl_desc.specs.Data.{DescData}
+use Rattle.rl_report.specs.declared.sink.Sink.{Ghosts as Sink}
+use Rattle.rl_report.specs.Pieces.{Puts}
+use Rattle.rl_report.specs.Reading.{Reading}
+use Rattle.rl_log.specs.declared.status.Status.{Status}
+use Rattle.rl_log.specs.declared.status.Status.TheVariants.{Passed, SinkFault}
+use Rattle.rl_log.specs.Causes.{IsCaused}
+use Rattle.rl_log.specs.Telling.{Tells}
+use Rattle.rl_log.specs.Earlier.{KeepsEarlier}
+use Rattle.rl_log.proofs.TellingLemmas.{tells_all, tells_front, tells_none, tells_written}
+use Rattle.rl_play.proofs.EndingLemmas.{append_none}
+use Rattle.rl_session.specs.Session.{opening_of}
+use Rattle.rl_session_run.specs.Opening.{OpensAs}
+use Rattle.rl_session_run.specs.Stays.{LeavesOpen, StaysOpen}
+use Rattle.rl_session_run.specs.Telling.{Stops}
+use Rattle.rl_plan.specs.declared.asked.Asked.{Asked}
+use Rattle.rl_plan.specs.Opening.{unflawed}
+use Rattle.rl_plan.specs.Run.{TellsPlan, model_of, opened_planned, planned_of, status_of}
+use Rattle.rl_plan.specs.Text.{plan_text}
+
+stopped : (asked : Asked) (opening : Result DescData (List ℕ)) (status : Status) (old new : Option (List ℕ))
+    → Stops opening status old new → TellsPlan (opened_planned asked opening) status old new
+stopped asked (Ok d) status old new s = tells_none status Passed old new (plan_text (model_of d) asked) s.0 s.1
+stopped asked (Err line) status old new s = s
+
+pub session_stopped : (input : Option (List ℕ)) (asked : Asked) (kinds : List AdapterKind) (status : Status) (old new : Option (List ℕ))
+    → IfSome input (λ bytes. Stops (unflawed (opening_of bytes kinds)) status old new)
+    → IfSome input (λ bytes. TellsPlan (planned_of asked kinds bytes) status old new)
+session_stopped None asked kinds status old new s = tt
+session_stopped (Some bytes) asked kinds status old new s = stopped asked (unflawed (opening_of bytes kinds)) status old new s
+
+pub session_planned : {K : Type 0} (written : K → Option (List ℕ)) (input : Option (List ℕ)) (asked : Asked) (kinds : List AdapterKind)
+    (desc : DescData) (lines : Reading) (left : Option (List ℕ)) (status : Status) (old mid new : K)
+    → IfSome input (λ bytes. OpensAs (unflawed (opening_of bytes kinds)) bytes desc lines left) → mid ≡ old
+    → Tells status Passed (written mid) (written new) (plan_text (model_of desc) asked)
+    → IfSome input (λ bytes. TellsPlan (planned_of asked kinds bytes) status (written old) (written new))
+session_planned written None asked kinds desc lines left status old mid new opens same t = tt
+session_planned written (Some bytes) asked kinds desc lines left status old mid new opens same t =
+    let planned = subst (λ o. TellsPlan (opened_planned asked o) status (written mid) (written new)) (sym opens.opening) t in
+    subst (λ k. TellsPlan (planned_of asked kinds bytes) status (written k) (written new)) same planned
+
+pub session_ended : (input : Option (List ℕ)) (asked : Asked) (kinds : List AdapterKind) (status result : Status) (old mid new : Option (List ℕ))
+    → (result ≢ SinkFault → result ≡ status) → KeepsEarlier old new → Keeps mid new
+    → IfSome input (λ bytes. TellsPlan (planned_of asked kinds bytes) status old mid)
+    → IfSome input (λ bytes. TellsPlan (planned_of asked kinds bytes) result old new)
+session_ended None asked kinds status result old mid new same earlier kept t = tt
+session_ended (Some bytes) asked kinds status result old mid new same earlier kept t =
+    let p = planned_of asked kinds bytes in
+    tells_written status result p.status old mid new [] p.text same earlier (subst (Keeps mid) (sym (append_none new)) kept) (λ c. kept) t
+
+pub leaves_planned : {K : Type 0} (sink : Sink K) (status : Status) (source source_now : ℕ) (old new : K) → source ≤ source_now
+    → IsCaused status 0 0 (sink.faults old) (sink.faults new) → StaysOpen sink.written sink.faults sink.ends old new
+    → LeavesOpen sink status source source_now old new
+leaves_planned sink status source source_now old new later cause stays =
+    record {
+      source_later = later;
+      cause = record { source_fault = λ e. absurd (omega (arith, cause.source_fault e)); sink_fault = cause.sink_fault; known = cause.known };
+      stays = stays;
+    }
+
+-- ---- a text that was written, or a front of it
+
+pub text_told : {T E : Type 0} (r : Result T E) (old new : Option (List ℕ)) (text all : List ℕ) → text ≡ all → Puts old new text r
+    → Tells (status_of r) Passed old new all
+text_told (Ok x) old new text all is p = subst (λ t. Tells Passed Passed old new t) is (tells_all Passed old new text p.whole)
+text_told (Err e) old new text all is p = subst (λ t. Tells SinkFault Passed old new t) is (tells_front SinkFault Passed old new text refl p.part)
+
+pub text_caused : {T E : Type 0} (r : Result T E) (sink sink_now : ℕ) → HasCause sink sink_now r → IsCaused (status_of r) 0 0 sink sink_now
+text_caused (Ok x) sink sink_now h = record { source_fault = λ e. absurd (cc); sink_fault = λ e. absurd (cc); known = λ e. cc }
+text_caused (Err e) sink sink_now h = record { source_fault = λ e. absurd (cc); sink_fault = λ e. h.failed; known = λ e. cc }
+
+pub no_later : (n : ℕ) → n ≤ n
+no_later n = omega arith

@@ -1,0 +1,8 @@
+use Rattle.rl_plan.specs.Text.{op_line}
+use Rattle.rl_plan.proofs.Pushed.{text_more}
+use Rattle.rl_plan.proofs.text.push_ops.Goals as goal
+
+pub loop-op-preserved : goal.loop-op-preserved
+loop-op-preserved c =
+    text_more (op_line c.args.model.now) _ _ _ c.args.ops.now c.loop-op.op-index _ c.loop-op-test.true c.loop-op.invariant
+    c.in_ok-push_op.ensures

@@ -1,0 +1,109 @@
+-- The text of a plan.
+use Rattle.std.specs.Prelude.{ℕ, zero, suc, ◌==◌, Bool, true, if◌then◌else◌, List, [], ◌++◌, length, flat_map, codes, Option}
+use Rattle.rl_model.specs.declared.rows.Item.{Item}
+use Rattle.rl_model.specs.declared.rows.Item.TheVariants as item
+use Rattle.rl_model.specs.Chip.{path_of_item}
+use Rattle.rl_access.specs.declared.event.Op.{Op}
+use Rattle.rl_access.specs.declared.event.Op.TheVariants as op
+use Rattle.rl_access.specs.Model.{ModelData}
+use Rattle.rl_access.specs.Operation.{is_on_memory}
+use Rattle.rl_report.specs.Operation.{map_text, number_text, op_text}
+use Rattle.rl_plan.specs.declared.asked.Asked.{Asked}
+use Rattle.rl_plan.specs.declared.target.Target.{Target}
+use Rattle.rl_plan.specs.declared.way.Way.{Way}
+use Rattle.rl_plan.specs.Plan.{further_ops, mem_ops, reg_ops, sort_of, target_of, ways_of}
+use Rattle.rl_plan.specs.Steps.{purpose_of}
+
+-- ---- a line
+
+-- the operations that a plan has
+abbrev pub is_planned : Op → Bool
+is_planned (op.Reset kind) = true
+is_planned (op.Check reg map) = true
+is_planned (op.BackCheck reg) = true
+is_planned (op.Write reg map value) = true
+is_planned (op.Poke reg value) = true
+is_planned o = is_on_memory o
+
+-- the line of an operation, in its canonical spelling
+abbrev pub op_line : ModelData → Op → List ℕ
+op_line m o = op_text m o ++ codes "\n"
+
+-- the same in pieces: a command, its item, its numbers, and its map
+abbrev pub item_text : ModelData → (command : List ℕ) → Item → (numbers : List ℕ) → Option ℕ → List ℕ
+item_text m command item numbers map =
+    command ++ codes " " ++ path_of_item m.chip item ++ flat_map number_text numbers ++ map_text m.layout map ++ codes "\n"
+
+abbrev pub comment_text : (path purpose : List ℕ) → List ℕ
+comment_text path purpose = codes "# " ++ path ++ codes ": " ++ purpose ++ codes "\n"
+
+-- a comment on an item, and the lines of operations
+abbrev pub block_text : ModelData → Item → (purpose : List ℕ) → List Op → List ℕ
+block_text m item purpose ops = comment_text (path_of_item m.chip item) purpose ++ flat_map (op_line m) ops
+
+-- the same, where there are operations
+abbrev pub some_block_text : ModelData → Item → (purpose : List ℕ) → List Op → List ℕ
+some_block_text m item purpose ops = if length ops == 0 then [] else block_text m item purpose ops
+
+-- ---- a register
+
+abbrev pub reg_ways : ModelData → (reg : ℕ) → List Way
+reg_ways m reg = ways_of m.layout (item.Reg reg) (length m.layout.places)
+
+abbrev pub reg_target : ModelData → Asked → (reg : ℕ) → Target
+reg_target m asked reg = target_of m.chip asked reg (reg_ways m reg)
+
+-- the operations for a register
+abbrev pub planned_for : ModelData → Asked → (reg : ℕ) → List Op
+planned_for m asked reg = reg_ops m.chip (reg_target m asked reg) (reg_ways m reg)
+
+-- what its lines are for, and its lines
+abbrev pub reg_text : ModelData → Asked → (reg : ℕ) → List ℕ
+reg_text m asked reg = block_text m (item.Reg reg) (purpose_of (sort_of m.chip (reg_target m asked reg))) (planned_for m asked reg)
+
+-- of the first so many registers
+abbrev pub regs_text : ModelData → Asked → (regs : ℕ) → List ℕ
+regs_text m asked zero = []
+regs_text m asked (suc k) = regs_text m asked k ++ reg_text m asked k
+
+-- ---- a register and its other resets
+
+abbrev pub planned_further : ModelData → Asked → (reg : ℕ) → List Op
+planned_further m asked reg = further_ops m.chip (reg_target m asked reg)
+
+-- nothing where no field has a value for one
+abbrev pub further_text : ModelData → Asked → (reg : ℕ) → List ℕ
+further_text m asked reg = some_block_text m (item.Reg reg) (codes "its other resets") (planned_further m asked reg)
+
+abbrev pub furthers_text : ModelData → Asked → (regs : ℕ) → List ℕ
+furthers_text m asked zero = []
+furthers_text m asked (suc k) = furthers_text m asked k ++ further_text m asked k
+
+-- ---- a memory
+
+abbrev pub mem_ways : ModelData → (mem : ℕ) → List Way
+mem_ways m mem = ways_of m.layout (item.Mem mem) (length m.layout.places)
+
+abbrev pub planned_in : ModelData → (mem : ℕ) → List Op
+planned_in m mem = mem_ops m.chip mem (mem_ways m mem)
+
+abbrev pub mem_text : ModelData → (mem : ℕ) → List ℕ
+mem_text m mem = block_text m (item.Mem mem) (codes "its first and its last location at each place") (planned_in m mem)
+
+abbrev pub mems_text : ModelData → (mems : ℕ) → List ℕ
+mems_text m zero = []
+mems_text m (suc k) = mems_text m k ++ mem_text m k
+
+-- the walk over all memories, where there are any
+abbrev pub walked_text : (mems : ℕ) → List ℕ
+walked_text mems =
+    if mems == 0 then [] else codes "# the memories: each location beside its neighbours\nseq mem-walk *\n"
+
+-- ---- a chip
+
+-- The registers; then those with further kinds of reset, which leave other registers' first values behind; the walk, and the
+-- memories.
+unfoldable pub plan_text : ModelData → Asked → List ℕ
+plan_text m asked =
+    regs_text m asked (length m.chip.regs) ++ furthers_text m asked (length m.chip.regs)
+    ++ walked_text (length m.chip.mems) ++ mems_text m (length m.chip.mems)

@@ -1,0 +1,37 @@
+//! What holds of the lines of every plan, and what the steps by bus and backdoor show of one bit. Each function does
+//! nothing; its contract is the law.
+ghost use Rattle.rl_plan.specs.Bits.{ShowsDeafOnes, ShowsStuckBits, ShowsWrongResets, TellsPoliciesApart};
+ghost use Rattle.rl_plan.specs.Laws.{LinesAreFew, LinesReadBack};
+
+/// The steps tell any two of the 25 policies apart, from each reset value on and where there is none: some check
+/// differs where the device has another policy. So it is of each policy that a read shows.
+pub fn policies_are_told_apart()
+    ensures { TellsPoliciesApart }
+{}
+
+/// A bit that is stuck at 0 or at 1 makes some check differ.
+pub fn stuck_bits_show()
+    ensures { ShowsStuckBits }
+{}
+
+/// A device that takes no write makes some check differ, for each policy by which a write does something.
+pub fn deaf_ones_show()
+    ensures { ShowsDeafOnes }
+{}
+
+/// A wrong reset value makes some check differ.
+pub fn wrong_resets_show()
+    ensures { ShowsWrongResets }
+{}
+
+/// Each line of a plan reads back as the operation that it stands for, where the maps and the reset kinds have names, as
+/// those of a description that isn't refused do.
+pub fn lines_read_back()
+    ensures { LinesReadBack }
+{}
+
+/// A register has at most 30 lines and one more for each place with the reset HARD, and 8 for each kind of reset; with
+/// the kinds HARD and SOFT alone and at most 8 places it has at most 40.
+pub fn lines_are_few()
+    ensures { LinesAreFew }
+{}

@@ -1,0 +1,223 @@
+// The plan of a chip.
+ghost use Rattle.std.specs.Prelude.{◌≡◌, ◌++◌, ◌<◌, All, length, true, IfOk, OnOk};
+ghost use Rattle.rl_access.specs.Model.{IsModel};
+ghost use Rattle.rl_access.specs.Operation.{HasNumbers};
+ghost use Rattle.rl_model.specs.Chip.{HasItem};
+ghost use Rattle.rl_plan.specs.Text.{block_text, comment_text, further_text, furthers_text, is_planned, mem_text};
+ghost use Rattle.rl_plan.specs.Text.{mems_text, plan_text, planned_for, planned_further, planned_in, reg_target};
+ghost use Rattle.rl_plan.specs.Text.{reg_text, regs_text, some_block_text, walked_text};
+
+use crate::asked::Asked;
+use crate::memory::mem_ops;
+use crate::register::{further_ops, reg_ops, sort_of};
+use crate::target::{Target, target_of};
+use crate::text::push_ops;
+use crate::way::ways_of;
+use rl_access::{Model, Op};
+use rl_model::Item;
+use std::alloc::{AllocError, Global};
+
+// Appends a comment on an item.
+fn push_comment(text: &mut Vec<u8>, path: &[u8], purpose: &[u8]) -> Result<(), AllocError>
+    ensures { OnOk result (text.new.items ≡ text.old.items ++ comment_text path.now purpose.now) }
+{
+    text.extend_from_slice(b"# ")?;
+    text.extend_from_slice(path)?;
+    text.extend_from_slice(b": ")?;
+    text.extend_from_slice(purpose)?;
+    text.push(b'\n')?;
+    Ok(())
+}
+
+// How a register is reached.
+fn reg_target(alloc: Global, model: &Model, asked: Asked, reg: u32) -> Result<Target, AllocError>
+    requires { reg < length model.now.chip.regs }
+    ensures exact { IfOk result (λ target. target ≡ reg_target model.now asked reg) }
+    ensures sound { IsModel model.now }
+{
+    let ways = ways_of(alloc, model.layout(), Item::Reg(reg))?;
+    Ok(target_of(model.chip(), asked, reg, &ways))
+}
+
+// The operations for a register with the reset HARD.
+fn planned_for(alloc: Global, model: &Model, asked: Asked, reg: u32) -> Result<Vec<Op>, AllocError>
+    requires { reg < length model.now.chip.regs }
+    ensures exact { IfOk result (λ ops. ops.items ≡ planned_for model.now asked reg) }
+    ensures sound { IsModel model.now }
+{
+    let target = reg_target(alloc, model, asked, reg)?;
+    let ways = ways_of(alloc, model.layout(), Item::Reg(reg))?;
+    reg_ops(alloc, model.chip(), target, &ways)
+}
+
+// The operations for a register with its other resets.
+fn planned_further(
+    alloc: Global,
+    model: &Model,
+    asked: Asked,
+    reg: u32,
+) -> Result<Vec<Op>, AllocError>
+    requires { reg < length model.now.chip.regs }
+    ensures exact { IfOk result (λ ops. ops.items ≡ planned_further model.now asked reg) }
+    ensures sound { IsModel model.now }
+{
+    let target = reg_target(alloc, model, asked, reg)?;
+    further_ops(alloc, model.chip(), target)
+}
+
+// The operations for a memory.
+fn planned_in(alloc: Global, model: &Model, mem: u32) -> Result<Vec<Op>, AllocError>
+    requires { mem < length model.now.chip.mems }
+    ensures exact { IfOk result (λ ops. ops.items ≡ planned_in model.now mem) }
+    ensures sound { IsModel model.now }
+{
+    let ways = ways_of(alloc, model.layout(), Item::Mem(mem))?;
+    mem_ops(alloc, model.chip(), mem, &ways)
+}
+
+// Appends a comment on an item and the lines of operations.
+fn push_block(
+    text: &mut Vec<u8>,
+    model: &Model,
+    item: Item,
+    purpose: &[u8],
+    ops: &[Op],
+) -> Result<(), AllocError>
+    requires item { HasItem model.now.chip item }
+    requires planned { All (λ op. is_planned op ≡ true) ops.now }
+    requires numbers { All (HasNumbers model.now.chip (length model.now.layout.maps)) ops.now }
+    ensures { OnOk result (text.new.items ≡ text.old.items ++ block_text model.now item purpose.now ops.now) }
+{
+    push_comment(text, model.chip().path(item), purpose)?;
+    push_ops(text, model, ops)
+}
+
+// Appends a block, where there are operations.
+fn push_some_block(
+    text: &mut Vec<u8>,
+    model: &Model,
+    item: Item,
+    purpose: &[u8],
+    ops: &[Op],
+) -> Result<(), AllocError>
+    requires item { HasItem model.now.chip item }
+    requires planned { All (λ op. is_planned op ≡ true) ops.now }
+    requires numbers { All (HasNumbers model.now.chip (length model.now.layout.maps)) ops.now }
+    ensures { OnOk result
+        (text.new.items ≡ text.old.items ++ some_block_text model.now item purpose.now ops.now) }
+{
+    if ops.is_empty() {
+        return Ok(());
+    }
+    push_block(text, model, item, purpose, ops)
+}
+
+/// Appends the plan of a register: a comment what its lines are for, and its lines with the reset HARD.
+pub fn push_reg(
+    alloc: Global,
+    text: &mut Vec<u8>,
+    model: &Model,
+    asked: Asked,
+    reg: u32,
+) -> Result<(), AllocError>
+    requires { reg < length model.now.chip.regs }
+    ensures { OnOk result (text.new.items ≡ text.old.items ++ reg_text model.now asked reg) }
+{
+    let target = reg_target(alloc, model, asked, reg)?;
+    let purpose = sort_of(model.chip(), target).purpose();
+    let ops = planned_for(alloc, model, asked, reg)?;
+    push_block(text, model, Item::Reg(reg), purpose, &ops)
+}
+
+/// Appends what a plan has for a register's resets but HARD: a comment and lines, where a field has a value for one.
+pub fn push_further(
+    alloc: Global,
+    text: &mut Vec<u8>,
+    model: &Model,
+    asked: Asked,
+    reg: u32,
+) -> Result<(), AllocError>
+    requires { reg < length model.now.chip.regs }
+    ensures { OnOk result (text.new.items ≡ text.old.items ++ further_text model.now asked reg) }
+{
+    let ops = planned_further(alloc, model, asked, reg)?;
+    push_some_block(text, model, Item::Reg(reg), b"its other resets", &ops)
+}
+
+/// Appends the plan of a memory: a comment, and the lines for its first and its last location.
+pub fn push_mem(
+    alloc: Global,
+    text: &mut Vec<u8>,
+    model: &Model,
+    mem: u32,
+) -> Result<(), AllocError>
+    requires { mem < length model.now.chip.mems }
+    ensures { OnOk result (text.new.items ≡ text.old.items ++ mem_text model.now mem) }
+{
+    let ops = planned_in(alloc, model, mem)?;
+    let purpose = b"its first and its last location at each place";
+    push_block(text, model, Item::Mem(mem), purpose, &ops)
+}
+
+fn push_regs(
+    alloc: Global,
+    text: &mut Vec<u8>,
+    model: &Model,
+    asked: Asked,
+) -> Result<(), AllocError>
+    ensures { OnOk result
+        (text.new.items ≡ text.old.items ++ regs_text model.now asked (length model.now.chip.regs)) }
+{
+    for reg in 0..model.chip().regs() {
+        push_reg(alloc, text, model, asked, reg)?;
+    }
+    Ok(())
+}
+
+fn push_furthers(
+    alloc: Global,
+    text: &mut Vec<u8>,
+    model: &Model,
+    asked: Asked,
+) -> Result<(), AllocError>
+    ensures { OnOk result
+        (text.new.items ≡ text.old.items ++ furthers_text model.now asked (length model.now.chip.regs)) }
+{
+    for reg in 0..model.chip().regs() {
+        push_further(alloc, text, model, asked, reg)?;
+    }
+    Ok(())
+}
+
+fn push_mems(alloc: Global, text: &mut Vec<u8>, model: &Model) -> Result<(), AllocError>
+    ensures { OnOk result (text.new.items ≡ text.old.items ++ mems_text model.now (length model.now.chip.mems)) }
+{
+    for mem in 0..model.chip().mems() {
+        push_mem(alloc, text, model, mem)?;
+    }
+    Ok(())
+}
+
+// Appends the walk over the memories, where there are any.
+fn push_walk(text: &mut Vec<u8>, mems: u32) -> Result<(), AllocError>
+    ensures { OnOk result (text.new.items ≡ text.old.items ++ walked_text mems) }
+{
+    if mems == 0 {
+        return Ok(());
+    }
+    text.extend_from_slice(b"# the memories: each location beside its neighbours\nseq mem-walk *\n")
+}
+
+/// The plan of a model's chip: its registers in order, those with further kinds of reset again, a walk over its memories,
+/// and its memories in order.
+#[tactic(auto, unfolding(crate::specs::Text::plan_text))]
+pub fn plan_text(alloc: Global, model: &Model, asked: Asked) -> Result<Vec<u8>, AllocError>
+    ensures { IfOk result (λ text. text.items ≡ plan_text model.now asked) }
+{
+    let mut text = Vec::new(alloc);
+    push_regs(alloc, &mut text, model, asked)?;
+    push_furthers(alloc, &mut text, model, asked)?;
+    push_walk(&mut text, model.chip().mems())?;
+    push_mems(alloc, &mut text, model)?;
+    Ok(text)
+}
