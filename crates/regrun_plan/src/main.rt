@@ -1,5 +1,5 @@
-//! A script that finds each single flaw of a device which a check can show: reads a session from standard input, and writes
-//! the script for its description to standard output.
+//! A script that finds each single flaw of a device which a check can show: reads a session from standard input, and
+//! writes the script for its description to standard output.
 #![tactic(auto)]
 
 use rl_apb::fresh_adapters;
@@ -26,7 +26,9 @@ fn plan(rt: &HostRuntime, asked: Asked) -> Result<Status, AllocError> {
 
 // Says what can be asked for. Answers the exit status.
 fn tell_words(rt: &HostRuntime) -> u8 {
-    let _ = eprintln!(rt; "regrun-plan: no word or `bus` is asked for, and a session on standard input");
+    let _ = eprintln!(rt;
+        "regrun-plan: no word or `bus` is asked for, and a session on standard input"
+    );
     Status::Words.code()
 }
 

@@ -96,8 +96,8 @@ takes_writes p = true
 
 -- any two policies are told apart, whatever the reset value is, and where there is none
 abbrev pub TellsPoliciesApart : Type 0
-TellsPoliciesApart = (p q : Policy) (value : Option Bool) → is_write_only p ≡ false → bytes_eq (name_of q) (name_of p) ≡ false
-    → is_shown p (unflawed q) value ≡ true
+TellsPoliciesApart = (p q : Policy) (value : Option Bool) → is_write_only p ≡ false
+    → bytes_eq (name_of q) (name_of p) ≡ false → is_shown p (unflawed q) value ≡ true
 
 -- a stuck bit shows
 abbrev pub ShowsStuckBits : Type 0

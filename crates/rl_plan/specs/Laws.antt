@@ -17,17 +17,19 @@ pub record ReadsBack (m : ModelData) (o : Op) : Type 0 where
 
 -- so does each of a plan, where maps and reset kinds have names
 pub record LinesReadBack : Type 0 where
-  pub registers : (m : ModelData) (asked : Asked) (reg : ℕ) → IsModel m → HasNames m.chip m.layout → reg < length m.chip.regs
-      → All (ReadsBack m) (planned_for m asked reg)
-  pub further : (m : ModelData) (asked : Asked) (reg : ℕ) → IsModel m → HasNames m.chip m.layout → reg < length m.chip.regs
-      → All (ReadsBack m) (planned_further m asked reg)
+  pub registers : (m : ModelData) (asked : Asked) (reg : ℕ) → IsModel m → HasNames m.chip m.layout
+      → reg < length m.chip.regs → All (ReadsBack m) (planned_for m asked reg)
+  pub further : (m : ModelData) (asked : Asked) (reg : ℕ) → IsModel m → HasNames m.chip m.layout
+      → reg < length m.chip.regs → All (ReadsBack m) (planned_further m asked reg)
   pub memories : (m : ModelData) (mem : ℕ) → IsModel m → HasNames m.chip m.layout → mem < length m.chip.mems
       → All (ReadsBack m) (planned_in m mem)
 
--- A register has at most 30 lines, one more for each place, and 8 for each kind of reset; of a chip with the kinds HARD and SOFT alone
--- at most 40, where it has at most 8 places.
+-- A register has at most 30 lines, one more for each place, and 8 for each kind of reset; of a chip with the kinds HARD
+-- and SOFT alone at most 40, where it has at most 8 places.
 pub record LinesAreFew : Type 0 where
-  pub first : (m : ModelData) (asked : Asked) (reg : ℕ) → length (planned_for m asked reg) ≤ 30 + length (reg_ways m reg)
-  pub further : (m : ModelData) (asked : Asked) (reg : ℕ) → length (planned_further m asked reg) ≤ 8 * length m.chip.kinds
+  pub first : (m : ModelData) (asked : Asked) (reg : ℕ)
+      → length (planned_for m asked reg) ≤ 30 + length (reg_ways m reg)
+  pub further : (m : ModelData) (asked : Asked) (reg : ℕ)
+      → length (planned_further m asked reg) ≤ 8 * length m.chip.kinds
   pub forty : (m : ModelData) (asked : Asked) (reg : ℕ) → length m.chip.kinds ≡ 2 → length (reg_ways m reg) ≤ 8
       → length (planned_for m asked reg) + length (planned_further m asked reg) ≤ 40

@@ -154,7 +154,8 @@ is_seen_as sort = true
 
 -- its steps with HARD, and an access at each other place
 abbrev pub ops_as : Sort → Target → List Way → List Op
-ops_as sort t ways = filter_map (op_of t 0) (steps_of sort) ++ filter_map (visit_op (visit.Touch t (is_seen_as sort))) ways
+ops_as sort t ways =
+    filter_map (op_of t 0) (steps_of sort) ++ filter_map (visit_op (visit.Touch t (is_seen_as sort))) ways
 
 abbrev pub reg_ops : ChipData → Target → List Way → List Op
 reg_ops c t ways = ops_as (sort_of c t) t ways

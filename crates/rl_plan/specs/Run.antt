@@ -25,7 +25,8 @@ abbrev pub opened_planned : Asked → Result DescData (List ℕ) → Planned
 opened_planned asked (Ok d) = record { text = plan_text (model_of d) asked; status = Passed }
 opened_planned asked (Err line) = record { text = line; status = Refused }
 
--- A session by its bytes: as `run` refuses it, and then for a flaw, or the plan of its description. Its script isn't looked at.
+-- A session by its bytes: as `run` refuses it, and then for a flaw, or the plan of its description. Its script isn't
+-- looked at.
 abbrev pub planned_of : Asked → List AdapterKind → (session : List ℕ) → Planned
 planned_of asked kinds bytes = opened_planned asked (unflawed (opening_of bytes kinds))
 

@@ -5,8 +5,8 @@ use Rattle.rl_plan.specs.declared.step.Step.TheVariants.{Reset, Check, BackCheck
 use Rattle.rl_plan.specs.declared.step.Sort.{Sort}
 use Rattle.rl_plan.specs.declared.step.Sort.TheVariants.{Both, Bus, Reads, Unseen}
 
--- The first writes after a reset show whether a write is taken once. Behind them each value is written over each value, and
--- what a write leaves is read twice, so that what a read leaves shows.
+-- The first writes after a reset show whether a write is taken once. Behind them each value is written over each value,
+-- and what a write leaves is read twice, so that what a read leaves shows.
 abbrev pub both_steps : List Step
 both_steps =
     Reset ∷ Check ∷ Check ∷ WriteOnes ∷ Check ∷ BackCheck ∷ WriteZeros ∷ Check ∷ Check

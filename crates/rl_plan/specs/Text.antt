@@ -32,7 +32,8 @@ op_line m o = op_text m o ++ codes "\n"
 -- the same in pieces: a command, its item, its numbers, and its map
 abbrev pub item_text : ModelData → (command : List ℕ) → Item → (numbers : List ℕ) → Option ℕ → List ℕ
 item_text m command item numbers map =
-    command ++ codes " " ++ path_of_item m.chip item ++ flat_map number_text numbers ++ map_text m.layout map ++ codes "\n"
+    command ++ codes " " ++ path_of_item m.chip item ++ flat_map number_text numbers
+    ++ map_text m.layout map ++ codes "\n"
 
 abbrev pub comment_text : (path purpose : List ℕ) → List ℕ
 comment_text path purpose = codes "# " ++ path ++ codes ": " ++ purpose ++ codes "\n"
@@ -59,7 +60,8 @@ planned_for m asked reg = reg_ops m.chip (reg_target m asked reg) (reg_ways m re
 
 -- what its lines are for, and its lines
 abbrev pub reg_text : ModelData → Asked → (reg : ℕ) → List ℕ
-reg_text m asked reg = block_text m (item.Reg reg) (purpose_of (sort_of m.chip (reg_target m asked reg))) (planned_for m asked reg)
+reg_text m asked reg =
+    block_text m (item.Reg reg) (purpose_of (sort_of m.chip (reg_target m asked reg))) (planned_for m asked reg)
 
 -- of the first so many registers
 abbrev pub regs_text : ModelData → Asked → (regs : ℕ) → List ℕ
@@ -101,8 +103,8 @@ walked_text mems =
 
 -- ---- a chip
 
--- The registers; then those with further kinds of reset, which leave other registers' first values behind; the walk, and the
--- memories.
+-- The registers; then those with further kinds of reset, which leave other registers' first values behind; the walk,
+-- and the memories.
 unfoldable pub plan_text : ModelData → Asked → List ℕ
 plan_text m asked =
     regs_text m asked (length m.chip.regs) ++ furthers_text m asked (length m.chip.regs)

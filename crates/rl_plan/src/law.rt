@@ -24,8 +24,8 @@ pub fn wrong_resets_show()
     ensures { ShowsWrongResets }
 {}
 
-/// Each line of a plan reads back as the operation that it stands for, where the maps and the reset kinds have names, as
-/// those of a description that isn't refused do.
+/// Each line of a plan reads back as the operation that it stands for, where the maps and the reset kinds have names,
+/// as those of a description that isn't refused do.
 pub fn lines_read_back()
     ensures { LinesReadBack }
 {}

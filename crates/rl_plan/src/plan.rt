@@ -208,8 +208,8 @@ fn push_walk(text: &mut Vec<u8>, mems: u32) -> Result<(), AllocError>
     text.extend_from_slice(b"# the memories: each location beside its neighbours\nseq mem-walk *\n")
 }
 
-/// The plan of a model's chip: its registers in order, those with further kinds of reset again, a walk over its memories,
-/// and its memories in order.
+/// The plan of a model's chip: its registers in order, those with further kinds of reset again, a walk over its
+/// memories, and its memories in order.
 #[tactic(auto, unfolding(crate::specs::Text::plan_text))]
 pub fn plan_text(alloc: Global, model: &Model, asked: Asked) -> Result<Vec<u8>, AllocError>
     ensures { IfOk result (λ text. text.items ≡ plan_text model.now asked) }

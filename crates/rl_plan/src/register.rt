@@ -1,8 +1,8 @@
 // The operations for a register.
 ghost use Rattle.std.specs.Prelude.{◌≡◌, ◌++◌, ◌<◌, filter_map, length, IfOk, OnOk};
 ghost use Rattle.rl_mirror.specs.Compared.{is_compared};
-ghost use Rattle.rl_plan.specs.Plan.{further_ops, further_ops_as, further_steps, has_value, is_seen, is_seen_as, op_of, reg_ops};
-ghost use Rattle.rl_plan.specs.Plan.{sort_by, sort_of};
+ghost use Rattle.rl_plan.specs.Plan.{further_ops, further_ops_as, further_steps, has_value, is_seen, is_seen_as};
+ghost use Rattle.rl_plan.specs.Plan.{op_of, reg_ops, sort_by, sort_of};
 
 use crate::step::{Sort, Step};
 use crate::target::Target;

@@ -54,8 +54,8 @@ fn put_plan<K: Sink>(alloc: Global, asked: Asked, desc: Desc, log: &mut K) -> St
     status_of(put_all(log, &text))
 }
 
-/// Writes the plan of a session's description: a script that finds each single flaw of the device that a check can show.
-/// The adapters are those of which a root map names one; nothing is sent. What stands behind the separator isn't read.
+/// Writes the plan of a session's description: a script that finds each single flaw of the device which a check can
+/// show. The adapters are those of which a root map names one; nothing is sent. What stands behind the separator isn't read.
 ///
 /// The log is finished once, where its last line was written.
 pub fn run_plan<S: Source, K: Sink>(
