@@ -1,5 +1,6 @@
 -- A find is the first event that shows more.
-use Rattle.std.proofs.Common.{◌≡◌, ℕ, ◌<◌, zero, suc, Bool, true, false, List, [], ◌∷◌, drop, Option, Some, None, refl, sym, ap, subst, ◌∙◌, arith}
+use Rattle.std.proofs.Common.{◌≡◌, ℕ, ◌<◌, zero, suc, Bool, true, false, List, [], ◌∷◌, drop, get_or, Option, Some, None, refl, sym, ap, subst, ◌∙◌, arith}
+use Rattle.std.specs.Prelude.{slice_get}
 use Rattle.rl_grade.specs.declared.seen.Find.{Find}
 use Rattle.rl_grade.specs.declared.seen.Seen.{Seen}
 use Rattle.rl_grade.specs.Find.{beside, first_find, front, new_in, seen_of, shows}

@@ -1,5 +1,5 @@
 -- A bit that a flaw can't show: how it stands in both devices, and that each call keeps this.
-use Rattle.std.proofs.Common.{◌≡◌, ◌⊎◌, inl, inr, Bool, true, false, not, ◌&&◌, ◌||◌, if◌then◌else◌, Option, Some, None, refl, sym, ap, ◌∙◌}
+use Rattle.std.proofs.Common.{◌≡◌, ◌⊎◌, inl, inr, ℕ, Bool, true, false, not, ◌&&◌, ◌||◌, if◌then◌else◌, Option, Some, None, refl, sym, ap, subst, ◌∙◌}
 use Rattle.std.proofs.lemmas.Bool.{and_parts}
 use Rattle.rl_policy.specs.Access.{bit_answered, bit_left, bit_written, mark_written}
 use Rattle.rl_policy.specs.Table.{after_read, after_write, is_write_only, spends_mark}
@@ -7,7 +7,7 @@ use Rattle.rl_policy.specs.declared.policy.Policy.{Policy}
 use Rattle.rl_bus.specs.Setup.{or_else}
 use Rattle.rl_grade.specs.declared.bits.FlawedBit.{FlawedBit}
 use Rattle.rl_grade.specs.declared.bits.Ways.{Ways}
-use Rattle.rl_grade.specs.Hidden.{for_both, is_alike, is_fixed, is_same, is_unseen, keeps_read, keeps_written, may_hold, reads_alike, writes_alike}
+use Rattle.rl_grade.specs.Hidden.{for_both, is_alike, is_fixed, is_loose, is_same, is_unseen, keeps_read, keeps_written, may_hold, reads_alike, writes_alike}
 
 -- the same in both devices; this value in both; or whatever
 pub data Way : Type 0 where

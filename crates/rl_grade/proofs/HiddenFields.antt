@@ -1,6 +1,6 @@
 -- Hidden flaws by the bits of fields that they touch.
-use Rattle.std.proofs.Common.{◌≡◌, ℕ, ◌+◌, ◌-◌, ◌<◌, Bool, true, false, not, ◌&&◌, ◌==◌, if◌then◌else◌, List, [], ◌∷◌, length}
-use Rattle.std.proofs.Common.{Option, Some, None, option_map, refl, sym, ap, subst, ◌∙◌}
+use Rattle.std.proofs.Common.{◌≡◌, ◌⊎◌, inl, inr, ℕ, ◌+◌, ◌-◌, ◌<◌, ◌≤◌, Bool, true, false, not, ◌&&◌, ◌||◌, ◌==◌, if◌then◌else◌, List, [], ◌∷◌, length}
+use Rattle.std.proofs.Common.{Option, Some, None, option_map, refl, sym, ap, subst, ◌∙◌, arith}
 use Rattle.std.specs.Prelude.{unwrap_or}
 use Rattle.std.specs.List.{list_all}
 use Rattle.std.specs.Option.{option_map_or}
@@ -10,11 +10,11 @@ use Rattle.rl_policy.specs.Bits.{bit}
 use Rattle.rl_policy.specs.declared.policy.Policy.{Policy}
 use Rattle.rl_bus.specs.declared.table.Cell.TheVariants.{Reg, Loc}
 use Rattle.rl_bus.specs.declared.table.FieldRow.{FieldRow}
-use Rattle.rl_bus.specs.Setup.{Setup, Flaws, field_at, field_of as row_of_field, is_deaf, mem_of, policy_of, reset_of, stuck_at}
+use Rattle.rl_bus.specs.Setup.{Setup, Flaws, field_at, field_of as row_of_field, is_deaf, mem_of, or_else, policy_at, policy_of, reset_of, stuck_at}
 use Rattle.rl_bus.specs.State.{reset_bit, value_bit}
 use Rattle.rl_model.specs.declared.rows.Item.TheVariants as item
 use Rattle.rl_model.specs.declared.rows.Reset.{Reset}
-use Rattle.rl_model.specs.Chip.{value_for}
+use Rattle.rl_model.specs.Chip.{IsSound, value_for}
 use Rattle.rl_model.specs.Fields.{field_of}
 use Rattle.rl_model.specs.Rows.{ChipData, FieldSeen}
 use Rattle.rl_map.specs.Layout.{LayoutData}
@@ -23,8 +23,8 @@ use Rattle.rl_grade.specs.declared.bits.FlawedBit.{FlawedBit}
 use Rattle.rl_grade.specs.declared.bits.Ways.{Ways}
 use Rattle.rl_grade.specs.Hidden.{first_bit, is_alike, is_bit_hidden, is_fixed, is_loose, is_same, is_unseen, may_hold, resets_alike, ways_to}
 use Rattle.rl_grade.specs.Reached.{is_reached}
-use Rattle.rl_grade.proofs.HiddenBits.{Closes, Way, alike, fixed_last, hidden_closes, outside, same_is, stuck_at_it, untouched, way_of}
-use Rattle.rl_grade.proofs.HiddenFlaws.{Bits, FirstIs, HasBit, ResetsTo, at_field, bare, bit_of, row_is}
+use Rattle.rl_grade.proofs.HiddenBits.{Closes, Way, alike, fixed, fixed_last, hidden_closes, outside, same_is, stuck_at_it, unseen, untouched, way_of}
+use Rattle.rl_grade.proofs.HiddenFlaws.{Bits, FirstIs, HasBit, ResetsTo, at_field, bare, bit_of, own_reset, row_is}
 use Rattle.rl_grade.proofs.Related.{flawed}
 
 abbrev pub reg_of : ChipData → ℕ → ℕ

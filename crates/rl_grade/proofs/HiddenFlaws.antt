@@ -1,29 +1,37 @@
 -- A device with a hidden flaw is related to the one without it.
-use Rattle.std.proofs.Common.{◌≡◌, ◌⊎◌, inl, inr, ℕ, ◌+◌, ◌-◌, ◌<◌, ◌≤◌, Bool, true, false, ◌&&◌, ◌==◌, if◌then◌else◌, [], length, map}
-use Rattle.std.proofs.Common.{Option, Some, None, refl, sym, ap, subst, ◌∙◌, arith}
-use Rattle.std.specs.Prelude.{get_or, nat_lt, nat_le}
-use Rattle.std.specs.List.{position_or_len}
-use Rattle.std.specs.Option.{option_map_or}
+use Rattle.std.proofs.Common.{◌≡◌, ◌⊎◌, inl, inr, ℕ, zero, suc, ◌+◌, ◌-◌, ◌*◌, ◌<◌, ◌≤◌, Bool, true, false, not, ◌&&◌, ◌||◌, ◌==◌, if◌then◌else◌, List, [], ◌∷◌, length, map, All}
+use Rattle.std.proofs.Common.{Option, Some, None, option_map, refl, sym, ap, subst, ◌∙◌, arith}
+use Rattle.std.specs.Prelude.{get_or, slice_get, nat_lt, nat_le, unwrap_or, find}
+use Rattle.std.specs.List.{list_all, list_any, position_or_len, range_with_len}
+use Rattle.std.specs.Option.{option_map_or, option_or}
 use Rattle.std.proofs.lemmas.Bool.{and_parts, cases_lt, eqb-true, eq-eqb, false_from_ne_true, leb-true, lt-ltb, ltb-true}
 use Rattle.std.proofs.lemmas.List.{get_or-map, get_or_past, length-map}
+use Rattle.std.proofs.lemmas.List.FromFn.{get_or-range_with_len, length-range_with_len}
 use Rattle.std.proofs.lemmas.List.Quantifiers.{position-Some}
-use Rattle.std.proofs.lemmas.List.Sums.{position_or_len_is}
-use Rattle.rl_policy.specs.Bits.{is_within}
+use Rattle.std.proofs.lemmas.List.Sums.{AllPass-from_list_all, position_or_len_is}
+use Rattle.rl_policy.proofs.BitLemmas.{bit-zero}
+use Rattle.rl_policy.specs.Bits.{bit, is_within}
+use Rattle.rl_policy.specs.declared.policy.Policy.{Policy}
 use Rattle.rl_bus.specs.declared.table.Cell.TheVariants.{Reg, Loc}
 use Rattle.rl_bus.specs.declared.table.FieldRow.{FieldRow}
-use Rattle.rl_bus.specs.Setup.{Setup, Flaws, covers, field_at, field_of as row_of_field, is_deaf, mem_of, no_field as no_row, or_else, policy_at, reset_of, stuck_at}
-use Rattle.rl_bus.specs.State.{reset_bit}
+use Rattle.rl_bus.specs.Setup.{Setup, Flaws, covers, field_at, field_of as row_of_field, is_deaf, mem_of, no_field as no_row, no_mem, or_else, policy_at, policy_of, reset_of, stuck_at}
+use Rattle.rl_bus.specs.State.{reset_bit, value_bit}
 use Rattle.rl_model.specs.declared.rows.Item.TheVariants as item
+use Rattle.rl_model.specs.declared.rows.MemRow.{MemRow}
+use Rattle.rl_model.specs.declared.rows.Reset.{Reset}
 use Rattle.rl_model.specs.Chip.{IsSound, value_for}
 use Rattle.rl_model.specs.Fields.{field_of, no_field}
 use Rattle.rl_model.specs.Rows.{ChipData, FieldSeen}
 use Rattle.rl_mirror.proofs.FieldLemmas.{apart_fields, seated}
 use Rattle.rl_map.specs.Layout.{LayoutData}
-use Rattle.rl_map.specs.Tables.{field_row, setup_of}
+use Rattle.rl_map.specs.Tables.{field_row, mem_rows, reset_rows, setup_of}
+use Rattle.rl_access.specs.Rules.{is_writable}
 use Rattle.rl_flaw.specs.Flaws.{flaws_of}
-use Rattle.rl_grade.specs.Hidden.{ways_to}
+use Rattle.rl_grade.specs.Hidden.{first_bit, resets_alike, ways_to}
+use Rattle.rl_grade.specs.Hidden.{is_same}
 use Rattle.rl_grade.specs.Reached.{is_reached}
-use Rattle.rl_grade.proofs.HiddenBits.{Closes, Stands, Way, alike, fixed, unseen}
+use Rattle.rl_grade.proofs.HiddenBits.{Closes, Stands, Way, alike, fixed, outside, unseen, untouched}
+use Rattle.rl_grade.proofs.HiddenBits.{same_is}
 use Rattle.rl_grade.proofs.Related.{Keeps, flawed, kept_mark}
 use Rattle.rl_grade.proofs.RelatedSteps.{HasBackdoor, IsVolatile}
 use Rattle.rl_grade.proofs.ResetRows.{rows_at}

@@ -1,9 +1,9 @@
 -- Each kind of flaw that no script can show: with it the same is heard as without it.
-use Rattle.std.proofs.Common.{◌≡◌, ℕ, zero, suc, ◌+◌, ◌<◌, Bool, true, false, not, ◌&&◌, ◌||◌, ◌==◌, if◌then◌else◌, List, [], ◌∷◌, length}
+use Rattle.std.proofs.Common.{◌≡◌, ◌⊎◌, inl, inr, ℕ, zero, suc, ◌+◌, ◌-◌, ◌<◌, ◌≤◌, Bool, true, false, not, ◌&&◌, ◌||◌, ◌==◌, if◌then◌else◌, List, [], ◌∷◌, length, map, drop}
 use Rattle.std.proofs.Common.{Option, Some, None, option_map, refl, sym, ap, subst, ◌∙◌, arith}
 use Rattle.std.specs.Prelude.{bit_and, bit_xor, get_or, nat_le, nat_lt, slice_get, unwrap_or}
 use Rattle.std.specs.Int.Bits.{xor_self}
-use Rattle.std.specs.List.{range_with_len}
+use Rattle.std.specs.List.{list_all, range_with_len}
 use Rattle.std.specs.Option.{option_map_or, option_or}
 use Rattle.std.proofs.lemmas.Bool.{and_parts, eqb-true, eq-eqb, false_from_ne_true, le-leb, lt-ltb}
 use Rattle.std.proofs.lemmas.List.FromFn.{get_or-range_with_len, length-range_with_len}
@@ -14,10 +14,11 @@ use Rattle.rl_policy.specs.Bits.{is_within}
 use Rattle.rl_policy.specs.declared.policy.Policy.{Policy}
 use Rattle.rl_bus.specs.Standing.{Standing}
 use Rattle.rl_bus.specs.declared.table.FieldRow.{FieldRow}
+use Rattle.rl_bus.specs.declared.table.MemRow.{MemRow as Row}
 use Rattle.rl_bus.specs.declared.table.PolicyRow.{PolicyRow}
 use Rattle.rl_bus.specs.declared.table.ResetRow.{ResetRow}
 use Rattle.rl_bus.specs.declared.table.StuckRow.{StuckRow}
-use Rattle.rl_bus.specs.Setup.{Flaws, field_at, field_of as row_of_field, no_mem, or_else, reset_of, stuck_at, value_in}
+use Rattle.rl_bus.specs.Setup.{Setup, Flaws, field_at, field_of as row_of_field, mem_of, no_mem, or_else, policy_of, reset_of, stuck_at, value_in}
 use Rattle.rl_model.specs.declared.rows.Item.TheVariants.{Reg, Mem}
 use Rattle.rl_model.specs.declared.rows.MemRow.{MemRow}
 use Rattle.rl_model.specs.Chip.{IsSound}
@@ -38,6 +39,7 @@ use Rattle.rl_log.specs.Recording.{no_counts}
 use Rattle.rl_session.specs.Judged.{first_world}
 use Rattle.rl_grade.specs.declared.bits.FlawedBit.{FlawedBit}
 use Rattle.rl_grade.specs.declared.bits.Ways.{Ways}
+use Rattle.rl_grade.specs.declared.job.Task.{Task}
 use Rattle.rl_grade.specs.declared.seen.Seen.{Seen}
 use Rattle.rl_grade.specs.Alike.{HiddenChangesNoEvent, HiddenIsNotFound, HiddenLeavesTheLog, IsHiddenIn, IsSameLog, without_flaws}
 use Rattle.rl_grade.specs.Find.{all_seen, beside, first_find, seen_of, shows}

@@ -10,7 +10,7 @@ use Rattle.rl_access.specs.Runs.{reads_of, write_grant, writes_of}
 use Rattle.rl_access.specs.Tally.{is_bus_error}
 use Rattle.rl_access.specs.World.{World, step_by, step_of}
 use Rattle.rl_seq.specs.Plan.{Plan, look, step, stop}
-use Rattle.rl_log.specs.Course.{along, alone, burst, first_then, through}
+use Rattle.rl_log.specs.Course.{Course, along, alone, burst, first_then, through}
 use Rattle.rl_log.specs.Entry.{plan_of}
 use Rattle.rl_grade.specs.declared.job.Job.{Job}
 use Rattle.rl_grade.specs.declared.job.Job.TheVariants.{BurstRead, BurstWrite, One, Sequence}

@@ -1,13 +1,13 @@
 -- The shares of a count take each flaw once between them.
 use Rattle.std.proofs.Common.{◌≡◌, ℕ, ◌+◌, ◌-◌, ◌*◌, ◌/◌, ◌%◌, ◌<◌, ◌≤◌, zero, suc, Bool, true, false, ◌&&◌, ◌==◌, if◌then◌else◌, List, [], ◌∷◌, ◌++◌, length, Some}
-use Rattle.std.proofs.Common.{refl, sym, ap, ◌∙◌, arith}
+use Rattle.std.proofs.Common.{refl, sym, ap, subst, ◌∙◌, arith}
 use Rattle.std.specs.Prelude.{Contains, nat_le, slice_get}
 use Rattle.std.proofs.lemmas.Bool.{and_parts, eq-eqb, eqb-true, le-leb, leb-true}
 use Rattle.std.proofs.lemmas.Nat.{mod_below, mod-mul-add}
 use Rattle.std.proofs.Math.Nat.{mod-add-div'}
 use Rattle.rl_flaw.specs.declared.flaw.Flaw.{Flaw}
 use Rattle.rl_grade.specs.declared.grade.Share.{Share}
-use Rattle.rl_grade.specs.Parts.{EachIsInOne, HasNumberIn, PlacesAddUp, ShareIsByNumber, WholeHasAll, part}
+use Rattle.rl_grade.specs.Parts.{EachIsInOne, HasNumberIn, IsByNumber, IsInOne, PlacesAddUp, ShareIsByNumber, WholeHasAll, part}
 use Rattle.rl_grade.specs.Share.{is_in_share, share_of}
 
 both_true : (a b : Bool) → a ≡ true → b ≡ true → (a && b) ≡ true

@@ -1,5 +1,5 @@
 -- Line by line through a script, to its tasks or to the line that is refused.
-use Rattle.std.proofs.Common.{◌≡◌, ◌≢◌, ℕ, ◌+◌, ◌<◌, List, [], ◌++◌, length, Option, Some, None, IfSome, IfErr, IsErr, Result, Ok, Err, refl, sym, ap, subst, ◌∙◌, append_assoc, append-nil}
+use Rattle.std.proofs.Common.{◌≡◌, ◌≢◌, ℕ, ◌+◌, ◌<◌, List, [], ◌∷◌, ◌++◌, length, Option, Some, None, IfSome, IfErr, IsErr, Result, Ok, Err, refl, sym, ap, subst, ◌∙◌, append_assoc, append-nil}
 use Rattle.std.specs.Prelude.{IsErrAnd}
 use Rattle.std.proofs.lemmas.List.Elements.{All-append, All-cons, All-nil}
 use Rattle.rl_access.specs.Model.{ModelData}
@@ -19,6 +19,7 @@ use Rattle.rl_grade.specs.declared.script.ScriptFault.{ScriptFault}
 use Rattle.rl_grade.specs.declared.script.ScriptFault.TheVariants as fault
 use Rattle.rl_grade.specs.declared.script.Turn.TheVariants.{End, Line}
 use Rattle.rl_grade.specs.declared.script.Unread.{Unread}
+use Rattle.rl_grade.specs.declared.script.Unread.TheVariants.{Memory, Refused}
 use Rattle.rl_grade.specs.Job.{JobFits, TasksFit}
 use Rattle.rl_grade.specs.Reading.{Answers, IsAsked, IsRefused, Reads, refused_line}
 use Rattle.rl_grade.specs.Script.{RefusedLine, behind, job_asked, tasks_at, tasks_from, tasks_on}

@@ -1,7 +1,7 @@
 -- Two devices of one setup but for flaws, with a relation for each bit that every call keeps: they answer the same.
-use Rattle.std.proofs.Common.{◌≡◌, ◌⊎◌, inl, inr, ℕ, ◌+◌, ◌-◌, ◌*◌, ◌/◌, ◌%◌, ◌^◌, ◌<◌, ◌≤◌, Bool, true, false, not, ◌&&◌, ◌||◌, ◌==◌, if◌then◌else◌, List, length, map, replicate, All}
+use Rattle.std.proofs.Common.{◌≡◌, ◌⊎◌, inl, inr, ℕ, ◌+◌, ◌-◌, ◌*◌, ◌/◌, ◌%◌, ◌^◌, ◌<◌, ◌≤◌, Bool, true, false, not, ◌&&◌, ◌||◌, ◌==◌, if◌then◌else◌, List, [], ◌∷◌, length, map, replicate, All}
 use Rattle.std.proofs.Common.{Option, Some, None, option_map, refl, sym, ap, subst, ◌∙◌, arith}
-use Rattle.std.specs.Prelude.{get_or, slice_get, slice_index, slice_set, is_some, nat_le}
+use Rattle.std.specs.Prelude.{get_or, slice_get, slice_index, slice_set, is_some, nat_le, min, filter}
 use Rattle.std.specs.List.{list_any, range_with_len}
 use Rattle.std.proofs.lemmas.Bool.{cases_eq, cases_lt, eq-eqb}
 use Rattle.std.proofs.lemmas.List.{get_or-set_same, get_or-set_other, get_or_past, get_or-replicate, length-set, length-replicate}
@@ -21,7 +21,7 @@ use Rattle.rl_bus.specs.declared.op.BusOp.{BusOp}
 use Rattle.rl_bus.specs.declared.table.Cell.{Cell}
 use Rattle.rl_bus.specs.declared.table.Cell.TheVariants.{Reg, Loc}
 use Rattle.rl_bus.specs.declared.table.WordRow.{WordRow}
-use Rattle.rl_bus.specs.Setup.{Setup, Flaws, field_of, mem_of, field_at, policy_of, policy_at, stuck_at, or_else, held, location, is_deaf, stands_for, words_at, is_named}
+use Rattle.rl_bus.specs.Setup.{Setup, Flaws, field_of, mem_of, field_at, policy_of, policy_at, stuck_at, or_else, held, location, is_deaf, stands_for, words_at, is_of_place, is_named}
 use Rattle.rl_bus.specs.Spread.{gathered_bit, lane_bit, lanes_in, spread_bit}
 use Rattle.rl_bus.specs.State.{State, counted, word_at, is_faulty, shown_bit, word_shown, after_reading, after_writing, after_word, beats_on, beats_back, after_touch, answer_at, state_after, answer_of}
 use Rattle.rl_bus.specs.State.{peeked, poked, hw_set, reset_bit, reg_reset, reset_by, empty_state, first_state}

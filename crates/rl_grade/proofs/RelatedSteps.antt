@@ -1,6 +1,6 @@
 -- Two worlds of one model whose devices are related: each operation has the same event, and leads to such worlds again.
 use Rattle.std.proofs.Common.{◌≡◌, ℕ, ◌+◌, ◌<◌, Bool, true, false, if◌then◌else◌, List, [], ◌∷◌, ◌++◌, length, map, Option, Some, None, option_map, Result, Ok, Err, refl, sym, ap, subst, ◌∙◌}
-use Rattle.std.specs.Prelude.{unwrap_or}
+use Rattle.std.specs.Prelude.{nat_lt, unwrap_or}
 use Rattle.std.specs.Option.{option_map_or}
 use Rattle.rl_policy.specs.Bits.{bit}
 use Rattle.rl_policy.proofs.BitLemmas.{from_bits-same}
@@ -13,6 +13,7 @@ use Rattle.rl_bus.specs.State.{State, answer_of, state_after, peeked, poked}
 use Rattle.rl_model.specs.Chip.{backdoor_of}
 use Rattle.rl_model.specs.Fields.{field_of, fields_of, place_at}
 use Rattle.rl_model.specs.Rows.{ChipData, FieldSeen}
+use Rattle.rl_model.specs.declared.rows.Item.{Item}
 use Rattle.rl_model.specs.declared.rows.Item.TheVariants as item
 use Rattle.rl_mirror.specs.Fields.{word_by_field, owned}
 use Rattle.rl_mirror.specs.Mirror.{marks_in}
@@ -50,7 +51,7 @@ use Rattle.rl_grade.specs.Alike.{IsSameLog}
 use Rattle.rl_grade.specs.declared.job.Job.{Job}
 use Rattle.rl_grade.specs.declared.job.Job.TheVariants.{BurstRead, BurstWrite, One, Sequence}
 use Rattle.rl_grade.specs.declared.job.Task.{Task}
-use Rattle.rl_grade.specs.Heard.{heard_at, heard_in}
+use Rattle.rl_grade.specs.Heard.{Heard, heard_at, heard_in}
 use Rattle.rl_grade.specs.Job.{course_of, heard_by}
 use Rattle.rl_grade.proofs.Related.{AreRelated, Keeps, move_related, poke_related, reset_related, same_answer, same_bits, same_location, state_related}
 use Rattle.rl_grade.proofs.Keeping.{step_keeps}

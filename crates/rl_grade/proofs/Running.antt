@@ -8,7 +8,7 @@ use Rattle.rl_log.specs.declared.refusal.LineRefusal.{LineRefusal}
 use Rattle.rl_log.specs.Course.{Course, nothing_done, told_of}
 use Rattle.rl_log.specs.Entry.{Entry}
 use Rattle.rl_log.specs.Events.{Happened, events_from, happened, happened_on}
-use Rattle.rl_log.specs.Log.{Ending, after_text, comes_of, ends, goes_on, said, script_from, stops}
+use Rattle.rl_log.specs.Log.{Ending, after_text, comes_of, ends, goes_on, said, script_from, stops, there}
 use Rattle.rl_log.specs.Recording.{with_events}
 use Rattle.rl_log.proofs.EventLemmas.{IsFineEntry, comes_fine}
 use Rattle.rl_grade.specs.declared.job.Job.{Job}
