@@ -47,19 +47,32 @@ fn line_ends(bytes: &[u8]) -> usize {
     memchr_iter(b'\n', bytes).count()
 }
 
-// The lines of the script that are at hand.
-fn script_lines<'a>(kept: &'a Kept, parts: &Parts<'_>) -> Lines<'a> {
-    let (bytes, before) = kept.last();
-    match parts.script.checked_sub(before) {
+// The lines of a script that begins at this place of the input, of the last bytes, before which so many came.
+fn script_lines(last: &[u8], before: usize, script: usize) -> Lines<'_> {
+    match script.checked_sub(before) {
         Some(from) => Lines {
-            bytes: bytes.get(from..).unwrap_or(&[]),
+            bytes: last.get(from..).unwrap_or(&[]),
             first: true,
         },
         None => Lines {
-            bytes,
+            bytes: last,
             first: false,
         },
     }
+}
+
+// Puts what is wrong with a refused line, where it is at hand.
+fn put_wrong_word(
+    alloc: Global,
+    message: &mut Message,
+    kept: &Kept,
+    parts: Parts<'_>,
+    number: usize,
+) -> Option<()> {
+    let description = str::from_utf8(parts.description).ok()?;
+    let last = kept.last(alloc)?;
+    let lines = script_lines(&last, kept.before_last(), parts.script);
+    put_refused_line(alloc, message, description, lines, number)
 }
 
 // Puts what there is to tell of a refused line, from what the log says behind `refused line `.
@@ -70,15 +83,8 @@ fn put_line_refusal(alloc: Global, message: &mut Message, kept: &Kept, told: &st
     let before = line_ends(parts.description).saturating_add(1);
     message.put_line(before.saturating_add(number))?;
     message.put(reason)?;
-    let description = str::from_utf8(parts.description).ok()?;
     // Where no more can be told, the line and the reason are.
-    let _ = put_refused_line(
-        alloc,
-        message,
-        description,
-        script_lines(kept, &parts),
-        number,
-    );
+    let _ = put_wrong_word(alloc, message, kept, parts, number);
     Some(())
 }
 
@@ -128,11 +134,12 @@ fn refusal_advice(alloc: Global, program: &str, kept: &Kept, last: &str) -> Opti
     message.line()
 }
 
-// A note.
-fn note(alloc: Global, program: &str, text: &str, word: &str) -> Option<String> {
+// A note that a part of the session did nothing.
+fn idle_note(alloc: Global, program: &str, part: &str, name: &str, text: &str) -> Option<String> {
     let mut message = Message::of(alloc, program)?;
     message.put("note: ")?;
-    message.put_word(word)?;
+    message.put(part)?;
+    message.put_word(name)?;
     message.put(text)?;
     message.line()
 }
@@ -209,16 +216,18 @@ fn tell<W: Sink>(messages: &mut W, line: Option<String>) {
     }
 }
 
+const NO_STEP: &str = " made no step";
+
 // The notes on sequences that made no step.
 fn tell_idle<W: Sink>(alloc: Global, program: &str, heard: &Heard, messages: &mut W) {
     let (idle, more) = heard.idle();
     for name in str::from_utf8(idle).unwrap_or("").lines() {
-        tell(messages, note(alloc, program, " made no step", name));
+        tell(messages, idle_note(alloc, program, "seq ", name, NO_STEP));
     }
     if more > 0 {
         tell(
             messages,
-            note(alloc, program, " made no step", "further sequences"),
+            idle_note(alloc, program, "further sequences", "", NO_STEP),
         );
     }
 }
@@ -238,7 +247,7 @@ fn tell_notes<W: Sink>(
     if has_script && has_no_operation(kept, &parts) {
         tell(
             messages,
-            note(alloc, program, " has no operation", "the script"),
+            idle_note(alloc, program, "the script", "", " has no operation"),
         );
     }
 }

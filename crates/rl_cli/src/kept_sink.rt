@@ -1,7 +1,7 @@
 // A sink that keeps some of what it takes.
 ghost use Rattle.std.specs.Prelude.{◌≡◌, ◌<◌, length};
 
-use memchr::{memchr, memmem, memrchr};
+use memchr::{memchr, memchr_iter, memmem, memrchr};
 use rl_report::{Failed, Sink};
 use std::alloc::Global;
 
@@ -54,21 +54,21 @@ impl Heard {
         self.last.clear();
         if others.is_empty() {
             add(&mut self.last, &self.line);
+        } else {
+            add(&mut self.last, last_line(others));
         }
-        if memmem::find(&self.line, NO_STEP).is_some() {
-            note_idle(&mut self.idle, &mut self.more, &self.line);
+        if let Some(sequence) = self.line.strip_prefix(b"seq ") {
+            note_idle(&mut self.idle, &mut self.more, sequence);
         }
         self.hear_others(others);
     }
 
-    // Whole lines, each behind the end of the one before.
+    // Whole lines, each behind the end of the one before. Few of them have a `q`.
     fn hear_others(&mut self, bytes: &[u8]) {
-        for place in memmem::find_iter(bytes, NO_STEP) {
-            let before = bytes.get(..place).unwrap_or(&[]);
-            note_idle(&mut self.idle, &mut self.more, last_line(before));
-        }
-        if !bytes.is_empty() {
-            add(&mut self.last, last_line(bytes));
+        for place in memchr_iter(b'q', bytes) {
+            if let Some(sequence) = sequence_at(bytes, place) {
+                note_idle(&mut self.idle, &mut self.more, sequence);
+            }
         }
     }
 
@@ -100,15 +100,22 @@ fn last_line(bytes: &[u8]) -> &[u8] {
     }
 }
 
-// Adds the sequence that a line begins with, where there is room for it.
-fn note_idle(idle: &mut Vec<u8>, more: &mut u64, line: &[u8]) {
-    let name = memmem::find(line, NO_STEP)
-        .and_then(|end| line.get(..end))
-        .unwrap_or(line);
-    let room = MOST_IDLE.saturating_sub(idle.len());
-    if !name.starts_with(b"seq ") {
-        return;
+// What follows `seq ` in a line that begins so, where its `q` stands at this place.
+fn sequence_at(bytes: &[u8], place: usize) -> Option<&[u8]> {
+    let from = bytes.get(place.checked_sub(3)?..)?;
+    let line = from.strip_prefix(b"\nseq ")?;
+    match memchr(b'\n', line) {
+        Some(end) => line.get(..end),
+        None => Some(line),
     }
+}
+
+// Adds the sequence of a line, of which this follows `seq `, where it made no step and there is room for it.
+fn note_idle(idle: &mut Vec<u8>, more: &mut u64, line: &[u8]) {
+    let Some(name) = memmem::find(line, NO_STEP).and_then(|end| line.get(..end)) else {
+        return;
+    };
+    let room = MOST_IDLE.saturating_sub(idle.len());
     if name.len() >= room || idle.extend_from_slice(name).is_err() || idle.push(b'\n').is_err() {
         *more = more.saturating_add(1);
     }

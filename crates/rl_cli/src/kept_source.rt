@@ -4,10 +4,9 @@ ghost use Rattle.std.specs.Prelude.{◌≡◌, ◌<◌, length};
 use memchr::memmem;
 use rl_report::{Failed, Source};
 use std::alloc::Global;
+use std::mem;
 
 const MOST_FRONT: usize = 1_081_344;
-
-const MOST_LAST: usize = 16_384;
 
 const LEAST_LAST: usize = 8_192;
 
@@ -16,7 +15,8 @@ const LEAST_LAST: usize = 8_192;
 pub(crate) struct Kept {
     // The first bytes: to the end of the read that gave the separator.
     front: Vec<u8>,
-    // The last ones, 8,192 at least where there are so many.
+    // The last ones, 8,192 at least where there are so many: in these two, one behind the other.
+    earlier: Vec<u8>,
     last: Vec<u8>,
     // How many came in all.
     count: usize,
@@ -30,6 +30,7 @@ impl Kept {
     fn new(alloc: Global) -> Kept {
         Kept {
             front: Vec::new(alloc),
+            earlier: Vec::new(alloc),
             last: Vec::new(alloc),
             count: 0,
             separated: false,
@@ -40,7 +41,10 @@ impl Kept {
     fn keep(&mut self, bytes: &[u8]) {
         self.count = self.count.saturating_add(bytes.len());
         self.keep_front(bytes);
-        shorten(&mut self.last, bytes.len());
+        if self.last.len() >= LEAST_LAST {
+            mem::swap(&mut self.earlier, &mut self.last);
+            self.last.clear();
+        }
         if self.last.extend_from_slice(bytes).is_err() {
             self.lost = true;
         }
@@ -72,9 +76,21 @@ impl Kept {
         !self.lost && self.count == self.front.len()
     }
 
-    /// The last bytes that came, and how many came before them.
-    pub(crate) fn last(&self) -> (&[u8], usize) {
-        (&self.last, self.count.saturating_sub(self.last.len()))
+    /// The last bytes that came. None where some are lost, or there is no memory.
+    pub(crate) fn last(&self, alloc: Global) -> Option<Vec<u8>> {
+        if self.lost {
+            return None;
+        }
+        let mut bytes = Vec::from_slice(alloc, &self.earlier).ok()?;
+        bytes.extend_from_slice(&self.last).ok()?;
+        Some(bytes)
+    }
+
+    /// How many bytes came before the last ones.
+    pub(crate) fn before_last(&self) -> usize {
+        self.count
+            .saturating_sub(self.earlier.len())
+            .saturating_sub(self.last.len())
     }
 }
 
@@ -84,17 +100,6 @@ fn may_separate(front: &[u8], from: usize) -> bool {
         return false;
     };
     (from == 0 && bytes.starts_with(b"---")) || memmem::find(bytes, b"\n---").is_some()
-}
-
-// Leaves only the last of these bytes, where so many more are too many.
-fn shorten(last: &mut Vec<u8>, more: usize) {
-    if last.len().saturating_add(more) <= MOST_LAST {
-        return;
-    }
-    let from = last.len().saturating_sub(LEAST_LAST);
-    let left = last.len() - from;
-    last.copy_within(from.., 0);
-    last.truncate(left);
 }
 
 /// A source that gives exactly what another one gives, read for read, and keeps the description and the last lines for
