@@ -1,7 +1,8 @@
 #!/usr/bin/env bash
 # grade.sh GRADE PROGRAM: what regrun_grade does. The grades of two examples; the grades and the missed flaws of further
 # sessions beside those of bench/grade.py, which runs the other program once for each flaw; shares that add up to the whole;
-# refusals and wrong words with their statuses; and rows of missed flaws, with each of which a session shows nothing new.
+# the lines that find flaws, by scripts that are cut off; the object in JSON beside the other texts;
+# bounds; refusals and wrong words with their statuses; and rows of missed flaws, with each of which a session shows nothing new.
 set -u
 grade=$(realpath "$1")
 program=$(realpath "$2")
@@ -47,6 +48,93 @@ adds() {
         "$grade" run "$k/3" < "$1" > "share$k" || return
     done
     python3 "$top/bench/add_grades.py" whole > want && python3 "$top/bench/add_grades.py" share1 share2 share3 | cmp want -
+}
+
+# divides WORD SESSION: three shares together have the rows of the whole, and the totals of each are those of its lines.
+divides() {
+    local k
+    : > all
+    for k in 1 2 3; do
+        "$grade" "$1" "$k/3" < "$2" > part && tail -n +2 part | head -n -1 >> all || return
+        [ "$(tail -n 1 part)" = "# $("$grade" run "$k/3" < "$2" | tail -n 1)" ] || return
+    done
+    "$grade" "$1" < "$2" | sorted_rows > want && sorted_rows < all | cmp want -
+}
+
+# sorted_rows: the rows on standard input, each on a line with the comment before it, in order.
+sorted_rows() {
+    awk '/^#/ { note = $0 ";"; next } /^\[\[flaw\]\]/ { if (n++) print ""; printf "%s", note } { printf "%s;", $0 } END { print "" }' | sort
+}
+
+# has_mark SESSION: a share names the session by FNV-1a of its bytes, and says which it is.
+has_mark() {
+    local word
+    python3 - "$1" > want << 'FNV'
+import sys
+mark = 0xcbf29ce484222325
+for byte in open(sys.argv[1], "rb").read():
+    mark = (mark ^ byte) * 0x100000001b3 % 2 ** 64
+print("# share 2/3 of session {:#x}".format(mark))
+FNV
+    for word in run missed found lines; do "$grade" "$word" 2/3 < "$1" | head -n 1 | cmp want - || return; done
+}
+
+# finds SESSION: with each flaw that is found alone, a script cut off behind the line that finds it shows a difference or a bus
+# error, and one cut off before it ends as without the flaw.
+finds() {
+    local row line count=0
+    rm -f row*
+    "$grade" found < "$1" | awk '/^# line/ { n++ } { print > ("row" n) }' || return
+    for row in row*; do
+        count=$((count + 1))
+        line=$(sed -n '1s/^# line //p' "$row")
+        ends_as "$1" "$row" $((line - 1)) || { cat "$row"; return 1; }
+        ! ends_as "$1" "$row" "$line" || { cat "$row"; return 1; }
+    done
+    [ "$count" = "$("$grade" run < "$1" | sed -n 's/^end: .* flaws, \([0-9]*\) found.*/\1/p')" ]
+}
+
+# ends_as SESSION ROW LINES: the first so many lines of the script end with the flaw as without it.
+ends_as() {
+    { sed '/^---$/,$d' "$1"; echo ---; sed '1,/^---$/d' "$1" | head -n "$3"; } > front
+    { sed '/^---$/,$d' "$1"; cat "$2"; echo ---; sed '1,/^---$/d' "$1" | head -n "$3"; } > flawed
+    [ "$("$program" run < flawed | tail -n 1)" = "$("$program" run < front | tail -n 1)" ]
+}
+
+# counts_lines SESSION: each line of the script that asks for something is told once, in order, with how many rows name it, and
+# then the totals.
+counts_lines() {
+    "$grade" found < "$1" | sed -n 's/^# line //p' > numbers
+    sed '1,/^---$/d' "$1" | grep -nv '^[[:space:]]*\(#.*\)\?$' | cut -d: -f1 | while read -r line; do
+        echo "line $line: $(grep -cx "$line" numbers) found"
+    done > want
+    "$grade" run < "$1" | tail -n 1 >> want
+    grades lines "$1" want
+}
+
+# is_json SESSION: the object says what `run` and `missed` say.
+is_json() {
+    "$grade" run < "$1" > whole && "$grade" missed < "$1" > rows && "$grade" json at-least 50 < "$1" > out || return
+    python3 - out whole rows << 'JSON'
+import json, re, sys, tomllib
+told, whole, rows = (open(name).read() for name in sys.argv[1:])
+told, kinds = json.loads(told), {}
+for kind, found, missed in re.findall(r"(\w+) (\d+) found (\d+) missed", whole.rpartition("end: ")[0]):
+    each = kinds.setdefault(kind, {"found": 0, "missed": 0})
+    each["found"] += int(found)
+    each["missed"] += int(missed)
+flaws, found, missed = map(int, re.search(r"end: (\d+) flaws, (\d+) found, (\d+) missed", whole).groups())
+percent = float(re.search(r"([0-9.]+) % found", whole).group(1))
+assert (told["flaws"], told["found"], told["missed"], told["percent"]) == (flaws, found, missed, percent)
+assert told["by_kind"] == kinds and told["missed_flaws"] == tomllib.loads(rows).get("flaw", [])
+assert told["at_least"] == 50 and told["passed"] == (found * 100 >= 50 * flaws) and told["share"] == {"first": 1, "every": 1}
+JSON
+}
+
+# passes STATUS WORDS..: the status of a grading with a bound, which doesn't change what is told.
+passes() {
+    "$grade" "${@:2}" < "$top/examples/uart.regrun" > out
+    [ $? = "$1" ] && "$grade" "$2" < "$top/examples/uart.regrun" | cmp out -
 }
 
 # refuses STATUS LINE SESSION WORDS..: what is written in place of a grade, and nothing else is said but where that is.
@@ -101,6 +189,25 @@ judge 'shares of uart' adds "$top/examples/uart.regrun"
 [ -z "$alone" ] || judge 'shares of three roots' adds "$rows/session-over-three-roots.session"
 judge 'shares of nothing' adds "$rows/empty-session.session"
 judge 'a share of a whole' grades 'run 1/1' "$top/examples/uart.regrun" "$top/examples/uart.grade"
+judge 'the mark of a session' has_mark "$top/examples/uart.regrun"
+
+judge 'shares of missed rows' divides missed "$top/examples/uart.regrun"
+judge 'shares of found rows' divides found "$top/examples/uart.regrun"
+
+for name in uart uart-plan; do
+    [ -z "$alone" ] || judge "$name, the lines that find" finds "$top/examples/$name.regrun"
+    judge "$name, how many a line finds" counts_lines "$top/examples/$name.regrun"
+done
+if python3 -c 'import tomllib' 2> /dev/null; then
+    for session in "$top"/examples/{uart,uart-plan,map-tree}.regrun "$rows/session-with-pairs-1.session" "$rows/memory-walk.session"; do
+        judge "$(basename "$session"), json" is_json "$session"
+    done
+fi
+judge 'enough are found' passes 0 run at-least 54
+judge 'too few are found' passes 8 run at-least 55
+judge 'too few are found, as rows' passes 8 missed at-least 55
+judge 'all are asked for' passes 8 found at-least 100
+judge 'none is asked for' passes 0 lines at-least 0
 
 printf -- '---\nread\n' > line
 sed 's/^---$/---\nread/' "$top/examples/uart.regrun" > late
@@ -115,6 +222,12 @@ judge 'a refused description' refuses 2 'refused description map 1: bad bytes' "
 judge 'no words' asks
 judge 'another word' asks walk
 judge 'a word too many' asks run 1/3 2
+judge 'a bound behind no word' asks at-least 90
+judge 'a bound without its number' asks run at-least
+judge 'a bound before a share' asks run at-least 90 1/3
+for bound in 101 -1 0x10 x 9.5 '' 18446744073709551616; do
+    judge "the bound $bound" asks run at-least "$bound"
+done
 for share in 0/3 4/3 1/0 1 1/ /3 1/3/5 0x1/3 1/x ' 1/3' -1/3 18446744073709551616/18446744073709551617; do
     judge "the share $share" asks run "$share"
 done
