@@ -1,4 +1,4 @@
-use crate::fixture::{kinds, name, number, word};
+use crate::units::fixture::{kinds, name, number, word};
 use bitflags::Flags;
 use rl_map::MapCause::{
     AddressOverflow, BadBytes, BadName, DuplicateName, MemInFifo, NoSuchAdapter, NoSuchItem,

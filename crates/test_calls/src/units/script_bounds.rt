@@ -1,4 +1,4 @@
-use crate::script::told;
+use crate::units::script::told;
 use rl_script::{Ident, Line, Path, Sequence, Values, write_line};
 use std::alloc::{AllocError, Global};
 use std::test::Fail;

@@ -1,4 +1,4 @@
-use crate::fixture::{name, number, word};
+use crate::units::fixture::{name, number, word};
 use bitflags::Flags;
 use rl_model::Array::{Block, File, Mem, Reg};
 use rl_model::ModelCause::{

@@ -1,4 +1,4 @@
-use crate::fixture::kinds;
+use crate::units::fixture::kinds;
 use rl_bench::Flaw;
 use rl_desc::{Desc, DescFault, read_description};
 use rl_model::Item;

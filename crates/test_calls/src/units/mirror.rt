@@ -1,5 +1,5 @@
 //! Fields of a register of two bytes, through writes, reads and resets.
-use crate::fixture::name;
+use crate::units::fixture::name;
 use rl_mirror::Mirror;
 use rl_model::{Chip, FieldPart, ModelFault, Parts, RegPart, ResetPart, Skip};
 use rl_policy::Policy;
