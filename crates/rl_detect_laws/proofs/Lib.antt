@@ -22,5 +22,6 @@ pub mod Turned
 pub mod AccessTest
 pub mod DeafRegister
 pub mod NewDeaf
+pub mod NewOnes
 pub mod StuckReset
 pub mod NthError

@@ -45,6 +45,15 @@ pub record IsDeafTo (c : ChipData) (d : State) (mem : ℕ) : Type 0 where
   pub fits : slice_index d.locations (location d.setup mem 0) < 256 ^ location_size c mem
   pub other : slice_index d.locations (location d.setup mem 0) ≢ turned_round c (Mem mem) 0
 
+-- A new device with deaf items, with all locations of its memories, is such a one, and each of its deaf memories is
+-- so: it holds 0.
+abbrev pub NewOneHasDeafMemory : Type 0
+NewOneHasDeafMemory =
+    (c : ChipData) (l : LayoutData) (deaf : List ItemRow) (mem : ℕ)
+    → IsSound c → mem < length c.mems → is_deaf (setup_of c l (deaf_items deaf)) (Loc mem 0) ≡ true
+    → let d = first_state (setup_of c l (deaf_items deaf)) (sum_by (λ m. m.size) c.mems) in
+    HasDeafItems c l d × IsDeafTo c d mem
+
 -- Where a visited memory is deaf, some check of a location is marked.
 abbrev pub DeafMemoryIsFound : Type 0
 DeafMemoryIsFound =

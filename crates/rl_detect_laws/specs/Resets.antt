@@ -2,7 +2,7 @@
 use Rattle.std.specs.Prelude.{◌≡◌, ◌≢◌, ℕ, ◌-◌, ◌^◌, ◌<◌, List, length, Option, Some}
 use Rattle.rl_bus.specs.declared.table.ResetRow.{ResetRow}
 use Rattle.rl_bus.specs.Setup.{Setup, Flaws, reset_of}
-use Rattle.rl_bus.specs.State.{State}
+use Rattle.rl_bus.specs.State.{State, first_state}
 use Rattle.rl_model.specs.Rows.{ChipData}
 use Rattle.rl_model.specs.Chip.{value_for}
 use Rattle.rl_model.specs.Fields.{field_of, first_of}
@@ -27,6 +27,12 @@ pub record HasWrongResets (c : ChipData) (l : LayoutData) (d : State) : Type 0 w
   pub setup : d.setup ≡ setup_of c l (wrong_resets resets)
   pub bits : length d.bits ≡ length c.regs
   pub marks : length d.marks ≡ length c.regs
+
+-- A new device with wrong reset values is such a one.
+abbrev pub NewOneHasWrongResets : Type 0
+NewOneHasWrongResets =
+    (c : ChipData) (l : LayoutData) (resets : List ResetRow) (count : ℕ)
+    → HasWrongResets c l (first_state (setup_of c l (wrong_resets resets)) count)
 
 -- at a HARD reset the field takes another value than the description says
 pub record IsResetOtherwise (c : ChipData) (t : Setup) (field : ℕ) : Type 0 where

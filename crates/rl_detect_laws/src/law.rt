@@ -1,9 +1,9 @@
 //! What the sequences find. Each function does nothing; its contract is the law.
 ghost use Rattle.rl_detect_laws.specs.Deaf.{DeafMemoryIsFound, DeafRegisterIsNamed, NewOnesAgreeOnBits, NoneSpent};
-ghost use Rattle.rl_detect_laws.specs.Deaf.{PoliciesTurn};
+ghost use Rattle.rl_detect_laws.specs.Deaf.{NewOneHasDeafMemory, PoliciesTurn};
 ghost use Rattle.rl_detect_laws.specs.Errors.{NthErrorIsFound, SharedErrorIsFound, VisitedErrorIsFound};
 ghost use Rattle.rl_detect_laws.specs.Named.{NoLocationDiffers, NothingIsNamed};
-ghost use Rattle.rl_detect_laws.specs.Resets.{WrongResetIsNamed};
+ghost use Rattle.rl_detect_laws.specs.Resets.{NewOneHasWrongResets, WrongResetIsNamed};
 ghost use Rattle.rl_detect_laws.specs.Stuck.{NewOneHasStuckBit, PoliciesShowBeside, PoliciesShowTurned};
 ghost use Rattle.rl_detect_laws.specs.Stuck.{StuckBitBesideIsNamed, StuckBitIsNamed, StuckResetIsNamed};
 
@@ -37,13 +37,15 @@ pub fn nth_error_is_found()
 /// `hw_reset` finds a wrong reset value: where a compared field of a register that it visits takes another value at a
 /// HARD reset than the description says, some check names the field.
 pub fn wrong_reset_is_named()
-    ensures { WrongResetIsNamed }
+    ensures named { WrongResetIsNamed }
+    ensures first { NewOneHasWrongResets }
 {}
 
 /// `mem_walk` finds a deaf memory: where a memory that it visits takes no write, and its first location doesn't hold 1
 /// in each bit, some check of a location is marked.
 pub fn deaf_memory_is_found()
-    ensures { DeafMemoryIsFound }
+    ensures found { DeafMemoryIsFound }
+    ensures first { NewOneHasDeafMemory }
 {}
 
 /// `bit_bash` finds a stuck bit: where one bit of a compared field of a register that it visits is stuck, and
