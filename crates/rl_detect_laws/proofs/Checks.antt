@@ -67,7 +67,7 @@ pub read_other : (c : ChipData) (reg value q : ℕ) (m : MirrorData) → (q ≡ 
 unfolding predict_read
 read_other c reg value q m other = get_or-set_other m.mirrored reg q _ 0 other
 
-entered : (m : ModelData) (place : ℕ) → IsModel m → IsModel (forgetting m place)
+pub entered : (m : ModelData) (place : ℕ) → IsModel m → IsModel (forgetting m place)
 entered m place ok =
     model_with m m.mirror (forgotten m.layout place m.gathered) ok (record { built = ok.mirror; reach = ok.reach })
     (forgotten_built (port_at m.layout (place_at m.layout place).port).explicit m.layout m.gathered place ok.predictor)

@@ -25,3 +25,7 @@ pub mod NewDeaf
 pub mod NewOnes
 pub mod StuckReset
 pub mod NthError
+pub mod Logged
+pub mod KeptModel
+pub mod EachLine
+pub mod Sessions

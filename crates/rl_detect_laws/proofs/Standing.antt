@@ -18,7 +18,7 @@ use Rattle.rl_access.proofs.Setups.{setup-state_after_all}
 -- ---- the model
 
 -- the outcome's model is of this chip and layout
-abbrev IsOf : ChipData → LayoutData → Outcome → Type 0
+abbrev pub IsOf : ChipData → LayoutData → Outcome → Type 0
 IsOf c l o = (o.model.chip ≡ c) × (o.model.layout ≡ l)
 
 either : (c : ChipData) (l : LayoutData) (o : Option ℕ) (m : ModelData) (good : Outcome) → m.chip ≡ c → m.layout ≡ l → IsOf c l good → IsOf c l (or_error o m good)
@@ -29,7 +29,7 @@ which_of : (c : ChipData) (l : LayoutData) (b : Bool) (x y : Outcome) → IsOf c
 which_of c l true x y h k = h
 which_of c l false x y h k = k
 
-outcome_of : (m : ModelData) (op : Op) (place sampled : ℕ) (items : List TraceItem) → IsOf m.chip m.layout (outcome m op place sampled items)
+pub outcome_of : (m : ModelData) (op : Op) (place sampled : ℕ) (items : List TraceItem) → IsOf m.chip m.layout (outcome m op place sampled items)
 outcome_of m (op.Write reg map value) place sampled items = either m.chip m.layout (failed_at items) _ _ refl refl (refl, refl)
 outcome_of m (op.Read reg map) place sampled items = either m.chip m.layout (failed_at items) _ _ refl refl (refl, refl)
 outcome_of m (op.Mirror reg map) place sampled items = either m.chip m.layout (failed_at items) _ _ refl refl (refl, refl)

@@ -5,3 +5,5 @@ pub mod Errors
 pub mod Resets
 pub mod Deaf
 pub mod Stuck
+pub mod Logged
+pub mod Sessions
