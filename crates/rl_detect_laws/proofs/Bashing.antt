@@ -96,7 +96,7 @@ abbrev unmarked : State → ℕ → Register
 unmarked d reg = unmarked_bits (slice_index d.bits reg)
 
 -- devices with the same answers have the same items
-items_same : (a : Standing) (x d : State) (port : ℕ) (ops : List BusOp) → answers_of x port ops ≡ answers_of d port ops → items_of a x port ops ≡ items_of a d port ops
+pub items_same : (a : Standing) (x d : State) (port : ℕ) (ops : List BusOp) → answers_of x port ops ≡ answers_of d port ops → items_of a x port ops ≡ items_of a d port ops
 items_same a x d port [] e = refl
 items_same a x d port (op ∷ ops) e =
     let first : answer_of x port op ≡ answer_of d port op = cc in

@@ -171,15 +171,15 @@ bashed_once c l t field reg k b i v place j w size s new (x ∷ y ∷ z ∷ told
 
 -- ---- plans
 
-record Split (p q : Plan) (s : Scene) (told : List Told) (new : Scene) : Type 0 where
-  mid : Scene
-  front : List Told
-  back : List Told
-  is : told ≡ front ++ back
-  first : Runs p s front mid
-  second : Runs q mid back new
+pub record Split (p q : Plan) (s : Scene) (told : List Told) (new : Scene) : Type 0 where
+  pub mid : Scene
+  pub front : List Told
+  pub back : List Told
+  pub is : told ≡ front ++ back
+  pub first : Runs p s front mid
+  pub second : Runs q mid back new
 
-split : (p q : Plan) (s : Scene) (told : List Told) (new : Scene) → Runs (followed_by p q) s told new → Split p q s told new
+pub split : (p q : Plan) (s : Scene) (told : List Told) (new : Scene) → Runs (followed_by p q) s told new → Split p q s told new
 split stop q s told new run = record { mid = s; front = []; back = told; is = refl; first = refl; second = run }
 split (step o p) q s [] new run = absurd run
 split (step o p) q s (x ∷ told) new (mid, one, rest) =

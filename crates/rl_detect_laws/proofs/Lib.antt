@@ -29,3 +29,7 @@ pub mod Logged
 pub mod KeptModel
 pub mod EachLine
 pub mod Sessions
+pub mod OtherPolicy
+pub mod Alongside
+pub mod Beside
+pub mod Unseen

@@ -7,3 +7,4 @@ pub mod Deaf
 pub mod Stuck
 pub mod Logged
 pub mod Sessions
+pub mod Policies

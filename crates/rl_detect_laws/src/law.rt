@@ -3,6 +3,8 @@ ghost use Rattle.rl_detect_laws.specs.Deaf.{DeafMemoryIsFound, DeafRegisterIsNam
 ghost use Rattle.rl_detect_laws.specs.Deaf.{NewOneHasDeafMemory, PoliciesTurn};
 ghost use Rattle.rl_detect_laws.specs.Errors.{NthErrorIsFound, SharedErrorIsFound, VisitedErrorIsFound};
 ghost use Rattle.rl_detect_laws.specs.Named.{NoLocationDiffers, NothingIsNamed};
+ghost use Rattle.rl_detect_laws.specs.Policies.{NewOnesAgreeBut, OtherPolicyIsNeverNamed, OtherPolicyTellsNothing};
+ghost use Rattle.rl_detect_laws.specs.Policies.{PoliciesWrittenAlike};
 ghost use Rattle.rl_detect_laws.specs.Resets.{NewOneHasWrongResets, WrongResetIsNamed};
 ghost use Rattle.rl_detect_laws.specs.Stuck.{NewOneHasStuckBit, PoliciesShowBeside, PoliciesShowTurned};
 ghost use Rattle.rl_detect_laws.specs.Stuck.{StuckBitBesideIsNamed, StuckBitIsNamed, StuckResetIsNamed};
@@ -78,4 +80,14 @@ pub fn deaf_register_is_named()
     ensures policies { PoliciesTurn }
     ensures first { NewOnesAgreeOnBits }
     ensures unspent { NoneSpent }
+{}
+
+/// No sequence finds another policy of a field that takes each write as the described one does and answers the same, as
+/// RW that a read clears or sets, where it never reads the field's register twice without a write between: what it tells
+/// is what the device as it is described tells.
+pub fn other_policy_is_never_named()
+    ensures alike { OtherPolicyTellsNothing }
+    ensures never { OtherPolicyIsNeverNamed }
+    ensures policies { PoliciesWrittenAlike }
+    ensures first { NewOnesAgreeBut }
 {}
