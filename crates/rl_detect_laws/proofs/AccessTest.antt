@@ -113,7 +113,7 @@ deposit_stays s new t reg b v q x mirror h kept goes is other =
       here = ap (λ n. bit n b) (get_or-set_other h.device.bits q reg _ 0 other) ∙ h.here;
     }
 
-raw_spent : (c : ChipData) (q value : ℕ) (m : MirrorData) → (predict_raw c q value m).spent ≡ m.spent
+pub raw_spent : (c : ChipData) (q value : ℕ) (m : MirrorData) → (predict_raw c q value m).spent ≡ m.spent
 unfolding predict_raw
 raw_spent c q value m = refl
 
@@ -185,7 +185,7 @@ pub record IsBackChecked (c : ChipData) (reg k b : ℕ) (v : Bool) (s : Scene) (
   pub checks : e.op ≡ op.BackCheck reg
   pub bits : bit read b ≡ value_read (policy_in (fields_of c reg) k) v
 
-shown_there : (fs : List FieldSeen) (k b bits : ℕ) → b < 64 → place_at fs b ≡ Some k → bit (shown fs (owned fs bits)) b ≡ value_read (policy_in fs k) (bit bits b)
+pub shown_there : (fs : List FieldSeen) (k b bits : ℕ) → b < 64 → place_at fs b ≡ Some k → bit (shown fs (owned fs bits)) b ≡ value_read (policy_in fs k) (bit bits b)
 unfolding shown
 shown_there fs k b bits low at =
     bit-word_by_field fs (λ k b. value_read (policy_in fs k) (bit (owned fs bits) b)) b low

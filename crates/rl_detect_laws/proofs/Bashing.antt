@@ -334,7 +334,7 @@ check_stays c l t reg b v n map is lasts numbers s new e h performs =
 
 -- ---- the mirrored bit
 
-bit-wstep : (fs : List FieldSeen) (word : ℕ) (r : Register) (b : ℕ) → b < 64
+pub bit-wstep : (fs : List FieldSeen) (word : ℕ) (r : Register) (b : ℕ) → b < 64
     → bit (wstep fs every word r).bits b ≡ written_bit fs every r.spent (place_at fs b) (bit r.bits b) (bit word b)
 unfolding wstep
 bit-wstep fs word r b low = bit-from_bits 64 (λ b. written_bit fs every r.spent (place_at fs b) (bit r.bits b) (bit word b)) b low

@@ -220,11 +220,11 @@ keeps_both Stands p q k j s new told h run =
     let both = split p q s told new run in
     j both.mid new both.back (k s both.mid both.front h both.first) both.second
 
-keeps_if : (Stands : Scene → Type 0) (b : Bool) (p : Plan) → (b ≡ true → Keeps Stands p) → Keeps Stands (only_if b p)
+pub keeps_if : (Stands : Scene → Type 0) (b : Bool) (p : Plan) → (b ≡ true → Keeps Stands p) → Keeps Stands (only_if b p)
 keeps_if Stands true p k = k refl
 keeps_if Stands false p k = keeps_stop Stands
 
-keeps_each : (Stands : Scene → Type 0) (n : ℕ) (f : ℕ → Plan) → ((k : ℕ) → k < n → Keeps Stands (f k)) → Keeps Stands (each_below n f)
+pub keeps_each : (Stands : Scene → Type 0) (n : ℕ) (f : ℕ → Plan) → ((k : ℕ) → k < n → Keeps Stands (f k)) → Keeps Stands (each_below n f)
 keeps_each Stands zero f k = keeps_stop Stands
 keeps_each Stands (suc n) f k = keeps_both Stands (each_below n f) (f n) (keeps_each Stands n f (λ j low. k j (omega (arith, low)))) (k n (omega arith))
 
@@ -276,7 +276,7 @@ finds_among Stands IsSo (suc n) k f low all finds =
         let same : k ≡ n = omega (arith, low, most) in
         finds_now Stands IsSo (each_below n f) (f n) (either_each Stands IsSo n f (λ j under. all j (omega (arith, under)))) (subst (λ j. Finds Stands IsSo (f j)) same finds)
 
-finds_each : (Stands : Scene → Type 0) (IsSo : Event → Type 0) (n k : ℕ) (f : ℕ → Plan) → k < n → ((j : ℕ) → j < n → Keeps Stands (f j))
+pub finds_each : (Stands : Scene → Type 0) (IsSo : Event → Type 0) (n k : ℕ) (f : ℕ → Plan) → k < n → ((j : ℕ) → j < n → Keeps Stands (f j))
     → Finds Stands IsSo (f k) → Finds Stands IsSo (each_below n f)
 finds_each Stands IsSo n k f low keeps finds = finds_among Stands IsSo n k f low (λ j under. inl (keeps j under)) finds
 
@@ -371,7 +371,7 @@ the_bit c s sound is =
       reg_in = seat.reg;
     }
 
-is_compared_bit : (c : ChipData) (s : StuckRow) → IsChip c → IsComparedBit c s → is_bit_compared c (reg_of c s.field) (bit_of c s) ≡ true
+pub is_compared_bit : (c : ChipData) (s : StuckRow) → IsChip c → IsComparedBit c s → is_bit_compared c (reg_of c s.field) (bit_of c s) ≡ true
 is_compared_bit c s sound is =
     let reg = reg_of c s.field in
     let k = s.field - first_of c reg in

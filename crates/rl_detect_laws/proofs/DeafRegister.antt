@@ -60,7 +60,7 @@ turned_own m c reg b ok chip inside low =
     subst (λ x. reg < length x.regs → b < 8 * size_of x reg → bit (turned_round x (Reg reg) (mirrored_of m.mirror reg)) b ≡ not (bit (mirrored_of m.mirror reg) b)) chip
     (λ inside low. turned_there m reg b ok inside low) inside low
 
-back_granted : (m : ModelData) (c : ChipData) (reg : ℕ) → m.chip ≡ c → unwrap_or (backdoor_of c (Reg reg)) false ≡ true → grant m (op.BackCheck reg) ≡ Ok 0
+pub back_granted : (m : ModelData) (c : ChipData) (reg : ℕ) → m.chip ≡ c → unwrap_or (backdoor_of c (Reg reg)) false ≡ true → grant m (op.BackCheck reg) ≡ Ok 0
 back_granted m c reg chip behind =
     ap (λ x. if unwrap_or (backdoor_of x (Reg reg)) false then Ok 0 else Err NoBackdoor) chip ∙ ap (λ b. if b then Ok 0 else Err NoBackdoor) behind
 
@@ -128,7 +128,7 @@ other_keeps c l t reg b v kept q map is inside in_map other s new told h run =
     (keeps_step stands (op.BackWrite q m) fourth (back_write_agrees c l t reg b v kept q m inside other)
     (keeps_step stands (op.Check q (Some map)) stop (check_agrees c l t reg b v kept q (Some map) is numbers other) (keeps_stop stands)))) s new told h run
 
-behind_of : (c : ChipData) (l : LayoutData) (block : Option ℕ) (reg : ℕ) → is_chosen Access c l block reg ≡ true → unwrap_or (backdoor_of c (Reg reg)) false ≡ true
+pub behind_of : (c : ChipData) (l : LayoutData) (block : Option ℕ) (reg : ℕ) → is_chosen Access c l block reg ≡ true → unwrap_or (backdoor_of c (Reg reg)) false ≡ true
 behind_of c l block reg chosen =
     let both = and_parts (is_reg_tested c reg block (exclusion_from Access) && unwrap_or (backdoor_of c (Reg reg)) false) (has_writable_field c reg) chosen in
     (and_parts (is_reg_tested c reg block (exclusion_from Access)) (unwrap_or (backdoor_of c (Reg reg)) false) both.0).1

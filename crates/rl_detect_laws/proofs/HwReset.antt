@@ -133,7 +133,7 @@ pub reset_setup : (d : State) → (reset_by d 0).setup ≡ d.setup
 unfolding reset_by
 reset_setup d = refl
 
-without_resets : (c : ChipData) (l : LayoutData) (resets : List ResetRow) → setup_without (setup_of c l (wrong_resets resets)) ≡ setup_of c l no_flaws
+pub without_resets : (c : ChipData) (l : LayoutData) (resets : List ResetRow) → setup_without (setup_of c l (wrong_resets resets)) ≡ setup_of c l no_flaws
 unfolding setup_of
 without_resets c l resets = refl
 

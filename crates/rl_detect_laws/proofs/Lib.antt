@@ -33,3 +33,5 @@ pub mod OtherPolicy
 pub mod Alongside
 pub mod Beside
 pub mod Unseen
+pub mod Apart
+pub mod ApartFound

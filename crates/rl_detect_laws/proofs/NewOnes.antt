@@ -1,7 +1,7 @@
 -- A new device with any flaws is set up with its chip: so it is one with wrong reset values, and one with deaf items.
 use Rattle.std.proofs.Common.{◌≡◌, ◌≢◌, ◌⊎◌, ℕ, zero, suc, ◌+◌, ◌-◌, ◌*◌, ◌^◌, ◌%◌, ◌<◌, ◌≤◌, true, List, length, replicate, get_or, Option, Some, None}
-use Rattle.std.proofs.Common.{refl, sym, ap, ◌∙◌, subst, inl, inr, arith}
-use Rattle.std.specs.Option.{option_map_or}
+use Rattle.std.proofs.Common.{◌&&◌, if◌then◌else◌, [], ◌∷◌, option_map, eq-eqb, refl, sym, ap, ◌∙◌, subst, inl, inr, arith}
+use Rattle.std.specs.Option.{option_or, option_map_or}
 use Rattle.std.specs.Prelude.{slice_index, slice_get, sum_by}
 use Rattle.std.proofs.lemmas.List.{length-map, length-replicate}
 use Rattle.std.proofs.lemmas.List.FromFn.{length-map-range_with_len}
@@ -10,20 +10,21 @@ use Rattle.std.proofs.lemmas.Option.{slice_get_cases}
 use Rattle.std.proofs.Math.Nat.{zero-mod}
 use Rattle.rl_bus.specs.declared.table.Cell.TheVariants.{Loc}
 use Rattle.rl_bus.specs.declared.table.ItemRow.{ItemRow}
-use Rattle.rl_bus.specs.Setup.{Setup, Flaws, location, is_deaf}
+use Rattle.rl_bus.specs.declared.table.ResetRow.{ResetRow}
+use Rattle.rl_bus.specs.Setup.{Setup, Flaws, location, is_deaf, value_in, reset_of}
 use Rattle.rl_bus.specs.State.{State, empty_state, reg_reset, reset_by, first_state}
 use Rattle.rl_model.specs.Rows.{ChipData}
 use Rattle.rl_model.specs.Chip.{IsSound}
 use Rattle.rl_model.specs.declared.rows.MemRow.{MemRow}
 use Rattle.rl_map.specs.Layout.{LayoutData}
-use Rattle.rl_map.specs.Tables.{setup_of}
+use Rattle.rl_map.specs.Tables.{reset_rows, setup_of}
 use Rattle.rl_mirror.proofs.WordLemmas.{bytes_pow}
 use Rattle.rl_access.specs.Operation.{location_size}
 use Rattle.rl_detect_laws.specs.Devices.{IsSetUp}
 use Rattle.rl_detect_laws.specs.Deaf.{deaf_items, HasDeafItems, NewOneHasDeafMemory}
 use Rattle.rl_detect_laws.specs.Resets.{wrong_resets, NewOneHasWrongResets}
 
-regs_of : (c : ChipData) (l : LayoutData) (f : Flaws) → length (setup_of c l f).regs ≡ length c.regs
+pub regs_of : (c : ChipData) (l : LayoutData) (f : Flaws) → length (setup_of c l f).regs ≡ length c.regs
 unfolding setup_of
 regs_of c l f = length-map c.regs (λ r. r.bytes)
 
@@ -48,13 +49,25 @@ new_one_has_wrong_resets c l resets count =
     let is = new_set_up c l (wrong_resets resets) count in
     record { resets = resets; setup = is.setup; bits = is.bits; marks = is.marks }
 
+-- it takes such a value
+abbrev pub one_reset : (field taken : ℕ) → List ResetRow
+one_reset field taken = record { field = field; kind = 0; value = taken } ∷ []
+
+pub reset_taken : (c : ChipData) (l : LayoutData) (field taken : ℕ)
+    → reset_of (setup_of c l (wrong_resets (one_reset field taken))) field 0 ≡ Some taken
+unfolding setup_of
+reset_taken c l field taken =
+    let r : ResetRow = record { field = field; kind = 0; value = taken } in
+    subst (λ b. option_or (option_map (λ (x : ResetRow). x.value) (if b && true then Some r else None)) (value_in (reset_rows 0 c.fields) field 0) ≡ Some taken)
+    (sym (eq-eqb field field refl)) refl
+
 -- ---- a memory of it holds 0
 
 blank_locations : (t : Setup) (count : ℕ) → (first_state t count).locations ≡ replicate count 0
 unfolding first_state reset_by
 blank_locations t count = refl
 
-zero_in : (n i : ℕ) → ◌≡◌ {A = ℕ} (get_or (replicate n 0) i 0) 0
+pub zero_in : (n i : ℕ) → ◌≡◌ {A = ℕ} (get_or (replicate n 0) i 0) 0
 zero_in zero i = refl
 zero_in (suc n) zero = refl
 zero_in (suc n) (suc i) = zero_in n i

@@ -1,7 +1,6 @@
 -- A session whose script has a line of a sequence is found to have what each run of the sequence finds.
-use Rattle.std.proofs.Common.{◌≡◌, ℕ, ◌+◌, ◌-◌, ◌^◌, ◌<◌, true, false, ◌&&◌, ◌||◌, if◌then◌else◌, List, [], ◌∷◌, ◌++◌, codes, length, map}
+use Rattle.std.proofs.Common.{◌≡◌, ℕ, ◌+◌, ◌-◌, ◌^◌, ◌<◌, true, false, ◌||◌, List, [], ◌∷◌, ◌++◌, codes, length, map}
 use Rattle.std.proofs.Common.{Option, Some, None, option_map, Result, Ok, Err, refl, sym, ap, subst, ◌∙◌, inl, inr, eq-eqb, arith}
-use Rattle.std.specs.Option.{option_or}
 use Rattle.std.specs.Prelude.{unwrap_or}
 use Rattle.std.proofs.lemmas.List.Elements.{All-head}
 use Rattle.std.proofs.lemmas.Option.{slice_get-get_or}
@@ -12,13 +11,13 @@ use Rattle.rl_bus.specs.declared.table.Cell.TheVariants as cell
 use Rattle.rl_bus.specs.declared.table.ItemRow.TheVariants as row
 use Rattle.rl_bus.specs.declared.table.ResetRow.{ResetRow}
 use Rattle.rl_bus.specs.declared.table.StuckRow.{StuckRow}
-use Rattle.rl_bus.specs.Setup.{Setup, value_in, reset_of, is_deaf}
+use Rattle.rl_bus.specs.Setup.{Setup, is_deaf}
 use Rattle.rl_bus.specs.Standing.{Standing, kinds_of}
 use Rattle.rl_model.specs.Rows.{FieldSeen, ChipData}
 use Rattle.rl_model.specs.Fields.{no_field, field_of, first_of as first_field}
 use Rattle.rl_model.specs.declared.rows.Item.TheVariants.{Reg}
 use Rattle.rl_map.specs.Layout.{LayoutData}
-use Rattle.rl_map.specs.Tables.{reset_rows, setup_of}
+use Rattle.rl_map.specs.Tables.{setup_of}
 use Rattle.rl_flaw.specs.declared.flaw.Flaw.{Flaw}
 use Rattle.rl_flaw.specs.declared.flaw.Flaw.TheVariants.{OtherReset, Deaf}
 use Rattle.rl_flaw.specs.Flaws.{width_of, IsFlawOf, AreFlawsOf, flaws_of, first_of, locations_of}
@@ -55,11 +54,13 @@ use Rattle.rl_plain_log_laws.proofs.Openings.{each_opening_sound}
 use Rattle.rl_detect_laws.specs.Deaf.{deaf_items, HasDeafItems, IsDeafTo, IsDeafBit, IsTurned}
 use Rattle.rl_detect_laws.specs.Errors.{EndsByError, HasError, SendsSome}
 use Rattle.rl_detect_laws.specs.Logged.{Leads, HasLogged, Shows}
+use Rattle.rl_detect_laws.specs.Otherwise.{IsNewOtherwise}
 use Rattle.rl_detect_laws.specs.Resets.{wrong_resets, HasWrongResets, IsResetOtherwise, IsNamedBy}
-use Rattle.rl_detect_laws.specs.Sessions.{IsPlayed, HasSequence, IsFound, LoneLineIsPlayed, SessionFindsWrongReset, SessionFindsError}
+use Rattle.rl_detect_laws.specs.Sessions.{IsPlayed, HasSequence, IsFound, LoneLineIsPlayed, SessionFindsWrongReset, SessionFindsKeptReset, SessionFindsError}
 use Rattle.rl_detect_laws.specs.Sessions.{IsOnlyStuck, SessionFindsStuckBit, SessionFindsStuckBitBeside, SessionFindsStuckReset, SessionFindsDeafRegister, SessionFindsDeafMemory}
 use Rattle.rl_detect_laws.specs.Stuck.{HasStuckBit, IsComparedBit}
 use Rattle.rl_detect_laws.specs.Visited.{RunsAll, HasEvent, IsVisited}
+use Rattle.rl_detect_laws.proofs.ApartFound.{held_otherwise_is_named, new_one_is_held_otherwise}
 use Rattle.rl_detect_laws.proofs.BitBash.{stuck_bit_is_named, stuck_bit_beside_is_named}
 use Rattle.rl_detect_laws.proofs.Checks.{from_own}
 use Rattle.rl_detect_laws.proofs.DeafRegister.{deaf_register_is_named}
@@ -69,7 +70,7 @@ use Rattle.rl_detect_laws.proofs.Errors.{visited_error_is_found}
 use Rattle.rl_detect_laws.proofs.HwReset.{wrong_reset_is_named}
 use Rattle.rl_detect_laws.proofs.Logged.{line_comes, sequence_is_logged, shown_is_found}
 use Rattle.rl_detect_laws.proofs.NewDeaf.{new_ones_agree_on_bits, none_spent}
-use Rattle.rl_detect_laws.proofs.NewOnes.{new_set_up, new_deaf, new_one_has_deaf_memory}
+use Rattle.rl_detect_laws.proofs.NewOnes.{one_reset, reset_taken, new_set_up, new_deaf, new_one_has_deaf_memory}
 use Rattle.rl_detect_laws.proofs.StuckReset.{stuck_reset_is_named}
 use Rattle.rl_detect_laws.proofs.Turned.{new_one_has_stuck_bit}
 
@@ -213,17 +214,6 @@ width_is c field inside =
 
 -- ---- a wrong reset value
 
-abbrev one_reset : (field taken : ℕ) → List ResetRow
-one_reset field taken = record { field = field; kind = 0; value = taken } ∷ []
-
-reset_taken : (c : ChipData) (l : LayoutData) (field taken : ℕ)
-    → reset_of (setup_of c l (wrong_resets (one_reset field taken))) field 0 ≡ Some taken
-unfolding setup_of
-reset_taken c l field taken =
-    let r : ResetRow = record { field = field; kind = 0; value = taken } in
-    subst (λ b. option_or (option_map (λ (x : ResetRow). x.value) (if b && true then Some r else None)) (value_in (reset_rows 0 c.fields) field 0) ≡ Some taken)
-    (sym (eq-eqb field field refl)) refl
-
 -- a run from a world where the setup has these wrong reset values
 reset_at : (c : ChipData) (l : LayoutData) (v : World) (resets : List ResetRow) (block : Option ℕ) (field place : ℕ) (told : List Told) (new : Scene)
     → IsWorldOf c l (setup_of c l (wrong_resets resets)) v → field < length c.fields → IsComparedField (field_of c field).shape
@@ -257,6 +247,19 @@ session_finds_wrong_reset bytes adapters desc before block field place played ha
     } in
     found bytes adapters desc before HwResetOf block (IsNamedBy c field) played has (named_shows c field)
     (λ told new run. reset_at c l has.world (one_reset field wrong.taken) block field place told new v there.0 compared other at run)
+
+pub session_finds_kept_reset : SessionFindsKeptReset
+session_finds_kept_reset bytes adapters desc which block field place played has wrong compared kept at checks =
+    let c = desc.chip in
+    let l = desc.layout in
+    let w = first_world desc adapters in
+    let sound = model_of bytes adapters desc played in
+    let there = only_there desc (OtherReset field 0 wrong.taken) wrong.flaw (opened_there bytes (kinds_of adapters) desc played.opens) in
+    let new_one = new_one_is_held_otherwise c l field wrong.described wrong.taken (locations_of c) sound.chip there.0 compared wrong.says
+    (subst (λ n. wrong.taken < 2 ^ n) (width_is c field there.0) there.2) wrong.other in
+    let is = subst (λ fs. IsNewOtherwise c l field (first_of c l fs)) (sym wrong.flaw) new_one in
+    found_first bytes adapters desc which block (IsNamedBy c field) played has (named_shows c field)
+    (λ told new run. held_otherwise_is_named (scene_at w 0) new w.device which block told field is.i place sound refl is.alike is.otherwise kept at checks run)
 
 -- ---- an address that answers errors
 

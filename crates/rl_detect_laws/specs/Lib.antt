@@ -8,3 +8,4 @@ pub mod Stuck
 pub mod Logged
 pub mod Sessions
 pub mod Policies
+pub mod Otherwise

@@ -29,6 +29,7 @@ use Rattle.rl_plain_log_laws.specs.Sound.{AreKinds}
 use Rattle.rl_detect_laws.specs.Deaf.{IsTurned}
 use Rattle.rl_detect_laws.specs.Errors.{EndsByError, HasError, SendsSome}
 use Rattle.rl_detect_laws.specs.Logged.{Leads, SaysSequence, HasLogged}
+use Rattle.rl_detect_laws.specs.Otherwise.{ChecksWritten, KeepsApart}
 use Rattle.rl_detect_laws.specs.Resets.{IsNamedBy}
 use Rattle.rl_detect_laws.specs.Stuck.{IsComparedBit, IsShownTurned, IsShownBeside, IsBitBeside, IsStuckOtherwise}
 use Rattle.rl_detect_laws.specs.Visited.{IsVisited}
@@ -81,6 +82,18 @@ SessionFindsWrongReset =
     → IsPlayed bytes adapters desc → HasSequence bytes adapters desc before HwReset block
     → HasWrongReset desc field → IsComparedField (field_of desc.chip field).shape
     → IsVisited HwReset desc.chip desc.layout block (reg_of desc.chip field) place
+    → IsFound bytes adapters (IsNamedBy desc.chip field)
+
+-- by its first line another sequence than `hw-reset` finds it too, where each write keeps two different bits different
+abbrev pub SessionFindsKeptReset : Type 0
+SessionFindsKeptReset =
+    (bytes : List ℕ) (adapters : List Standing) (desc : DescData) (which : Sequence) (block : Option ℕ)
+    (field place : ℕ)
+    → IsPlayed bytes adapters desc → HasSequence bytes adapters desc [] which block
+    → HasWrongReset desc field → IsComparedField (field_of desc.chip field).shape
+    → KeepsApart (field_of desc.chip field).shape.policy
+    → IsVisited which desc.chip desc.layout block (reg_of desc.chip field) place
+    → ChecksWritten which desc.layout (reg_of desc.chip field) place
     → IsFound bytes adapters (IsNamedBy desc.chip field)
 
 -- an address that answers errors, whatever other flaws there are

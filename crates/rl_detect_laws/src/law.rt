@@ -3,6 +3,7 @@ ghost use Rattle.rl_detect_laws.specs.Deaf.{DeafMemoryIsFound, DeafRegisterIsNam
 ghost use Rattle.rl_detect_laws.specs.Deaf.{NewOneHasDeafMemory, PoliciesTurn};
 ghost use Rattle.rl_detect_laws.specs.Errors.{NthErrorIsFound, SharedErrorIsFound, VisitedErrorIsFound};
 ghost use Rattle.rl_detect_laws.specs.Named.{NoLocationDiffers, NothingIsNamed};
+ghost use Rattle.rl_detect_laws.specs.Otherwise.{HeldOtherwiseIsNamed, NewOneIsHeldOtherwise, PoliciesKeepApart};
 ghost use Rattle.rl_detect_laws.specs.Policies.{NewOnesAgreeBut, OtherPolicyIsNeverNamed, OtherPolicyTellsNothing};
 ghost use Rattle.rl_detect_laws.specs.Policies.{PoliciesWrittenAlike};
 ghost use Rattle.rl_detect_laws.specs.Resets.{NewOneHasWrongResets, WrongResetIsNamed};
@@ -90,4 +91,13 @@ pub fn other_policy_is_never_named()
     ensures never { OtherPolicyIsNeverNamed }
     ensures policies { PoliciesWrittenAlike }
     ensures first { NewOnesAgreeBut }
+{}
+
+/// `bit_bash`, `access_test` and `shared_access` find a bit of a compared field that is held otherwise than it is
+/// believed, as after a wrong reset value: where by its policy a write leaves two different bits different, the first
+/// check of its register after a write names the field.
+pub fn held_otherwise_is_named()
+    ensures named { HeldOtherwiseIsNamed }
+    ensures policies { PoliciesKeepApart }
+    ensures first { NewOneIsHeldOtherwise }
 {}

@@ -1,8 +1,9 @@
 //! What a judged session says of the flaws of its description. Each function does nothing; its contract is the law.
 ghost use Rattle.rl_detect_laws.specs.Logged.{SequenceIsLogged, ShownIsFound, ShownNeverPasses};
 ghost use Rattle.rl_detect_laws.specs.Sessions.{LoneLineIsPlayed, SessionFindsDeafMemory, SessionFindsDeafRegister};
-ghost use Rattle.rl_detect_laws.specs.Sessions.{SessionFindsError, SessionFindsStuckBit, SessionFindsStuckBitBeside};
-ghost use Rattle.rl_detect_laws.specs.Sessions.{SessionFindsStuckReset, SessionFindsWrongReset};
+ghost use Rattle.rl_detect_laws.specs.Sessions.{SessionFindsError, SessionFindsKeptReset, SessionFindsStuckBit};
+ghost use Rattle.rl_detect_laws.specs.Sessions.{SessionFindsStuckBitBeside, SessionFindsStuckReset};
+ghost use Rattle.rl_detect_laws.specs.Sessions.{SessionFindsWrongReset};
 
 /// The events of a line `seq NAME BLOCK` in the log of a script are those of a run of the sequence, from the world that
 /// the lines before it lead to. So what a law says of the events of a run it says of the log.
@@ -23,9 +24,11 @@ pub fn lone_line_is_played()
 {}
 
 /// A session whose description declares one flaw, a wrong value at a HARD reset of a compared field, finds it by any line
-/// `seq hw-reset` that visits the field's register.
+/// `seq hw-reset` that visits the field's register. It finds it by a first line `seq bit-bash`, `seq access` or
+/// `seq shared` too, where by the field's policy a write leaves two different bits different.
 pub fn session_finds_wrong_reset()
-    ensures { SessionFindsWrongReset }
+    ensures any { SessionFindsWrongReset }
+    ensures kept { SessionFindsKeptReset }
 {}
 
 /// A session finds an address that answers errors, with any flaws beside it, by any line of a sequence that visits a
