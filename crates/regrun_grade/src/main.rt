@@ -76,7 +76,7 @@ fn grade(rt: &HostRuntime, asked: Asked) -> Result<Status, AllocError>
 // Says what can be asked for. Answers the exit status.
 fn tell_words(rt: &HostRuntime) -> u8 {
     let _ = eprintln!(rt;
-        "regrun-grade: `run`, `missed`, `found`, `lines` or `json` is asked for, then `K/N` with K from 1 to N if so wanted, then `at-least P` with P up to 100 if so wanted, and a session on standard input"
+        "regrun-grade: `run`, `missed`, `hidden`, `found`, `lines` or `json` is asked for, then `K/N` with K from 1 to N if so wanted, then `at-least P` with P up to 100 if so wanted, and a session on standard input"
     );
     Status::Words.code()
 }

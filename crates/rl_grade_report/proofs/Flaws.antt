@@ -1,14 +1,21 @@
--- What a list of graded flaws has, of those that are missed.
-use Rattle.std.proofs.Common.{List, All, filter}
-use Rattle.std.specs.Prelude.{is_none}
+-- What a list of judged flaws has: each flaw names what is there.
+use Rattle.std.proofs.Common.{List, All, filter, map}
 use Rattle.std.proofs.lemmas.List.Elements.{All-filter, All-map}
 use Rattle.rl_model.specs.Rows.{ChipData}
 use Rattle.rl_map.specs.Layout.{LayoutData}
 use Rattle.rl_flaw.specs.Flaws.{IsFlawOf}
+use Rattle.rl_desc.specs.Data.{DescData}
 use Rattle.rl_grade.specs.declared.grade.Graded.{Graded}
-use Rattle.rl_grade_report.specs.Lines.{AreGraded, missed_of}
+use Rattle.rl_grade_report.specs.declared.verdict.Judged.{Judged}
+use Rattle.rl_grade_report.specs.declared.verdict.Verdict.{Verdict}
+use Rattle.rl_grade_report.specs.Verdict.{AreJudged, flaws_with, has_verdict, judged_by}
 
-pub missed_are : (c : ChipData) (l : LayoutData) (graded : List Graded) → AreGraded c l graded → All (IsFlawOf c l) (missed_of graded)
-missed_are c l graded h =
-    All-map (IsFlawOf c l) (λ (g : Graded). g.flaw) (filter (λ (g : Graded). is_none g.found) graded)
-    (All-filter (λ (g : Graded). is_none g.found) (λ (g : Graded). IsFlawOf c l g.flaw) graded h)
+pub judged_are : (d : DescData) (graded : List Graded) → All (λ g. IsFlawOf d.chip d.layout g.flaw) graded
+    → AreJudged d.chip d.layout (map (judged_by d) graded)
+judged_are d graded h = All-map (λ (j : Judged). IsFlawOf d.chip d.layout j.flaw) (judged_by d) graded h
+
+pub flaws_are : (c : ChipData) (l : LayoutData) (verdict : Verdict) (judged : List Judged) → AreJudged c l judged
+    → All (IsFlawOf c l) (flaws_with verdict judged)
+flaws_are c l verdict judged h =
+    All-map (IsFlawOf c l) (λ (j : Judged). j.flaw) (filter (λ (j : Judged). has_verdict verdict j) judged)
+    (All-filter (λ (j : Judged). has_verdict verdict j) (λ (j : Judged). IsFlawOf c l j.flaw) judged h)

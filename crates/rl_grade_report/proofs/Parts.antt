@@ -22,6 +22,14 @@ pub five_parts : (a b c d e : List ℕ) → (((a ++ b) ++ c) ++ d) ++ e ≡ join
 unfolding joined
 five_parts a b c d e = simp (append_assoc, append-nil)
 
+four_behind : (t a b c d : List ℕ) → (((t ++ a) ++ b) ++ c) ++ d ≡ t ++ joined (a ∷ b ∷ c ∷ d ∷ [])
+unfolding joined
+four_behind t a b c d = simp (append_assoc, append-nil)
+
+-- pieces, and four more behind them one after another
+pub then_four : (xs : List (List ℕ)) (a b c d : List ℕ) → (((joined xs ++ a) ++ b) ++ c) ++ d ≡ joined (xs ++ a ∷ b ∷ c ∷ d ∷ [])
+then_four xs a b c d = four_behind (joined xs) a b c d ∙ joined_more xs (a ∷ b ∷ c ∷ d ∷ [])
+
 -- a text, and pieces behind it
 pub then_pieces : (a b : List ℕ) (xs : List (List ℕ)) → (a ++ b) ++ joined xs ≡ joined (a ∷ b ∷ xs)
 unfolding joined

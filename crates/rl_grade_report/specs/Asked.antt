@@ -12,7 +12,7 @@ use Rattle.rl_grade_report.specs.declared.totals.Totals.{Totals}
 use Rattle.rl_grade_report.specs.Totals.{is_below}
 use Rattle.rl_grade_report.specs.declared.asked.Asked.{Asked}
 use Rattle.rl_grade_report.specs.declared.asked.Tell.{Tell}
-use Rattle.rl_grade_report.specs.declared.asked.Tell.TheVariants.{Run, Missed, Found, Lines, Json}
+use Rattle.rl_grade_report.specs.declared.asked.Tell.TheVariants.{Run, Missed, Hidden, Found, Lines, Json}
 
 -- all flaws
 abbrev pub whole : Share
@@ -21,6 +21,7 @@ whole = record { first = 1; every = 1 }
 abbrev pub is_json : Tell → Bool
 is_json Run = false
 is_json Missed = false
+is_json Hidden = false
 is_json Found = false
 is_json Lines = false
 is_json Json = true
@@ -33,7 +34,7 @@ is_part asked = not (asked.share.every == 1)
 abbrev pub is_marked : Asked → Bool
 is_marked asked = is_part asked || is_json asked.tell
 
--- a grading that wrote its text passed unless it found fewer than the bound
+-- a grading that wrote its text passed unless it found fewer of those that can be found than the bound
 abbrev pub status_at : Asked → Totals → Status
 status_at asked totals = if is_below asked.bound totals then status.Found else status.Passed
 
@@ -82,9 +83,10 @@ abbrev pub tell_named : List ℕ → Option Tell
 tell_named word =
     if bytes_eq word (codes "run") then Some Run
     else (if bytes_eq word (codes "missed") then Some Missed
+    else (if bytes_eq word (codes "hidden") then Some Hidden
     else (if bytes_eq word (codes "found") then Some Found
     else (if bytes_eq word (codes "lines") then Some Lines
-    else (if bytes_eq word (codes "json") then Some Json else None))))
+    else (if bytes_eq word (codes "json") then Some Json else None)))))
 
 abbrev pub asked_if : Option Tell → Option Share → Option (Option ℕ) → Option Asked
 asked_if (Some tell) (Some share) (Some bound) = Some (record { tell = tell; share = share; bound = bound })

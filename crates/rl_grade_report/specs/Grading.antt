@@ -1,5 +1,5 @@
 -- What is written of a session that is graded, and its status.
-use Rattle.std.specs.Prelude.{ℕ, ◌+◌, Bool, if◌then◌else◌, List, [], ◌∷◌, ◌++◌, length, codes, decimal, Option, Some, None, Result, Ok, Err}
+use Rattle.std.specs.Prelude.{ℕ, ◌+◌, Bool, if◌then◌else◌, List, [], ◌∷◌, ◌++◌, length, map, codes, decimal, Option, Some, None, Result, Ok, Err}
 use Rattle.rl_policy.specs.Numbers.{hex_digits}
 use Rattle.rl_desc.specs.Data.{DescData}
 use Rattle.rl_log.specs.declared.status.Status.{Status}
@@ -7,7 +7,6 @@ use Rattle.rl_log.specs.declared.status.Status.TheVariants.{Refused}
 use Rattle.rl_log.specs.Texts.{refused_text}
 use Rattle.rl_session.specs.Judged.{first_world}
 use Rattle.rl_session.specs.Session.{script_of}
-use Rattle.rl_grade.specs.declared.grade.Graded.{Graded}
 use Rattle.rl_grade.specs.declared.grade.Share.{Share}
 use Rattle.rl_grade.specs.declared.job.Task.{Task}
 use Rattle.rl_grade.specs.declared.place.Place.{Place}
@@ -27,14 +26,17 @@ use Rattle.rl_grade_report.specs.Row.{found_text, rows_text}
 use Rattle.rl_grade_report.specs.Totals.{capped, end_text, totals_of}
 use Rattle.rl_grade_report.specs.declared.asked.Asked.{Asked}
 use Rattle.rl_grade_report.specs.declared.asked.Tell.{Tell}
-use Rattle.rl_grade_report.specs.declared.asked.Tell.TheVariants.{Run, Missed, Found, Lines, Json}
+use Rattle.rl_grade_report.specs.declared.asked.Tell.TheVariants.{Run, Missed, Hidden, Found, Lines, Json}
 use Rattle.rl_grade_report.specs.declared.facts.Facts.{Facts}
+use Rattle.rl_grade_report.specs.declared.verdict.Judged.{Judged}
+use Rattle.rl_grade_report.specs.declared.verdict.Verdict.TheVariants as verdict
 use Rattle.rl_grade_report.specs.Asked.{is_json, is_marked, is_part, status_at}
 use Rattle.rl_grade_report.specs.Firsts.{lines_text}
 use Rattle.rl_grade_report.specs.Json.{json_text}
 use Rattle.rl_grade_report.specs.Mark.{mark_of}
 use Rattle.rl_grade_report.specs.Opening.{graded_opening}
 use Rattle.rl_grade_report.specs.Places.{places_of}
+use Rattle.rl_grade_report.specs.Verdict.{judged_by}
 
 -- ---- places
 
@@ -44,39 +46,41 @@ pub record Base : Type 0 where
   pub seen : List Seen
   pub items : ℕ
 
--- the flaws of a place that are tried, where so many stand before the place
-abbrev pub graded_at : Asked → DescData → Base → (before : ℕ) → Place → List Graded
-graded_at asked d base before place = grades_of d base.tasks base.seen asked.share before (flaws_at d base.items place)
+-- the flaws of a place that are tried, each with what is said of it, where so many stand before the place
+abbrev pub judged_at : Asked → DescData → Base → (before : ℕ) → Place → List Judged
+judged_at asked d base before place =
+    map (judged_by d) (grades_of d base.tasks base.seen asked.share before (flaws_at d base.items place))
 
 -- how many stand before the next place; a count that has come to its end stays there
 abbrev pub flaws_behind : DescData → Base → (before : ℕ) → Place → ℕ
 flaws_behind d base before place = capped (before + length (flaws_at d base.items place))
 
 -- those of one place after another
-unfoldable pub graded_from : Asked → DescData → Base → (before : ℕ) → List Place → List Graded
-graded_from asked d base before [] = []
-graded_from asked d base before (place ∷ places) =
-    graded_at asked d base before place ++ graded_from asked d base (flaws_behind d base before place) places
+unfoldable pub judged_from : Asked → DescData → Base → (before : ℕ) → List Place → List Judged
+judged_from asked d base before [] = []
+judged_from asked d base before (place ∷ places) =
+    judged_at asked d base before place ++ judged_from asked d base (flaws_behind d base before place) places
 
 -- all that are tried
-abbrev pub all_graded : Asked → DescData → Base → List Graded
-all_graded asked d base = graded_from asked d base 0 (places_of d.chip)
+abbrev pub all_judged : Asked → DescData → Base → List Judged
+all_judged asked d base = judged_from asked d base 0 (places_of d.chip)
 
 -- ---- what is told
 
--- a line for `run`, rows for `missed` and `found`
-abbrev pub place_text : Tell → DescData → Place → List Graded → List ℕ
-place_text Run d place graded = line_text d.chip d.layout place graded
-place_text Missed d place graded = rows_text d.chip d.layout graded
-place_text Found d place graded = found_text d.chip d.layout graded
-place_text Lines d place graded = []
-place_text Json d place graded = []
+-- a line for `run`, rows for `missed`, `hidden` and `found`
+abbrev pub place_text : Tell → DescData → Place → List Judged → List ℕ
+place_text Run d place judged = line_text d.chip d.layout place judged
+place_text Missed d place judged = rows_text d.chip d.layout judged verdict.Missed
+place_text Hidden d place judged = rows_text d.chip d.layout judged verdict.Hidden
+place_text Found d place judged = found_text d.chip d.layout judged
+place_text Lines d place judged = []
+place_text Json d place judged = []
 
 -- place by place
 unfoldable pub places_text : Asked → DescData → Base → (before : ℕ) → List Place → List ℕ
 places_text asked d base before [] = []
 places_text asked d base before (place ∷ places) =
-    place_text asked.tell d place (graded_at asked d base before place)
+    place_text asked.tell d place (judged_at asked d base before place)
     ++ places_text asked d base (flaws_behind d base before place) places
 
 -- which share of which session
@@ -97,16 +101,17 @@ head_text asked facts = head_of (is_json asked.tell) asked.share facts.mark
 abbrev pub part_text : Asked → Totals → List ℕ
 part_text asked totals = if is_part asked then codes "# " ++ end_text totals else []
 
-abbrev pub last_of : Tell → Asked → Facts → DescData → List Task → List Graded → List ℕ
-last_of Run asked facts d tasks graded = end_text (totals_of graded)
-last_of Missed asked facts d tasks graded = part_text asked (totals_of graded)
-last_of Found asked facts d tasks graded = part_text asked (totals_of graded)
-last_of Lines asked facts d tasks graded = lines_text tasks graded ++ end_text (totals_of graded)
-last_of Json asked facts d tasks graded = json_text asked facts d.chip d.layout graded
+abbrev pub last_of : Tell → Asked → Facts → DescData → List Task → List Judged → List ℕ
+last_of Run asked facts d tasks judged = end_text (totals_of judged)
+last_of Missed asked facts d tasks judged = part_text asked (totals_of judged)
+last_of Hidden asked facts d tasks judged = part_text asked (totals_of judged)
+last_of Found asked facts d tasks judged = part_text asked (totals_of judged)
+last_of Lines asked facts d tasks judged = lines_text tasks judged ++ end_text (totals_of judged)
+last_of Json asked facts d tasks judged = json_text asked facts d.chip d.layout judged
 
 -- behind the places
-abbrev pub last_text : Asked → Facts → DescData → List Task → List Graded → List ℕ
-last_text asked facts d tasks graded = last_of asked.tell asked facts d tasks graded
+abbrev pub last_text : Asked → Facts → DescData → List Task → List Judged → List ℕ
+last_text asked facts d tasks judged = last_of asked.tell asked facts d tasks judged
 
 -- ---- a script
 
@@ -120,7 +125,7 @@ facts_of mark base = record { mark = mark; lines = length base.tasks; events = l
 abbrev pub reported : Asked → (mark : Option ℕ) → DescData → Base → List ℕ
 reported asked mark d base =
     (head_text asked (facts_of mark base) ++ places_text asked d base 0 (places_of d.chip))
-    ++ last_text asked (facts_of mark base) d base.tasks (all_graded asked d base)
+    ++ last_text asked (facts_of mark base) d base.tasks (all_judged asked d base)
 
 -- by tasks and by the events that they have without a flaw
 abbrev pub report : Asked → (mark : Option ℕ) → DescData → List Task → List Heard → List ℕ
@@ -137,7 +142,7 @@ refused_with line = record { text = line; status = Refused }
 abbrev pub graded_as : Asked → (mark : Option ℕ) → DescData → List Task → List Heard → Grading
 graded_as asked mark d tasks heard = record {
   text = report asked mark d tasks heard;
-  status = status_at asked (totals_of (all_graded asked d (base_of tasks heard)));
+  status = status_at asked (totals_of (all_judged asked d (base_of tasks heard)));
 }
 
 -- the tasks are done over adapters that have sent nothing

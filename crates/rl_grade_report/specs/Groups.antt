@@ -1,4 +1,4 @@
--- The missed flaws of a place in words.
+-- Flaws of a place in words.
 use Rattle.std.specs.Prelude.{ℕ, ◌==◌, ◌&&◌, not, Bool, if◌then◌else◌, List, [], ◌∷◌, ◌++◌, length, map, filter, take, slice_index_or, slice_get, unwrap_or, codes}
 use Rattle.std.specs.List.{list_any, range_with_len}
 use Rattle.rl_model.specs.Rows.{ChipData}
@@ -53,5 +53,6 @@ abbrev pub groups_parts : ChipData → LayoutData → List Flaw → (places : �
 groups_parts c l flaws places =
     map (λ place. group_text c l flaws (flaw_at flaws place)) (filter (is_first flaws) (range_with_len 0 places))
 
-abbrev pub groups_text : ChipData → LayoutData → List Flaw → List ℕ
-groups_text c l flaws = led (codes "; missed: ") (groups_parts c l flaws (length flaws))
+-- behind what leads to the first
+abbrev pub groups_text : (lead : List ℕ) → ChipData → LayoutData → List Flaw → List ℕ
+groups_text lead c l flaws = led lead (groups_parts c l flaws (length flaws))

@@ -1,5 +1,5 @@
 -- A grading as one object in JSON.
-use Rattle.std.specs.Prelude.{ℕ, ◌/◌, ◌%◌, ◌-◌, ◌==◌, Bool, if◌then◌else◌, List, [], ◌∷◌, ◌++◌, map, filter, codes, decimal, is_none, Option, Some, None}
+use Rattle.std.specs.Prelude.{ℕ, ◌/◌, ◌%◌, ◌==◌, Bool, if◌then◌else◌, List, [], ◌∷◌, ◌++◌, map, filter, codes, decimal, Option, Some, None}
 use Rattle.rl_policy.specs.declared.policy.Policy.{Policy}
 use Rattle.rl_policy.specs.Names.{name_of}
 use Rattle.rl_policy.specs.Numbers.{hex_digits}
@@ -9,7 +9,6 @@ use Rattle.rl_model.specs.Rows.{ChipData}
 use Rattle.rl_map.specs.Layout.{LayoutData}
 use Rattle.rl_flaw.specs.declared.flaw.Flaw.{Flaw}
 use Rattle.rl_flaw.specs.declared.flaw.Flaw.TheVariants.{Stuck, OtherReset, OtherPolicy, Deaf, ErrorRange, ErrorNth}
-use Rattle.rl_grade.specs.declared.grade.Graded.{Graded}
 use Rattle.rl_grade.specs.declared.grade.Share.{Share}
 use Rattle.rl_report.specs.Pieces.{joined}
 use Rattle.rl_grade_report.specs.declared.asked.Asked.{Asked}
@@ -18,11 +17,14 @@ use Rattle.rl_grade_report.specs.declared.facts.Facts.{Facts}
 use Rattle.rl_grade_report.specs.declared.kind.Kind.{Kind}
 use Rattle.rl_grade_report.specs.declared.kind.TheConstants.{KINDS}
 use Rattle.rl_grade_report.specs.declared.totals.Totals.{Totals}
+use Rattle.rl_grade_report.specs.declared.verdict.Judged.{Judged}
+use Rattle.rl_grade_report.specs.declared.verdict.Verdict.TheVariants.{Missed}
 use Rattle.rl_grade_report.specs.Counts.{counts_of, is_told, led}
 use Rattle.rl_grade_report.specs.Groups.{kind_text, root_name}
 use Rattle.rl_grade_report.specs.Kinds.{kind_name}
 use Rattle.rl_grade_report.specs.Lines.{field_name}
-use Rattle.rl_grade_report.specs.Totals.{is_below, tenths, totals_of}
+use Rattle.rl_grade_report.specs.Totals.{findable, is_below, missed_in, tenths, totals_of}
+use Rattle.rl_grade_report.specs.Verdict.{has_verdict}
 
 -- ---- a flaw, with the keys of a row of a description
 
@@ -83,15 +85,20 @@ share_json share =
 
 -- ---- the totals
 
--- in per cent with one decimal, rounded down; null where there is no flaw
-abbrev pub percent_json : Totals → List ℕ
-percent_json t =
-    if t.flaws == 0 then codes "null" else joined (decimal (tenths t / 10) ∷ codes "." ∷ decimal (tenths t % 10) ∷ [])
+abbrev pub decimal_json : (tenths : ℕ) → List ℕ
+decimal_json tenths = joined (decimal (tenths / 10) ∷ codes "." ∷ decimal (tenths % 10) ∷ [])
 
+-- a share in per cent with one decimal, rounded down; null where there is no flaw
+abbrev pub percent_json : (found flaws : ℕ) → List ℕ
+percent_json found flaws = if flaws == 0 then codes "null" else decimal_json (tenths found flaws)
+
+-- the share of all, and that of those that can be found
 abbrev pub totals_json : Totals → List ℕ
 totals_json t =
-    joined (codes "\"flaws\": " ∷ decimal t.flaws ∷ codes ", \"found\": " ∷ decimal t.found ∷ codes ", \"missed\": " ∷ decimal (t.flaws - t.found)
-    ∷ codes ", \"percent\": " ∷ percent_json t ∷ codes ",\n" ∷ [])
+    joined (codes "\"flaws\": " ∷ decimal t.flaws ∷ codes ", \"found\": " ∷ decimal t.found
+    ∷ codes ", \"missed\": " ∷ decimal (missed_in t) ∷ codes ", \"hidden\": " ∷ decimal t.hidden
+    ∷ codes ", \"percent\": " ∷ percent_json t.found t.flaws
+    ∷ codes ", \"percent_findable\": " ∷ percent_json t.found (findable t) ∷ codes ",\n" ∷ [])
 
 abbrev pub least_json : Option ℕ → List ℕ
 least_json None = codes "null"
@@ -109,30 +116,32 @@ bound_json bound t =
 abbrev pub count_json : Kind → Counts → List ℕ
 count_json kind counts =
     joined (codes "\"" ∷ kind_name kind ∷ codes "\": {\"found\": " ∷ decimal counts.found ∷ codes ", \"missed\": " ∷ decimal counts.missed
-    ∷ codes "}" ∷ [])
+    ∷ codes ", \"hidden\": " ∷ decimal counts.hidden ∷ codes "}" ∷ [])
 
 -- of the kinds that are there
-abbrev pub kinds_parts : List Graded → List Kind → List (List ℕ)
-kinds_parts graded kinds = map (λ kind. count_json kind (counts_of graded kind)) (filter (λ kind. is_told (counts_of graded kind)) kinds)
+abbrev pub kinds_parts : List Judged → List Kind → List (List ℕ)
+kinds_parts judged kinds =
+    map (λ kind. count_json kind (counts_of judged kind)) (filter (λ kind. is_told (counts_of judged kind)) kinds)
 
-abbrev pub kinds_json : List Graded → List ℕ
-kinds_json graded = led [] (kinds_parts graded KINDS)
+abbrev pub kinds_json : List Judged → List ℕ
+kinds_json judged = led [] (kinds_parts judged KINDS)
 
-abbrev pub missed_parts : ChipData → LayoutData → List Graded → List (List ℕ)
-missed_parts c l graded = map (λ g. flaw_json c l g.flaw) (filter (λ g. is_none g.found) graded)
+abbrev pub missed_parts : ChipData → LayoutData → List Judged → List (List ℕ)
+missed_parts c l judged = map (λ j. flaw_json c l j.flaw) (filter (λ j. has_verdict Missed j) judged)
 
-abbrev pub missed_json : ChipData → LayoutData → List Graded → List ℕ
-missed_json c l graded = led [] (missed_parts c l graded)
+abbrev pub missed_json : ChipData → LayoutData → List Judged → List ℕ
+missed_json c l judged = led [] (missed_parts c l judged)
 
 -- ---- all
 
 abbrev pub head_json : Asked → Facts → Totals → List ℕ
 head_json asked facts t = (facts_json facts ++ share_json asked.share) ++ (totals_json t ++ bound_json asked.bound t)
 
-abbrev pub lists_json : ChipData → LayoutData → List Graded → List ℕ
-lists_json c l graded =
-    joined (codes "\"by_kind\": {" ∷ kinds_json graded ∷ codes "},\n\"missed_flaws\": [" ∷ missed_json c l graded ∷ codes "]}\n" ∷ [])
+abbrev pub lists_json : ChipData → LayoutData → List Judged → List ℕ
+lists_json c l judged =
+    joined (codes "\"by_kind\": {" ∷ kinds_json judged ∷ codes "},\n\"missed_flaws\": [" ∷ missed_json c l judged
+    ∷ codes "]}\n" ∷ [])
 
 -- the session, which share of its flaws was tried, how many were found, whether they are enough, and those that are missed
-abbrev pub json_text : Asked → Facts → ChipData → LayoutData → List Graded → List ℕ
-json_text asked facts c l graded = head_json asked facts (totals_of graded) ++ lists_json c l graded
+abbrev pub json_text : Asked → Facts → ChipData → LayoutData → List Judged → List ℕ
+json_text asked facts c l judged = head_json asked facts (totals_of judged) ++ lists_json c l judged

@@ -16,4 +16,5 @@ pub mod Progress
 pub mod Refusal
 pub mod Row
 pub mod Totals
+pub mod Verdict
 pub mod Whole

@@ -5,9 +5,9 @@ pub use Rattle.rl_report.specs.Lines.{lines_of}
 pub use Rattle.rl_report.specs.Pieces.{Puts}
 pub use Rattle.rl_grade.specs.Prelude.{IsReady, world, bench_state, IsPlaceIn, TasksFit, fresh_standings, heard_by}
 pub use Rattle.rl_grade.specs.Reading.{refused_line}
-pub use Rattle.rl_grade_report.specs.Lines.{AreGraded}
+pub use Rattle.rl_grade_report.specs.Verdict.{AreJudged}
 pub use Rattle.rl_grade_report.specs.Asked.{status_at}
-pub use Rattle.rl_grade_report.specs.Grading.{all_graded, base_of, facts_of, graded_at, graded_from, grading_of, grading_with, head_text}
+pub use Rattle.rl_grade_report.specs.Grading.{all_judged, base_of, facts_of, grading_of, grading_with, head_text, judged_at, judged_from}
 pub use Rattle.rl_grade_report.specs.Grading.{last_text, part_text, place_text, places_text, report, reported, script_graded, share_line}
 pub use Rattle.rl_grade_report.specs.Mark.{mark_of}
 pub use Rattle.rl_grade_report.specs.Opening.{unflawed}

@@ -4,12 +4,12 @@ use Rattle.rl_access.specs.Model.{ModelData}
 use Rattle.rl_desc.specs.Data.{DescData}
 use Rattle.rl_log.specs.declared.status.Status.{Status}
 use Rattle.rl_log.specs.Telling.{Tells}
-use Rattle.rl_grade.specs.declared.grade.Graded.{Graded}
 use Rattle.rl_grade.specs.declared.job.Task.{Task}
 use Rattle.rl_grade.specs.declared.place.Place.{Place}
 use Rattle.rl_grade.specs.declared.run.Shown.{Shown}
 use Rattle.rl_grade_report.specs.declared.asked.Asked.{Asked}
-use Rattle.rl_grade_report.specs.Grading.{Base, Grading, flaws_behind, graded_at}
+use Rattle.rl_grade_report.specs.declared.verdict.Judged.{Judged}
+use Rattle.rl_grade_report.specs.Grading.{Base, Grading, flaws_behind, judged_at}
 
 -- what these tasks show
 abbrev pub base_shown : List Task → Shown → Base
@@ -20,11 +20,11 @@ abbrev pub desc_of : ModelData → DescData
 desc_of m = record { chip = m.chip; layout = m.layout; flaws = [] }
 
 -- A place was done: the description is the same, its flaws stand before the next place, and those tried come behind the earlier ones.
-pub record IsNext (asked : Asked) (base : Base) (place : Place) (d : DescData) (before : ℕ) (graded : List Graded) (d-next : DescData)
-    (before-next : ℕ) (graded-next : List Graded) : Type 0 where
+pub record IsNext (asked : Asked) (base : Base) (place : Place) (d : DescData) (before : ℕ) (judged : List Judged)
+    (d-next : DescData) (before-next : ℕ) (judged-next : List Judged) : Type 0 where
   pub desc_is : d-next ≡ d
   pub number_is : before-next ≡ flaws_behind d base before place
-  pub graded_are : graded-next ≡ graded ++ graded_at asked d base before place
+  pub judged_are : judged-next ≡ judged ++ judged_at asked d base before place
 
 -- the status with which the text was written, or with which that failed
 abbrev pub status_of : (written : Result Status Status) → Status

@@ -1,5 +1,5 @@
 -- A flaw as a row of a description.
-use Rattle.std.specs.Prelude.{ℕ, Bool, if◌then◌else◌, List, [], ◌∷◌, ◌++◌, flat_map, codes, decimal, Option, Some, None}
+use Rattle.std.specs.Prelude.{ℕ, Bool, if◌then◌else◌, List, [], ◌∷◌, ◌++◌, flat_map, codes, decimal, Result, Ok, Err}
 use Rattle.rl_policy.specs.declared.policy.Policy.{Policy}
 use Rattle.rl_policy.specs.Names.{name_of}
 use Rattle.rl_policy.specs.Numbers.{hex_digits}
@@ -9,11 +9,13 @@ use Rattle.rl_model.specs.Rows.{ChipData}
 use Rattle.rl_map.specs.Layout.{LayoutData}
 use Rattle.rl_flaw.specs.declared.flaw.Flaw.{Flaw}
 use Rattle.rl_flaw.specs.declared.flaw.Flaw.TheVariants.{Stuck, OtherReset, OtherPolicy, Deaf, ErrorRange, ErrorNth}
-use Rattle.rl_grade.specs.declared.grade.Graded.{Graded}
 use Rattle.rl_grade.specs.declared.seen.Find.{Find}
 use Rattle.rl_report.specs.Pieces.{joined}
+use Rattle.rl_grade_report.specs.declared.verdict.Judged.{Judged}
+use Rattle.rl_grade_report.specs.declared.verdict.Verdict.{Verdict}
 use Rattle.rl_grade_report.specs.Groups.{kind_text, root_name}
-use Rattle.rl_grade_report.specs.Lines.{field_name, missed_of}
+use Rattle.rl_grade_report.specs.Lines.{field_name}
+use Rattle.rl_grade_report.specs.Verdict.{flaws_with}
 
 -- ---- the rows of a field
 
@@ -61,22 +63,22 @@ flaw_row c l (ErrorRange port from to) = range_row l port from to
 flaw_row c l (ErrorNth nth) = nth_row nth
 flaw_row c l (Deaf item) = deaf_row c item
 
--- each that is missed
-abbrev pub rows_text : ChipData → LayoutData → List Graded → List ℕ
-rows_text c l graded = flat_map (flaw_row c l) (missed_of graded)
+-- each of which this is said
+abbrev pub rows_text : ChipData → LayoutData → List Judged → Verdict → List ℕ
+rows_text c l judged verdict = flat_map (flaw_row c l) (flaws_with verdict judged)
 
 -- ---- those that are found
 
 abbrev pub line_note : (line : ℕ) → List ℕ
 line_note line = joined (codes "# line " ∷ decimal line ∷ codes "\n" ∷ [])
 
-abbrev pub note_and_row : ChipData → LayoutData → Flaw → Option Find → List ℕ
-note_and_row c l flaw None = []
-note_and_row c l flaw (Some find) = line_note find.line ++ flaw_row c l flaw
+abbrev pub note_and_row : ChipData → LayoutData → Flaw → Result Find Verdict → List ℕ
+note_and_row c l flaw (Ok find) = line_note find.line ++ flaw_row c l flaw
+note_and_row c l flaw (Err verdict) = []
 
 -- behind a comment with the number of the line that finds it first
-abbrev pub found_row : ChipData → LayoutData → Graded → List ℕ
-found_row c l g = note_and_row c l g.flaw g.found
+abbrev pub found_row : ChipData → LayoutData → Judged → List ℕ
+found_row c l j = note_and_row c l j.flaw j.found
 
-abbrev pub found_text : ChipData → LayoutData → List Graded → List ℕ
-found_text c l graded = flat_map (found_row c l) graded
+abbrev pub found_text : ChipData → LayoutData → List Judged → List ℕ
+found_text c l judged = flat_map (found_row c l) judged

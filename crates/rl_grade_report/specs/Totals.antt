@@ -1,43 +1,61 @@
 -- The last line of a grading.
-use Rattle.std.specs.Prelude.{ℕ, ◌+◌, ◌-◌, ◌*◌, ◌/◌, ◌%◌, ◌^◌, ◌==◌, nat_lt, min, Bool, false, if◌then◌else◌, List, [], ◌∷◌, length, count_by, codes, decimal, is_some, Option, Some, None}
-use Rattle.rl_grade.specs.declared.grade.Graded.{Graded}
+use Rattle.std.specs.Prelude.{ℕ, ◌+◌, ◌-◌, ◌*◌, ◌/◌, ◌%◌, ◌^◌, ◌==◌, nat_lt, min, Bool, false, if◌then◌else◌, List, [], ◌∷◌, length, count_by, codes, decimal, is_ok, Option, Some, None}
 use Rattle.rl_report.specs.Pieces.{joined}
 use Rattle.rl_grade_report.specs.declared.totals.Totals.{Totals}
+use Rattle.rl_grade_report.specs.declared.verdict.Judged.{Judged}
+use Rattle.rl_grade_report.specs.declared.verdict.Verdict.TheVariants.{Hidden}
+use Rattle.rl_grade_report.specs.Counts.{count_if}
+use Rattle.rl_grade_report.specs.Verdict.{has_verdict}
 
 -- a count that has come to its end stays there
 abbrev pub capped : ℕ → ℕ
 capped n = min n (2 ^ 64 - 1)
 
 -- with these flaws too
-abbrev pub with_graded : Totals → List Graded → Totals
-with_graded t graded = record {
-  flaws = capped (t.flaws + length graded);
-  found = capped (t.found + count_by (λ g. is_some g.found) graded);
+abbrev pub with_judged : Totals → List Judged → Totals
+with_judged t judged = record {
+  flaws = capped (t.flaws + length judged);
+  found = capped (t.found + count_by (λ j. is_ok j.found) judged);
+  hidden = capped (t.hidden + count_by (λ j. has_verdict Hidden j) judged);
 }
 
 abbrev pub no_totals : Totals
-no_totals = record { flaws = 0; found = 0 }
+no_totals = record { flaws = 0; found = 0; hidden = 0 }
 
-abbrev pub totals_of : List Graded → Totals
-totals_of graded = with_graded no_totals graded
+abbrev pub totals_of : List Judged → Totals
+totals_of judged = with_judged no_totals judged
 
--- fewer were found than so many of a hundred
+-- how many can be found
+abbrev pub findable : Totals → ℕ
+findable t = t.flaws - t.hidden
+
+abbrev pub missed_in : Totals → ℕ
+missed_in t = findable t - t.found
+
+-- of those that can be found fewer were than so many of a hundred
 abbrev pub is_below : Option ℕ → Totals → Bool
 is_below None t = false
-is_below (Some percent) t = nat_lt (t.found * 100) (percent * t.flaws)
+is_below (Some percent) t = nat_lt (t.found * 100) (percent * findable t)
 
--- the share that was found in tenths of a per cent, rounded down
-abbrev pub tenths : Totals → ℕ
-tenths t = if t.flaws == 0 then 0 else t.found * 1000 / t.flaws
+-- a share in tenths of a per cent, rounded down
+abbrev pub tenths : (found flaws : ℕ) → ℕ
+tenths found flaws = if flaws == 0 then 0 else found * 1000 / flaws
 
-abbrev pub tenths_text : ℕ → List ℕ
-tenths_text share = joined (codes ", " ∷ decimal (share / 10) ∷ codes "." ∷ decimal (share % 10) ∷ codes " % found" ∷ [])
+abbrev pub percent_text : (tenths : ℕ) → (behind : List ℕ) → List ℕ
+percent_text tenths behind =
+    joined (codes ", " ∷ decimal (tenths / 10) ∷ codes "." ∷ decimal (tenths % 10) ∷ behind ∷ [])
 
 -- none where there is no flaw
-abbrev pub share_text : Totals → List ℕ
-share_text t = if t.flaws == 0 then [] else tenths_text (tenths t)
+abbrev pub share_text : (found flaws : ℕ) → (behind : List ℕ) → List ℕ
+share_text found flaws behind = if flaws == 0 then [] else percent_text (tenths found flaws) behind
+
+-- of those that can be found, where these are some and not all
+abbrev pub findable_text : Totals → List ℕ
+findable_text t =
+    if findable t == t.flaws then [] else share_text t.found (findable t) (codes " % of those that can be found")
 
 abbrev pub end_text : Totals → List ℕ
 end_text t =
-    joined (codes "end: " ∷ decimal t.flaws ∷ codes " flaws, " ∷ decimal t.found ∷ codes " found, " ∷ decimal (t.flaws - t.found)
-    ∷ codes " missed" ∷ share_text t ∷ codes "\n" ∷ [])
+    joined (codes "end: " ∷ decimal t.flaws ∷ codes " flaws, " ∷ decimal t.found ∷ codes " found, "
+    ∷ decimal (missed_in t) ∷ codes " missed" ∷ count_if (codes ", ") t.hidden (codes " hidden")
+    ∷ share_text t.found t.flaws (codes " % found") ∷ findable_text t ∷ codes "\n" ∷ [])

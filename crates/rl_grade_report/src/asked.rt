@@ -16,6 +16,8 @@ pub enum Tell {
     Run,
     /// Each flaw that is missed, as a row of a description.
     Missed,
+    /// Each flaw that is hidden, as a row of a description.
+    Hidden,
     /// Each flaw that is found, as a row behind the number of the line that finds it first.
     Found,
     /// For each line of the script how many flaws it finds first, and the totals.
@@ -30,7 +32,7 @@ pub struct Asked {
     pub tell: Tell,
     /// Which flaws are tried.
     pub share: Share,
-    /// How many of a hundred flaws are to be found at least.
+    /// How many of a hundred flaws that can be found are to be found at least.
     pub bound: Option<u64>,
 }
 
@@ -136,6 +138,7 @@ fn tell_named(word: &str) -> Option<Tell>
     match word {
         "run" => Some(Tell::Run),
         "missed" => Some(Tell::Missed),
+        "hidden" => Some(Tell::Hidden),
         "found" => Some(Tell::Found),
         "lines" => Some(Tell::Lines),
         "json" => Some(Tell::Json),
@@ -176,8 +179,8 @@ fn asked_if(tell: Option<Tell>, share: Option<Share>, bound: Option<Option<u64>>
     Some(Asked { tell, share, bound })
 }
 
-/// What the words ask for: `run`, `missed`, `found`, `lines` or `json`; then, if so wanted, a share `K/N` with K from 1
-/// to N; then, if so wanted, `at-least P` with P up to 100. None where they ask for nothing known.
+/// What the words ask for: `run`, `missed`, `hidden`, `found`, `lines` or `json`; then, if so wanted, a share `K/N`
+/// with K from 1 to N; then, if so wanted, `at-least P` with P up to 100. None where they ask for nothing known.
 pub fn asked_by(words: &[String]) -> Option<Asked>
     ensures asked { result ≡ asked_by words.now }
     ensures every { IfSome result (λ asked. 0 < asked.share.every) }

@@ -1,41 +1,51 @@
-// How many flaws of a kind are found and missed.
+// How many flaws of a kind are found, missed and hidden.
 ghost use Rattle.std.specs.Prelude.{◌≡◌, ◌++◌, OnOk};
-ghost use Rattle.rl_grade_report.specs.Counts.{is_found, is_missed, counts_of, count_text, counts_text, is_told};
+ghost use Rattle.rl_grade_report.specs.Counts.{count_of, count_text, counts_of, counts_text, is_found, is_of, is_told};
 
 use crate::kind::{KINDS, Kind};
-use crate::pieces::lead;
+use crate::pieces::{lead, push_count_if};
+use crate::verdict::{Judged, Verdict};
 use itoa::Buffer;
-use rl_grade::Graded;
 use rl_session::push_pieces;
 use std::alloc::AllocError;
 
-// How many of some flaws are found, and how many missed.
+// How many of some flaws are found, and how many missed and hidden.
 #[derive(Clone, Copy, Debug, PartialEq, Eq)]
 pub(crate) struct Counts {
     pub(crate) found: usize,
     pub(crate) missed: usize,
+    pub(crate) hidden: usize,
 }
 
 // Whether it is a flaw of the kind that is found.
-fn is_found(it: &Graded, kind: Kind) -> bool
+fn is_found(it: &Judged, kind: Kind) -> bool
     ensures { result ≡ is_found it.now kind }
 {
-    kind.has(it.flaw) && it.found.is_some()
+    kind.has(it.flaw) && it.found.is_ok()
 }
 
-fn is_missed(it: &Graded, kind: Kind) -> bool
-    ensures { result ≡ is_missed it.now kind }
+// Whether it is a flaw of the kind of which this is said.
+fn is_of(it: &Judged, kind: Kind, verdict: Verdict) -> bool
+    ensures { result ≡ is_of kind verdict it.now }
 {
-    kind.has(it.flaw) && it.found.is_none()
+    kind.has(it.flaw) && it.has(verdict)
+}
+
+fn count_of(judged: &[Judged], kind: Kind, verdict: Verdict) -> usize
+    ensures { result ≡ count_of judged.now kind verdict }
+{
+    judged.iter().filter(|it| is_of(it, kind, verdict)).count()
 }
 
 // Those of a kind.
-pub(crate) fn counts_of(graded: &[Graded], kind: Kind) -> Counts
-    ensures { result ≡ counts_of graded.now kind }
+pub(crate) fn counts_of(judged: &[Judged], kind: Kind) -> Counts
+    ensures { result ≡ counts_of judged.now kind }
 {
-    let found = graded.iter().filter(|it| is_found(it, kind)).count();
-    let missed = graded.iter().filter(|it| is_missed(it, kind)).count();
-    Counts { found, missed }
+    Counts {
+        found: judged.iter().filter(|it| is_found(it, kind)).count(),
+        missed: count_of(judged, kind, Verdict::Missed),
+        hidden: count_of(judged, kind, Verdict::Hidden),
+    }
 }
 
 impl Counts {
@@ -43,7 +53,7 @@ impl Counts {
     pub(crate) fn is_told(self) -> bool
         ensures { result ≡ is_told self }
     {
-        self.found > 0 || self.missed > 0
+        self.found > 0 || (self.missed > 0 || self.hidden > 0)
     }
 }
 
@@ -67,16 +77,17 @@ fn push_count(
         missed.format(counts.missed).as_bytes(),
         b" missed",
     ];
-    push_pieces(text, &pieces)
+    push_pieces(text, &pieces)?;
+    push_count_if(text, b" ", counts.hidden as u64, b" hidden")
 }
 
 // Appends the counts of the kinds that are there.
-pub(crate) fn push_counts(text: &mut Vec<u8>, graded: &[Graded]) -> Result<(), AllocError>
-    ensures { OnOk result (text.new.items ≡ text.old.items ++ counts_text graded.now) }
+pub(crate) fn push_counts(text: &mut Vec<u8>, judged: &[Judged]) -> Result<(), AllocError>
+    ensures { OnOk result (text.new.items ≡ text.old.items ++ counts_text judged.now) }
 {
     let mut told = false;
     for kind in KINDS {
-        let counts = counts_of(graded, kind);
+        let counts = counts_of(judged, kind);
         if counts.is_told() {
             push_count(text, lead(told, b": "), kind, counts)?;
             told = true;

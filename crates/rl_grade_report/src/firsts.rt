@@ -2,30 +2,31 @@
 ghost use Rattle.std.specs.Prelude.{◌≡◌, ◌++◌, OnOk};
 ghost use Rattle.rl_grade_report.specs.Firsts.{finds_first, count_of, line_count, lines_text};
 
+use crate::verdict::Judged;
 use itoa::Buffer;
-use rl_grade::{Graded, Task};
+use rl_grade::Task;
 use rl_session::push_pieces;
 use std::alloc::AllocError;
 
 // Whether the line of this number is the first that finds the flaw.
-fn finds_first(line: u64, it: &Graded) -> bool
+fn finds_first(line: u64, it: &Judged) -> bool
     ensures { result ≡ finds_first line it.now }
 {
     match it.found {
-        Some(find) => find.line == line,
-        None => false,
+        Ok(find) => find.line == line,
+        Err(_) => false,
     }
 }
 
-fn count_of(graded: &[Graded], line: u64) -> usize
-    ensures { result ≡ count_of graded.now line }
+fn count_of(judged: &[Judged], line: u64) -> usize
+    ensures { result ≡ count_of judged.now line }
 {
-    graded.iter().filter(|it| finds_first(line, it)).count()
+    judged.iter().filter(|it| finds_first(line, it)).count()
 }
 
 // Appends how many of the flaws a line finds first.
-fn push_count(text: &mut Vec<u8>, graded: &[Graded], line: u64) -> Result<(), AllocError>
-    ensures { OnOk result (text.new.items ≡ text.old.items ++ line_count graded.now line) }
+fn push_count(text: &mut Vec<u8>, judged: &[Judged], line: u64) -> Result<(), AllocError>
+    ensures { OnOk result (text.new.items ≡ text.old.items ++ line_count judged.now line) }
 {
     let mut number = Buffer::new();
     let mut count = Buffer::new();
@@ -33,7 +34,7 @@ fn push_count(text: &mut Vec<u8>, graded: &[Graded], line: u64) -> Result<(), Al
         b"line ",
         number.format(line).as_bytes(),
         b": ",
-        count.format(count_of(graded, line)).as_bytes(),
+        count.format(count_of(judged, line)).as_bytes(),
         b" found\n",
     ];
     push_pieces(text, &pieces)
@@ -45,11 +46,11 @@ fn push_count(text: &mut Vec<u8>, graded: &[Graded], line: u64) -> Result<(), Al
 /// # Errors
 ///
 /// Want of memory.
-pub fn push_lines(text: &mut Vec<u8>, tasks: &[Task], graded: &[Graded]) -> Result<(), AllocError>
-    ensures { OnOk result (text.new.items ≡ text.old.items ++ lines_text tasks.now graded.now) }
+pub fn push_lines(text: &mut Vec<u8>, tasks: &[Task], judged: &[Judged]) -> Result<(), AllocError>
+    ensures { OnOk result (text.new.items ≡ text.old.items ++ lines_text tasks.now judged.now) }
 {
     for task in tasks {
-        push_count(text, graded, task.line)?;
+        push_count(text, judged, task.line)?;
     }
     Ok(())
 }

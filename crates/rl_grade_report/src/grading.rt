@@ -1,10 +1,10 @@
 // A session that is graded.
 ghost use Rattle.std.specs.Prelude.{◌≡◌, ◌≢◌, ◌≤◌, ◌<◌, ◌^◌, ◌++◌, [], Some, None, false, map, length, All, IfErr, IfOk, IfSome};
-ghost use Rattle.rl_grade_report.specs.Prelude.{AreGraded, AwaitsScript, IsBuiltWith, IsCaused, IsNext, IsPlaceIn, IsReady};
+ghost use Rattle.rl_grade_report.specs.Prelude.{AreJudged, AwaitsScript, IsBuiltWith, IsCaused, IsNext, IsPlaceIn, IsReady};
 ghost use Rattle.rl_grade_report.specs.Prelude.{LeavesEnded, LeavesOpen, Puts, Stays, TasksFit, Tells, TellsGraded};
-ghost use Rattle.rl_grade_report.specs.Prelude.{all_graded, base_of, base_shown, bench_state, desc_of, facts_of};
-ghost use Rattle.rl_grade_report.specs.Prelude.{fresh_standings, graded_at, graded_from, grading_of, grading_with};
-ghost use Rattle.rl_grade_report.specs.Prelude.{heard_by, input_of, is_complete, kinds_of, lines_of, mark_of};
+ghost use Rattle.rl_grade_report.specs.Prelude.{all_judged, base_of, base_shown, bench_state, desc_of, facts_of};
+ghost use Rattle.rl_grade_report.specs.Prelude.{fresh_standings, grading_of, grading_with, heard_by, input_of};
+ghost use Rattle.rl_grade_report.specs.Prelude.{is_complete, judged_at, judged_from, kinds_of, lines_of, mark_of};
 ghost use Rattle.rl_grade_report.specs.Prelude.{place_text, places_of, places_text, report, reported, script_graded};
 ghost use Rattle.rl_grade_report.specs.Prelude.{status_at, status_of, totals_of, world};
 
@@ -15,13 +15,14 @@ use crate::meter::Meter;
 use crate::places::places_of;
 use crate::refusal::{Unflawed, end_unread};
 use crate::totals::Totals;
+use crate::verdict::{Judged, judge};
 use crate::whole::{Bytes, read_all};
 use crate::writing::{put_head, put_last, put_place};
 use rl_access::Model;
 use rl_bench::Bench;
 use rl_bus::{Adapter, Adapters};
 use rl_desc::Desc;
-use rl_grade::{Graded, Place, Shown, Task, grade_place, read_script, show};
+use rl_grade::{Place, Shown, Task, grade_place, read_script, show};
 use rl_log::Status;
 use rl_report::{LineReader, Sink, Source};
 use rl_session::open;
@@ -34,8 +35,8 @@ struct Progress {
     desc: Desc,
     // How many flaws stand before the next place.
     number: u64,
-    // Those that were tried, each with its answer.
-    graded: Vec<Graded>,
+    // Those that were tried, each with what is said of it.
+    judged: Vec<Judged>,
 }
 
 // Tries the flaws of a place, and writes what was found.
@@ -53,12 +54,12 @@ fn grade_next<K: Sink>(
     requires fits { TasksFit progress.desc.chip (length progress.desc.layout.maps) tasks.now }
     requires place { IsPlaceIn progress.desc.chip place }
     requires every { 0 < asked.share.every }
-    requires each { AreGraded progress.desc.chip progress.desc.layout progress.graded.items }
+    requires each { AreJudged progress.desc.chip progress.desc.layout progress.judged.items }
     ensures bytes { Puts (K.written log.old) (K.written log.new) (place_text asked.tell progress.desc place
-        (graded_at asked progress.desc (base_shown tasks.now shown.now) progress.number place)) result }
+        (judged_at asked progress.desc (base_shown tasks.now shown.now) progress.number place)) result }
     ensures next { IfOk result (λ next. IsNext asked (base_shown tasks.now shown.now) place
-        progress.desc progress.number progress.graded.items next.desc next.number next.graded.items) }
-    ensures each { IfOk result (λ next. AreGraded progress.desc.chip progress.desc.layout next.graded.items) }
+        progress.desc progress.number progress.judged.items next.desc next.number next.judged.items) }
+    ensures each { IfOk result (λ next. AreJudged progress.desc.chip progress.desc.layout next.judged.items) }
     ensures broken { IfErr result (λ status. is_complete status ≡ false) }
     ensures cause { IfErr result (λ status. IsCaused status 0 0 (K.faults log.old) (K.faults log.new)) }
     ensures stays { Stays K.faults K.ends K.target log.old log.new }
@@ -66,19 +67,22 @@ fn grade_next<K: Sink>(
     let Progress {
         desc,
         number,
-        mut graded,
+        mut judged,
     } = progress;
     let Ok(grade) = grade_place(alloc, desc, tasks, shown, place, number, asked.share) else {
         return Err(Status::Memory);
     };
-    let Ok(()) = graded.extend_from_slice(&grade.graded) else {
+    let Ok(here) = judge(alloc, &grade.desc, &grade.graded) else {
         return Err(Status::Memory);
     };
-    put_place(alloc, asked.tell, &grade.desc, place, &grade.graded, log)?;
+    let Ok(()) = judged.extend_from_slice(&here) else {
+        return Err(Status::Memory);
+    };
+    put_place(alloc, asked.tell, &grade.desc, place, &here, log)?;
     Ok(Progress {
         desc: grade.desc,
         number: number.saturating_add(grade.flaws),
-        graded,
+        judged,
     })
 }
 
@@ -101,9 +105,9 @@ fn grade_places<K: Sink, M: Meter>(
     ensures bytes { Puts (K.written log.old) (K.written log.new)
         (places_text asked desc (base_shown tasks.now shown.now) 0 places.now) result }
     ensures desc { IfOk result (λ done. done.desc ≡ desc) }
-    ensures graded { IfOk result (λ done.
-        done.graded.items ≡ graded_from asked desc (base_shown tasks.now shown.now) 0 places.now) }
-    ensures each { IfOk result (λ done. AreGraded desc.chip desc.layout done.graded.items) }
+    ensures judged { IfOk result (λ done.
+        done.judged.items ≡ judged_from asked desc (base_shown tasks.now shown.now) 0 places.now) }
+    ensures each { IfOk result (λ done. AreJudged desc.chip desc.layout done.judged.items) }
     ensures broken { IfErr result (λ status. is_complete status ≡ false) }
     ensures cause { IfErr result (λ status. IsCaused status 0 0 (K.faults log.old) (K.faults log.new)) }
     ensures stays { Stays K.faults K.ends K.target log.old log.new }
@@ -111,7 +115,7 @@ fn grade_places<K: Sink, M: Meter>(
     let mut progress = Progress {
         desc,
         number: 0,
-        graded: Vec::new(alloc),
+        judged: Vec::new(alloc),
     };
     for place in places {
         progress = grade_next(alloc, asked, tasks, shown, *place, progress, log)?;
@@ -150,7 +154,7 @@ fn grade_shown<K: Sink, M: Meter>(
     ensures bytes { Puts (K.written log.old) (K.written log.new)
         (reported asked mark desc (base_shown tasks.now shown.now)) result }
     ensures status { IfOk result (λ status.
-        status ≡ status_at asked (totals_of (all_graded asked desc (base_shown tasks.now shown.now)))) }
+        status ≡ status_at asked (totals_of (all_judged asked desc (base_shown tasks.now shown.now)))) }
     ensures broken { IfErr result (λ status. is_complete status ≡ false) }
     ensures cause { IfErr result (λ status. IsCaused status 0 0 (K.faults log.old) (K.faults log.new)) }
     ensures stays { Stays K.faults K.ends K.target log.old log.new }
@@ -161,8 +165,8 @@ fn grade_shown<K: Sink, M: Meter>(
     };
     put_head(alloc, asked, facts, log)?;
     let done = grade_places(alloc, asked, desc, tasks, shown, &places, log, meter)?;
-    put_last(alloc, asked, facts, &done.desc, tasks, &done.graded, log)?;
-    Ok(asked.status(Totals::NONE.with(&done.graded)))
+    put_last(alloc, asked, facts, &done.desc, tasks, &done.judged, log)?;
+    Ok(asked.status(Totals::NONE.with(&done.judged)))
 }
 
 // Does the tasks without a flaw, and then tries the flaws.
@@ -183,7 +187,7 @@ fn grade_tasks<K: Sink, M: Meter>(
     requires every { 0 < asked.share.every }
     ensures bytes { Puts (K.written log.old) (K.written log.new) (report asked mark (desc_of model) tasks.now
         (heard_by (world model (map standing adapters.old.items) (bench_state bench)) tasks.now)) result }
-    ensures status { IfOk result (λ status. status ≡ status_at asked (totals_of (all_graded asked (desc_of model)
+    ensures status { IfOk result (λ status. status ≡ status_at asked (totals_of (all_judged asked (desc_of model)
         (base_of tasks.now (heard_by (world model (map standing adapters.old.items) (bench_state bench)) tasks.now))))) }
     ensures broken { IfErr result (λ status. is_complete status ≡ false) }
     ensures cause { IfErr result (λ status. IsCaused status 0 0 (K.faults log.old) (K.faults log.new)) }

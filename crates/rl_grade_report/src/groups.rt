@@ -1,4 +1,4 @@
-// The missed flaws of a place in words, those of one sort together.
+// Flaws of a place in words, those of one sort together.
 ghost use Rattle.std.specs.Prelude.{◌≡◌, ◌++◌, ◌<◌, length, filter, All, OnOk, IfOk};
 ghost use Rattle.std.specs.List.{list_any};
 ghost use Rattle.rl_flaw.specs.Flaws.{IsFlawOf};
@@ -99,21 +99,22 @@ fn push_group(
     push_members(alloc, text, chip, layout, one, &same)
 }
 
-// Appends these flaws, each with those of its sort.
+// Appends these flaws, each with those of its sort, behind what leads to the first.
 pub(crate) fn push_groups(
     alloc: Global,
     text: &mut Vec<u8>,
+    first: &[u8],
     chip: &Chip,
     layout: &Layout,
     flaws: &[Flaw],
 ) -> Result<(), AllocError>
     requires { All (IsFlawOf chip.now layout.now) flaws.now }
-    ensures { OnOk result (text.new.items ≡ text.old.items ++ groups_text chip.now layout.now flaws.now) }
+    ensures { OnOk result (text.new.items ≡ text.old.items ++ groups_text first.now chip.now layout.now flaws.now) }
 {
     let mut told = false;
     for place in 0..flaws.len() {
         if is_first(flaws, place) {
-            text.extend_from_slice(lead(told, b"; missed: "))?;
+            text.extend_from_slice(lead(told, first))?;
             push_group(alloc, text, chip, layout, flaws, flaws[place])?;
             told = true;
         }

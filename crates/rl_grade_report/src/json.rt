@@ -2,11 +2,11 @@
 ghost use Rattle.std.specs.Prelude.{◌≡◌, ◌++◌, ◌<◌, length, OnOk};
 ghost use Rattle.rl_flaw.specs.Flaws.{IsFlawOf};
 ghost use Rattle.rl_model.specs.Chip.{HasItem};
-ghost use Rattle.rl_grade_report.specs.Lines.{AreGraded};
 ghost use Rattle.rl_grade_report.specs.Json.{of_field_json, value_json, stuck_json, reset_json, policy_json, range_json};
 ghost use Rattle.rl_grade_report.specs.Json.{nth_json, deaf_json, flaw_json, mark_json, facts_json, share_json};
 ghost use Rattle.rl_grade_report.specs.Json.{percent_json, totals_json, least_json, passed_json, bound_json, count_json};
-ghost use Rattle.rl_grade_report.specs.Json.{kinds_json, missed_json, head_json, lists_json, json_text};
+ghost use Rattle.rl_grade_report.specs.Json.{decimal_json, head_json, json_text, kinds_json, lists_json, missed_json};
+ghost use Rattle.rl_grade_report.specs.Verdict.{AreJudged};
 
 use crate::asked::Asked;
 use crate::counts::{Counts, counts_of};
@@ -15,9 +15,10 @@ use crate::kind::{KINDS, Kind};
 use crate::line::push_field;
 use crate::pieces::lead;
 use crate::totals::{Totals, tenths};
+use crate::verdict::{Judged, Verdict};
 use itoa::Buffer;
 use rl_bench::Flaw;
-use rl_grade::{Graded, Share};
+use rl_grade::Share;
 use rl_map::Layout;
 use rl_model::{Chip, Item};
 use rl_policy::{Policy, spell};
@@ -211,21 +212,27 @@ fn push_share(text: &mut Vec<u8>, share: Share) -> Result<(), AllocError>
     push_pieces(text, &pieces)
 }
 
-fn push_percent(text: &mut Vec<u8>, totals: Totals) -> Result<(), AllocError>
-    ensures { OnOk result (text.new.items ≡ text.old.items ++ percent_json totals) }
+// Appends tenths of a per cent.
+fn push_decimal(text: &mut Vec<u8>, tenths: u128) -> Result<(), AllocError>
+    ensures { OnOk result (text.new.items ≡ text.old.items ++ decimal_json tenths) }
 {
-    if totals.flaws == 0 {
-        return text.extend_from_slice(b"null");
-    }
-    let share = tenths(totals);
     let mut whole = Buffer::new();
     let mut tenth = Buffer::new();
     let pieces: [&[u8]; 3] = [
-        whole.format(share / 10).as_bytes(),
+        whole.format(tenths / 10).as_bytes(),
         b".",
-        tenth.format(share % 10).as_bytes(),
+        tenth.format(tenths % 10).as_bytes(),
     ];
     push_pieces(text, &pieces)
+}
+
+fn push_percent(text: &mut Vec<u8>, found: u64, flaws: u64) -> Result<(), AllocError>
+    ensures { OnOk result (text.new.items ≡ text.old.items ++ percent_json found flaws) }
+{
+    if flaws == 0 {
+        return text.extend_from_slice(b"null");
+    }
+    push_decimal(text, tenths(found, flaws))
 }
 
 fn push_totals(text: &mut Vec<u8>, totals: Totals) -> Result<(), AllocError>
@@ -234,17 +241,22 @@ fn push_totals(text: &mut Vec<u8>, totals: Totals) -> Result<(), AllocError>
     let mut flaws = Buffer::new();
     let mut found = Buffer::new();
     let mut missed = Buffer::new();
-    let pieces: [&[u8]; 7] = [
+    let mut hidden = Buffer::new();
+    let pieces: [&[u8]; 9] = [
         b"\"flaws\": ",
         flaws.format(totals.flaws).as_bytes(),
         b", \"found\": ",
         found.format(totals.found).as_bytes(),
         b", \"missed\": ",
         missed.format(totals.missed()).as_bytes(),
+        b", \"hidden\": ",
+        hidden.format(totals.hidden).as_bytes(),
         b", \"percent\": ",
     ];
     push_pieces(text, &pieces)?;
-    push_percent(text, totals)?;
+    push_percent(text, totals.found, totals.flaws)?;
+    text.extend_from_slice(b", \"percent_findable\": ")?;
+    push_percent(text, totals.found, totals.findable())?;
     text.extend_from_slice(b",\n")
 }
 
@@ -288,26 +300,29 @@ fn push_count(
 {
     let mut found = Buffer::new();
     let mut missed = Buffer::new();
+    let mut hidden = Buffer::new();
     text.extend_from_slice(before)?;
-    let pieces: [&[u8]; 7] = [
+    let pieces: [&[u8]; 9] = [
         b"\"",
         kind.name(),
         b"\": {\"found\": ",
         found.format(counts.found).as_bytes(),
         b", \"missed\": ",
         missed.format(counts.missed).as_bytes(),
+        b", \"hidden\": ",
+        hidden.format(counts.hidden).as_bytes(),
         b"}",
     ];
     push_pieces(text, &pieces)
 }
 
 // Appends the counts of the kinds that are there.
-fn push_kinds(text: &mut Vec<u8>, graded: &[Graded]) -> Result<(), AllocError>
-    ensures { OnOk result (text.new.items ≡ text.old.items ++ kinds_json graded.now) }
+fn push_kinds(text: &mut Vec<u8>, judged: &[Judged]) -> Result<(), AllocError>
+    ensures { OnOk result (text.new.items ≡ text.old.items ++ kinds_json judged.now) }
 {
     let mut told = false;
     for kind in KINDS {
-        let counts = counts_of(graded, kind);
+        let counts = counts_of(judged, kind);
         if counts.is_told() {
             push_count(text, lead(told, b""), kind, counts)?;
             told = true;
@@ -321,14 +336,14 @@ fn push_missed(
     text: &mut Vec<u8>,
     chip: &Chip,
     layout: &Layout,
-    graded: &[Graded],
+    judged: &[Judged],
 ) -> Result<(), AllocError>
-    requires { AreGraded chip.now layout.now graded.now }
-    ensures { OnOk result (text.new.items ≡ text.old.items ++ missed_json chip.now layout.now graded.now) }
+    requires { AreJudged chip.now layout.now judged.now }
+    ensures { OnOk result (text.new.items ≡ text.old.items ++ missed_json chip.now layout.now judged.now) }
 {
     let mut told = false;
-    for it in graded {
-        if it.found.is_none() {
+    for it in judged {
+        if it.has(Verdict::Missed) {
             text.extend_from_slice(lead(told, b""))?;
             push_flaw(text, chip, layout, it.flaw)?;
             told = true;
@@ -357,20 +372,21 @@ fn push_lists(
     text: &mut Vec<u8>,
     chip: &Chip,
     layout: &Layout,
-    graded: &[Graded],
+    judged: &[Judged],
 ) -> Result<(), AllocError>
-    requires { AreGraded chip.now layout.now graded.now }
-    ensures { OnOk result (text.new.items ≡ text.old.items ++ lists_json chip.now layout.now graded.now) }
+    requires { AreJudged chip.now layout.now judged.now }
+    ensures { OnOk result (text.new.items ≡ text.old.items ++ lists_json chip.now layout.now judged.now) }
 {
     text.extend_from_slice(b"\"by_kind\": {")?;
-    push_kinds(text, graded)?;
+    push_kinds(text, judged)?;
     text.extend_from_slice(b"},\n\"missed_flaws\": [")?;
-    push_missed(text, chip, layout, graded)?;
+    push_missed(text, chip, layout, judged)?;
     text.extend_from_slice(b"]}\n")
 }
 
-/// Appends one object in JSON: the session, which share of its flaws was tried, how many were found, in all and by
-/// kind, whether they are enough, and those that are missed, each with the keys of its row in a description.
+/// Appends one object in JSON: the session, which share of its flaws was tried, how many were found, missed and hidden,
+/// in all and by kind, whether they are enough, and those that are missed, each with the keys of its row in a
+/// description.
 ///
 /// # Errors
 ///
@@ -381,11 +397,11 @@ pub fn push_json(
     facts: Facts,
     chip: &Chip,
     layout: &Layout,
-    graded: &[Graded],
+    judged: &[Judged],
 ) -> Result<(), AllocError>
-    requires { AreGraded chip.now layout.now graded.now }
-    ensures { OnOk result (text.new.items ≡ text.old.items ++ json_text asked facts chip.now layout.now graded.now) }
+    requires { AreJudged chip.now layout.now judged.now }
+    ensures { OnOk result (text.new.items ≡ text.old.items ++ json_text asked facts chip.now layout.now judged.now) }
 {
-    push_head(text, asked, facts, Totals::NONE.with(graded))?;
-    push_lists(text, chip, layout, graded)
+    push_head(text, asked, facts, Totals::NONE.with(judged))?;
+    push_lists(text, chip, layout, judged)
 }

@@ -1,6 +1,6 @@
-//! The text of a grading: a line for each register, field, memory and the session, which counts the flaws found and
-//! missed and tells the missed ones; each missed one, or each that is found, as a row of a description; how many flaws
-//! each line of the script finds first; or all of it as one object in JSON.
+//! The text of a grading: a line for each register, field, memory and the session, which counts the flaws found, missed
+//! and hidden and tells those that aren't found; each that is missed, hidden or found as a row of a description; how
+//! many flaws each line of the script finds first; or all of it as one object in JSON.
 //!
 //! The grading of a session: refuses what can't be graded, tries the flaws place by place, and writes what was found.
 #![tactic(auto)]
@@ -24,6 +24,7 @@ mod places;
 mod refusal;
 mod row;
 mod totals;
+mod verdict;
 mod whole;
 mod writing;
 
@@ -38,3 +39,4 @@ pub use mark::mark_of;
 pub use meter::Meter;
 pub use row::{push_found_rows, push_rows};
 pub use totals::{Totals, push_end};
+pub use verdict::{Judged, Verdict};

@@ -1,12 +1,13 @@
 // The line of a place.
-ghost use Rattle.std.specs.Prelude.{◌≡◌, ◌++◌, ◌<◌, length, All, OnOk, IfOk};
+ghost use Rattle.std.specs.Prelude.{◌≡◌, ◌++◌, ◌<◌, length, OnOk};
 ghost use Rattle.rl_grade.specs.Place.{IsPlaceIn};
-ghost use Rattle.rl_grade_report.specs.Lines.{AreGraded, field_name, place_name, missed_of, told_text, line_text};
+ghost use Rattle.rl_grade_report.specs.Lines.{field_name, line_text, place_name, said_text, told_text, unfound_text};
+ghost use Rattle.rl_grade_report.specs.Verdict.{AreJudged};
 
 use crate::counts::push_counts;
 use crate::groups::push_groups;
-use rl_bench::Flaw;
-use rl_grade::{Graded, Place};
+use crate::verdict::{Judged, VERDICTS, Verdict, flaws_with};
+use rl_grade::Place;
 use rl_map::Layout;
 use rl_model::{Chip, Item};
 use std::alloc::{AllocError, Global};
@@ -33,17 +34,37 @@ fn push_place(text: &mut Vec<u8>, chip: &Chip, place: Place) -> Result<(), Alloc
     }
 }
 
-// The flaws that weren't found.
-fn missed_of(alloc: Global, graded: &[Graded]) -> Result<Vec<Flaw>, AllocError>
-    ensures { IfOk result (λ missed. missed.items ≡ missed_of graded.now) }
+// Appends the flaws of which this is said, in words.
+fn push_said(
+    alloc: Global,
+    text: &mut Vec<u8>,
+    chip: &Chip,
+    layout: &Layout,
+    judged: &[Judged],
+    verdict: Verdict,
+) -> Result<(), AllocError>
+    requires { AreJudged chip.now layout.now judged.now }
+    ensures { OnOk result (text.new.items ≡ text.old.items ++ said_text chip.now layout.now judged.now verdict) }
 {
-    let mut missed = Vec::new(alloc);
-    for it in graded {
-        if it.found.is_none() {
-            missed.push(it.flaw)?;
-        }
+    let flaws = flaws_with(alloc, judged, verdict)?;
+    push_groups(alloc, text, verdict.lead(), chip, layout, &flaws)
+}
+
+// Appends those that aren't found, by what is said of them.
+fn push_unfound(
+    alloc: Global,
+    text: &mut Vec<u8>,
+    chip: &Chip,
+    layout: &Layout,
+    judged: &[Judged],
+) -> Result<(), AllocError>
+    requires { AreJudged chip.now layout.now judged.now }
+    ensures { OnOk result (text.new.items ≡ text.old.items ++ unfound_text chip.now layout.now judged.now) }
+{
+    for verdict in VERDICTS {
+        push_said(alloc, text, chip, layout, judged, verdict)?;
     }
-    Ok(missed)
+    Ok(())
 }
 
 // Appends the line of a place where some were tried.
@@ -53,21 +74,20 @@ fn push_told(
     chip: &Chip,
     layout: &Layout,
     place: Place,
-    graded: &[Graded],
+    judged: &[Judged],
 ) -> Result<(), AllocError>
     requires place { IsPlaceIn chip.now place }
-    requires flaws { AreGraded chip.now layout.now graded.now }
-    ensures { OnOk result (text.new.items ≡ text.old.items ++ told_text chip.now layout.now place graded.now) }
+    requires flaws { AreJudged chip.now layout.now judged.now }
+    ensures { OnOk result (text.new.items ≡ text.old.items ++ told_text chip.now layout.now place judged.now) }
 {
-    let missed = missed_of(alloc, graded)?;
     push_place(text, chip, place)?;
-    push_counts(text, graded)?;
-    push_groups(alloc, text, chip, layout, &missed)?;
+    push_counts(text, judged)?;
+    push_unfound(alloc, text, chip, layout, judged)?;
     text.extend_from_slice(b"\n")
 }
 
-/// Appends the line of a place: what it is called, how many of its flaws are found and missed by kind, and the missed
-/// ones in words. Where none was tried there is no line.
+/// Appends the line of a place: what it is called, how many of its flaws are found, missed and hidden by kind, and
+/// those that aren't found in words. Where none was tried there is no line.
 ///
 /// # Errors
 ///
@@ -78,14 +98,14 @@ pub fn push_line(
     chip: &Chip,
     layout: &Layout,
     place: Place,
-    graded: &[Graded],
+    judged: &[Judged],
 ) -> Result<(), AllocError>
     requires place { IsPlaceIn chip.now place }
-    requires flaws { AreGraded chip.now layout.now graded.now }
-    ensures { OnOk result (text.new.items ≡ text.old.items ++ line_text chip.now layout.now place graded.now) }
+    requires flaws { AreJudged chip.now layout.now judged.now }
+    ensures { OnOk result (text.new.items ≡ text.old.items ++ line_text chip.now layout.now place judged.now) }
 {
-    if graded.is_empty() {
+    if judged.is_empty() {
         return Ok(());
     }
-    push_told(alloc, text, chip, layout, place, graded)
+    push_told(alloc, text, chip, layout, place, judged)
 }

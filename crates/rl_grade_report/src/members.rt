@@ -1,4 +1,4 @@
-// The members of a group of missed flaws: bits and items by number, policies by name, addresses.
+// The members of a group of flaws: bits and items by number, policies by name, addresses.
 ghost use Rattle.std.specs.Prelude.{◌≡◌, ◌++◌, ◌<◌, [], ◌∷◌, codes, length, map, All, OnOk, IfOk};
 ghost use Rattle.rl_flaw.specs.Flaws.{IsFlawOf};
 ghost use Rattle.rl_grade_report.specs.Members.{follows, number_text, ranges_text, wrong_bit, number_of, word_text};

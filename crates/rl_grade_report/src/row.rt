@@ -2,14 +2,14 @@
 ghost use Rattle.std.specs.Prelude.{◌≡◌, ◌++◌, ◌<◌, length, OnOk};
 ghost use Rattle.rl_flaw.specs.Flaws.{IsFlawOf};
 ghost use Rattle.rl_model.specs.Chip.{HasItem};
-ghost use Rattle.rl_grade_report.specs.Lines.{AreGraded};
 ghost use Rattle.rl_grade_report.specs.Row.{of_field, value_line, stuck_row, reset_row, policy_row, range_row, nth_row};
 ghost use Rattle.rl_grade_report.specs.Row.{deaf_row, flaw_row, rows_text, line_note, found_row, found_text};
+ghost use Rattle.rl_grade_report.specs.Verdict.{AreJudged};
 
 use crate::line::push_field;
+use crate::verdict::{Judged, Verdict};
 use itoa::Buffer;
 use rl_bench::Flaw;
-use rl_grade::Graded;
 use rl_map::Layout;
 use rl_model::{Chip, Item};
 use rl_policy::{Policy, spell};
@@ -156,7 +156,7 @@ fn push_row(text: &mut Vec<u8>, chip: &Chip, layout: &Layout, flaw: Flaw) -> Res
     }
 }
 
-/// Appends each flaw that is missed as a row of a description.
+/// Appends each flaw of which this is said as a row of a description.
 ///
 /// # Errors
 ///
@@ -165,13 +165,14 @@ pub fn push_rows(
     text: &mut Vec<u8>,
     chip: &Chip,
     layout: &Layout,
-    graded: &[Graded],
+    judged: &[Judged],
+    verdict: Verdict,
 ) -> Result<(), AllocError>
-    requires { AreGraded chip.now layout.now graded.now }
-    ensures { OnOk result (text.new.items ≡ text.old.items ++ rows_text chip.now layout.now graded.now) }
+    requires { AreJudged chip.now layout.now judged.now }
+    ensures { OnOk result (text.new.items ≡ text.old.items ++ rows_text chip.now layout.now judged.now verdict) }
 {
-    for it in graded {
-        if it.found.is_none() {
+    for it in judged {
+        if it.has(verdict) {
             push_row(text, chip, layout, it.flaw)?;
         }
     }
@@ -192,12 +193,12 @@ fn push_found(
     text: &mut Vec<u8>,
     chip: &Chip,
     layout: &Layout,
-    it: &Graded,
+    it: &Judged,
 ) -> Result<(), AllocError>
     requires { IsFlawOf chip.now layout.now it.now.flaw }
     ensures { OnOk result (text.new.items ≡ text.old.items ++ found_row chip.now layout.now it.now) }
 {
-    let Some(find) = it.found else {
+    let Ok(find) = it.found else {
         return Ok(());
     };
     push_note(text, find.line)?;
@@ -214,12 +215,12 @@ pub fn push_found_rows(
     text: &mut Vec<u8>,
     chip: &Chip,
     layout: &Layout,
-    graded: &[Graded],
+    judged: &[Judged],
 ) -> Result<(), AllocError>
-    requires { AreGraded chip.now layout.now graded.now }
-    ensures { OnOk result (text.new.items ≡ text.old.items ++ found_text chip.now layout.now graded.now) }
+    requires { AreJudged chip.now layout.now judged.now }
+    ensures { OnOk result (text.new.items ≡ text.old.items ++ found_text chip.now layout.now judged.now) }
 {
-    for it in graded {
+    for it in judged {
         push_found(text, chip, layout, it)?;
     }
     Ok(())

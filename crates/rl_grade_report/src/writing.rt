@@ -1,6 +1,6 @@
 // What is written before the places, of a place, and at the end.
 ghost use Rattle.std.specs.Prelude.{◌≡◌, ◌++◌, [], false, OnOk, IfOk, IfErr};
-ghost use Rattle.rl_grade_report.specs.Prelude.{AreGraded, IsCaused, IsPlaceIn, Puts, Stays};
+ghost use Rattle.rl_grade_report.specs.Prelude.{AreJudged, IsCaused, IsPlaceIn, Puts, Stays};
 ghost use Rattle.rl_grade_report.specs.Prelude.{head_text, is_complete, last_text, part_text, place_text, share_line};
 
 use crate::asked::{Asked, Tell};
@@ -10,9 +10,10 @@ use crate::json::push_json;
 use crate::line::push_line;
 use crate::row::{push_found_rows, push_rows};
 use crate::totals::{Totals, push_end};
+use crate::verdict::{Judged, Verdict};
 use itoa::Buffer;
 use rl_desc::Desc;
-use rl_grade::{Graded, Place, Share, Task};
+use rl_grade::{Place, Share, Task};
 use rl_log::Status;
 use rl_policy::spell;
 use rl_report::{Failed, Sink, put_all};
@@ -57,17 +58,18 @@ fn place_text(
     tell: Tell,
     desc: &Desc,
     place: Place,
-    graded: &[Graded],
+    judged: &[Judged],
 ) -> Result<Vec<u8>, AllocError>
     requires place { IsPlaceIn desc.now.chip place }
-    requires flaws { AreGraded desc.now.chip desc.now.layout graded.now }
-    ensures { IfOk result (λ text. text.items ≡ place_text tell desc.now place graded.now) }
+    requires flaws { AreJudged desc.now.chip desc.now.layout judged.now }
+    ensures { IfOk result (λ text. text.items ≡ place_text tell desc.now place judged.now) }
 {
     let mut text = Vec::new(alloc);
     match tell {
-        Tell::Run => push_line(alloc, &mut text, &desc.chip, &desc.layout, place, graded)?,
-        Tell::Missed => push_rows(&mut text, &desc.chip, &desc.layout, graded)?,
-        Tell::Found => push_found_rows(&mut text, &desc.chip, &desc.layout, graded)?,
+        Tell::Run => push_line(alloc, &mut text, &desc.chip, &desc.layout, place, judged)?,
+        Tell::Missed => push_rows(&mut text, &desc.chip, &desc.layout, judged, Verdict::Missed)?,
+        Tell::Hidden => push_rows(&mut text, &desc.chip, &desc.layout, judged, Verdict::Hidden)?,
+        Tell::Found => push_found_rows(&mut text, &desc.chip, &desc.layout, judged)?,
         Tell::Lines | Tell::Json => {}
     }
     Ok(text)
@@ -91,21 +93,21 @@ fn last_text(
     facts: Facts,
     desc: &Desc,
     tasks: &[Task],
-    graded: &[Graded],
+    judged: &[Judged],
 ) -> Result<Vec<u8>, AllocError>
-    requires { AreGraded desc.now.chip desc.now.layout graded.now }
-    ensures { IfOk result (λ text. text.items ≡ last_text asked facts desc.now tasks.now graded.now) }
+    requires { AreJudged desc.now.chip desc.now.layout judged.now }
+    ensures { IfOk result (λ text. text.items ≡ last_text asked facts desc.now tasks.now judged.now) }
 {
     let mut text = Vec::new(alloc);
-    let totals = Totals::NONE.with(graded);
+    let totals = Totals::NONE.with(judged);
     match asked.tell {
         Tell::Run => push_end(&mut text, totals)?,
-        Tell::Missed | Tell::Found => push_part(&mut text, asked, totals)?,
+        Tell::Missed | Tell::Hidden | Tell::Found => push_part(&mut text, asked, totals)?,
         Tell::Lines => {
-            push_lines(&mut text, tasks, graded)?;
+            push_lines(&mut text, tasks, judged)?;
             push_end(&mut text, totals)?;
         }
-        Tell::Json => push_json(&mut text, asked, facts, &desc.chip, &desc.layout, graded)?,
+        Tell::Json => push_json(&mut text, asked, facts, &desc.chip, &desc.layout, judged)?,
     }
     Ok(text)
 }
@@ -147,17 +149,17 @@ pub(crate) fn put_place<K: Sink>(
     tell: Tell,
     desc: &Desc,
     place: Place,
-    graded: &[Graded],
+    judged: &[Judged],
     log: &mut K,
 ) -> Result<(), Status>
     requires place { IsPlaceIn desc.now.chip place }
-    requires flaws { AreGraded desc.now.chip desc.now.layout graded.now }
-    ensures bytes { Puts (K.written log.old) (K.written log.new) (place_text tell desc.now place graded.now) result }
+    requires flaws { AreJudged desc.now.chip desc.now.layout judged.now }
+    ensures bytes { Puts (K.written log.old) (K.written log.new) (place_text tell desc.now place judged.now) result }
     ensures broken { IfErr result (λ status. is_complete status ≡ false) }
     ensures cause { IfErr result (λ status. IsCaused status 0 0 (K.faults log.old) (K.faults log.new)) }
     ensures stays { Stays K.faults K.ends K.target log.old log.new }
 {
-    let Ok(text) = place_text(alloc, tell, desc, place, graded) else {
+    let Ok(text) = place_text(alloc, tell, desc, place, judged) else {
         return Err(Status::Memory);
     };
     put_text(&text, log)
@@ -170,17 +172,17 @@ pub(crate) fn put_last<K: Sink>(
     facts: Facts,
     desc: &Desc,
     tasks: &[Task],
-    graded: &[Graded],
+    judged: &[Judged],
     log: &mut K,
 ) -> Result<(), Status>
-    requires { AreGraded desc.now.chip desc.now.layout graded.now }
+    requires { AreJudged desc.now.chip desc.now.layout judged.now }
     ensures bytes { Puts (K.written log.old) (K.written log.new)
-        (last_text asked facts desc.now tasks.now graded.now) result }
+        (last_text asked facts desc.now tasks.now judged.now) result }
     ensures broken { IfErr result (λ status. is_complete status ≡ false) }
     ensures cause { IfErr result (λ status. IsCaused status 0 0 (K.faults log.old) (K.faults log.new)) }
     ensures stays { Stays K.faults K.ends K.target log.old log.new }
 {
-    let Ok(text) = last_text(alloc, asked, facts, desc, tasks, graded) else {
+    let Ok(text) = last_text(alloc, asked, facts, desc, tasks, judged) else {
         return Err(Status::Memory);
     };
     put_text(&text, log)

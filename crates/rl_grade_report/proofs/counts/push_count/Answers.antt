@@ -1,6 +1,23 @@
+use Rattle.std.proofs.Common.{[], ◌∷◌, ◌++◌, codes, decimal}
+use Rattle.rl_report.specs.Pieces.{joined}
+use Rattle.rl_session.proofs.ListingLemmas.{then_pushed}
+use Rattle.rl_grade_report.specs.Counts.{count_if}
+use Rattle.rl_grade_report.specs.Kinds.{kind_name}
+use Rattle.rl_grade_report.proofs.Parts.{joined_last}
 use Rattle.rl_grade_report.proofs.counts.push_count.Goals as goal
 
 pub returns : goal.returns
 returns c =
-    rw (c.name.ensures, c.as_bytes.ensures.value, c.format.ensures.text, c.as_bytes-2.ensures.value, c.format-2.ensures.text, c.in_ok-extend_from_slice.ensures.items) at
-    c.push_pieces.ensures
+    let counts = c.args.counts in
+    let first = c.args.text.now.items ++ c.args.before.now in
+    let hidden = count_if (codes " ") counts.hidden (codes " hidden") in
+    let front = kind_name c.args.kind ∷ codes " " ∷ decimal counts.found ∷ codes " found " ∷ decimal counts.missed ∷ codes " missed" ∷ [] in
+    let pieces = rw (
+      c.name.ensures,
+      c.as_bytes.ensures.value,
+      c.format.ensures.text,
+      c.as_bytes-2.ensures.value,
+      c.format-2.ensures.text,
+      c.in_ok-extend_from_slice.ensures.items,
+    ) at c.in_ok-push_pieces.ensures in
+    then_pushed _ first _ _ hidden (joined front) _ pieces (joined_last front hidden) c.push_count_if.ensures

@@ -7,6 +7,6 @@ use Rattle.rl_grade_report.proofs.counts.push_counts.Given as goal
 
 abbrev pub invariant-loop-kind : goal.invariant-loop-kind
 invariant-loop-kind l = record {
-  pushed : l.text.items ≡ l.initial.text.items ++ led (codes ": ") (counts_parts l.graded (take l.kind-index KINDS));
-  told : l.told ≡ is_some_part (counts_parts l.graded (take l.kind-index KINDS));
+  pushed : l.text.items ≡ l.initial.text.items ++ led (codes ": ") (counts_parts l.judged (take l.kind-index KINDS));
+  told : l.told ≡ is_some_part (counts_parts l.judged (take l.kind-index KINDS));
 }

@@ -9,7 +9,7 @@ use Rattle.rl_grade_report.proofs.firsts.push_lines.Goals as goal
 pub loop-task-preserved : goal.loop-task-preserved
 loop-task-preserved c =
     let tasks = c.args.tasks.now in
-    let text = task_count c.args.graded.now in
+    let text = task_count c.args.judged.now in
     let first = c.args.text.now.items in
     let k = c.loop-task.task-index in
     let some = take k tasks in

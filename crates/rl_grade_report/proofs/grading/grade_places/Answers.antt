@@ -1,6 +1,6 @@
 use Rattle.std.proofs.Common.{arith, ◌∙◌}
 use Rattle.rl_grade_report.specs.Progress.{base_shown}
-use Rattle.rl_grade_report.proofs.Placed.{all_done, graded_done, place_done, place_stopped, places_done}
+use Rattle.rl_grade_report.proofs.Placed.{all_done, judged_done, place_done, place_stopped, places_done}
 use Rattle.rl_grade_report.proofs.grading.grade_places.Goals as goal
 
 pub grade_next-requires-clause-built_with : goal.grade_next-requires-clause-built_with
@@ -28,8 +28,8 @@ loop-place-preserved g c =
       desc_is = e.next.desc_is ∙ i.desc_is;
       put = place_done c.args.asked base c.args.desc _ _ _ _ _ _ _ _ _ _ c.args.places.now
           c.loop-place.place-index _ c.loop-place-test.true i.desc_is i.put e.bytes.whole e.next;
-      graded = graded_done c.args.asked base c.args.desc _ _ _ _ _ _ _ c.args.places.now
-          c.loop-place.place-index _ c.loop-place-test.true i.desc_is i.graded e.next;
+      judged = judged_done c.args.asked base c.args.desc _ _ _ _ _ _ _ c.args.places.now
+          c.loop-place.place-index _ c.loop-place-test.true i.desc_is i.judged e.next;
       each = rw i.desc_is at e.each;
       later = omega (arith, i.later, e.stays.later);
       ends_kept = e.stays.ends_kept ∙ i.ends_kept;
@@ -47,7 +47,7 @@ returns-clause-bytes g c =
     places_done c.args.asked (base_shown c.args.tasks.now c.args.shown.now) c.args.desc _ _ _ _ c.args.places.now
     c.loop-place.place-index _ (omega arith) c.loop-place.invariant.put
 
-pub returns-clause-graded : goal.returns-clause-graded
-returns-clause-graded g c =
+pub returns-clause-judged : goal.returns-clause-judged
+returns-clause-judged g c =
     all_done c.args.asked (base_shown c.args.tasks.now c.args.shown.now) c.args.desc _ _ _ c.args.places.now
-    c.loop-place.place-index (omega arith) c.loop-place.invariant.graded
+    c.loop-place.place-index (omega arith) c.loop-place.invariant.judged

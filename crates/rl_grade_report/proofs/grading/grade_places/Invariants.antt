@@ -1,8 +1,8 @@
 -- What is left of the text is that of the places from the next one on, and so are the flaws that are left.
 use Rattle.std.proofs.Common.{◌≡◌, ◌≤◌, ◌++◌, drop}
 use Rattle.rl_session.proofs.ListingLemmas.{IsLeft}
-use Rattle.rl_grade_report.specs.Grading.{graded_from, places_text}
-use Rattle.rl_grade_report.specs.Lines.{AreGraded}
+use Rattle.rl_grade_report.specs.Grading.{judged_from, places_text}
+use Rattle.rl_grade_report.specs.Verdict.{AreJudged}
 use Rattle.rl_grade_report.specs.Progress.{base_shown}
 use Rattle.rl_grade_report.proofs.grading.grade_places.Given as goal
 
@@ -14,9 +14,9 @@ invariant-loop-place g l =
       desc_is : l.progress.desc ≡ l.fn.desc;
       put : IsLeft (written l.initial.log) (written l.log) (places_text l.asked l.fn.desc base 0 l.places)
           (places_text l.asked l.fn.desc base l.progress.number (drop l.place-index l.places));
-      graded : l.progress.graded.items ++ graded_from l.asked l.fn.desc base l.progress.number (drop l.place-index l.places)
-          ≡ graded_from l.asked l.fn.desc base 0 l.places;
-      each : AreGraded l.fn.desc.chip l.fn.desc.layout l.progress.graded.items;
+      judged : l.progress.judged.items ++ judged_from l.asked l.fn.desc base l.progress.number (drop l.place-index l.places)
+          ≡ judged_from l.asked l.fn.desc base 0 l.places;
+      each : AreJudged l.fn.desc.chip l.fn.desc.layout l.progress.judged.items;
       later : g.K.Sink.faults l.initial.log ≤ g.K.Sink.faults l.log;
       ends_kept : g.K.Sink.ends l.log ≡ g.K.Sink.ends l.initial.log;
       same_target : g.K.Sink.target l.log ≡ g.K.Sink.target l.initial.log;

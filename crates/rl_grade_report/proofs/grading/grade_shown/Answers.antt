@@ -3,7 +3,7 @@ use Rattle.std.proofs.KnownBytes.{Appends-trans, Keeps-refl}
 use Rattle.rl_desc.specs.Data.{DescData}
 use Rattle.rl_log.proofs.KnownLemmas.{front_none}
 use Rattle.rl_report.proofs.PieceLemmas.{front_after, front_before, puts_stopped}
-use Rattle.rl_grade_report.specs.Grading.{all_graded, facts_of, head_text, last_text, places_text}
+use Rattle.rl_grade_report.specs.Grading.{all_judged, facts_of, head_text, last_text, places_text}
 use Rattle.rl_grade_report.specs.Places.{places_of}
 use Rattle.rl_grade_report.specs.Progress.{base_shown}
 use Rattle.rl_grade_report.proofs.grading.grade_shown.Goals as goal
@@ -17,7 +17,7 @@ returns-in_err-put_head-clause-bytes g c =
     let facts = facts_of c.args.mark base in
     let head = head_text c.args.asked facts in
     let places = places_text c.args.asked c.args.desc base 0 (places_of c.args.desc.chip) in
-    let last = last_text c.args.asked facts c.args.desc c.args.tasks.now (all_graded c.args.asked c.args.desc base) in
+    let last = last_text c.args.asked facts c.args.desc c.args.tasks.now (all_judged c.args.asked c.args.desc base) in
     let part = rw c.facts_of-facts.ensures at c.in_err-put_head.ensures.bytes.part in
     puts_stopped _ _ ((head ++ places) ++ last) _ c.from_residual.ensures.0
     (front_before _ _ (head ++ places) last (front_before _ _ head places part))
@@ -28,7 +28,7 @@ returns-in_err-done-clause-bytes g c =
     let facts = facts_of c.args.mark base in
     let head = head_text c.args.asked facts in
     let places = places_text c.args.asked c.args.desc base 0 (places_of c.args.desc.chip) in
-    let last = last_text c.args.asked facts c.args.desc c.args.tasks.now (all_graded c.args.asked c.args.desc base) in
+    let last = last_text c.args.asked facts c.args.desc c.args.tasks.now (all_judged c.args.asked c.args.desc base) in
     let at : c.in-Ok.places.items ≡ places_of c.args.desc.chip =
     c.in-Ok.ensures.places ∙ ap (λ (d : DescData). places_of d.chip) c.desc.view_is in
     let one = rw c.facts_of-facts.ensures at c.in_ok-put_head.ensures.bytes.whole in
@@ -42,13 +42,13 @@ returns-in_err-put_last-clause-bytes g c =
     let facts = facts_of c.args.mark base in
     let head = head_text c.args.asked facts in
     let places = places_text c.args.asked c.args.desc base 0 (places_of c.args.desc.chip) in
-    let last = last_text c.args.asked facts c.args.desc c.args.tasks.now (all_graded c.args.asked c.args.desc base) in
+    let last = last_text c.args.asked facts c.args.desc c.args.tasks.now (all_judged c.args.asked c.args.desc base) in
     let at : c.in-Ok.places.items ≡ places_of c.args.desc.chip =
     c.in-Ok.ensures.places ∙ ap (λ (d : DescData). places_of d.chip) c.desc.view_is in
     let one = rw c.facts_of-facts.ensures at c.in_ok-put_head.ensures.bytes.whole in
     let two = rw (c.deref.ensures.value, at) at c.in_ok-done.ensures.bytes.whole in
-    let graded = rw (c.deref.ensures.value, at) at c.in_ok-done.ensures.graded in
-    let part = rw (c.facts_of-facts.ensures, c.in_ok-done.ensures.desc, c.deref-2.ensures.value, graded) at c.in_err-put_last.ensures.bytes.part in
+    let judged = rw (c.deref.ensures.value, at) at c.in_ok-done.ensures.judged in
+    let part = rw (c.facts_of-facts.ensures, c.in_ok-done.ensures.desc, c.deref-2.ensures.value, judged) at c.in_err-put_last.ensures.bytes.part in
     puts_stopped _ _ ((head ++ places) ++ last) _ c.from_residual-in_err-put_last.ensures.0
     (front_after _ _ _ (head ++ places) last (Appends-trans _ _ _ head places one two) part)
 
@@ -58,11 +58,11 @@ returns-clause-bytes g c =
     let facts = facts_of c.args.mark base in
     let head = head_text c.args.asked facts in
     let places = places_text c.args.asked c.args.desc base 0 (places_of c.args.desc.chip) in
-    let last = last_text c.args.asked facts c.args.desc c.args.tasks.now (all_graded c.args.asked c.args.desc base) in
+    let last = last_text c.args.asked facts c.args.desc c.args.tasks.now (all_judged c.args.asked c.args.desc base) in
     let at : c.in-Ok.places.items ≡ places_of c.args.desc.chip =
     c.in-Ok.ensures.places ∙ ap (λ (d : DescData). places_of d.chip) c.desc.view_is in
     let one = rw c.facts_of-facts.ensures at c.in_ok-put_head.ensures.bytes.whole in
     let two = rw (c.deref.ensures.value, at) at c.in_ok-done.ensures.bytes.whole in
-    let graded = rw (c.deref.ensures.value, at) at c.in_ok-done.ensures.graded in
-    let three = rw (c.facts_of-facts.ensures, c.in_ok-done.ensures.desc, c.deref-2.ensures.value, graded) at c.in_ok-put_last.ensures.bytes.whole in
+    let judged = rw (c.deref.ensures.value, at) at c.in_ok-done.ensures.judged in
+    let three = rw (c.facts_of-facts.ensures, c.in_ok-done.ensures.desc, c.deref-2.ensures.value, judged) at c.in_ok-put_last.ensures.bytes.whole in
     record { whole = Appends-trans _ _ _ (head ++ places) last (Appends-trans _ _ _ head places one two) three; part = tt }

@@ -1,4 +1,4 @@
-use Rattle.std.proofs.Common.{List, ℕ, codes, sym, ap, ◌∙◌, ◌++◌}
+use Rattle.std.proofs.Common.{List, ℕ, sym, ap, ◌∙◌, ◌++◌}
 use Rattle.std.specs.List.{range_with_len}
 use Rattle.std.proofs.lemmas.List.{get_or_default}
 use Rattle.rl_flaw.specs.declared.flaw.Flaw.{Flaw}
@@ -19,15 +19,16 @@ loop-place-preserved c =
     let place = c.loop-place.place in
     let some = range_with_len 0 place in
     let first = c.args.text.now.items in
+    let lead = c.args.first.now in
     elim c.if-is_first.branch [
       | then-is_first+in_ok-extend_from_slice+in_ok-push_group w ↦
           let at = sym c.is_first.ensures ∙ w.if-is_first.true in
-          let lead = led_by (codes "; missed: ") c.loop-place.told in
+          let before = led_by lead c.loop-place.told in
           let group = rw (w.in_ok-extend_from_slice.ensures.items, w.lead.ensures) at w.in_ok-push_group.ensures in
-          let grows = group ∙ ap (λ (flaw : Flaw). (c.loop-place.text.items ++ lead) ++ group_text chip layout flaws flaw)
+          let grows = group ∙ ap (λ (flaw : Flaw). (c.loop-place.text.items ++ before) ++ group_text chip layout flaws flaw)
           (get_or_default flaws place _ (ErrorNth 0) c.loop-place-test.true) in
           record {
-            pushed = rw w.text-is (told_more text (is_first flaws) (codes "; missed: ") first _ _ _ some _ place
+            pushed = rw w.text-is (told_more text (is_first flaws) lead first _ _ _ some _ place
                 (range_more place) at i.pushed i.told grows);
             told = rw w.told-is (some_told text (is_first flaws) some _ place (range_more place) at);
           }
@@ -35,7 +36,7 @@ loop-place-preserved c =
           let at = sym c.is_first.ensures ∙ w.if-is_first.false in
           let same = passed text (is_first flaws) some _ place (range_more place) at in
           record {
-            pushed = rw w.text-is (i.pushed ∙ ap (λ (parts : List (List ℕ)). first ++ led (codes "; missed: ") parts) same);
+            pushed = rw w.text-is (i.pushed ∙ ap (λ (parts : List (List ℕ)). first ++ led lead parts) same);
             told = rw w.told-is (i.told ∙ ap is_some_part same);
           }
     ]

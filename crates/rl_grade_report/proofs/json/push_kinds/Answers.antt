@@ -10,9 +10,9 @@ use Rattle.rl_grade_report.proofs.json.push_kinds.Goals.{then-is_told+in_ok-push
 
 pub loop-kind-preserved : goal.loop-kind-preserved
 loop-kind-preserved c =
-    let graded = c.args.graded.now in
-    let text = λ (kind : Kind). count_json kind (counts_of graded kind) in
-    let test = λ (kind : Kind). is_told (counts_of graded kind) in
+    let judged = c.args.judged.now in
+    let text = λ (kind : Kind). count_json kind (counts_of judged kind) in
+    let test = λ (kind : Kind). is_told (counts_of judged kind) in
     let i = c.loop-kind.invariant in
     let some = take c.loop-kind.kind-index KINDS in
     let first = c.args.text.now.items in

@@ -8,6 +8,6 @@ use Rattle.rl_grade_report.proofs.json.push_kinds.Given as goal
 
 abbrev pub invariant-loop-kind : goal.invariant-loop-kind
 invariant-loop-kind l = record {
-  pushed : l.text.items ≡ l.initial.text.items ++ led (codes "") (kinds_parts l.graded (take l.kind-index KINDS));
-  told : l.told ≡ is_some_part (kinds_parts l.graded (take l.kind-index KINDS));
+  pushed : l.text.items ≡ l.initial.text.items ++ led (codes "") (kinds_parts l.judged (take l.kind-index KINDS));
+  told : l.told ≡ is_some_part (kinds_parts l.judged (take l.kind-index KINDS));
 }

@@ -7,8 +7,8 @@ use Rattle.rl_grade_report.proofs.json.push_lists.Goals as goal
 pub returns : goal.returns
 returns c =
     let first = c.args.text.now.items in
-    let kinds = kinds_json c.args.graded.now in
-    let missed = missed_json c.args.chip.now c.args.layout.now c.args.graded.now in
+    let kinds = kinds_json c.args.judged.now in
+    let missed = missed_json c.args.chip.now c.args.layout.now c.args.judged.now in
     let a = codes "\"by_kind\": {" in
     let b = codes "},\n\"missed_flaws\": [" in
     let end = codes "]}\n" in

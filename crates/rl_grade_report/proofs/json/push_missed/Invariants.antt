@@ -7,6 +7,6 @@ use Rattle.rl_grade_report.proofs.json.push_missed.Given as goal
 
 abbrev pub invariant-loop-it : goal.invariant-loop-it
 invariant-loop-it l = record {
-  pushed : l.text.items ≡ l.initial.text.items ++ led (codes "") (missed_parts l.chip l.layout (take l.it-index l.graded));
-  told : l.told ≡ is_some_part (missed_parts l.chip l.layout (take l.it-index l.graded));
+  pushed : l.text.items ≡ l.initial.text.items ++ led (codes "") (missed_parts l.chip l.layout (take l.it-index l.judged));
+  told : l.told ≡ is_some_part (missed_parts l.chip l.layout (take l.it-index l.judged));
 }

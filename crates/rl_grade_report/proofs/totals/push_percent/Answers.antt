@@ -1,4 +1,4 @@
-use Rattle.rl_grade_report.proofs.totals.push_tenths.Goals as goal
+use Rattle.rl_grade_report.proofs.totals.push_percent.Goals as goal
 
 pub returns : goal.returns
 returns c =
