@@ -66,23 +66,27 @@ def graded(program, text, sequence):
     return add_grades.read(ran.stdout.decode("ascii"))[0]
 
 
+def unfound(told, sort):
+    """What the flaws of a sort are told by that aren't found, whether another script may find them or none can."""
+    return [*told.missed.get(sort, ()), *told.hidden.get(sort, ())]
+
+
 def bits_of(told, sort, width):
     """Each bit with whether its flaw of the sort is found."""
-    missed = add_grades.numbers(told.missed.get(sort, ()))
-    return [(bit, bit not in missed) for bit in range(width)]
+    others = add_grades.numbers(unfound(told, sort))
+    return [(bit, bit not in others) for bit in range(width)]
 
 
 def others_found(told, policy):
     """Each other policy with whether it is found."""
-    missed = told.missed.get("policy", [])
-    others = [it for it in POLICIES if it != policy]
-    return [(it, it not in missed and missed[:1] != ["all"]) for it in others]
+    missed = unfound(told, "policy")
+    return [(it, it not in missed and "all" not in missed) for it in POLICIES if it != policy]
 
 
 def counted(told, kind):
     """Whether each flaw of a kind is found, where they are told by no more than their number."""
-    found, missed = told.counts.get(kind, (0, 0))
-    return [(None, True)] * found + [(None, False)] * missed
+    found, *others = told.counts.get(kind, (0,))
+    return [(None, True)] * found + [(None, False)] * sum(others)
 
 
 def tries(program, sequence, shape):

@@ -1,5 +1,5 @@
 #!/usr/bin/env python3
-"""grade.py PROGRAM run|missed < SESSION: which single flaws of the device the session finds.
+"""grade.py PROGRAM run|missed|hidden < SESSION: which single flaws of the device the session finds.
 
 Runs the session (a description without flaws, `---`, a script) on the program with each single flaw of these:
 
@@ -11,8 +11,9 @@ Runs the session (a description without flaws, `---`, a script) on the program w
     item     the first and the last bus item of the session
 
 A flaw is found where some event of the session with it has a difference or a bus error that the same event without it
-hasn't. `run` prints a line for each register, field and memory, and one for the items, with the counts found and missed
-and with each missed flaw, and a last line with the totals; `missed` prints each missed flaw as a row of a description.
+hasn't. Of the others those are hidden which change no event of any script, as `is_hidden` of rl_grade says; the rest is
+missed. `run` prints a line for each register, field and memory, and one for the items, with the counts of each and with
+the flaws that aren't found, and a last line with the totals; `missed` and `hidden` print those as rows of a description.
 
 Flaws of different registers don't meet: neither changes what the device or the model has of the other's register, or how
 many events there are. So one run has up to 256 flaws, one a register, and each is found by the events of its own register;
@@ -27,6 +28,19 @@ import collections, itertools, multiprocessing, os, re, subprocess, sys, tomllib
 POLICIES = ("RO RW RC RS WRC WRS WC WS WSRC WCRS W1C W1S W1T W0C W0S W0T "
             "W1SRC W1CRS W0SRC W0CRS WO WOC WOS W1 WO1").split()
 KINDS = ("stuck", "reset", "policy", "deaf", "address", "item")
+UNFOUND = ("missed", "hidden")
+CLEARED = ("RC", "WRC", "WSRC", "W1SRC", "W0SRC")
+RAISED = ("RS", "WRS", "WCRS", "W1CRS", "W0CRS")
+WRITE_ONLY = ("WO", "WOC", "WOS", "WO1")
+WRITE_ONCE = ("W1", "WO1")
+WRITTEN = {
+    "RW": lambda c, w: w, "WRC": lambda c, w: w, "WRS": lambda c, w: w, "WO": lambda c, w: w,
+    "WC": lambda c, w: 0, "WCRS": lambda c, w: 0, "WOC": lambda c, w: 0,
+    "WS": lambda c, w: 1, "WSRC": lambda c, w: 1, "WOS": lambda c, w: 1,
+    "W1C": lambda c, w: c & ~w, "W1CRS": lambda c, w: c & ~w, "W0C": lambda c, w: c & w, "W0CRS": lambda c, w: c & w,
+    "W1S": lambda c, w: c | w, "W1SRC": lambda c, w: c | w, "W0S": lambda c, w: c | 1 - w, "W0SRC": lambda c, w: c | 1 - w,
+    "W1T": lambda c, w: c ^ w, "W0T": lambda c, w: c ^ 1 - w,
+}
 SEPARATOR = re.compile(rb"(?:\A|\n)---\r?(?:\n|\Z)")
 FOUND = re.compile(r"\S+ (\S+).*?: (?:ok \S+(?: mirror \S+)? differ(.*)|bus error at word .*)")
 ITEM = re.compile(r"  (\w+) [rw] (0x[0-9a-f]+) ")
@@ -36,6 +50,11 @@ MOST_FLAWS, MOST_BYTES = 256, 1048576
 # A flaw: its kind above, the register or memory that it is of (or none), where its line tells it (a path, or `session`), its
 # words beside the kind, and the keys and values of its row.
 Flaw = collections.namedtuple("Flaw", "kind item where told row")
+
+# How a register is reached; and a bit of its field, without a flaw and with it: the policy in both, the value that it is
+# stuck at or none, and whether no write reaches it.
+Ways = collections.namedtuple("Ways", "written read backdoor")
+Bit = collections.namedtuple("Bit", "own other stuck deaf")
 
 
 class Refused(Exception):
@@ -150,6 +169,75 @@ def all_flaws(chip, words, owners, items):
         yield Flaw("item", None, "session", ("", nth), {"kind": "error-nth", "nth": nth})
 
 
+def written(policy, old, new, spent):
+    """What a write leaves of a bit; a write-once policy takes the first alone."""
+    if policy in WRITE_ONCE:
+        return old if spent else new
+    return WRITTEN.get(policy, lambda c, w: c)(old, new)
+
+
+def left(policy, old):
+    """What a read leaves of a bit."""
+    return 0 if policy in CLEARED else 1 if policy in RAISED else old
+
+
+def is_alike(ways, bit):
+    """Whether the bit is the same with the flaw, whatever is written and read."""
+    writes = (bit.own in WRITE_ONCE) == (bit.other in WRITE_ONCE and not bit.deaf) and all(
+        written(bit.own, old, new, spent) == (old if bit.deaf else written(bit.other, old, new, spent))
+        for old, new, spent in itertools.product((0, 1), repeat=3))
+    reads = (bit.own in WRITE_ONLY) == (bit.other in WRITE_ONLY) and all(left(bit.own, it) == left(bit.other, it) for it in (0, 1))
+    return bit.stuck is None and (writes or not ways.written) and (reads or not ways.read)
+
+
+def is_unseen(ways, bit):
+    """Whether nothing looks at the bit."""
+    return not ways.backdoor and (not ways.read or bit.own in WRITE_ONLY and bit.other in WRITE_ONLY)
+
+
+def is_fixed(ways, bit, first):
+    """Whether the bit keeps its first value, with the flaw and without it."""
+    kept = lambda policy: all(written(policy, first, new, spent) == first for new, spent in itertools.product((0, 1), repeat=2))
+    writes = kept(bit.own) and (bit.deaf or kept(bit.other))
+    reads = left(bit.own, first) == left(bit.other, first) == first and (bit.own in WRITE_ONLY) == (bit.other in WRITE_ONLY)
+    return not ways.backdoor and bit.stuck in (None, first) and (writes or not ways.written) and (reads or not ways.read)
+
+
+class Hidden:
+    """Which flaws of a chip change no event of any script, by the definitions of crates/rl_grade/specs/Hidden.antt."""
+
+    def __init__(self, chip):
+        self.items = {path(it): it for it in chip.get("reg", []) + chip.get("mem", [])}
+        self.mems = {path(it) for it in chip.get("mem", [])}
+        self.reached = {(it["item"], right) for it in chip.get("place", []) for right in it.get("rights", "rw").replace("o", "")}
+
+    def ways(self, item):
+        return Ways((item, "w") in self.reached, (item, "r") in self.reached, self.items[item].get("backdoor", True))
+
+    def is_field_hidden(self, item, field, bit, at=None):
+        """Whether bit `at` of a field, or each of them, is hidden."""
+        ways = self.ways(item)
+        resets = {kind: number(value) for kind, value in resets_of(field).items()}
+        return all(is_alike(ways, bit) or is_unseen(ways, bit) or (
+            not field.get("volatile", False) and is_fixed(ways, bit, resets.get("HARD", 0) >> it & 1)
+            and all(value >> it & 1 == resets.get("HARD", 0) >> it & 1 for value in resets.values()))
+            for it in (range(number(field["width"])) if at is None else [at]))
+
+    def has(self, flaw):
+        if flaw.kind in ("address", "item"):
+            return False
+        fields = self.items[flaw.item].get("field", [])
+        if flaw.kind == "deaf":
+            if flaw.item in self.mems:
+                return self.items[flaw.item].get("access", "rw") != "rw" or (flaw.item, "w") not in self.reached
+            return all(self.is_field_hidden(flaw.item, it, Bit(it["policy"], it["policy"], None, True)) for it in fields)
+        field = next(it for it in fields if flaw.where == "{}.{}".format(flaw.item, it["name"]))
+        bit = Bit(field["policy"], flaw.row.get("policy", field["policy"]), flaw.row["value"] if flaw.kind == "stuck" else None, False)
+        if flaw.kind == "reset":
+            return is_unseen(self.ways(flaw.item), bit)
+        return self.is_field_hidden(flaw.item, field, bit, flaw.row.get("bit"))
+
+
 def findings(log):
     """By the number of the line, items not counted: the path that it is on, and what it finds: fields that differ, `differ`
     of a memory, or a bus error."""
@@ -226,7 +314,7 @@ def finds(batch):
 
 
 def grade(session):
-    """The flaws of the session, each with whether it is found."""
+    """The flaws of the session, each with `found`, `missed` or `hidden`."""
     begin(session)
     found, jobs = {}, int(os.environ.get("JOBS") or multiprocessing.cpu_count())
     with multiprocessing.Pool(jobs, begin, (session,)) as pool:
@@ -236,7 +324,8 @@ def grade(session):
                 sys.stderr.write("\r{} of {} flaws".format(len(found), len(grading.flaws)))
     if sys.stderr.isatty():
         sys.stderr.write("\r" + " " * 40 + "\r")
-    return [(flaw, found[at]) for at, flaw in enumerate(grading.flaws)]
+    hidden = Hidden(grading.chip)
+    return [(flaw, "found" if found[at] else "hidden" if hidden.has(flaw) else "missed") for at, flaw in enumerate(grading.flaws)]
 
 
 def ranges(numbers):
@@ -257,46 +346,58 @@ def words_of(them):
     return "all 24" if len(them) == len(POLICIES) - 1 and set(them) <= set(POLICIES) else " ".join(them)
 
 
-def missed_text(flaws):
-    """The flaws that were missed in words, those of one sort together."""
+def text_of(flaws):
+    """Flaws in words, those of one sort together."""
     sorts = collections.OrderedDict()
     for it in flaws:
         sorts.setdefault((it.kind, it.told[0]), []).append(it.told[1])
     return ", ".join(" ".join(" ".join([*sort, words_of(them)]).split()) for sort, them in sorts.items())
 
 
+def told_count(number, word, before):
+    """A count and its word, where it isn't 0."""
+    return "{}{} {}".format(before, number, word) if number else ""
+
+
 def line_of(where, graded):
-    """The line of a register, field, memory, or of the items: counts by kind, and what was missed."""
+    """The line of a register, field, memory, or of the items: counts by kind, and what wasn't found."""
     counts = []
     for kind in KINDS:
-        found = [it for flaw, it in graded if flaw.kind == kind]
+        found = collections.Counter(verdict for flaw, verdict in graded if flaw.kind == kind)
         if found:
-            counts.append("{} {} found {} missed".format(kind, sum(found), len(found) - sum(found)))
-    missed = missed_text([flaw for flaw, it in graded if not it])
-    return "{}: {}{}".format(where, ", ".join(counts), "; missed: " + missed if missed else "")
+            counts.append("{} {} found {} missed".format(kind, found["found"], found["missed"]) + told_count(found["hidden"], "hidden", " "))
+    told = ((it, text_of([flaw for flaw, verdict in graded if verdict == it])) for it in UNFOUND)
+    return "{}: {}{}".format(where, ", ".join(counts), "".join("; {}: {}".format(*it) for it in told if it[1]))
+
+
+def share(found, flaws, behind):
+    """The share that was found, rounded down; none where there is no flaw."""
+    tenths = 1000 * found // flaws if flaws else 0
+    return ", {}.{} % {}".format(tenths // 10, tenths % 10, behind) if flaws else ""
 
 
 def print_run(graded):
     by_place = collections.OrderedDict()
-    for flaw, found in graded:
-        by_place.setdefault(flaw.where, []).append((flaw, found))
+    for flaw, verdict in graded:
+        by_place.setdefault(flaw.where, []).append((flaw, verdict))
     for where, each in by_place.items():
         print(line_of(where, each))
-    found = sum(it for _, it in graded)
-    tenths = 1000 * found // len(graded) if graded else 0
-    share = ", {}.{} % found".format(tenths // 10, tenths % 10) if graded else ""
-    print("end: {} flaws, {} found, {} missed{}".format(len(graded), found, len(graded) - found, share))
+    count = collections.Counter(it for _, it in graded)
+    findable = len(graded) - count["hidden"]
+    print("end: {} flaws, {} found, {} missed".format(len(graded), count["found"], count["missed"]) + told_count(count["hidden"], "hidden", ", ")
+          + share(count["found"], len(graded), "found")
+          + (share(count["found"], findable, "of those that can be found") if findable < len(graded) else ""))
 
 
-def print_missed(graded):
-    for flaw, found in graded:
-        if not found:
+def print_rows(graded, verdict):
+    for flaw, it in graded:
+        if it == verdict:
             print(as_row(flaw), end="")
 
 
 def main():
-    if len(sys.argv) != 3 or sys.argv[2] not in ("run", "missed"):
-        print("grade.py PROGRAM run|missed < SESSION", file=sys.stderr)
+    if len(sys.argv) != 3 or sys.argv[2] not in ("run", *UNFOUND):
+        print("grade.py PROGRAM run|missed|hidden < SESSION", file=sys.stderr)
         return 6
     if not os.access(sys.argv[1], os.X_OK):
         print("grade.py: there is no program {}".format(sys.argv[1]), file=sys.stderr)
@@ -306,7 +407,10 @@ def main():
     except Refused as told:
         print(told.line)
         return told.status
-    (print_run if sys.argv[2] == "run" else print_missed)(graded)
+    if sys.argv[2] == "run":
+        print_run(graded)
+    else:
+        print_rows(graded, sys.argv[2])
     return 0
 
 

@@ -1,8 +1,9 @@
 #!/usr/bin/env bash
-# grade.sh GRADE PROGRAM: what regrun_grade does. The grades of two examples; the grades and the missed flaws of further
-# sessions beside those of bench/grade.py, which runs the other program once for each flaw; shares that add up to the whole;
-# the lines that find flaws, by scripts that are cut off; the object in JSON beside the other texts;
-# bounds; refusals and wrong words with their statuses; and rows of missed flaws, with each of which a session shows nothing new.
+# grade.sh GRADE PROGRAM: what regrun_grade does. The grades of two examples; the grades and the flaws that aren't found of
+# further sessions beside those of bench/grade.py, which runs the other program once for each flaw; shares that add up to the
+# whole; the lines that find flaws, by scripts that are cut off; the object in JSON beside the other texts; bounds; refusals and
+# wrong words with their statuses; rows of missed flaws, with each of which a session shows nothing new; and rows of hidden
+# ones, with each of which the log is the same.
 set -u
 grade=$(realpath "$1")
 program=$(realpath "$2")
@@ -112,6 +113,12 @@ counts_lines() {
     grades lines "$1" want
 }
 
+# ends_with SESSION LINE..: the last lines of a grade.
+ends_with() {
+    printf '%s\n' "${@:2}" > want
+    "$grade" run < "$1" | tail -n $(($# - 1)) | cmp want -
+}
+
 # is_json SESSION: the object says what `run` and `missed` say.
 is_json() {
     "$grade" run < "$1" > whole && "$grade" missed < "$1" > rows && "$grade" json at-least 50 < "$1" > out || return
@@ -119,22 +126,24 @@ is_json() {
 import json, re, sys, tomllib
 told, whole, rows = (open(name).read() for name in sys.argv[1:])
 told, kinds = json.loads(told), {}
-for kind, found, missed in re.findall(r"(\w+) (\d+) found (\d+) missed", whole.rpartition("end: ")[0]):
-    each = kinds.setdefault(kind, {"found": 0, "missed": 0})
-    each["found"] += int(found)
-    each["missed"] += int(missed)
-flaws, found, missed = map(int, re.search(r"end: (\d+) flaws, (\d+) found, (\d+) missed", whole).groups())
-percent = float(re.search(r"([0-9.]+) % found", whole).group(1))
-assert (told["flaws"], told["found"], told["missed"], told["percent"]) == (flaws, found, missed, percent)
+verdicts = ("found", "missed", "hidden")
+for kind, *counts in re.findall(r"(\w+) (\d+) found (\d+) missed(?: (\d+) hidden)?", whole.rpartition("end: ")[0]):
+    each = kinds.setdefault(kind, dict.fromkeys(verdicts, 0))
+    for verdict, count in zip(verdicts, counts):
+        each[verdict] += int(count or 0)
+end = re.search(r"end: (\d+) flaws, (\d+) found, (\d+) missed(?:, (\d+) hidden)?, ([0-9.]+) % found(?:, ([0-9.]+) % of those)?", whole)
+flaws, found, missed, hidden = (int(it or 0) for it in end.groups()[:4])
+assert [told[it] for it in ("flaws", *verdicts)] == [flaws, found, missed, hidden]
+assert told["percent"] == float(end[5]) and told["percent_findable"] == float(end[6] or end[5])
 assert told["by_kind"] == kinds and told["missed_flaws"] == tomllib.loads(rows).get("flaw", [])
-assert told["at_least"] == 50 and told["passed"] == (found * 100 >= 50 * flaws) and told["share"] == {"first": 1, "every": 1}
+assert told["at_least"] == 50 and told["passed"] == (found * 100 >= 50 * (flaws - hidden)) and told["share"] == {"first": 1, "every": 1}
 JSON
 }
 
-# passes STATUS WORDS..: the status of a grading with a bound, which doesn't change what is told.
+# passes STATUS SESSION WORDS..: the status of a grading with a bound, which doesn't change what is told.
 passes() {
-    "$grade" "${@:2}" < "$top/examples/uart.regrun" > out
-    [ $? = "$1" ] && "$grade" "$2" < "$top/examples/uart.regrun" | cmp out -
+    "$grade" "${@:3}" < "$2" > out
+    [ $? = "$1" ] && "$grade" "$3" < "$2" | cmp out -
 }
 
 # refuses STATUS LINE SESSION WORDS..: what is written in place of a grade, and nothing else is said but where that is.
@@ -149,18 +158,20 @@ asks() {
     [ $? = 6 ] && [ ! -s out ] && [ "$(wc -l < messages)" = 1 ] && grep -q '^regrun-grade: ' messages
 }
 
-# shows_nothing SESSION: with each missed flaw alone, the program's log ends as without it.
+# shows_nothing WORD SESSION: with each missed flaw alone, the program's log ends as without it; with each hidden one it is the
+# same.
 shows_nothing() {
-    local end count=0
-    end=$("$program" run < "$1" | tail -n 1)
+    local row lines=1 count=0
+    [ "$1" = missed ] || lines=+1
+    "$program" run < "$2" | tail -n "$lines" > end
     rm -f row*
-    "$grade" missed < "$1" | awk '/^\[\[flaw\]\]/ { n++ } { print > ("row" n) }' || return
+    "$grade" "$1" < "$2" | awk '/^\[\[flaw\]\]/ { n++ } { print > ("row" n) }' || return
     for row in row*; do
         count=$((count + 1))
-        { sed '/^---$/,$d' "$1"; cat "$row"; sed -n '/^---$/,$p' "$1"; } > flawed
-        [ "$("$program" run < flawed | tail -n 1)" = "$end" ] || { cat "$row"; return 1; }
+        { sed '/^---$/,$d' "$2"; cat "$row"; sed -n '/^---$/,$p' "$2"; } > flawed
+        "$program" run < flawed | tail -n "$lines" | cmp -s end - || { cat "$row"; return 1; }
     done
-    [ "$count" = "$("$grade" run < "$1" | sed -n 's/^end: .* found, \([0-9]*\) missed.*/\1/p')" ]
+    [ "$count" = "$("$grade" run < "$2" | sed -n "s/^end: .* \([0-9]*\) $1.*/\1/p")" ]
 }
 
 for name in uart uart-plan; do
@@ -172,26 +183,37 @@ small=("$rows"/{access-test,memory-walk,pair-at-one-address,shared-access,write-
     "$top/examples/map-tree.regrun")
 large=("$rows"/{bit-bash-without-flaw,bursts,byte-map-in-word-map,session-over-three-roots,session-over-word-addressed-maps-1}.session
     "$rows"/{session-with-pairs-1,whole-session-2,whole-session-4}.session "$top"/examples/{memories,second-master,uart}.regrun)
+# The UART where nothing reads what is to be sent, so that its flaws are hidden.
+sed -e '/^name = "txd"/a backdoor = false' -e '/^item = "uart.txd"/a rights = "wo"' "$top/examples/uart.regrun" > unread.regrun
+large+=("$PWD/unread.regrun")
 [ -z "$alone" ] || small+=("${large[@]}")
-[ -n "$alone" ] || skipped=$((2 * ${#large[@]}))
+[ -n "$alone" ] || skipped=$((3 * ${#large[@]}))
 if python3 -c 'import tomllib' 2> /dev/null; then
     for session in "${small[@]}"; do
-        for word in run missed; do
+        for word in run missed hidden; do
             judge "$(basename "$session"), $word" beside "$word" "$session"
         done
     done
 else
-    skipped=$((skipped + 2 * ${#small[@]}))
+    skipped=$((skipped + 3 * ${#small[@]}))
     echo 'Python 3.11 or later is not installed'
 fi
 
+judge 'hidden flaws' ends_with unread.regrun \
+    'uart.txd: deaf 0 found 0 missed 1 hidden, address 1 found 0 missed; hidden: deaf' \
+    'uart.txd.byte: stuck 0 found 0 missed 16 hidden, policy 0 found 0 missed 24 hidden; hidden: stuck at 0 bit 0-7, stuck at 1 bit 0-7, policy all 24' \
+    'session: item 2 found 0 missed' \
+    'end: 173 flaws, 94 found, 38 missed, 41 hidden, 54.3 % found, 71.2 % of those that can be found'
+
 judge 'shares of uart' adds "$top/examples/uart.regrun"
+judge 'shares of hidden flaws' adds unread.regrun
 [ -z "$alone" ] || judge 'shares of three roots' adds "$rows/session-over-three-roots.session"
 judge 'shares of nothing' adds "$rows/empty-session.session"
 judge 'a share of a whole' grades 'run 1/1' "$top/examples/uart.regrun" "$top/examples/uart.grade"
 judge 'the mark of a session' has_mark "$top/examples/uart.regrun"
 
 judge 'shares of missed rows' divides missed "$top/examples/uart.regrun"
+judge 'shares of hidden rows' divides hidden unread.regrun
 judge 'shares of found rows' divides found "$top/examples/uart.regrun"
 
 for name in uart uart-plan; do
@@ -199,15 +221,18 @@ for name in uart uart-plan; do
     judge "$name, how many a line finds" counts_lines "$top/examples/$name.regrun"
 done
 if python3 -c 'import tomllib' 2> /dev/null; then
-    for session in "$top"/examples/{uart,uart-plan,map-tree}.regrun "$rows/session-with-pairs-1.session" "$rows/memory-walk.session"; do
+    for session in "$top"/examples/{uart,uart-plan,map-tree}.regrun "$rows/session-with-pairs-1.session" "$rows/memory-walk.session" unread.regrun; do
         judge "$(basename "$session"), json" is_json "$session"
     done
 fi
-judge 'enough are found' passes 0 run at-least 54
-judge 'too few are found' passes 8 run at-least 55
-judge 'too few are found, as rows' passes 8 missed at-least 55
-judge 'all are asked for' passes 8 found at-least 100
-judge 'none is asked for' passes 0 lines at-least 0
+uart=$top/examples/uart.regrun
+judge 'enough are found' passes 0 "$uart" run at-least 54
+judge 'too few are found' passes 8 "$uart" run at-least 55
+judge 'too few are found, as rows' passes 8 "$uart" missed at-least 55
+judge 'all are asked for' passes 8 "$uart" found at-least 100
+judge 'none is asked for' passes 0 "$uart" lines at-least 0
+judge 'enough of those that can be found' passes 0 unread.regrun run at-least 71
+judge 'too few of those that can be found' passes 8 unread.regrun run at-least 72
 
 printf -- '---\nread\n' > line
 sed 's/^---$/---\nread/' "$top/examples/uart.regrun" > late
@@ -239,8 +264,9 @@ full() {
 judge 'a full disk' full
 
 for name in uart second-master; do
-    judge "$name, the rows of missed flaws" shows_nothing "$top/examples/$name.regrun"
+    judge "$name, the rows of missed flaws" shows_nothing missed "$top/examples/$name.regrun"
 done
+judge 'the rows of hidden flaws' shows_nothing hidden unread.regrun
 
 echo "$passed passed, $failed failed, $skipped skipped"
 [ "$failed" = 0 ]

@@ -3,8 +3,8 @@
 
 For each description of the tree, and for some that are drawn at random, the plan is written by all ways and by the bus
 alone, put behind the description, run by PROGRAM (no difference, no bus error, no refused operation) and graded by GRADE.
-Each flaw that the grade misses must be hidden: no order of the operations that the description lets through shows it, which
-is tried bit by bit over each state that model and device can come to. A description that is refused is refused in the words of
+Each flaw that the grade doesn't find, missed or hidden, must be one that no order shows of the operations that the description
+lets through, which is tried bit by bit over each state that model and device can come to. A description that is refused is refused in the words of
 PROGRAM, and one with flaws of its own for these.
 
 With COUNT so many drawn descriptions are certified and no other. With a trial (TRIAL in the environment) some are, and the
@@ -22,36 +22,15 @@ except ImportError:
 TOP = os.path.dirname(os.path.dirname(os.path.realpath(__file__)))
 sys.path.insert(0, f"{TOP}/bench")
 import add_grades
-from grade import POLICIES, SEPARATOR, number, path, reset_kinds, resets_of
+from grade import POLICIES, SEPARATOR, WRITE_ONLY, left, number, path, reset_kinds, resets_of, written
 
 MOST_LINES, DRAWN, MOST_ON_TRIAL = 40, 20, 24
 BAD = re.compile(r": refused | differ(?: |$)|: bus error at ")
 FLAW = re.compile(rb"^\[\[flaw\]\][^\[]*", re.M)
-CLEARED = ("RC", "WRC", "WSRC", "W1SRC", "W0SRC")
-RAISED = ("RS", "WRS", "WCRS", "W1CRS", "W0CRS")
-WRITE_ONLY = ("WO", "WOC", "WOS", "WO1")
-WRITTEN = {
-    "RW": lambda c, w: w, "WRC": lambda c, w: w, "WRS": lambda c, w: w, "WO": lambda c, w: w,
-    "WC": lambda c, w: 0, "WCRS": lambda c, w: 0, "WOC": lambda c, w: 0,
-    "WS": lambda c, w: 1, "WSRC": lambda c, w: 1, "WOS": lambda c, w: 1,
-    "W1C": lambda c, w: c & ~w, "W1CRS": lambda c, w: c & ~w, "W0C": lambda c, w: c & w, "W0CRS": lambda c, w: c & w,
-    "W1S": lambda c, w: c | w, "W1SRC": lambda c, w: c | w, "W0S": lambda c, w: c | 1 - w, "W0SRC": lambda c, w: c | 1 - w,
-    "W1T": lambda c, w: c ^ w, "W0T": lambda c, w: c ^ 1 - w,
-}
 
 # What is tried of a bit: the policies of model and device, its values by kind of reset in both, the value that it is stuck
 # at, and whether the device is deaf.
 Bit = collections.namedtuple("Bit", "model device resets others stuck deaf")
-
-
-def written(policy, old, new, spent):
-    if policy in ("W1", "WO1"):
-        return old if spent else new
-    return WRITTEN.get(policy, lambda c, w: c)(old, new)
-
-
-def left(policy, old):
-    return 0 if policy in CLEARED else 1 if policy in RAISED else old
 
 
 def shown(policy, old):
@@ -166,10 +145,10 @@ def call(program, given, *words):
     return ran.returncode, ran.stdout.decode("ascii", "replace"), ran.stderr.decode("ascii", "replace")
 
 
-def missed_in(grade):
-    """Each missed flaw of a grade: where it is told, its sort, and a number, a policy or other words that it is told by."""
+def unfound_in(grade):
+    """Each flaw of a grade that isn't found: where it is told, its sort, and a number, a policy or other words that it is told by."""
     for name, told in add_grades.read(grade)[0].items():
-        for sort, words in told.missed.items():
+        for sort, words in (*told.missed.items(), *told.hidden.items()):
             if sort == "policy":
                 words = POLICIES if words[:1] == ["all"] else words
             elif sort.startswith(("stuck", "reset")):
@@ -184,7 +163,7 @@ def long_blocks(plan):
 
 
 def certify(programs, description, bus):
-    """What is wrong with the plan of a description, or none; and the sorts of missed flaws with their number."""
+    """What is wrong with the plan of a description, or none; and the sorts of flaws that aren't found with their number."""
     plan, grade, program = programs
     words = ("bus",) if bus else ()
     status, text, said = call(plan, description + b"---\n", *words)
@@ -203,13 +182,13 @@ def certify(programs, description, bus):
     if status:
         return f"grade ends with {status}", {}
     chip, sorts = Chip(described, bus), collections.Counter()
-    for name, sort, what in missed_in(graded):
+    for name, sort, what in unfound_in(graded):
         if name != "session" and sort == "policy" and what == next(
                 (it["policy"] for it in chip.items[name.rpartition(".")[0]]["field"] if it["name"] == name.rpartition(".")[2]), ""):
             continue
         sorts[sort.split()[0]] += 1
         if name == "session" or chip.is_shown(name, sort, what):
-            return f"missed: {name} {sort} {what}", sorts
+            return f"not found: {name} {sort} {what}", sorts
     return None, sorts
 
 
@@ -327,7 +306,7 @@ def main():
             if wrong is not None:
                 failed += 1
                 print(f"{name}: {wrong}", flush=True)
-    print("hidden flaws, which no plan finds: " + ", ".join(f"{it} {many}" for it, many in sorted(missed.items())))
+    print("flaws that no plan finds: " + ", ".join(f"{it} {many}" for it, many in sorted(missed.items())))
     print(f"{len(tried) - failed} passed, {failed} failed, {len(every) - len(tried)} skipped")
     return int(failed > 0)
 
