@@ -40,10 +40,9 @@ install: $(CRATES:%=install-%)
 	sed 's/^\.TH REGRUN 1.*/.TH REGRUN 1 "" "regrun $(VERSION)" "User commands"/' docs/regrun.1 > $(TO)/share/man/man1/regrun.1
 	for it in $(filter-out regrun,$(PROGRAMS)); do echo '.so man1/regrun.1' > $(TO)/share/man/man1/$$it.1; done
 	install -m 644 LICENSE CHANGELOG.md docs/*.md docs/*.svg docs/index.html $(TO)/share/doc/regrun
-	install -d $(TO)/share/regrun/docs $(TO)/share/regrun/bench $(TO)/share/regrun/editors $(TO)/share/regrun/examples
+	install -d $(TO)/share/regrun/docs $(TO)/share/regrun/editors $(TO)/share/regrun/examples
 	install -m 644 docs/regrun.schema.json docs/usage.txt $(TO)/share/regrun
 	install -m 755 docs/page.py $(TO)/share/regrun/docs
-	install -m 755 bench/add_grades.py $(TO)/share/regrun/bench
 	cp -R editors/vim editors/regrun.tmLanguage.json $(TO)/share/regrun/editors
 	cp -R examples/. $(TO)/share/regrun/examples
 	rm -rf $(TO)/share/regrun/examples/regression/out

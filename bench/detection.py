@@ -8,7 +8,7 @@ below that holds in exactly the tries that found it. Python 3.6 or later and its
 """
 import collections, itertools, subprocess, sys
 
-import add_grades
+import grades
 
 POLICIES = ("RO RW RC RS WRC WRS WC WS WSRC WCRS W1C W1S W1T W0C W0S W0T "
             "W1SRC W1CRS W0SRC W0CRS WO WOC WOS W1 WO1").split()
@@ -63,7 +63,7 @@ def graded(program, text, sequence):
     """What is told of each place of a description where the sequence over it is graded."""
     given = "{}---\nseq {} *\n".format(text, sequence).encode()
     ran = subprocess.run([program, "run"], input=given, stdout=subprocess.PIPE, check=True)
-    return add_grades.read(ran.stdout.decode("ascii"))[0]
+    return grades.read(ran.stdout.decode("ascii"))[0]
 
 
 def unfound(told, sort):
@@ -73,7 +73,7 @@ def unfound(told, sort):
 
 def bits_of(told, sort, width):
     """Each bit with whether its flaw of the sort is found."""
-    others = add_grades.numbers(unfound(told, sort))
+    others = grades.numbers(unfound(told, sort))
     return [(bit, bit not in others) for bit in range(width)]
 
 

@@ -1,9 +1,9 @@
 #!/usr/bin/env bash
 # grade.sh GRADE PROGRAM: what regrun_grade does. The grades of two examples; the grades and the flaws that aren't found of
 # further sessions beside those of bench/grade.py, which runs the other program once for each flaw; shares that add up to the
-# whole; the lines that find flaws, by scripts that are cut off; the object in JSON beside the other texts; bounds; refusals and
-# wrong words with their statuses; rows of missed flaws, with each of which a session shows nothing new; and rows of hidden
-# ones, with each of which the log is the same.
+# whole, and how others are refused; the lines that find flaws, by scripts that are cut off; the object in JSON beside the other
+# texts; bounds; refusals and wrong words with their statuses; rows of missed flaws, with each of which a session shows nothing
+# new; and rows of hidden ones, with each of which the log is the same.
 set -u
 grade=$(realpath "$1")
 program=$(realpath "$2")
@@ -41,14 +41,42 @@ beside() {
     ALONE=$alone python3 "$top/bench/grade.py" "$program" "$1" < "$2" > want && grades "$1" "$2" want
 }
 
-# adds SESSION: three shares together count what the whole does.
+# sums STATUS LINE WORDS..: what `add` makes of the texts on standard input.
+sums() {
+    "$grade" add "${@:3}" > out 2> messages
+    [ $? = "$1" ] && [ ! -s messages ] && printf '%s\n' "$2" | cmp - out
+}
+
+# adds WORD SESSION: four shares in another order add up to the last line of the whole.
 adds() {
     local k
-    "$grade" run < "$1" > whole || return
-    for k in 1 2 3; do
-        "$grade" run "$k/3" < "$1" > "share$k" || return
+    for k in 3 1 4 2; do
+        "$grade" "$1" "$k/4" < "$2" || return
+    done > shares
+    sums 0 "$("$grade" run < "$2" | tail -n 1)" < shares
+}
+
+# of_these STATUS LINE FILES [WORDS..]: what `add` makes of these files, one behind the other.
+of_these() {
+    # shellcheck disable=SC2086
+    cat $3 | sums "$1" "$2" "${@:4}"
+}
+
+# is_cut SHARE NEXT: the share 2/4 cut off anywhere is refused, with the next behind it and without. Only its last end of line
+# may lack where nothing is behind.
+is_cut() {
+    local at size text
+    size=$(wc -c < "$1")
+    for ((at = 1; at < size; at++)); do
+        head -c "$at" "$1" > part
+        cat part "$2" > both
+        for text in both part; do
+            [ "$text" = both ] || [ "$at" -lt $((size - 1)) ] || continue
+            "$grade" add < "$text" > out
+            [ $? = 2 ] && grep -qx 'refused shares: \(share 2/4 is cut\|line [0-9]*: no share begins here\)' out && continue
+            echo "$text, $at" && return 1
+        done
     done
-    python3 "$top/bench/add_grades.py" whole > want && python3 "$top/bench/add_grades.py" share1 share2 share3 | cmp want -
 }
 
 # divides WORD SESSION: three shares together have the rows of the whole, and the totals of each are those of its lines.
@@ -205,10 +233,38 @@ judge 'hidden flaws' ends_with unread.regrun \
     'session: item 2 found 0 missed' \
     'end: 173 flaws, 94 found, 38 missed, 41 hidden, 54.3 % found, 71.2 % of those that can be found'
 
-judge 'shares of uart' adds "$top/examples/uart.regrun"
-judge 'shares of hidden flaws' adds unread.regrun
-[ -z "$alone" ] || judge 'shares of three roots' adds "$rows/session-over-three-roots.session"
-judge 'shares of nothing' adds "$rows/empty-session.session"
+judge 'shares of uart' adds run "$top/examples/uart.regrun"
+judge 'shares of hidden flaws' adds run unread.regrun
+judge 'shares of uart, lines' adds lines "$top/examples/uart.regrun"
+[ -z "$alone" ] || judge 'shares of three roots' adds run "$rows/session-over-three-roots.session"
+judge 'shares of nothing' adds run "$rows/empty-session.session"
+
+for k in 1 2 3 4; do "$grade" run "$k/4" < "$top/examples/uart.regrun" > "share$k"; done
+"$grade" run < "$top/examples/uart.regrun" > whole
+"$grade" run 2/8 < "$top/examples/uart.regrun" > eighth
+"$grade" missed 2/4 < "$top/examples/uart.regrun" > rows2
+"$grade" run 2/4 < "$rows/empty-session.session" > other
+head -c -1 share4 > short
+sed 's/^end: /end: 0/' share2 > zero
+most=18446744073709551615
+for k in 1 2; do printf '# share %s/2 of session 0x1\nend: %s flaws, %s found, 0 missed, 100.0 %% found\n' $k $most $most; done > most
+printf '# share %s/%s of session 0xffffffffffffffff\nend: 0 flaws, 0 found, 0 missed\n' $most $most > last
+all='share1 share2 share3 share4' total=$(tail -n 1 whole)
+judge 'enough in all' of_these 0 "$total" "$all" at-least 54
+judge 'too few in all' of_these 8 "$total" "$all" at-least 55
+judge 'sums that have come to their end' of_these 0 "end: $most flaws, $most found, 0 missed, 100.0 % found" most
+judge 'a last line without its end' of_these 0 "$total" 'share1 share2 share3 short'
+judge 'no share' of_these 2 'refused shares: there is none' /dev/null
+judge 'a share that comes twice' of_these 2 'refused shares: share 2/4 came twice' 'share1 share2 share3 share2 share4'
+judge 'a share of another session' of_these 2 'refused shares: share 2/4 is of another grading' 'share1 other share3 share4'
+judge 'a share of more shares' of_these 2 'refused shares: share 2/8 is of another grading' 'share1 eighth share3 share4'
+judge 'a share that is lacking' of_these 2 'refused shares: share 2/4 is lacking' 'share4 share1'
+judge 'the first of many lacking' of_these 2 "refused shares: share 1/$most is lacking" last
+judge 'the whole in place of shares' of_these 2 'refused shares: line 1: no share begins here' whole
+judge 'the whole behind a share' of_these 2 "refused shares: line $(($(wc -l < share1) + 1)): no share begins here" 'share1 whole'
+judge 'a share of rows' of_these 2 'refused shares: share 2/4 is cut' rows2
+judge 'another way to write a number' of_these 2 'refused shares: share 2/4 is cut' 'share1 zero share3'
+judge 'a share cut off anywhere' is_cut share2 share3
 judge 'a share of a whole' grades 'run 1/1' "$top/examples/uart.regrun" "$top/examples/uart.grade"
 judge 'the mark of a session' has_mark "$top/examples/uart.regrun"
 
@@ -250,6 +306,11 @@ judge 'a word too many' asks run 1/3 2
 judge 'a bound behind no word' asks at-least 90
 judge 'a bound without its number' asks run at-least
 judge 'a bound before a share' asks run at-least 90 1/3
+judge 'a share to be added' asks add 1/3
+judge 'another word behind add' asks add run
+judge 'a bound without its number behind add' asks add at-least
+judge 'a word behind the bound of add' asks add at-least 90 1/3
+judge 'a bound of add above 100' asks add at-least 101
 for bound in 101 -1 0x10 x 9.5 '' 18446744073709551616; do
     judge "the bound $bound" asks run at-least "$bound"
 done
@@ -262,6 +323,14 @@ full() {
     [ $? = 4 ]
 }
 judge 'a full disk' full
+
+# fails STATUS COMMAND..: nothing is written on standard output.
+fails() {
+    "${@:2}" > out 2> messages
+    [ $? = "$1" ] && [ ! -s out ]
+}
+judge 'shares that can not be read' fails 3 "$grade" add < "$room"
+judge 'a full disk for a sum' fails 4 sh -c '"$1" add < share1 > /dev/full' sh "$grade"
 
 for name in uart second-master; do
     judge "$name, the rows of missed flaws" shows_nothing missed "$top/examples/$name.regrun"

@@ -21,7 +21,7 @@ except ImportError:
 
 TOP = os.path.dirname(os.path.dirname(os.path.realpath(__file__)))
 sys.path.insert(0, f"{TOP}/bench")
-import add_grades
+import grades
 from grade import POLICIES, SEPARATOR, WRITE_ONLY, left, number, path, reset_kinds, resets_of, written
 
 MOST_LINES, DRAWN, MOST_ON_TRIAL = 40, 20, 24
@@ -147,12 +147,12 @@ def call(program, given, *words):
 
 def unfound_in(grade):
     """Each flaw of a grade that isn't found: where it is told, its sort, and a number, a policy or other words that it is told by."""
-    for name, told in add_grades.read(grade)[0].items():
+    for name, told in grades.read(grade)[0].items():
         for sort, words in (*told.missed.items(), *told.hidden.items()):
             if sort == "policy":
                 words = POLICIES if words[:1] == ["all"] else words
             elif sort.startswith(("stuck", "reset")):
-                words = add_grades.numbers(words)
+                words = grades.numbers(words)
             yield from ((name, sort, it) for it in words or [""])
 
 

@@ -1,5 +1,5 @@
 //! Which single flaws of a device the script of a session finds: reads the session from standard input, and writes its
-//! grading to standard output.
+//! grading to standard output. Or adds the shares of a grading, which it reads from standard input.
 #![tactic(auto)]
 
 ghost use Rattle.std.specs.Prelude.{◌<◌};
@@ -7,7 +7,7 @@ ghost use Rattle.std.specs.Prelude.{◌<◌};
 use rl_apb::fresh_adapters;
 use rl_bus::Adapters;
 use rl_cli::{KeptSink, KeptSource, advise, code_of, words};
-use rl_grade_report::{Asked, Meter, asked_by, exit_code, run_grade};
+use rl_grade_report::{Asked, Call, Meter, call_by, exit_code, run_add, run_grade};
 use rl_log::Status;
 use rl_report::{StdSink, StdSource};
 use std::alloc::AllocError;
@@ -73,10 +73,17 @@ fn grade(rt: &HostRuntime, asked: Asked) -> Result<Status, AllocError>
     Ok(status)
 }
 
+// Adds the shares on standard input.
+fn add(rt: &HostRuntime, bound: Option<u64>) -> Status {
+    let mut source = StdSource::new(rt.reader());
+    let mut log = StdSink::new(io::writer(rt));
+    run_add(rt.alloc(), bound, &mut source, &mut log)
+}
+
 // Says what can be asked for. Answers the exit status.
 fn tell_words(rt: &HostRuntime) -> u8 {
     let _ = eprintln!(rt;
-        "regrun-grade: `run`, `missed`, `hidden`, `found`, `lines` or `json` is asked for, then `K/N` with K from 1 to N if so wanted, then `at-least P` with P up to 100 if so wanted, and a session on standard input"
+        "regrun-grade: `run`, `missed`, `hidden`, `found`, `lines` or `json` is asked for, then `K/N` with K from 1 to N if so wanted, or `add`, then `at-least P` with P up to 100 if so wanted, and a session on standard input, or for `add` the shares of a grading"
     );
     Status::Words.code()
 }
@@ -84,10 +91,14 @@ fn tell_words(rt: &HostRuntime) -> u8 {
 // Does what the arguments ask for.
 fn run(rt: &HostRuntime) -> io::Result<u8> {
     let words = words(rt)?;
-    let Some(asked) = asked_by(&words) else {
+    let Some(call) = call_by(&words) else {
         return Ok(tell_words(rt));
     };
-    Ok(exit_code(grade(rt, asked)?))
+    let status = match call {
+        Call::Grade(asked) => grade(rt, asked)?,
+        Call::Add(bound) => add(rt, bound),
+    };
+    Ok(exit_code(status))
 }
 
 fn main(rt: HostRuntime) -> ExitCode {

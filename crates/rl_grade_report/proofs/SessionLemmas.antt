@@ -51,12 +51,12 @@ pub complete_if : (below : Bool) → is_complete (if below then Found else Passe
 complete_if true = refl
 complete_if false = refl
 
-told_by : (r : Result Status Status) (expected : Status) (old new : Option (List ℕ)) (text : List ℕ) → Puts old new text r
+pub told_by : (r : Result Status Status) (expected : Status) (old new : Option (List ℕ)) (text : List ℕ) → Puts old new text r
     → IfOk r (λ s. s ≡ expected) → IfErr r (λ s. is_complete s ≡ false) → Tells (status_of r) expected old new text
 told_by (Ok s) expected old new text p same broken = subst (λ s. Tells s expected old new text) (sym same) (tells_all expected old new text p.whole)
 told_by (Err s) expected old new text p same broken = tells_front s expected old new text broken p.part
 
-caused_by : (r : Result Status Status) (source source_now sink sink_now : ℕ) → IfOk r (λ s. is_complete s ≡ true)
+pub caused_by : (r : Result Status Status) (source source_now sink sink_now : ℕ) → IfOk r (λ s. is_complete s ≡ true)
     → IfErr r (λ s. IsCaused s 0 0 sink sink_now) → IsCaused (status_of r) source source_now sink sink_now
 caused_by (Ok Passed) source source_now sink sink_now whole h =
     record { source_fault = λ e. absurd (cc); sink_fault = λ e. absurd (cc); known = λ e. cc }

@@ -1,4 +1,6 @@
+pub mod Added
 pub mod Asked
+pub mod Call
 pub mod Counts
 pub mod Ending
 pub mod Firsts
@@ -15,6 +17,10 @@ pub mod Prelude
 pub mod Progress
 pub mod Refusal
 pub mod Row
+pub mod Said
+pub mod Shares
+pub mod Sums
+pub mod Together
 pub mod Totals
 pub mod Verdict
 pub mod Whole

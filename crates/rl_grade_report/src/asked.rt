@@ -81,7 +81,7 @@ fn is_decimal(text: &[u8]) -> bool
     text.iter().all(|byte| 48 <= *byte && *byte <= 57)
 }
 
-fn value_of(number: NumberText) -> Option<u64>
+pub(crate) fn value_of(number: NumberText) -> Option<u64>
     ensures { result ≡ value_of number }
 {
     match number {
@@ -91,7 +91,7 @@ fn value_of(number: NumberText) -> Option<u64>
 }
 
 // A number in decimal digits.
-fn decimal_of(text: &[u8]) -> Option<u64>
+pub(crate) fn decimal_of(text: &[u8]) -> Option<u64>
     ensures { result ≡ decimal_of text.now }
 {
     if is_decimal(text) {
@@ -122,7 +122,7 @@ fn slash_in(word: &[u8]) -> Option<usize>
 }
 
 // `K/N`, with K from 1 to N.
-fn share_named(word: &[u8]) -> Option<Share>
+pub(crate) fn share_named(word: &[u8]) -> Option<Share>
     ensures share { result ≡ share_named word.now }
     ensures every { IfSome result (λ share. 0 < share.every) }
 {
@@ -156,7 +156,7 @@ fn percent_if(percent: Option<u64>) -> Option<u64>
 }
 
 // `at-least P`, with P up to 100.
-fn bound_named(word: &str, percent: &str) -> Option<Option<u64>>
+pub(crate) fn bound_named(word: &str, percent: &str) -> Option<Option<u64>>
     ensures { result ≡ bound_named word.now percent.now }
 {
     if word != "at-least" {

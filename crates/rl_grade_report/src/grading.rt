@@ -208,7 +208,7 @@ fn grade_tasks<K: Sink, M: Meter>(
 }
 
 // How a grading ends that wrote its text, or a front of it.
-fn status_of(written: Result<Status, Status>) -> Status
+pub(crate) fn status_of(written: Result<Status, Status>) -> Status
     ensures { result ≡ status_of written }
 {
     match written {

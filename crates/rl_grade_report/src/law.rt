@@ -1,6 +1,9 @@
-//! What holds of the flaws that a grading goes over, place by place. Each function does nothing; its contract is the
-//! law.
+//! What holds of the flaws that a grading goes over, place by place, and of its shares. Each function does nothing; its
+//! contract is the law.
+ghost use Rattle.rl_grade_report.specs.Together.{SumsAreOfAll};
 ghost use Rattle.rl_grade_report.specs.Whole.{EachIsGraded, NoOtherIsGraded, NoneIsGradedTwice};
+
+use rl_grade::law::shares_have_each_flaw_once;
 
 /// Each single flaw of a description, as `none_is_left_out` of `rl_grade` says what they are, is at one of the places
 /// that a grading goes over: of each register, field and memory of its chip, and of the session.
@@ -17,3 +20,11 @@ pub fn no_other_flaw_is_graded()
 pub fn no_flaw_is_graded_twice()
     ensures { NoneIsGradedTwice }
 {}
+
+/// Where shares of one grading are added, in any order and each with what the grading counts of it, the sums are what it
+/// counts of all flaws.
+pub fn shares_add_up_to_the_whole()
+    ensures { SumsAreOfAll }
+{
+    shares_have_each_flaw_once();
+}

@@ -3,9 +3,13 @@
 //! many flaws each line of the script finds first; or all of it as one object in JSON.
 //!
 //! The grading of a session: refuses what can't be graded, tries the flaws place by place, and writes what was found.
+//!
+//! The shares of a grading, added to the last line of the whole.
 #![tactic(auto)]
 
+mod add;
 mod asked;
+mod call;
 mod counts;
 mod ending;
 mod facts;
@@ -23,12 +27,17 @@ mod pieces;
 mod places;
 mod refusal;
 mod row;
+mod said;
+mod shares;
+mod sums;
 mod totals;
 mod verdict;
 mod whole;
 mod writing;
 
+pub use add::run_add;
 pub use asked::{Asked, Tell, asked_by};
+pub use call::{Call, call_by};
 pub use ending::exit_code;
 pub use facts::Facts;
 pub use firsts::push_lines;

@@ -21,7 +21,7 @@ use rl_session::{front, push_pieces};
 use std::alloc::{AllocError, Global};
 
 // The line that says which share of which session a text is, as a comment.
-fn share_line(alloc: Global, share: Share, mark: u64) -> Result<Vec<u8>, AllocError>
+pub(crate) fn share_line(alloc: Global, share: Share, mark: u64) -> Result<Vec<u8>, AllocError>
     ensures { IfOk result (λ text. text.items ≡ share_line share mark) }
 {
     let mut first = Buffer::new();
@@ -113,7 +113,7 @@ fn last_text(
 }
 
 // Writes a text.
-fn put_text<K: Sink>(text: &[u8], log: &mut K) -> Result<(), Status>
+pub(crate) fn put_text<K: Sink>(text: &[u8], log: &mut K) -> Result<(), Status>
     ensures bytes { Puts (K.written log.old) (K.written log.new) text.now result }
     ensures broken { IfErr result (λ status. is_complete status ≡ false) }
     ensures cause { IfErr result (λ status. IsCaused status 0 0 (K.faults log.old) (K.faults log.new)) }
