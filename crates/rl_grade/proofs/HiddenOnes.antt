@@ -418,7 +418,7 @@ leaves_the_log d flaw script adapters h =
 
 -- ---- and so nothing is found
 
-quiet : (s : Seen) → shows (beside s s) ≡ false
+pub quiet : (s : Seen) → shows (beside s s) ≡ false
 quiet s = ap (λ n. not (n == 0) || (s.error && not s.error)) none ∙ by s.error
   where
     none : bit_and s.differ (bit_xor s.differ s.differ) ≡ 0

@@ -21,3 +21,11 @@ mod RelatedSteps
 mod ResetRows
 mod Running
 mod Started
+mod TogetherAccess
+mod TogetherBeliefs
+mod TogetherCourses
+mod TogetherFinds
+mod TogetherItems
+mod TogetherMakeup
+mod TogetherOutcomes
+mod TogetherSteps

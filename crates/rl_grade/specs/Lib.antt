@@ -17,3 +17,4 @@ pub mod Run
 pub mod Script
 pub mod Share
 pub mod Single
+pub mod Together

@@ -5,6 +5,7 @@ ghost use Rattle.rl_grade.specs.Alike.{HiddenChangesNoEvent, HiddenIsNotFound, H
 ghost use Rattle.rl_grade.specs.Parts.{EachIsInOne, PlacesAddUp, ShareIsByNumber, WholeHasAll};
 ghost use Rattle.rl_grade.specs.Run.{HeardAreEvents, RunDoesTasks, RunStopsThere};
 ghost use Rattle.rl_grade.specs.Single.{NoneIsLeftOut, NoneIsMadeUp, NoneStandsTwice, PlacesAreApart};
+ghost use Rattle.rl_grade.specs.Together.{FoundAsAlone, OwnFlawsAlone};
 
 /// Each single flaw of a field, a register, a memory or a session is in its list: each bit stuck at 0 and at 1, each
 /// value of a reset that is wrong in one bit, each policy of another name, that it is deaf, each address of its own,
@@ -67,4 +68,13 @@ pub fn a_hidden_flaw_changes_no_event()
     ensures events { HiddenChangesNoEvent }
     ensures log { HiddenLeavesTheLog }
     ensures found { HiddenIsNotFound }
+{}
+
+/// What the tasks show of a register depends on its own flaws alone, whatever flaws other registers have: the same
+/// operations in the same places, their ends, the fields that differ, and what is believed afterwards. So does what
+/// they show of memories, which depends on no register's flaws. So one run with a flaw each of several registers
+/// finds each of them at the event of its register where a run with it alone finds it.
+pub fn a_register_shows_its_own_flaws_alone()
+    ensures events { OwnFlawsAlone }
+    ensures found { FoundAsAlone }
 {}
