@@ -83,3 +83,15 @@ idle_text b = joined (
     ∷ word_text 113 b.number (8 * b.bytes) 0
     ∷ bit_text 120 b.number false
     ∷ [])
+
+-- what a dump of these buses begins with: its clock and its operation, each bus, and their values before any transfer
+unfoldable pub header_text : List BusData → List ℕ
+header_text buses = joined (
+    codes "$comment The pins of each APB transfer, by clock. $end\n"
+    ∷ codes "$timescale 1 ns $end\n$scope module session $end\n"
+    ∷ codes "$var wire 1 c PCLK $end\n$var reg 1024 o op $end\n"
+    ∷ flat_map (λ (b : BusData). scope_text b.name b.bus) buses
+    ∷ codes "$upscope $end\n$enddefinitions $end\n#0\n$dumpvars\n0c\nb0 o\n"
+    ∷ flat_map (λ (b : BusData). idle_text b.bus) buses
+    ∷ codes "$end\n"
+    ∷ [])

@@ -1,6 +1,6 @@
 // The header of a dump: what it declares, and the first values.
-ghost use Rattle.std.specs.Prelude.{◌≡◌, ◌≤◌, ◌<◌, ◌++◌, ◌*◌, OnOk, All};
-ghost use Rattle.rl_vcd.specs.Dump.{var_text, vars_text, scope_text, idle_text};
+ghost use Rattle.std.specs.Prelude.{◌≡◌, ◌≤◌, ◌<◌, ◌++◌, ◌*◌, OnOk, All, flat_map};
+ghost use Rattle.rl_vcd.specs.Dump.{var_text, vars_text, scope_text, idle_text, header_text};
 
 use crate::pins::Bus;
 use crate::text::{push, push_bit, push_decimal, push_name, push_word};
@@ -95,12 +95,14 @@ fn push_idle(text: &mut Vec<u8>, bus: Bus) -> Result<(), AllocError>
 
 fn push_named(text: &mut Vec<u8>, named: &NamedBus<'_>) -> Result<(), AllocError>
     requires { named.now.bus.bytes ≤ 4 }
+    ensures { OnOk result (text.new.items ≡ text.old.items ++ scope_text named.now.name named.now.bus) }
 {
     push_scope(text, named.name, named.bus)
 }
 
 fn push_named_idle(text: &mut Vec<u8>, named: &NamedBus<'_>) -> Result<(), AllocError>
     requires { named.now.bus.bytes ≤ 4 }
+    ensures { OnOk result (text.new.items ≡ text.old.items ++ idle_text named.now.bus) }
 {
     push_idle(text, named.bus)
 }
@@ -108,6 +110,8 @@ fn push_named_idle(text: &mut Vec<u8>, named: &NamedBus<'_>) -> Result<(), Alloc
 // Appends the declarations of all buses.
 fn push_scopes(text: &mut Vec<u8>, buses: &[NamedBus<'_>]) -> Result<(), AllocError>
     requires { All (λ b. b.bus.bytes ≤ 4) buses.now }
+    ensures { OnOk result (text.new.items
+        ≡ text.old.items ++ flat_map (λ b. scope_text b.name b.bus) buses.now) }
 {
     for k in 0..buses.len() {
         push_named(text, &buses[k])?;
@@ -118,6 +122,7 @@ fn push_scopes(text: &mut Vec<u8>, buses: &[NamedBus<'_>]) -> Result<(), AllocEr
 // Appends the first values of all buses.
 fn push_idles(text: &mut Vec<u8>, buses: &[NamedBus<'_>]) -> Result<(), AllocError>
     requires { All (λ b. b.bus.bytes ≤ 4) buses.now }
+    ensures { OnOk result (text.new.items ≡ text.old.items ++ flat_map (λ b. idle_text b.bus) buses.now) }
 {
     for k in 0..buses.len() {
         push_named_idle(text, &buses[k])?;
@@ -128,11 +133,13 @@ fn push_idles(text: &mut Vec<u8>, buses: &[NamedBus<'_>]) -> Result<(), AllocErr
 /// Appends the header of a dump of these buses.
 pub(crate) fn push_header(text: &mut Vec<u8>, buses: &[NamedBus<'_>]) -> Result<(), AllocError>
     requires { All (λ b. b.bus.bytes ≤ 4) buses.now }
+    ensures { OnOk result (text.new.items ≡ text.old.items ++ header_text buses.now) }
 {
     push(
         text,
-        b"$comment The pins of each APB transfer, by clock. $end\n$timescale 1 ns $end\n$scope module session $end\n",
+        b"$comment The pins of each APB transfer, by clock. $end\n",
     )?;
+    push(text, b"$timescale 1 ns $end\n$scope module session $end\n")?;
     push(text, b"$var wire 1 c PCLK $end\n$var reg 1024 o op $end\n")?;
     push_scopes(text, buses)?;
     push(

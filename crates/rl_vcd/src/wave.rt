@@ -4,7 +4,7 @@ ghost use Rattle.std.specs.Prelude.{IfOk, OnOk, OnErr, All, flat_map};
 ghost use Rattle.rl_vcd.specs.Signals.{binary, joined};
 ghost use Rattle.rl_vcd.specs.Pins.{idle, pins_at, changes};
 ghost use Rattle.rl_vcd.specs.Dump.{time_text, opening_text, closing_text, cycle_text, label_text, access_text};
-ghost use Rattle.rl_vcd.specs.Dump.{transfer_text};
+ghost use Rattle.rl_vcd.specs.Dump.{transfer_text, header_text};
 
 use crate::header::{NamedBus, push_header};
 use crate::pins::{Bus, IDLE, pins_at, push_changes};
@@ -190,6 +190,7 @@ impl Wave {
     /// A dump of these buses, with no transfer yet.
     pub fn build(alloc: Global, buses: &[NamedBus<'_>]) -> Result<Wave, AllocError>
         requires narrow { All (λ b. b.bus.bytes ≤ 4) buses.now }
+        ensures header { IfOk result (λ wave. wave.text.items ≡ header_text buses.now) }
         ensures first { IfOk result (λ wave. wave.cycle ≡ 1) }
     {
         let mut text = Vec::new(alloc);
