@@ -1,3 +1,4 @@
 mod DumpLemmas
 mod LabelLemmas
+mod NotedLemmas
 mod TextLemmas

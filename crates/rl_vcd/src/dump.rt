@@ -1,12 +1,15 @@
 // The dump of a session's events, and what is kept back of its text.
-ghost use Rattle.std.specs.Prelude.{◌≡◌, ◌++◌, ◌≤◌, ◌<◌, ◌-◌, ◌^◌, Ok, Err, None, Some, IsNone, IsSome};
-ghost use Rattle.std.specs.Prelude.{IfOk, OnOk, All};
+ghost use Rattle.std.specs.Prelude.{◌≡◌, ◌++◌, ◌≤◌, ◌<◌, ◌-◌, ◌^◌, Ok, Err, None, Some, IsNone, IsSome, true};
+ghost use Rattle.std.specs.Prelude.{IfOk, OnOk, OnErr, All};
 ghost use Rattle.std.specs.Io.KnownBytes.{Appends, Keeps, append_known};
 ghost use Rattle.rl_bus.specs.Causes.{Rose};
 ghost use Rattle.rl_access.specs.Event.{EventFits, ItemFits};
 ghost use Rattle.rl_report.specs.Event.{event_line};
 ghost use Rattle.rl_report.specs.Lines.{first_line};
-ghost use Rattle.rl_vcd.specs.Items.{item_text, cycle_behind, items_text, cycle_after, buses_of};
+ghost use Rattle.rl_report.specs.Pieces.{AppendsFront};
+ghost use Rattle.rl_vcd.specs.Drawn.{RunsOut};
+ghost use Rattle.rl_vcd.specs.Dump.{header_text};
+ghost use Rattle.rl_vcd.specs.Items.{is_apb, item_text, cycle_behind, items_text, cycle_after, buses_of};
 ghost use Rattle.rl_vcd.specs.Label.{label_of};
 ghost use Rattle.rl_vcd.specs.Told.{told};
 
@@ -86,6 +89,8 @@ fn draw_item(
     ensures drawn { OnOk result (wave.new.text.items
         ≡ wave.old.text.items ++ item_text layout.now label.now item.now wave.old.cycle) }
     ensures cycle { OnOk result (wave.new.cycle ≡ cycle_behind layout.now item.now wave.old.cycle) }
+    ensures full { result ≡ Err DrawFault.Full
+        → (is_apb layout.now item.now.port ≡ true) × (2 ^ 64 - 1024 < wave.old.cycle) }
 {
     if !is_apb(layout, item.port) {
         return Ok(());
@@ -105,6 +110,7 @@ fn draw_items(
     ensures drawn { OnOk result (wave.new.text.items
         ≡ wave.old.text.items ++ items_text layout.now label.now event.now.trace wave.old.cycle) }
     ensures cycle { OnOk result (wave.new.cycle ≡ cycle_after layout.now event.now.trace wave.old.cycle) }
+    ensures full { result ≡ Err DrawFault.Full → RunsOut layout.now event.now.trace wave.old.cycle }
 {
     for k in 0..event.trace.len() {
         draw_item(wave, label, layout, &event.trace.item(k))?;
@@ -116,6 +122,7 @@ impl<K: Sink + Drop> Dump<K> {
     /// The dump of a session over this layout, with no event yet.
     pub fn build(alloc: Global, layout: &Layout, sink: K) -> Result<Dump<K>, AllocError>
         ensures sink { IfOk result (λ dump. dump.sink ≡ sink) }
+        ensures header { IfOk result (λ dump. dump.wave.text.items ≡ header_text (buses_of layout.now)) }
         ensures first { IfOk result (λ dump. dump.wave.cycle ≡ 1) }
         ensures whole { IfOk result (λ dump. dump.fault ≡ None) }
     {
@@ -134,11 +141,13 @@ impl<K: Sink> Dump<K> {
     fn write_out(&mut self) -> Result<(), Fault>
         ensures told { OnOk result (Keeps (told K.written self.old) (told K.written self.new)) }
         ensures whole { OnOk result (Keeps (told K.written self.old) (K.written self.new.sink)) }
+        ensures front { AppendsFront (K.written self.old.sink) (K.written self.new.sink) self.old.wave.text.items }
         ensures cycle { self.new.wave.cycle ≡ self.old.wave.cycle }
         ensures fault { self.new.fault ≡ self.old.fault }
-        ensures ends_kept { K.ends self.new.sink ≡ K.ends self.old.sink }
+        ensures only { OnErr result (result ≡ Err Fault.Sink) }
         ensures cause { result ≡ Err Fault.Sink → Rose (K.faults self.old.sink) (K.faults self.new.sink) }
         ensures later { K.faults self.old.sink ≤ K.faults self.new.sink }
+        ensures ends_kept { K.ends self.new.sink ≡ K.ends self.old.sink }
     {
         if put_all(&mut self.sink, &self.wave.text).is_err() {
             return Err(Fault::Sink);
@@ -150,10 +159,13 @@ impl<K: Sink> Dump<K> {
     // Writes the text that is kept back, where it is long.
     fn spill(&mut self) -> Result<(), Fault>
         ensures told { OnOk result (Keeps (told K.written self.old) (told K.written self.new)) }
+        ensures front { AppendsFront (K.written self.old.sink) (K.written self.new.sink) self.old.wave.text.items }
         ensures cycle { self.new.wave.cycle ≡ self.old.wave.cycle }
         ensures fault { self.new.fault ≡ self.old.fault }
+        ensures only { OnErr result (result ≡ Err Fault.Sink) }
         ensures cause { result ≡ Err Fault.Sink → Rose (K.faults self.old.sink) (K.faults self.new.sink) }
         ensures later { K.faults self.old.sink ≤ K.faults self.new.sink }
+        ensures ends_kept { K.ends self.new.sink ≡ K.ends self.old.sink }
     {
         if self.wave.text.len() < ROOM {
             return Ok(());
@@ -169,9 +181,15 @@ impl<K: Sink> Dump<K> {
             self.old.wave.cycle)) }
         ensures cycle { OnOk result
             (self.new.wave.cycle ≡ cycle_after model.now.layout event.now.trace self.old.wave.cycle) }
+        ensures front { AppendsFront (K.written self.old.sink) (K.written self.new.sink) (self.old.wave.text.items
+            ++ items_text model.now.layout (label_of (event_line model.now event.now)) event.now.trace
+            self.old.wave.cycle) }
         ensures fault { self.new.fault ≡ self.old.fault }
         ensures cause { result ≡ Err Fault.Sink → Rose (K.faults self.old.sink) (K.faults self.new.sink) }
+        ensures full { result ≡ Err Fault.Full
+            → RunsOut model.now.layout event.now.trace self.old.wave.cycle }
         ensures later { K.faults self.old.sink ≤ K.faults self.new.sink }
+        ensures ends_kept { K.ends self.new.sink ≡ K.ends self.old.sink }
     {
         self.label.take_event(model, event);
         draw_items(&mut self.wave, self.label.line(), model.layout(), event)?;
@@ -190,11 +208,20 @@ impl<K: Sink> Dump<K> {
         ensures cycle { IsNone self.new.fault
             → self.new.wave.cycle ≡ cycle_after model.now.layout event.now.trace self.old.wave.cycle }
 
-        // Once something did, nothing is done any more. It is no fault of the sink's where this hasn't failed.
+        // Whatever went wrong, a front was written of what was kept back and of this.
+        ensures front { AppendsFront (K.written self.old.sink) (K.written self.new.sink) (self.old.wave.text.items
+            ++ items_text model.now.layout (label_of (event_line model.now event.now)) event.now.trace
+            self.old.wave.cycle) }
+
+        // Once something did, nothing is done any more. It is no fault of the sink's where this hasn't failed, and the
+        // dump is full only where no further clock cycle can be counted.
         ensures silent { IsSome self.old.fault → self.new ≡ self.old }
         ensures cause { IsNone self.old.fault → self.new.fault ≡ Some Fault.Sink
             → Rose (K.faults self.old.sink) (K.faults self.new.sink) }
+        ensures full { IsNone self.old.fault → self.new.fault ≡ Some Fault.Full
+            → RunsOut model.now.layout event.now.trace self.old.wave.cycle }
         ensures later { K.faults self.old.sink ≤ K.faults self.new.sink }
+        ensures ends_kept { K.ends self.new.sink ≡ K.ends self.old.sink }
     {
         if self.fault.is_some() || event.trace.len() == 0 {
             return;
@@ -206,9 +233,12 @@ impl<K: Sink> Dump<K> {
 
     fn try_close(&mut self) -> Result<(), Fault>
         ensures whole { OnOk result (Keeps (told K.written self.old) (K.written self.new.sink)) }
+        ensures front { AppendsFront (K.written self.old.sink) (K.written self.new.sink) self.old.wave.text.items }
         ensures ended { OnOk result (Rose (K.ends self.old.sink) (K.ends self.new.sink)) }
         ensures fault { self.new.fault ≡ self.old.fault }
+        ensures only { OnErr result (result ≡ Err Fault.Sink) }
         ensures cause { result ≡ Err Fault.Sink → Rose (K.faults self.old.sink) (K.faults self.new.sink) }
+        ensures later { K.faults self.old.sink ≤ K.faults self.new.sink }
     {
         self.write_out()?;
         match self.sink.finish() {
@@ -221,9 +251,14 @@ impl<K: Sink> Dump<K> {
     pub fn close(&mut self)
         ensures whole { IsNone self.new.fault → Keeps (told K.written self.old) (K.written self.new.sink) }
         ensures ended { IsNone self.new.fault → Rose (K.ends self.old.sink) (K.ends self.new.sink) }
+
+        // A front of what was kept back is written in any case, and only the sink can fail.
+        ensures front { AppendsFront (K.written self.old.sink) (K.written self.new.sink) self.old.wave.text.items }
         ensures silent { IsSome self.old.fault → self.new ≡ self.old }
+        ensures only { IsNone self.old.fault → IsSome self.new.fault → self.new.fault ≡ Some Fault.Sink }
         ensures cause { IsNone self.old.fault → self.new.fault ≡ Some Fault.Sink
             → Rose (K.faults self.old.sink) (K.faults self.new.sink) }
+        ensures later { K.faults self.old.sink ≤ K.faults self.new.sink }
     {
         if self.fault.is_some() {
             return;
