@@ -40,7 +40,7 @@ module _ (P : Flaw → Type 0) where
   taken_if true flaw flaws here others = All-cons P flaw flaws here others
   taken_if false flaw flaws here others = others
 
-  shared : (share : Share) (before : ℕ) (flaws : List Flaw) → All P flaws → All P (share_of share before flaws)
+  pub shared : (share : Share) (before : ℕ) (flaws : List Flaw) → All P flaws → All P (share_of share before flaws)
   shared share before [] each = All-nil P
   shared share before (flaw ∷ flaws) each =
       taken_if (is_in_share share (before + 1)) flaw (share_of share (before + 1) flaws) (each 0 flaw (omega arith))

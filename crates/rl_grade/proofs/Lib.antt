@@ -1,4 +1,5 @@
 mod Asking
+mod Batching
 pub mod Complete
 pub mod Distinct
 mod Driving
@@ -19,7 +20,10 @@ pub mod HiddenTests
 mod Related
 mod RelatedSteps
 mod ResetRows
+mod Rounds
 mod Running
+mod Sameness
+mod Sorting
 mod Started
 mod TogetherAccess
 mod TogetherBeliefs

@@ -1,5 +1,6 @@
 pub mod Adapters
 pub mod Alike
+pub mod Batch
 pub mod Drive
 pub mod Find
 pub mod First
@@ -14,7 +15,9 @@ pub mod Reached
 pub mod Reading
 pub mod Record
 pub mod Run
+pub mod Same
 pub mod Script
 pub mod Share
 pub mod Single
+pub mod Sorted
 pub mod Together

@@ -61,8 +61,8 @@ fn do_sequence<R: Recorder>(
     }
 }
 
-// Does what a line asks for.
-fn do_job<R: Recorder>(
+/// Does what a line asks for.
+pub(crate) fn do_job<R: Recorder>(
     model: &mut Model,
     bench: &mut Bench,
     adapters: &mut Adapters,

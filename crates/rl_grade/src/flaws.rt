@@ -58,7 +58,8 @@ fn push_resets(flaws: &mut Vec<Flaw>, chip: &Chip, field: u32, width: u32) -> Re
     Ok(())
 }
 
-fn is_same(a: Policy, b: Policy) -> bool
+/// Whether two policies have one name.
+pub(crate) fn is_same(a: Policy, b: Policy) -> bool
     ensures { result ≡ bytes_eq (name_of a) (name_of b) }
 {
     a.name().as_bytes() == b.name().as_bytes()

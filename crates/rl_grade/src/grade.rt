@@ -1,5 +1,6 @@
 // The flaws of a share at a place, each with its answer.
-ghost use Rattle.std.specs.Prelude.{◌≡◌, ◌<◌, [], ◌∷◌, ◌++◌, All, Contains, IfOk, length};
+ghost use Rattle.std.specs.Prelude.{◌≡◌, ◌<◌, [], ◌∷◌, ◌++◌, All, Contains, IfOk, IfSome, length};
+ghost use Rattle.rl_grade.specs.Batch.{AreAnswers};
 ghost use Rattle.rl_grade.specs.Prelude.{IsBuiltWith, IsFlawOf, IsPlaceIn, TasksFit, flaws_at, fresh_standings};
 ghost use Rattle.rl_grade.specs.Prelude.{graded_by, grades_of, is_in_share, kinds_of};
 
@@ -7,6 +8,7 @@ use crate::fresh::try_afresh;
 use crate::job::Task;
 use crate::place::{Place, flaws_at};
 use crate::run::Shown;
+use crate::same::is_same_flaw;
 use crate::seen::{Find, Seen};
 use rl_bench::Flaw;
 use rl_desc::Desc;
@@ -39,16 +41,58 @@ pub struct PlaceGrade {
     pub graded: Vec<Graded>,
 }
 
-// What was tried so far, and the description again.
+/// Flaws that were tried, each with its answer, and the description again.
 #[derive(Drop)]
-struct Tries {
+pub struct Tries {
+    pub desc: Desc,
+    pub graded: Vec<Graded>,
+}
+
+/// Answers that were found before, in the order in which they are asked for.
+#[derive(Drop)]
+pub struct Known {
+    pub graded: Vec<Graded>,
+    /// Which of them is asked for next, counted from 0.
+    pub next: usize,
+}
+
+// A flaw with its answer, and the description again.
+#[derive(Drop)]
+struct Answered {
     desc: Desc,
-    graded: Vec<Graded>,
+    it: Graded,
+}
+
+// The answer of that number, if there are so many.
+fn answer_at(graded: &[Graded], number: usize) -> Option<Graded>
+    ensures { IfSome result (Contains graded.now) }
+{
+    if number < graded.len() {
+        Some(graded[number])
+    } else {
+        None
+    }
+}
+
+impl Known {
+    // The next answer, if it is this flaw's.
+    fn take(&mut self, flaw: Flaw) -> Option<Graded>
+        ensures flaw { IfSome result (λ it. it.flaw ≡ flaw) }
+        ensures known { IfSome result (Contains self.old.graded.items) }
+        ensures kept { self.new.graded ≡ self.old.graded }
+    {
+        let it = answer_at(&self.graded, self.next)?;
+        if !is_same_flaw(it.flaw, flaw) {
+            return None;
+        }
+        self.next = self.next.saturating_add(1);
+        Some(it)
+    }
 }
 
 impl Share {
     // Whether the flaw of this number is of the share.
-    fn takes(self, number: u128) -> bool
+    pub(crate) fn takes(self, number: u128) -> bool
         requires { 0 < self.every }
         ensures { result ≡ is_in_share self number }
     {
@@ -57,30 +101,59 @@ impl Share {
     }
 }
 
-// Tries a flaw, and appends its answer.
-fn grade_flaw(
+// The answer of a flaw: the one that is known, or that of a run with it alone.
+fn answer(
+    alloc: Global,
+    desc: Desc,
+    flaw: Flaw,
+    tasks: &[Task],
+    shown: &[Seen],
+    known: Option<Graded>,
+) -> Result<Answered, AllocError>
+    requires built_with { IsBuiltWith desc.layout desc.chip }
+    requires kinds { desc.layout.kinds ≡ kinds_of fresh_standings }
+    requires fits { TasksFit desc.chip (length desc.layout.maps) tasks.now }
+    requires flaw { IsFlawOf desc.chip desc.layout flaw }
+    requires known { IfSome known (λ it. it ≡ graded_by desc tasks.now shown.now flaw) }
+    ensures desc { IfOk result (λ answered. answered.desc ≡ desc) }
+    ensures it { IfOk result (λ answered. answered.it ≡ graded_by desc tasks.now shown.now flaw) }
+{
+    if let Some(it) = known {
+        return Ok(Answered { desc, it });
+    }
+    let tried = try_afresh(alloc, desc, flaw, tasks, shown)?;
+    Ok(Answered {
+        desc: tried.desc,
+        it: Graded {
+            flaw,
+            found: tried.found,
+        },
+    })
+}
+
+/// Appends the answer of a flaw: the one that is known, or that of a run with it alone.
+pub(crate) fn push_answer(
     alloc: Global,
     tries: Tries,
     flaw: Flaw,
     tasks: &[Task],
     shown: &[Seen],
+    known: Option<Graded>,
 ) -> Result<Tries, AllocError>
     requires built_with { IsBuiltWith tries.desc.layout tries.desc.chip }
     requires kinds { tries.desc.layout.kinds ≡ kinds_of fresh_standings }
     requires fits { TasksFit tries.desc.chip (length tries.desc.layout.maps) tasks.now }
     requires flaw { IsFlawOf tries.desc.chip tries.desc.layout flaw }
+    requires known { IfSome known (λ it. it ≡ graded_by tries.desc tasks.now shown.now flaw) }
     ensures desc { IfOk result (λ more. more.desc ≡ tries.desc) }
     ensures graded { IfOk result (λ more. more.graded.items ≡ tries.graded.items
         ++ graded_by tries.desc tasks.now shown.now flaw ∷ []) }
 {
     let Tries { desc, mut graded } = tries;
-    let tried = try_afresh(alloc, desc, flaw, tasks, shown)?;
-    graded.push(Graded {
-        flaw,
-        found: tried.found,
-    })?;
+    let answered = answer(alloc, desc, flaw, tasks, shown, known)?;
+    graded.push(answered.it)?;
     Ok(Tries {
-        desc: tried.desc,
+        desc: answered.desc,
         graded,
     })
 }
@@ -94,12 +167,15 @@ fn grade_flaws(
     shown: &[Seen],
     number: u64,
     share: Share,
+    known: &mut Known,
 ) -> Result<Tries, AllocError>
     requires built_with { IsBuiltWith desc.layout desc.chip }
     requires kinds { desc.layout.kinds ≡ kinds_of fresh_standings }
     requires fits { TasksFit desc.chip (length desc.layout.maps) tasks.now }
     requires flaws { All (IsFlawOf desc.chip desc.layout) flaws.now }
     requires every { 0 < share.every }
+    requires known { AreAnswers desc tasks.now shown.now known.old.graded.items }
+    ensures known { known.new.graded ≡ known.old.graded }
     ensures desc { IfOk result (λ tries. tries.desc ≡ desc) }
     ensures graded { IfOk result (λ tries.
         tries.graded.items ≡ grades_of desc tasks.now shown.now share number flaws.now) }
@@ -112,10 +188,62 @@ fn grade_flaws(
     for flaw in flaws {
         reached += 1;
         if share.takes(reached) {
-            tries = grade_flaw(alloc, tries, *flaw, tasks, shown)?;
+            let it = known.take(*flaw);
+            tries = push_answer(alloc, tries, *flaw, tasks, shown, it)?;
         }
     }
     Ok(tries)
+}
+
+/// The flaws of a place that are of a share, each with the answer of `grade_place`: the next of those that are known,
+/// where it is this flaw's, or that of a run with it alone.
+///
+/// Before this place stand `number` flaws.
+///
+/// # Errors
+///
+/// Want of memory.
+pub fn grade_place_known(
+    alloc: Global,
+    desc: Desc,
+    tasks: &[Task],
+    shown: &Shown,
+    place: Place,
+    number: u64,
+    share: Share,
+    known: &mut Known,
+) -> Result<PlaceGrade, AllocError>
+    requires built_with { IsBuiltWith desc.layout desc.chip }
+    requires kinds { desc.layout.kinds ≡ kinds_of fresh_standings }
+    requires fits { TasksFit desc.chip (length desc.layout.maps) tasks.now }
+    requires place { IsPlaceIn desc.chip place }
+    requires every { 0 < share.every }
+    requires known { AreAnswers desc tasks.now shown.now.seen.items known.old.graded.items }
+    ensures known { known.new.graded ≡ known.old.graded }
+    ensures desc { IfOk result (λ grade. grade.desc ≡ desc) }
+    ensures flaws { IfOk result (λ grade. grade.flaws ≡ length (flaws_at desc shown.now.items place)) }
+    ensures graded { IfOk result (λ grade. grade.graded.items ≡ grades_of desc tasks.now shown.now.seen.items
+        share number (flaws_at desc shown.now.items place)) }
+    ensures listed { IfOk result (λ grade.
+        All (λ it. Contains (flaws_at desc shown.now.items place) it.flaw) grade.graded.items) }
+    ensures each { IfOk result (λ grade. All (λ it. IsFlawOf desc.chip desc.layout it.flaw) grade.graded.items) }
+{
+    let flaws = flaws_at(alloc, &desc, shown.items, place)?;
+    let tries = grade_flaws(
+        alloc,
+        desc,
+        &flaws,
+        tasks,
+        &shown.seen,
+        number,
+        share,
+        known,
+    )?;
+    Ok(PlaceGrade {
+        desc: tries.desc,
+        flaws: flaws.len() as u64,
+        graded: tries.graded,
+    })
 }
 
 /// Tries the flaws of a place that are of a share: each by these tasks, from the first state of the description with
@@ -148,11 +276,9 @@ pub fn grade_place(
         All (λ it. Contains (flaws_at desc shown.now.items place) it.flaw) grade.graded.items) }
     ensures each { IfOk result (λ grade. All (λ it. IsFlawOf desc.chip desc.layout it.flaw) grade.graded.items) }
 {
-    let flaws = flaws_at(alloc, &desc, shown.items, place)?;
-    let tries = grade_flaws(alloc, desc, &flaws, tasks, &shown.seen, number, share)?;
-    Ok(PlaceGrade {
-        desc: tries.desc,
-        flaws: flaws.len() as u64,
-        graded: tries.graded,
-    })
+    let mut known = Known {
+        graded: Vec::new(alloc),
+        next: 0,
+    };
+    grade_place_known(alloc, desc, tasks, shown, place, number, share, &mut known)
 }

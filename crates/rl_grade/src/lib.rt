@@ -5,6 +5,7 @@
 //! a run with one flaw, begun afresh, then goes up to the first event that shows more. No text is made.
 #![tactic(auto)]
 
+mod batch;
 mod bits;
 mod drive;
 mod flaws;
@@ -13,17 +14,24 @@ mod grade;
 mod hidden;
 mod job;
 pub mod law;
+mod meter;
 mod place;
 mod recorders;
+mod register;
 mod run;
+mod same;
 mod script;
 mod seen;
+mod sort;
+mod together;
 
 pub use flaws::{field_flaws, item_flaws, session_flaws};
-pub use grade::{Graded, PlaceGrade, Share, grade_place};
+pub use grade::{Graded, Known, PlaceGrade, Share, Tries, grade_place, grade_place_known};
 pub use hidden::is_hidden;
 pub use job::{Job, Task};
+pub use meter::Meter;
 pub use place::{Place, flaws_at};
 pub use run::{Shown, Tried, show, try_flaw};
 pub use script::{ScriptFault, read_script};
 pub use seen::{Find, Seen};
+pub use together::grade_together;

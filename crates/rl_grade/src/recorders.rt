@@ -24,8 +24,8 @@ pub(crate) struct Keep {
     pub(crate) is_full: bool,
 }
 
-// The first of these, or nothing where there is none.
-fn front(base: &[Seen]) -> Seen
+/// The first of these, or nothing where there is none.
+pub(crate) fn front(base: &[Seen]) -> Seen
     ensures { result ≡ front base.now }
 {
     match base.first() {
@@ -34,8 +34,8 @@ fn front(base: &[Seen]) -> Seen
     }
 }
 
-// Those behind the first.
-fn behind(base: &[Seen]) -> &[Seen]
+/// Those behind the first.
+pub(crate) fn behind(base: &[Seen]) -> &[Seen]
     ensures { result.now ≡ drop 1 base.now }
 {
     if base.is_empty() { base } else { &base[1..] }

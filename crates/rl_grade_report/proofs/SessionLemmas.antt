@@ -31,7 +31,11 @@ use Rattle.rl_session_run.proofs.StaysLemmas.{open_given_up, open_same}
 use Rattle.rl_grade.specs.declared.job.Task.{Task}
 use Rattle.rl_grade.specs.declared.script.ScriptFault.{ScriptFault}
 use Rattle.rl_grade.specs.declared.script.ScriptFault.TheVariants as fault
+use Rattle.rl_grade.specs.declared.seen.Seen.{Seen}
 use Rattle.rl_grade.specs.Adapters.{fresh_standings}
+use Rattle.rl_grade.specs.Alike.{without_flaws}
+use Rattle.rl_grade.specs.Batch.{IsShown}
+use Rattle.rl_grade.specs.Find.{all_seen}
 use Rattle.rl_grade.specs.Job.{heard_by}
 use Rattle.rl_grade.specs.Reading.{refused_line}
 use Rattle.rl_grade.specs.Script.{tasks_from}
@@ -99,6 +103,19 @@ desc_is : (m : ModelData) (desc : DescData) (standings : List Standing) → m �
 desc_is m desc standings is none =
     let with : List Flaw → DescData = λ flaws. record { chip = desc.chip; layout = desc.layout; flaws = flaws } in
     ap desc_of is ∙ ap with (sym none)
+
+-- a model and its device begin as those of the description without flaws
+pub begun_is : (m : ModelData) (st : State) (desc : DescData) (standings : List Standing) → standings ≡ fresh_standings
+    → IsAt m standings (Some st) (first_world desc standings) → desc.flaws ≡ []
+    → world m standings st ≡ first_world (desc_of m) fresh_standings
+begun_is m st desc standings fresh h none =
+    world_is m st desc standings fresh h ∙ ap (λ d. first_world d fresh_standings) (sym (desc_is m desc standings h.model_is none))
+
+pub shown_is : (m : ModelData) (st : State) (desc : DescData) (standings : List Standing) (tasks : List Task) (shown : List Seen)
+    → shown ≡ all_seen (heard_by (world m standings st) tasks) → world m standings st ≡ first_world (desc_of m) fresh_standings
+    → desc ≡ desc_of m → IsShown desc tasks shown
+shown_is m st desc standings tasks shown is begun same =
+    is ∙ ap (λ w. all_seen (heard_by w tasks)) (begun ∙ ap (λ (d : DescData). first_world (without_flaws d) fresh_standings) (sym same))
 
 module _ (asked : Asked) (mark : Option ℕ) where
   -- what is graded of these events, from this description

@@ -3,7 +3,8 @@ pub use Rattle.rl_play.specs.Prelude.{Tells, refused_text}
 pub use Rattle.rl_session_run.specs.Prelude.{AwaitsScript, IsBuiltWith, IsCaused, LeavesEnded, LeavesOpen, Rose, Stays, StaysOpen, input_of, is_complete, kinds_of}
 pub use Rattle.rl_report.specs.Lines.{lines_of}
 pub use Rattle.rl_report.specs.Pieces.{Puts}
-pub use Rattle.rl_grade.specs.Prelude.{IsReady, world, bench_state, IsPlaceIn, TasksFit, fresh_standings, heard_by}
+pub use Rattle.rl_grade.specs.Prelude.{IsReady, world, bench_state, IsPlaceIn, TasksFit, first_world, fresh_standings, heard_by}
+pub use Rattle.rl_grade.specs.Batch.{AreAnswers, IsShown}
 pub use Rattle.rl_grade.specs.Reading.{refused_line}
 pub use Rattle.rl_grade_report.specs.Verdict.{AreJudged}
 pub use Rattle.rl_grade_report.specs.Asked.{status_at}

@@ -1,17 +1,16 @@
 // A session that is graded.
 ghost use Rattle.std.specs.Prelude.{◌≡◌, ◌≢◌, ◌≤◌, ◌<◌, ◌^◌, ◌++◌, [], Some, None, false, map, length, All, IfErr, IfOk, IfSome};
-ghost use Rattle.rl_grade_report.specs.Prelude.{AreJudged, AwaitsScript, IsBuiltWith, IsCaused, IsNext, IsPlaceIn, IsReady};
-ghost use Rattle.rl_grade_report.specs.Prelude.{LeavesEnded, LeavesOpen, Puts, Stays, TasksFit, Tells, TellsGraded};
+ghost use Rattle.rl_grade_report.specs.Prelude.{AreAnswers, AreJudged, AwaitsScript, IsBuiltWith, IsCaused, IsNext, IsPlaceIn};
+ghost use Rattle.rl_grade_report.specs.Prelude.{IsReady, IsShown, LeavesEnded, LeavesOpen, Puts, Stays, TasksFit, Tells, TellsGraded};
 ghost use Rattle.rl_grade_report.specs.Prelude.{all_judged, base_of, base_shown, bench_state, desc_of, facts_of};
-ghost use Rattle.rl_grade_report.specs.Prelude.{fresh_standings, grading_of, grading_with, heard_by, input_of};
-ghost use Rattle.rl_grade_report.specs.Prelude.{is_complete, judged_at, judged_from, kinds_of, lines_of, mark_of};
+ghost use Rattle.rl_grade_report.specs.Prelude.{first_world, fresh_standings, judged_at, judged_from, grading_of, grading_with};
+ghost use Rattle.rl_grade_report.specs.Prelude.{heard_by, input_of, is_complete, kinds_of, lines_of, mark_of};
 ghost use Rattle.rl_grade_report.specs.Prelude.{place_text, places_of, places_text, report, reported, script_graded};
 ghost use Rattle.rl_grade_report.specs.Prelude.{status_at, status_of, totals_of, world};
 
 use crate::asked::Asked;
 use crate::facts::Facts;
 use crate::mark::mark_of;
-use crate::meter::Meter;
 use crate::places::places_of;
 use crate::refusal::{Unflawed, end_unread};
 use crate::totals::Totals;
@@ -22,7 +21,7 @@ use rl_access::Model;
 use rl_bench::Bench;
 use rl_bus::{Adapter, Adapters};
 use rl_desc::Desc;
-use rl_grade::{Place, Shown, Task, grade_place, read_script, show};
+use rl_grade::{Known, Meter, Place, Shown, Task, grade_place_known, grade_together, read_script, show};
 use rl_log::Status;
 use rl_report::{LineReader, Sink, Source};
 use rl_session::open;
@@ -37,6 +36,8 @@ struct Progress {
     number: u64,
     // Those that were tried, each with what is said of it.
     judged: Vec<Judged>,
+    // Answers that were found before.
+    known: Known,
 }
 
 // Tries the flaws of a place, and writes what was found.
@@ -55,11 +56,13 @@ fn grade_next<K: Sink>(
     requires place { IsPlaceIn progress.desc.chip place }
     requires every { 0 < asked.share.every }
     requires each { AreJudged progress.desc.chip progress.desc.layout progress.judged.items }
+    requires known { AreAnswers progress.desc tasks.now shown.now.seen.items progress.known.graded.items }
     ensures bytes { Puts (K.written log.old) (K.written log.new) (place_text asked.tell progress.desc place
         (judged_at asked progress.desc (base_shown tasks.now shown.now) progress.number place)) result }
     ensures next { IfOk result (λ next. IsNext asked (base_shown tasks.now shown.now) place
         progress.desc progress.number progress.judged.items next.desc next.number next.judged.items) }
     ensures each { IfOk result (λ next. AreJudged progress.desc.chip progress.desc.layout next.judged.items) }
+    ensures known { IfOk result (λ next. next.known.graded ≡ progress.known.graded) }
     ensures broken { IfErr result (λ status. is_complete status ≡ false) }
     ensures cause { IfErr result (λ status. IsCaused status 0 0 (K.faults log.old) (K.faults log.new)) }
     ensures stays { Stays K.faults K.ends K.target log.old log.new }
@@ -68,8 +71,11 @@ fn grade_next<K: Sink>(
         desc,
         number,
         mut judged,
+        mut known,
     } = progress;
-    let Ok(grade) = grade_place(alloc, desc, tasks, shown, place, number, asked.share) else {
+    let share = asked.share;
+    let Ok(grade) = grade_place_known(alloc, desc, tasks, shown, place, number, share, &mut known)
+    else {
         return Err(Status::Memory);
     };
     let Ok(here) = judge(alloc, &grade.desc, &grade.graded) else {
@@ -83,25 +89,27 @@ fn grade_next<K: Sink>(
         desc: grade.desc,
         number: number.saturating_add(grade.flaws),
         judged,
+        known,
     })
 }
 
 // Tries the flaws of the places, and writes what was found at each.
-fn grade_places<K: Sink, M: Meter>(
+fn grade_places<K: Sink>(
     alloc: Global,
     asked: Asked,
     desc: Desc,
     tasks: &[Task],
     shown: &Shown,
     places: &[Place],
+    known: Known,
     log: &mut K,
-    meter: &mut M,
 ) -> Result<Progress, Status>
     requires built_with { IsBuiltWith desc.layout desc.chip }
     requires kinds { desc.layout.kinds ≡ kinds_of fresh_standings }
     requires fits { TasksFit desc.chip (length desc.layout.maps) tasks.now }
     requires places { All (IsPlaceIn desc.chip) places.now }
     requires every { 0 < asked.share.every }
+    requires known { AreAnswers desc tasks.now shown.now.seen.items known.graded.items }
     ensures bytes { Puts (K.written log.old) (K.written log.new)
         (places_text asked desc (base_shown tasks.now shown.now) 0 places.now) result }
     ensures desc { IfOk result (λ done. done.desc ≡ desc) }
@@ -116,10 +124,10 @@ fn grade_places<K: Sink, M: Meter>(
         desc,
         number: 0,
         judged: Vec::new(alloc),
+        known,
     };
     for place in places {
         progress = grade_next(alloc, asked, tasks, shown, *place, progress, log)?;
-        meter.show(progress.number);
     }
     Ok(progress)
 }
@@ -151,6 +159,7 @@ fn grade_shown<K: Sink, M: Meter>(
     requires kinds { desc.layout.kinds ≡ kinds_of fresh_standings }
     requires fits { TasksFit desc.chip (length desc.layout.maps) tasks.now }
     requires every { 0 < asked.share.every }
+    requires shown { IsShown desc tasks.now shown.now.seen.items }
     ensures bytes { Puts (K.written log.old) (K.written log.new)
         (reported asked mark desc (base_shown tasks.now shown.now)) result }
     ensures status { IfOk result (λ status.
@@ -163,8 +172,16 @@ fn grade_shown<K: Sink, M: Meter>(
     let Ok(places) = places_of(alloc, &desc.chip) else {
         return Err(Status::Memory);
     };
+    let share = asked.share;
+    let Ok(tries) = grade_together(alloc, desc, tasks, shown, &places, share, meter) else {
+        return Err(Status::Memory);
+    };
+    let known = Known {
+        graded: tries.graded,
+        next: 0,
+    };
     put_head(alloc, asked, facts, log)?;
-    let done = grade_places(alloc, asked, desc, tasks, shown, &places, log, meter)?;
+    let done = grade_places(alloc, asked, tries.desc, tasks, shown, &places, known, log)?;
     put_last(alloc, asked, facts, &done.desc, tasks, &done.judged, log)?;
     Ok(asked.status(Totals::NONE.with(&done.judged)))
 }
@@ -185,6 +202,8 @@ fn grade_tasks<K: Sink, M: Meter>(
     requires kinds { model.layout.kinds ≡ kinds_of fresh_standings }
     requires fits { TasksFit model.chip (length model.layout.maps) tasks.now }
     requires every { 0 < asked.share.every }
+    requires first { world model (map standing adapters.old.items) (bench_state bench)
+        ≡ first_world (desc_of model) fresh_standings }
     ensures bytes { Puts (K.written log.old) (K.written log.new) (report asked mark (desc_of model) tasks.now
         (heard_by (world model (map standing adapters.old.items) (bench_state bench)) tasks.now)) result }
     ensures status { IfOk result (λ status. status ≡ status_at asked (totals_of (all_judged asked (desc_of model)

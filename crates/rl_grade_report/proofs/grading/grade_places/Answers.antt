@@ -19,6 +19,9 @@ grade_next-requires-clause-place g c =
 pub grade_next-requires-clause-each : goal.grade_next-requires-clause-each
 grade_next-requires-clause-each g c = rw c.loop-place.invariant.desc_is c.loop-place.invariant.each
 
+pub grade_next-requires-clause-known : goal.grade_next-requires-clause-known
+grade_next-requires-clause-known g c = rw (c.loop-place.invariant.desc_is, c.loop-place.invariant.known_is) c.requires.known
+
 pub loop-place-preserved : goal.loop-place-preserved
 loop-place-preserved g c =
     let i = c.loop-place.invariant in
@@ -31,6 +34,7 @@ loop-place-preserved g c =
       judged = judged_done c.args.asked base c.args.desc _ _ _ _ _ _ _ c.args.places.now
           c.loop-place.place-index _ c.loop-place-test.true i.desc_is i.judged e.next;
       each = rw i.desc_is at e.each;
+      known_is = e.known ∙ i.known_is;
       later = omega (arith, i.later, e.stays.later);
       ends_kept = e.stays.ends_kept ∙ i.ends_kept;
       same_target = e.stays.same_target ∙ i.same_target;

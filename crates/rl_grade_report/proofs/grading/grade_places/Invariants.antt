@@ -17,6 +17,7 @@ invariant-loop-place g l =
       judged : l.progress.judged.items ++ judged_from l.asked l.fn.desc base l.progress.number (drop l.place-index l.places)
           ≡ judged_from l.asked l.fn.desc base 0 l.places;
       each : AreJudged l.fn.desc.chip l.fn.desc.layout l.progress.judged.items;
+      known_is : l.progress.known.graded ≡ l.fn.known.graded;
       later : g.K.Sink.faults l.initial.log ≤ g.K.Sink.faults l.log;
       ends_kept : g.K.Sink.ends l.log ≡ g.K.Sink.ends l.initial.log;
       same_target : g.K.Sink.target l.log ≡ g.K.Sink.target l.initial.log;

@@ -2,8 +2,11 @@ use Rattle.std.proofs.Common.{Err, refl, ap, ◌∙◌}
 use Rattle.std.proofs.KnownBytes.{Keeps-refl}
 use Rattle.rl_session_run.proofs.StaysLemmas.{earlier_put, open_memory, stays_open}
 use Rattle.rl_grade.specs.Adapters.{fresh_standings}
-use Rattle.rl_grade_report.proofs.SessionLemmas.{leaves_graded, script_early, script_told, script_unread}
+use Rattle.rl_grade_report.proofs.SessionLemmas.{begun_is, leaves_graded, script_early, script_told, script_unread}
 use Rattle.rl_grade_report.proofs.grading.grade_script.Goals as goal
+
+pub grade_tasks-requires-clause-first : goal.grade_tasks-requires-clause-first
+grade_tasks-requires-clause-first g c = begun_is _ _ c.args.desc _ c.requires.fresh (c.in-Ok.ensures.first _) c.requires.none
 
 pub returns-in_default-clause-tells : goal.returns-in_default-clause-tells
 returns-in_default-clause-tells g c = script_early _ c.args.asked c.args.mark c.args.desc _ _ _ refl (Keeps-refl _)

@@ -11,6 +11,18 @@ use Rattle.rl_grade_report.proofs.grading.grade_shown.Goals as goal
 pub returns-in_default-clause-bytes : goal.returns-in_default-clause-bytes
 returns-in_default-clause-bytes g c = record { whole = tt; part = front_none _ _ _ (Keeps-refl _) }
 
+pub returns-in_default-grade_together-clause-bytes : goal.returns-in_default-grade_together-clause-bytes
+returns-in_default-grade_together-clause-bytes g c = record { whole = tt; part = front_none _ _ _ (Keeps-refl _) }
+
+pub grade_places-done-requires-clause-built_with : goal.grade_places-done-requires-clause-built_with
+grade_places-done-requires-clause-built_with g c = rw c.in-Ok-grade_together.ensures.desc c.requires.built_with
+
+pub grade_places-done-requires-clause-kinds : goal.grade_places-done-requires-clause-kinds
+grade_places-done-requires-clause-kinds g c = rw c.in-Ok-grade_together.ensures.desc c.requires.kinds
+
+pub grade_places-done-requires-clause-fits : goal.grade_places-done-requires-clause-fits
+grade_places-done-requires-clause-fits g c = rw c.in-Ok-grade_together.ensures.desc c.requires.fits
+
 pub returns-in_err-put_head-clause-bytes : goal.returns-in_err-put_head-clause-bytes
 returns-in_err-put_head-clause-bytes g c =
     let base = base_shown c.args.tasks.now c.args.shown.now in
@@ -32,7 +44,7 @@ returns-in_err-done-clause-bytes g c =
     let at : c.in-Ok.places.items ≡ places_of c.args.desc.chip =
     c.in-Ok.ensures.places ∙ ap (λ (d : DescData). places_of d.chip) c.desc.view_is in
     let one = rw c.facts_of-facts.ensures at c.in_ok-put_head.ensures.bytes.whole in
-    let part = rw (c.deref.ensures.value, at) at c.in_err-done.ensures.bytes.part in
+    let part = rw (c.deref-2.ensures.value, at, c.in-Ok-grade_together.ensures.desc) at c.in_err-done.ensures.bytes.part in
     puts_stopped _ _ ((head ++ places) ++ last) _ c.from_residual-in_err-done.ensures.0
     (front_before _ _ (head ++ places) last (front_after _ _ _ head places one part))
 
@@ -46,9 +58,9 @@ returns-in_err-put_last-clause-bytes g c =
     let at : c.in-Ok.places.items ≡ places_of c.args.desc.chip =
     c.in-Ok.ensures.places ∙ ap (λ (d : DescData). places_of d.chip) c.desc.view_is in
     let one = rw c.facts_of-facts.ensures at c.in_ok-put_head.ensures.bytes.whole in
-    let two = rw (c.deref.ensures.value, at) at c.in_ok-done.ensures.bytes.whole in
-    let judged = rw (c.deref.ensures.value, at) at c.in_ok-done.ensures.judged in
-    let part = rw (c.facts_of-facts.ensures, c.in_ok-done.ensures.desc, c.deref-2.ensures.value, judged) at c.in_err-put_last.ensures.bytes.part in
+    let two = rw (c.deref-2.ensures.value, at, c.in-Ok-grade_together.ensures.desc) at c.in_ok-done.ensures.bytes.whole in
+    let judged = rw (c.deref-2.ensures.value, at, c.in-Ok-grade_together.ensures.desc) at c.in_ok-done.ensures.judged in
+    let part = rw (c.facts_of-facts.ensures, c.in_ok-done.ensures.desc, c.in-Ok-grade_together.ensures.desc, c.deref-3.ensures.value, judged) at c.in_err-put_last.ensures.bytes.part in
     puts_stopped _ _ ((head ++ places) ++ last) _ c.from_residual-in_err-put_last.ensures.0
     (front_after _ _ _ (head ++ places) last (Appends-trans _ _ _ head places one two) part)
 
@@ -62,7 +74,7 @@ returns-clause-bytes g c =
     let at : c.in-Ok.places.items ≡ places_of c.args.desc.chip =
     c.in-Ok.ensures.places ∙ ap (λ (d : DescData). places_of d.chip) c.desc.view_is in
     let one = rw c.facts_of-facts.ensures at c.in_ok-put_head.ensures.bytes.whole in
-    let two = rw (c.deref.ensures.value, at) at c.in_ok-done.ensures.bytes.whole in
-    let judged = rw (c.deref.ensures.value, at) at c.in_ok-done.ensures.judged in
-    let three = rw (c.facts_of-facts.ensures, c.in_ok-done.ensures.desc, c.deref-2.ensures.value, judged) at c.in_ok-put_last.ensures.bytes.whole in
+    let two = rw (c.deref-2.ensures.value, at, c.in-Ok-grade_together.ensures.desc) at c.in_ok-done.ensures.bytes.whole in
+    let judged = rw (c.deref-2.ensures.value, at, c.in-Ok-grade_together.ensures.desc) at c.in_ok-done.ensures.judged in
+    let three = rw (c.facts_of-facts.ensures, c.in_ok-done.ensures.desc, c.in-Ok-grade_together.ensures.desc, c.deref-3.ensures.value, judged) at c.in_ok-put_last.ensures.bytes.whole in
     record { whole = Appends-trans _ _ _ (head ++ places) last (Appends-trans _ _ _ head places one two) three; part = tt }

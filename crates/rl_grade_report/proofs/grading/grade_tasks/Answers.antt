@@ -4,3 +4,6 @@ use Rattle.rl_grade_report.proofs.grading.grade_tasks.Goals as goal
 
 pub returns-in_default-clause-bytes : goal.returns-in_default-clause-bytes
 returns-in_default-clause-bytes g c = record { whole = tt; part = front_none _ _ _ (Keeps-refl _) }
+
+pub grade_shown-requires-clause-shown : goal.grade_shown-requires-clause-shown
+grade_shown-requires-clause-shown g c = ?

@@ -3,7 +3,7 @@ use Rattle.std.proofs.lemmas.List.Elements.{All-contains_itself}
 use Rattle.rl_flaw.specs.Flaws.{IsFlawOf}
 use Rattle.rl_grade.specs.Place.{flaws_at}
 use Rattle.rl_grade.proofs.Grading.{each_graded}
-use Rattle.rl_grade.proofs.grade.grade_place.Goals as goal
+use Rattle.rl_grade.proofs.grade.grade_place_known.Goals as goal
 
 pub returns-clause-listed : goal.returns-clause-listed
 returns-clause-listed c =
