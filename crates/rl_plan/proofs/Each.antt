@@ -6,7 +6,7 @@ use Rattle.rl_policy.specs.declared.policy.Policy.TheVariants.{Ro, Rw, Rc, Rs, W
 use Rattle.rl_policy.specs.declared.policy.TheConstants.{POLICIES}
 use Rattle.rl_policy.specs.Names.{name_of}
 use Rattle.rl_policy.specs.Table.{is_write_only}
-use Rattle.rl_plan.specs.Bits.{Flawed, ShowsDeafOnes, ShowsStuckBits, ShowsWrongResets, TellsPoliciesApart, is_shown, takes_writes, unflawed}
+use Rattle.rl_plan.specs.Bits.{Flawed, ForgetsAtReset, Held, ShowsDeafOnes, ShowsStuckBits, ShowsWrongResets, TellsPoliciesApart, is_shown, takes_writes, unflawed}
 
 first : (b c : Bool) → (b && c) ≡ true → b ≡ true
 first true c h = refl
@@ -58,14 +58,40 @@ behind : (b c : Bool) → (b || c) ≡ true → b ≡ false → c ≡ true
 behind true c h e = absurd (cc)
 behind false c h e = h
 
--- the flaw shows from each reset value on
-abbrev is_always_shown : Policy → Flawed → Bool
-is_always_shown p f = is_shown p f None && (is_shown p f (Some false) && is_shown p f (Some true))
+-- first writes are still to come
+abbrev holding : (mirrored stored : Bool) → Held
+holding mirrored stored = record { mirrored = mirrored; spent = false; stored = stored; spent_there = false }
 
-for_each : (p : Policy) (f : Flawed) (value : Option Bool) → is_always_shown p f ≡ true → is_shown p f value ≡ true
-for_each p f None h = first (is_shown p f None) _ h
-for_each p f (Some false) h = first (is_shown p f (Some false)) _ (second (is_shown p f None) _ h)
-for_each p f (Some true) h = second (is_shown p f (Some false)) _ (second (is_shown p f None) _ h)
+-- the flaw shows from each reset value on, and without one from each value in model and device
+abbrev is_always_shown : Policy → Flawed → Bool
+is_always_shown p f =
+    is_shown p f (Some false) (holding false false) && (is_shown p f (Some true) (holding false false)
+    && (is_shown p f None (holding false false) && (is_shown p f None (holding false true)
+    && (is_shown p f None (holding true false) && is_shown p f None (holding true true)))))
+
+module _ (p : Policy) (f : Flawed) where
+  without_value : (mirrored stored : Bool) → is_always_shown p f ≡ true → is_shown p f None (holding mirrored stored) ≡ true
+  without_value mirrored stored h = by mirrored stored (second (is_shown p f (Some true) (holding false false)) _ (second (is_shown p f (Some false) (holding false false)) _ h))
+    where
+      by : (mirrored stored : Bool)
+          → (is_shown p f None (holding false false) && (is_shown p f None (holding false true)
+          && (is_shown p f None (holding true false) && is_shown p f None (holding true true)))) ≡ true
+          → is_shown p f None (holding mirrored stored) ≡ true
+      by false false h = first (is_shown p f None (holding false false)) _ h
+      by false true h = first (is_shown p f None (holding false true)) _ (second (is_shown p f None (holding false false)) _ h)
+      by true false h =
+          first (is_shown p f None (holding true false)) _
+          (second (is_shown p f None (holding false true)) _ (second (is_shown p f None (holding false false)) _ h))
+      by true true h =
+          second (is_shown p f None (holding true false)) _
+          (second (is_shown p f None (holding false true)) _ (second (is_shown p f None (holding false false)) _ h))
+
+  -- a reset makes first writes possible again, and gives the value, where there is one
+  for_each : (value : Option Bool) (held : Held) → is_always_shown p f ≡ true → is_shown p f value held ≡ true
+  for_each None held h = without_value held.mirrored held.stored h
+  for_each (Some false) held h = first (is_shown p f (Some false) (holding false false)) _ h
+  for_each (Some true) held h =
+      first (is_shown p f (Some true) (holding false false)) _ (second (is_shown p f (Some false) (holding false false)) _ h)
 
 -- ---- policies
 
@@ -76,8 +102,8 @@ all_told : list_all (λ p. list_all (is_told p) POLICIES) POLICIES ≡ true
 all_told = refl
 
 pub told_apart : TellsPoliciesApart
-told_apart p q value readable other =
-    for_each p (unflawed q) value (behind (bytes_eq (name_of q) (name_of p)) _
+told_apart p q value held readable other =
+    for_each p (unflawed q) value held (behind (bytes_eq (name_of q) (name_of p)) _
     (behind (is_write_only p) _ (each (is_told p) (each (λ p. list_all (is_told p) POLICIES) all_told p) q) readable) other)
 
 -- ---- stuck bits
@@ -90,8 +116,8 @@ all_stuck true = refl
 all_stuck false = refl
 
 pub stuck_shown : ShowsStuckBits
-stuck_shown p stuck_at value readable =
-    for_each p (record (unflawed p) { stuck = Some stuck_at }) value
+stuck_shown p stuck_at value held readable =
+    for_each p (record (unflawed p) { stuck = Some stuck_at }) value held
     (behind (is_write_only p) _ (each (is_stuck_shown stuck_at) (all_stuck stuck_at) p) readable)
 
 -- ---- deaf ones
@@ -103,18 +129,23 @@ all_deaf : list_all is_deaf_shown POLICIES ≡ true
 all_deaf = refl
 
 pub deaf_shown : ShowsDeafOnes
-deaf_shown p value readable takes =
-    for_each p (record (unflawed p) { deaf = true }) value
+deaf_shown p value held readable takes =
+    for_each p (record (unflawed p) { deaf = true }) value held
     (behind (not (takes_writes p)) _ (behind (is_write_only p) _ (each is_deaf_shown all_deaf p) readable) (ap not takes))
 
 -- ---- wrong resets
 
 abbrev is_wrong_shown : Bool → Policy → Bool
-is_wrong_shown value p = is_write_only p || is_shown p (record (unflawed p) { wrong = true }) (Some value)
+is_wrong_shown value p = is_write_only p || is_shown p (record (unflawed p) { wrong = true }) (Some value) (holding false false)
 
 all_wrong : (value : Bool) → list_all (is_wrong_shown value) POLICIES ≡ true
 all_wrong true = refl
 all_wrong false = refl
 
 pub wrong_shown : ShowsWrongResets
-wrong_shown p value readable = behind (is_write_only p) _ (each (is_wrong_shown value) (all_wrong value) p) readable
+wrong_shown p value held readable = behind (is_write_only p) _ (each (is_wrong_shown value) (all_wrong value) p) readable
+
+-- ---- what was held before a reset
+
+pub forgets : ForgetsAtReset
+forgets p f value steps held other = refl

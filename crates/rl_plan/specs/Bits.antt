@@ -76,14 +76,10 @@ abbrev pub shows : Policy → Flawed → (value : Option Bool) → List Step →
 shows p f value [] h = false
 shows p f value (step ∷ steps) h = option_map_or (shows p f value steps) (after_step p f value step h) true
 
--- a bit begins at 0
-abbrev pub nothing_held : Held
-nothing_held = record { mirrored = false; spent = false; stored = false; spent_there = false }
+-- ---- what the steps by bus and backdoor show, whatever is held before them
 
--- ---- what the steps by bus and backdoor show
-
-abbrev pub is_shown : Policy → Flawed → (value : Option Bool) → Bool
-is_shown p f value = shows p f value both_steps nothing_held
+abbrev pub is_shown : Policy → Flawed → (value : Option Bool) → Held → Bool
+is_shown p f value h = shows p f value both_steps h
 
 abbrev pub unflawed : Policy → Flawed
 unflawed p = record { policy = p; stuck = None; deaf = false; wrong = false }
@@ -96,20 +92,25 @@ takes_writes p = true
 
 -- any two policies are told apart, whatever the reset value is, and where there is none
 abbrev pub TellsPoliciesApart : Type 0
-TellsPoliciesApart = (p q : Policy) (value : Option Bool) → is_write_only p ≡ false
-    → bytes_eq (name_of q) (name_of p) ≡ false → is_shown p (unflawed q) value ≡ true
+TellsPoliciesApart = (p q : Policy) (value : Option Bool) (h : Held) → is_write_only p ≡ false
+    → bytes_eq (name_of q) (name_of p) ≡ false → is_shown p (unflawed q) value h ≡ true
 
 -- a stuck bit shows
 abbrev pub ShowsStuckBits : Type 0
-ShowsStuckBits = (p : Policy) (at : Bool) (value : Option Bool) → is_write_only p ≡ false
-    → is_shown p (record (unflawed p) { stuck = Some at }) value ≡ true
+ShowsStuckBits = (p : Policy) (at : Bool) (value : Option Bool) (h : Held) → is_write_only p ≡ false
+    → is_shown p (record (unflawed p) { stuck = Some at }) value h ≡ true
 
 -- a device that takes no writes shows, where the policy takes them
 abbrev pub ShowsDeafOnes : Type 0
-ShowsDeafOnes = (p : Policy) (value : Option Bool) → is_write_only p ≡ false → takes_writes p ≡ true
-    → is_shown p (record (unflawed p) { deaf = true }) value ≡ true
+ShowsDeafOnes = (p : Policy) (value : Option Bool) (h : Held) → is_write_only p ≡ false → takes_writes p ≡ true
+    → is_shown p (record (unflawed p) { deaf = true }) value h ≡ true
 
 -- a wrong reset value shows
 abbrev pub ShowsWrongResets : Type 0
-ShowsWrongResets = (p : Policy) (value : Bool) → is_write_only p ≡ false
-    → is_shown p (record (unflawed p) { wrong = true }) (Some value) ≡ true
+ShowsWrongResets = (p : Policy) (value : Bool) (h : Held) → is_write_only p ≡ false
+    → is_shown p (record (unflawed p) { wrong = true }) (Some value) h ≡ true
+
+-- Behind a HARD reset that gives the bit a value, what steps show doesn't depend on what was held before it.
+abbrev pub ForgetsAtReset : Type 0
+ForgetsAtReset = (p : Policy) (f : Flawed) (value : Bool) (steps : List Step) (h other : Held)
+    → shows p f (Some value) (Reset ∷ steps) h ≡ shows p f (Some value) (Reset ∷ steps) other

@@ -1,10 +1,12 @@
 //! What holds of the lines of every plan, and what the steps by bus and backdoor show of one bit. Each function does
 //! nothing; its contract is the law.
-ghost use Rattle.rl_plan.specs.Bits.{ShowsDeafOnes, ShowsStuckBits, ShowsWrongResets, TellsPoliciesApart};
+ghost use Rattle.rl_plan.specs.Bits.{ForgetsAtReset, ShowsDeafOnes, ShowsStuckBits, ShowsWrongResets};
+ghost use Rattle.rl_plan.specs.Bits.{TellsPoliciesApart};
 ghost use Rattle.rl_plan.specs.Laws.{LinesAreFew, LinesReadBack};
 
 /// The steps tell any two of the 25 policies apart, from each reset value on and where there is none: some check
-/// differs where the device has another policy. So it is of each policy that a read shows.
+/// differs where the device has another policy. So it is of each policy that a read shows, whatever the bit held before
+/// in the model and in the device, and whether its first write was done.
 pub fn policies_are_told_apart()
     ensures { TellsPoliciesApart }
 {}
@@ -22,6 +24,11 @@ pub fn deaf_ones_show()
 /// A wrong reset value makes some check differ.
 pub fn wrong_resets_show()
     ensures { ShowsWrongResets }
+{}
+
+/// Where a HARD reset gives a bit a value, what steps behind it show is the same whatever the bit held before.
+pub fn a_reset_forgets()
+    ensures { ForgetsAtReset }
 {}
 
 /// Each line of a plan reads back as the operation that it stands for, where the maps and the reset kinds have names,
