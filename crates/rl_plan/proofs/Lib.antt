@@ -1,6 +1,11 @@
+mod AddingLemmas
+mod BehindLemmas
 mod Each
 mod Few
 mod Fields
+mod ItemLemmas
+mod NeedLemmas
+mod PlaceLemmas
 mod Planned
 mod Pushed
 mod Reading

@@ -1,9 +1,11 @@
 -- What was told of a session for whose description a plan is made.
-use Rattle.std.proofs.Common.{◌≡◌, ◌≢◌, ℕ, ◌≤◌, List, [], Result, Ok, Err, Some, None, IfSome, refl, sym, subst, arith}
+use Rattle.std.proofs.Common.{◌≡◌, ◌≢◌, ◌==◌, ℕ, ◌≤◌, Bool, true, false, if◌then◌else◌, List, [], ◌∷◌, length, Result, Ok, Err, Some, None, IfSome, refl, sym, subst, arith}
 use Rattle.std.specs.declared.option.Option.{Option}
 use Rattle.std.specs.Io.KnownBytes.{Keeps}
+use Rattle.std.proofs.lemmas.Bool.{eqb-true}
 use Rattle.rl_bus.specs.Causes.{HasCause}
 use Rattle.rl_bus.specs.declared.op.AdapterKind.{AdapterKind}
+use Rattle.rl_flaw.specs.declared.flaw.Flaw.{Flaw}
 use Rattle.rl_desc.specs.Data.{DescData}
 use Rattle.rl_report.specs.declared.sink.Sink.{Ghosts as Sink}
 use Rattle.rl_report.specs.Pieces.{Puts}
@@ -20,8 +22,8 @@ use Rattle.rl_session_run.specs.Opening.{OpensAs}
 use Rattle.rl_session_run.specs.Stays.{LeavesOpen, StaysOpen}
 use Rattle.rl_session_run.specs.Telling.{Stops}
 use Rattle.rl_plan.specs.declared.asked.Asked.{Asked}
-use Rattle.rl_plan.specs.Opening.{unflawed}
-use Rattle.rl_plan.specs.Run.{TellsPlan, model_of, opened_planned, planned_of, status_of}
+use Rattle.rl_plan.specs.Opening.{flaws_text, unflawed}
+use Rattle.rl_plan.specs.Run.{Planned, TellsPlan, model_of, opened_planned, planned_of, status_of}
 use Rattle.rl_plan.specs.Text.{plan_text}
 
 stopped : (asked : Asked) (opening : Result DescData (List ℕ)) (status : Status) (old new : Option (List ℕ))
@@ -45,13 +47,14 @@ session_planned written (Some bytes) asked kinds desc lines left status old mid 
     let planned = subst (λ o. TellsPlan (opened_planned asked o) status (written mid) (written new)) (sym opens.opening) t in
     subst (λ k. TellsPlan (planned_of asked kinds bytes) status (written k) (written new)) same planned
 
-pub session_ended : (input : Option (List ℕ)) (asked : Asked) (kinds : List AdapterKind) (status result : Status) (old mid new : Option (List ℕ))
+-- what a session is told as, by its bytes
+pub session_ended : (input : Option (List ℕ)) (told : List ℕ → Planned) (status result : Status) (old mid new : Option (List ℕ))
     → (result ≢ SinkFault → result ≡ status) → KeepsEarlier old new → Keeps mid new
-    → IfSome input (λ bytes. TellsPlan (planned_of asked kinds bytes) status old mid)
-    → IfSome input (λ bytes. TellsPlan (planned_of asked kinds bytes) result old new)
-session_ended None asked kinds status result old mid new same earlier kept t = tt
-session_ended (Some bytes) asked kinds status result old mid new same earlier kept t =
-    let p = planned_of asked kinds bytes in
+    → IfSome input (λ bytes. TellsPlan (told bytes) status old mid)
+    → IfSome input (λ bytes. TellsPlan (told bytes) result old new)
+session_ended None told status result old mid new same earlier kept t = tt
+session_ended (Some bytes) told status result old mid new same earlier kept t =
+    let p = told bytes in
     tells_written status result p.status old mid new [] p.text same earlier (subst (Keeps mid) (sym (append_none new)) kept) (λ c. kept) t
 
 pub leaves_planned : {K : Type 0} (sink : Sink K) (status : Status) (source source_now : ℕ) (old new : K) → source ≤ source_now
@@ -77,3 +80,16 @@ text_caused (Err e) sink sink_now h = record { source_fault = λ e. absurd (cc);
 
 pub no_later : (n : ℕ) → n ≤ n
 no_later n = omega arith
+
+-- ---- what is no flaw
+
+passes : (d : DescData) (none : Bool) → (if none then Ok d else Err flaws_text) ≡ Ok d → none ≡ true
+passes d true is = refl
+passes d false is = let no : Err flaws_text ≡ Ok d = is in absurd (cc)
+
+no_flaws : (flaws : List Flaw) → (length flaws == 0) ≡ true → flaws ≡ []
+no_flaws [] none = refl
+no_flaws (flaw ∷ flaws) none = absurd (omega (arith, eqb-true (length (flaw ∷ flaws)) 0 none))
+
+pub none_flawed : (d : DescData) → unflawed (Ok d) ≡ Ok d → d.flaws ≡ []
+none_flawed d is = no_flaws d.flaws (passes d (length d.flaws == 0) is)

@@ -1,8 +1,11 @@
+pub mod Adding
 pub mod Asked
 pub mod Bits
 pub mod Laws
+pub mod Needed
 pub mod Opening
 pub mod Plan
+pub mod Refusal
 pub mod Run
 pub mod Steps
 pub mod Text

@@ -20,6 +20,10 @@ pub record Planned : Type 0 where
 abbrev pub model_of : DescData → ModelData
 model_of d = (first_world d []).model
 
+-- a model's chip and layout, without a flaw
+abbrev pub desc_of : ModelData → DescData
+desc_of m = record { chip = m.chip; layout = m.layout; flaws = [] }
+
 -- a session that opens with a description, or is refused by its last line
 abbrev pub opened_planned : Asked → Result DescData (List ℕ) → Planned
 opened_planned asked (Ok d) = record { text = plan_text (model_of d) asked; status = Passed }

@@ -1,8 +1,10 @@
 -- The text of a plan.
-use Rattle.std.specs.Prelude.{ℕ, zero, suc, ◌==◌, Bool, true, if◌then◌else◌, List, [], ◌++◌, length, flat_map, codes, Option}
+use Rattle.std.specs.Prelude.{ℕ, ◌==◌, Bool, true, false, if◌then◌else◌, List, [], ◌++◌, length, map, flat_map, codes, Option}
+use Rattle.std.specs.List.{list_any, range_with_len}
 use Rattle.rl_model.specs.declared.rows.Item.{Item}
 use Rattle.rl_model.specs.declared.rows.Item.TheVariants as item
 use Rattle.rl_model.specs.Chip.{path_of_item}
+use Rattle.rl_model.specs.Rows.{ChipData}
 use Rattle.rl_access.specs.declared.event.Op.{Op}
 use Rattle.rl_access.specs.declared.event.Op.TheVariants as op
 use Rattle.rl_access.specs.Model.{ModelData}
@@ -63,11 +65,6 @@ abbrev pub reg_text : ModelData → Asked → (reg : ℕ) → List ℕ
 reg_text m asked reg =
     block_text m (item.Reg reg) (purpose_of (sort_of m.chip (reg_target m asked reg))) (planned_for m asked reg)
 
--- of the first so many registers
-abbrev pub regs_text : ModelData → Asked → (regs : ℕ) → List ℕ
-regs_text m asked zero = []
-regs_text m asked (suc k) = regs_text m asked k ++ reg_text m asked k
-
 -- ---- a register and its other resets
 
 abbrev pub planned_further : ModelData → Asked → (reg : ℕ) → List Op
@@ -76,10 +73,6 @@ planned_further m asked reg = further_ops m.chip (reg_target m asked reg)
 -- nothing where no field has a value for one
 abbrev pub further_text : ModelData → Asked → (reg : ℕ) → List ℕ
 further_text m asked reg = some_block_text m (item.Reg reg) (codes "its other resets") (planned_further m asked reg)
-
-abbrev pub furthers_text : ModelData → Asked → (regs : ℕ) → List ℕ
-furthers_text m asked zero = []
-furthers_text m asked (suc k) = furthers_text m asked k ++ further_text m asked k
 
 -- ---- a memory
 
@@ -92,20 +85,47 @@ planned_in m mem = mem_ops m.chip mem (mem_ways m mem)
 abbrev pub mem_text : ModelData → (mem : ℕ) → List ℕ
 mem_text m mem = block_text m (item.Mem mem) (codes "its first and its last location at each place") (planned_in m mem)
 
-abbrev pub mems_text : ModelData → (mems : ℕ) → List ℕ
-mems_text m zero = []
-mems_text m (suc k) = mems_text m k ++ mem_text m k
+-- ---- items, which are registers and memories
 
--- the walk over all memories, where there are any
-abbrev pub walked_text : (mems : ℕ) → List ℕ
-walked_text mems =
-    if mems == 0 then [] else codes "# the memories: each location beside its neighbours\nseq mem-walk *\n"
+-- of a register its lines with the reset HARD
+abbrev pub first_part : ModelData → Asked → Item → List ℕ
+first_part m asked (item.Reg reg) = reg_text m asked reg
+first_part m asked (item.Mem mem) = []
+
+-- of a register those with its other resets
+abbrev pub further_part : ModelData → Asked → Item → List ℕ
+further_part m asked (item.Reg reg) = further_text m asked reg
+further_part m asked (item.Mem mem) = []
+
+-- of a memory its lines
+abbrev pub mem_part : ModelData → Item → List ℕ
+mem_part m (item.Reg reg) = []
+mem_part m (item.Mem mem) = mem_text m mem
+
+abbrev pub is_memory : Item → Bool
+is_memory (item.Reg reg) = false
+is_memory (item.Mem mem) = true
+
+-- the walk over all memories, where one of the items is a memory
+abbrev pub walked_text : List Item → List ℕ
+walked_text items =
+    if list_any is_memory items
+    then codes "# the memories: each location beside its neighbours\nseq mem-walk *\n"
+    else []
+
+-- The lines for some items: the registers; then those with further kinds of reset, which leave other registers' first
+-- values behind; the walk, and the memories.
+unfoldable pub lines_text : ModelData → Asked → List Item → List ℕ
+lines_text m asked items =
+    flat_map (first_part m asked) items ++ flat_map (further_part m asked) items
+    ++ walked_text items ++ flat_map (mem_part m) items
 
 -- ---- a chip
 
--- The registers; then those with further kinds of reset, which leave other registers' first values behind; the walk,
--- and the memories.
-unfoldable pub plan_text : ModelData → Asked → List ℕ
-plan_text m asked =
-    regs_text m asked (length m.chip.regs) ++ furthers_text m asked (length m.chip.regs)
-    ++ walked_text (length m.chip.mems) ++ mems_text m (length m.chip.mems)
+-- its registers, and its memories
+abbrev pub items_of : ChipData → List Item
+items_of c = map item.Reg (range_with_len 0 (length c.regs)) ++ map item.Mem (range_with_len 0 (length c.mems))
+
+-- the lines for all of them
+abbrev pub plan_text : ModelData → Asked → List ℕ
+plan_text m asked = lines_text m asked (items_of m.chip)

@@ -1,6 +1,6 @@
 // What the words of a call ask for.
 ghost use Rattle.std.specs.Prelude.{◌≡◌};
-ghost use Rattle.rl_plan.specs.Asked.{asked_by, uses_backdoor, way_named};
+ghost use Rattle.rl_plan.specs.Asked.{asked_by, one_named, two_named, uses_backdoor};
 
 /// By which ways a plan goes.
 #[derive(Clone, Copy, Debug, PartialEq, Eq)]
@@ -9,6 +9,15 @@ pub enum Asked {
     Both,
     /// By the bus alone, as over a link.
     Bus,
+}
+
+/// What is written, and by which ways its lines go.
+#[derive(Clone, Copy, Debug, PartialEq, Eq)]
+pub enum Wanted {
+    /// The plan of a description.
+    Plan(Asked),
+    /// Those of its lines that the session's script needs.
+    Added(Asked),
 }
 
 impl Asked {
@@ -23,24 +32,35 @@ impl Asked {
     }
 }
 
-fn way_named(word: &str) -> Option<Asked>
-    ensures { result ≡ way_named word.now }
+fn one_named(word: &str) -> Option<Wanted>
+    ensures { result ≡ one_named word.now }
 {
-    if word == "bus" {
-        Some(Asked::Bus)
+    match word {
+        "bus" => Some(Wanted::Plan(Asked::Bus)),
+        "add" => Some(Wanted::Added(Asked::Both)),
+        _ => None,
+    }
+}
+
+fn two_named(first: &str, second: &str) -> Option<Wanted>
+    ensures { result ≡ two_named first.now second.now }
+{
+    if first == "add" && second == "bus" {
+        Some(Wanted::Added(Asked::Bus))
     } else {
         None
     }
 }
 
-/// What the words ask for: nothing for a plan by all ways, `bus` for one by the bus alone; none where they ask for
-/// nothing known.
-pub fn asked_by(words: &[String]) -> Option<Asked>
+/// What the words ask for: nothing for a plan by all ways, `bus` for one by the bus alone; `add` for the lines that the
+/// script needs, by all ways, and `add bus` for those by the bus alone; none where they ask for nothing known.
+pub fn asked_by(words: &[String]) -> Option<Wanted>
     ensures { result ≡ asked_by words.now }
 {
     match words {
-        [] => Some(Asked::Both),
-        [word] => way_named(word.as_str()),
+        [] => Some(Wanted::Plan(Asked::Both)),
+        [word] => one_named(word.as_str()),
+        [first, second] => two_named(first.as_str(), second.as_str()),
         _ => None,
     }
 }

@@ -1,11 +1,10 @@
-// The plan of a chip.
+// The plan of a register or of a memory.
 ghost use Rattle.std.specs.Prelude.{◌≡◌, ◌++◌, ◌<◌, All, length, true, IfOk, OnOk};
 ghost use Rattle.rl_access.specs.Model.{IsModel};
 ghost use Rattle.rl_access.specs.Operation.{HasNumbers};
 ghost use Rattle.rl_model.specs.Chip.{HasItem};
-ghost use Rattle.rl_plan.specs.Text.{block_text, comment_text, further_text, furthers_text, is_planned, mem_text};
-ghost use Rattle.rl_plan.specs.Text.{mems_text, plan_text, planned_for, planned_further, planned_in, reg_target};
-ghost use Rattle.rl_plan.specs.Text.{reg_text, regs_text, some_block_text, walked_text};
+ghost use Rattle.rl_plan.specs.Text.{block_text, comment_text, further_text, is_planned, mem_text, planned_for};
+ghost use Rattle.rl_plan.specs.Text.{planned_further, planned_in, reg_target, reg_text, some_block_text};
 
 use crate::asked::Asked;
 use crate::memory::mem_ops;
@@ -40,7 +39,12 @@ fn reg_target(alloc: Global, model: &Model, asked: Asked, reg: u32) -> Result<Ta
 }
 
 // The operations for a register with the reset HARD.
-fn planned_for(alloc: Global, model: &Model, asked: Asked, reg: u32) -> Result<Vec<Op>, AllocError>
+pub(crate) fn planned_for(
+    alloc: Global,
+    model: &Model,
+    asked: Asked,
+    reg: u32,
+) -> Result<Vec<Op>, AllocError>
     requires { reg < length model.now.chip.regs }
     ensures exact { IfOk result (λ ops. ops.items ≡ planned_for model.now asked reg) }
     ensures sound { IsModel model.now }
@@ -51,7 +55,7 @@ fn planned_for(alloc: Global, model: &Model, asked: Asked, reg: u32) -> Result<V
 }
 
 // The operations for a register with its other resets.
-fn planned_further(
+pub(crate) fn planned_further(
     alloc: Global,
     model: &Model,
     asked: Asked,
@@ -66,7 +70,7 @@ fn planned_further(
 }
 
 // The operations for a memory.
-fn planned_in(alloc: Global, model: &Model, mem: u32) -> Result<Vec<Op>, AllocError>
+pub(crate) fn planned_in(alloc: Global, model: &Model, mem: u32) -> Result<Vec<Op>, AllocError>
     requires { mem < length model.now.chip.mems }
     ensures exact { IfOk result (λ ops. ops.items ≡ planned_in model.now mem) }
     ensures sound { IsModel model.now }
@@ -157,67 +161,4 @@ pub fn push_mem(
     let ops = planned_in(alloc, model, mem)?;
     let purpose = b"its first and its last location at each place";
     push_block(text, model, Item::Mem(mem), purpose, &ops)
-}
-
-fn push_regs(
-    alloc: Global,
-    text: &mut Vec<u8>,
-    model: &Model,
-    asked: Asked,
-) -> Result<(), AllocError>
-    ensures { OnOk result
-        (text.new.items ≡ text.old.items ++ regs_text model.now asked (length model.now.chip.regs)) }
-{
-    for reg in 0..model.chip().regs() {
-        push_reg(alloc, text, model, asked, reg)?;
-    }
-    Ok(())
-}
-
-fn push_furthers(
-    alloc: Global,
-    text: &mut Vec<u8>,
-    model: &Model,
-    asked: Asked,
-) -> Result<(), AllocError>
-    ensures { OnOk result
-        (text.new.items ≡ text.old.items ++ furthers_text model.now asked (length model.now.chip.regs)) }
-{
-    for reg in 0..model.chip().regs() {
-        push_further(alloc, text, model, asked, reg)?;
-    }
-    Ok(())
-}
-
-fn push_mems(alloc: Global, text: &mut Vec<u8>, model: &Model) -> Result<(), AllocError>
-    ensures { OnOk result (text.new.items ≡ text.old.items ++ mems_text model.now (length model.now.chip.mems)) }
-{
-    for mem in 0..model.chip().mems() {
-        push_mem(alloc, text, model, mem)?;
-    }
-    Ok(())
-}
-
-// Appends the walk over the memories, where there are any.
-fn push_walk(text: &mut Vec<u8>, mems: u32) -> Result<(), AllocError>
-    ensures { OnOk result (text.new.items ≡ text.old.items ++ walked_text mems) }
-{
-    if mems == 0 {
-        return Ok(());
-    }
-    text.extend_from_slice(b"# the memories: each location beside its neighbours\nseq mem-walk *\n")
-}
-
-/// The plan of a model's chip: its registers in order, those with further kinds of reset again, a walk over its
-/// memories, and its memories in order.
-#[tactic(auto, unfolding(crate::specs::Text::plan_text))]
-pub fn plan_text(alloc: Global, model: &Model, asked: Asked) -> Result<Vec<u8>, AllocError>
-    ensures { IfOk result (λ text. text.items ≡ plan_text model.now asked) }
-{
-    let mut text = Vec::new(alloc);
-    push_regs(alloc, &mut text, model, asked)?;
-    push_furthers(alloc, &mut text, model, asked)?;
-    push_walk(&mut text, model.chip().mems())?;
-    push_mems(alloc, &mut text, model)?;
-    Ok(text)
 }

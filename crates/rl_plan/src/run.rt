@@ -7,7 +7,7 @@ ghost use Rattle.rl_plan.specs.Run.{TellsPlan, model_of, planned_of, status_of};
 ghost use Rattle.rl_plan.specs.Text.{plan_text};
 
 use crate::asked::Asked;
-use crate::plan::plan_text;
+use crate::lines::plan_text;
 use crate::refusal::Unflawed;
 use rl_bus::{Adapter, Adapters};
 use rl_desc::Desc;
@@ -32,7 +32,7 @@ fn text_of(alloc: Global, asked: Asked, desc: Desc) -> Option<Vec<u8>>
 }
 
 // How a plan ends that was written, or a front of it.
-fn status_of(written: Result<(), Failed>) -> Status
+pub(crate) fn status_of(written: Result<(), Failed>) -> Status
     ensures { result ≡ status_of written }
 {
     match written {

@@ -1,4 +1,5 @@
 use Rattle.rl_session_run.proofs.StaysLemmas.{earlier_kept, ended_behind, kept_behind, open_ended}
+use Rattle.rl_plan.specs.Run.{planned_of}
 use Rattle.rl_plan.proofs.SessionLemmas.{leaves_planned, no_later, session_ended, session_planned, session_stopped}
 use Rattle.rl_plan.proofs.run.run_plan.Goals as goal
 
@@ -6,7 +7,7 @@ pub returns-in-Err-clause-tells : goal.returns-in-Err-clause-tells
 returns-in-Err-clause-tells g c =
     let e = c.in-Err.ensures in
     let f = c.end_log.ensures in
-    session_ended _ c.args.asked _ _ _ _ _ _ f.kept (earlier_kept _ _ _ e.leaves.stays.earlier f.told) f.told
+    session_ended _ (planned_of c.args.asked _) _ _ _ _ _ f.kept (earlier_kept _ _ _ e.leaves.stays.earlier f.told) f.told
     (session_stopped _ c.args.asked _ _ _ _ e.stops)
 
 pub returns-in-Err-clause-leaves : goal.returns-in-Err-clause-leaves
@@ -20,7 +21,7 @@ returns-clause-tells g c =
     let p = c.put_plan-told.ensures in
     let f = c.end_log-2.ensures in
     let leaves = leaves_planned g.K.Sink _ _ _ _ _ e.source_later p.cause p.stays in
-    session_ended _ c.args.asked _ _ _ _ _ _ f.kept (kept_behind g.K.Sink _ _ _ _ _ _ _ e.unwritten leaves f.told) f.told
+    session_ended _ (planned_of c.args.asked _) _ _ _ _ _ f.kept (kept_behind g.K.Sink _ _ _ _ _ _ _ e.unwritten leaves f.told) f.told
     (session_planned g.K.Sink.written _ c.args.asked _ _ _ _ _ _ _ _ e.opens e.unwritten p.tells)
 
 pub returns-clause-leaves : goal.returns-clause-leaves

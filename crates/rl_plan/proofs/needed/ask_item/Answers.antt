@@ -1,0 +1,12 @@
+use Rattle.std.proofs.Common.{ap, ◌∙◌}
+use Rattle.rl_desc.specs.Data.{DescData}
+use Rattle.rl_plan.specs.Needed.{places_of}
+use Rattle.rl_plan.proofs.NeedLemmas.{needed_by}
+use Rattle.rl_plan.proofs.needed.ask_item.Goals as goal
+
+pub returns-clause-finds : goal.returns-clause-finds
+returns-clause-finds c =
+    needed_by _ c.args.desc _ c.args.asked c.args.script.now.items _ c.args.item _ c.in_ok-desc.ensures.desc
+    (c.deref.ensures.value ∙ c.in_ok-desc.ensures.tasks)
+    (c.deref-2.ensures.value ∙ c.in_ok-places.ensures.places ∙ ap (λ (d : DescData). places_of d.chip c.args.item) c.desc.view_is)
+    c.in_ok-answer.ensures.finds
