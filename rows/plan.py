@@ -7,6 +7,11 @@ Each flaw that the grade doesn't find, missed or hidden, must be one that no ord
 lets through, which is tried bit by bit over each state that model and device can come to. A description that is refused is refused in the words of
 PROGRAM, and one with flaws of its own for these.
 
+The word `add` is tried with the plan as the script, to which it adds nothing; with the plan without the lines of every other
+register and memory, to which it adds lines of some of these; with no script; and with the scripts of the tree. With the lines
+that it adds behind it a script misses nothing but what the plan misses, and by the bus alone flaws of fields that have no
+value for HARD, and so keep what the script made of them.
+
 With COUNT so many drawn descriptions are certified and no other. With a trial (TRIAL in the environment) some are, and the
 others skipped. The last line is `N passed, M failed, K skipped`; above it stand the kinds of the flaws that were missed.
 Python 3.11 or later and its standard library.
@@ -25,6 +30,7 @@ import grades
 from grade import POLICIES, SEPARATOR, WRITE_ONLY, left, number, path, reset_kinds, resets_of, written
 
 MOST_LINES, DRAWN, MOST_ON_TRIAL = 40, 20, 24
+NOTHING = "# nothing to add\n"
 BAD = re.compile(r": refused | differ(?: |$)|: bus error at ")
 FLAW = re.compile(rb"^\[\[flaw\]\][^\[]*", re.M)
 
@@ -113,6 +119,15 @@ class Chip:
     def shows(self, item, field, bits):
         return self.is_compared(field) and any(can_show(bit, self.operations(item)) for bit in bits)
 
+    def field_of(self, name):
+        """The path of a field's register, and the field."""
+        item, _, last = name.rpartition(".")
+        return item, next(it for it in self.items[item]["field"] if it["name"] == last)
+
+    def keeps(self, name):
+        """Whether it is a field without a value for HARD, which keeps what a script made of it."""
+        return name not in self.items and "HARD" not in resets_of(self.field_of(name)[1])
+
     def is_deaf_shown(self, item):
         it = self.items[item]
         if item not in self.regs:
@@ -126,8 +141,7 @@ class Chip:
             if sort == "deaf":
                 return self.is_deaf_shown(name)
             return not (sort.startswith("address") and self.items[name].get("access", "rw") == "ro" and self.rights[name] == {"w"})
-        item, _, last = name.rpartition(".")
-        field = next(it for it in self.items[item]["field"] if it["name"] == last)
+        item, field = self.field_of(name)
         if sort == "policy":
             # Of these two a write must come first that spoils the other's, where no reset brings the bit back.
             if {field["policy"], what} == {"WS", "W1S"} and "HARD" not in resets_of(field) and ("poke", 0) not in self.operations(item):
@@ -162,7 +176,46 @@ def long_blocks(plan):
     return [it.split(":")[0] for it in blocks if it.count("\n") - 1 > MOST_LINES]
 
 
-def certify(programs, description, bus):
+def blocks_of(plan):
+    """The blocks of a plan: the path that each is of, or none of the walk, and its lines."""
+    found = re.split(r"^(?=# )", plan if plan != NOTHING else "", flags=re.M)[1:]
+    return [(None if it.startswith("# the memories: ") else it[2:].split(":")[0], it) for it in found]
+
+
+def add_to(programs, description, script, bus):
+    """The lines that a script needs, as standard output has them; and what it doesn't find with these, as places and flaws."""
+    plan, grade, program = programs
+    status, text, said = call(plan, description + b"---\n" + script.encode(), "add", *(("bus",) if bus else ()))
+    if status or said:
+        raise ValueError(f"add: status {status}: {text[:80]}{said[:80]}")
+    session = description + b"---\n" + script.encode() + text.encode()
+    status, log, _ = call(program, session, "run")
+    status_of_grade, graded, _ = call(grade, session, "run")
+    if status > 1 or status_of_grade:
+        raise ValueError(f"with the lines added: {(log.splitlines() or [''])[-1][:100]}, {status_of_grade}")
+    return text, {it for it in unfound_in(graded) if it[0] != "session"}
+
+
+def adds(programs, description, plan, missed, scripts, chip):
+    """What is wrong with the lines that are added to the plan, to a half of it and to other scripts, or none."""
+    bus = chip.bus
+    if add_to(programs, description, plan, bus)[0] != NOTHING:
+        return "the plan needs lines"
+    blocks = blocks_of(plan)
+    left_out = {it for at, it in enumerate(dict.fromkeys(name for name, _ in blocks if name)) if at % 2 == 0}
+    kept = [it for name, it in blocks if name is not None and name not in left_out]
+    text, rest = add_to(programs, description, "".join(kept), bus)
+    added = {name for name, _ in blocks_of(text)}
+    want = "".join(it for name, it in blocks if name in added)
+    if text != (want or NOTHING) or not added <= left_out | {None}:
+        return f"added to a half: {sorted(map(str, added))}"
+    rest |= add_to(programs, description, "", bus)[1]
+    for script in scripts:
+        rest |= {it for it in add_to(programs, description, script, bus)[1] if not (bus and chip.keeps(it[0]))}
+    return f"missed with the lines added: {sorted(rest - missed)[:3]}" if rest - missed else None
+
+
+def certify(programs, description, bus, scripts):
     """What is wrong with the plan of a description, or none; and the sorts of flaws that aren't found with their number."""
     plan, grade, program = programs
     words = ("bus",) if bus else ()
@@ -182,7 +235,11 @@ def certify(programs, description, bus):
     if status:
         return f"grade ends with {status}", {}
     chip, sorts = Chip(described, bus), collections.Counter()
-    for name, sort, what in unfound_in(graded):
+    missed = set(unfound_in(graded))
+    wrong = adds(programs, description, text, missed, scripts, chip)
+    if wrong:
+        return wrong, {}
+    for name, sort, what in missed:
         if name != "session" and sort == "policy" and what == next(
                 (it["policy"] for it in chip.items[name.rpartition(".")[0]]["field"] if it["name"] == name.rpartition(".")[2]), ""):
             continue
@@ -247,20 +304,23 @@ def drawn(seed):
 
 
 def tree():
-    """Each description of the tree once, and each session that is refused or has flaws of its own."""
+    """Each description of the tree once: its name, a session that is refused or has flaws of its own, and its scripts."""
     files = glob.glob(f"{TOP}/examples/**/*.regrun", recursive=True) + glob.glob(f"{TOP}/crates/test_rows/data/rows/*.session")
     seen = {}
     for file in sorted(files):
         given = open(file, "rb").read()
         found = SEPARATOR.search(given)
         description = given[:found.end() - len(found[0].lstrip(b"\n"))] if found else given
-        seen.setdefault(description, (os.path.basename(file), given if found is None else description + b"---\n"))
+        session = given if found is None else description + b"---\n"
+        seen.setdefault(description, (os.path.basename(file), session, []))
+        if found:
+            seen[description][2].append(given[found.end():])
     return seen
 
 
 def answers(program):
     """What is wrong with the answers to other words and to a full disk, or none."""
-    for words in (("walk",), ("run",), ("bus", "bus"), ("",)):
+    for words in (("walk",), ("run",), ("bus", "bus"), ("bus", "add"), ("add", "add"), ("add", "bus", "bus"), ("",)):
         status, text, said = call(program, b"---\n", *words)
         if (status, text, said.count("\n")) != (6, "", 1) or not said.startswith("regrun-plan: "):
             return f"{words}: {status} {text}{said}"
@@ -271,28 +331,38 @@ def answers(program):
 
 def check(task):
     """One check by its name: what is wrong, and what was missed."""
-    programs, name, kind, given = task
+    programs, name, kind, given, scripts = task
     try:
         if kind in ("both", "bus"):
-            return name, *certify(programs, given, kind == "bus")
+            return name, *certify(programs, given, kind == "bus", scripts)
         return name, answers(programs[0]) if kind == "words" else refuses(programs, given), {}
     except Exception as error:
         return name, f"{type(error).__name__}: {error}", {}
 
 
+def runs(programs, description, script):
+    """Whether PROGRAM runs a script to its end. Where it refuses a line, so does `add`, in its words."""
+    session = description + b"---\n" + script
+    status, log, _ = call(programs[2], session, "run")
+    if status == 2 and call(programs[0], session, "add")[:2] != (2, log.rstrip("\n").split("\n")[-1] + "\n"):
+        raise ValueError(f"a script that is refused by: {log.rstrip().splitlines()[-1]}")
+    return status != 2
+
+
 def tasks(programs, count):
-    """Each check: the programs, its name, its kind, and a session or a description."""
+    """Each check: the programs, its name, its kind, a session or a description, and scripts."""
     ways = ("both", "bus")
     if count is None:
-        yield programs, "words", "words", b""
-        for description, (name, session) in tree().items():
+        yield programs, "words", "words", b"", []
+        for description, (name, session, scripts) in tree().items():
             bare = FLAW.sub(b"", description)
             if call(programs[0], session)[0] == 2:
-                yield programs, f"{name}, refused", "refused", session
+                yield programs, f"{name}, refused", "refused", session, []
             if call(programs[0], bare + b"---\n")[0] == 0:
-                yield from ((programs, f"{name}, {way}", way, bare) for way in ways)
+                fit = [it.decode().rstrip("\n") + "\n" for it in scripts if runs(programs, bare, it)]
+                yield from ((programs, f"{name}, {way}", way, bare, fit) for way in ways)
     for seed in range(DRAWN if count is None else count):
-        yield from ((programs, f"drawn {seed}, {way}", way, drawn(seed)) for way in ways)
+        yield from ((programs, f"drawn {seed}, {way}", way, drawn(seed), []) for way in ways)
 
 
 def main():
