@@ -21,7 +21,9 @@ use rl_access::Model;
 use rl_bench::Bench;
 use rl_bus::{Adapter, Adapters};
 use rl_desc::Desc;
-use rl_grade::{Known, Meter, Place, Shown, Task, grade_place_known, grade_together, read_script, show};
+use rl_grade::{
+    Known, Meter, Place, Shown, Task, grade_place_known, grade_together, read_script, show,
+};
 use rl_log::Status;
 use rl_report::{LineReader, Sink, Source};
 use rl_session::open;

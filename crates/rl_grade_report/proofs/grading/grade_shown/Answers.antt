@@ -14,15 +14,6 @@ returns-in_default-clause-bytes g c = record { whole = tt; part = front_none _ _
 pub returns-in_default-grade_together-clause-bytes : goal.returns-in_default-grade_together-clause-bytes
 returns-in_default-grade_together-clause-bytes g c = record { whole = tt; part = front_none _ _ _ (Keeps-refl _) }
 
-pub grade_places-done-requires-clause-built_with : goal.grade_places-done-requires-clause-built_with
-grade_places-done-requires-clause-built_with g c = rw c.in-Ok-grade_together.ensures.desc c.requires.built_with
-
-pub grade_places-done-requires-clause-kinds : goal.grade_places-done-requires-clause-kinds
-grade_places-done-requires-clause-kinds g c = rw c.in-Ok-grade_together.ensures.desc c.requires.kinds
-
-pub grade_places-done-requires-clause-fits : goal.grade_places-done-requires-clause-fits
-grade_places-done-requires-clause-fits g c = rw c.in-Ok-grade_together.ensures.desc c.requires.fits
-
 pub returns-in_err-put_head-clause-bytes : goal.returns-in_err-put_head-clause-bytes
 returns-in_err-put_head-clause-bytes g c =
     let base = base_shown c.args.tasks.now c.args.shown.now in
