@@ -40,7 +40,7 @@ fn nth_word(line: &[u8], place: usize) -> Option<&[u8]>
     line.split(|byte| *byte == b' ').nth(place)
 }
 
-// The same word, empty where there is none.
+// That word, empty where there is none.
 fn word_at(line: &[u8], place: usize) -> &[u8]
     ensures { result.now ≡ word_at place line.now }
 {

@@ -31,7 +31,7 @@ is_planned o = is_on_memory o
 abbrev pub op_line : ModelData → Op → List ℕ
 op_line m o = op_text m o ++ codes "\n"
 
--- the same in pieces: a command, its item, its numbers, and its map
+-- that line in pieces: a command, its item, its numbers, and its map
 abbrev pub item_text : ModelData → (command : List ℕ) → Item → (numbers : List ℕ) → Option ℕ → List ℕ
 item_text m command item numbers map =
     command ++ codes " " ++ path_of_item m.chip item ++ flat_map number_text numbers
@@ -44,7 +44,7 @@ comment_text path purpose = codes "# " ++ path ++ codes ": " ++ purpose ++ codes
 abbrev pub block_text : ModelData → Item → (purpose : List ℕ) → List Op → List ℕ
 block_text m item purpose ops = comment_text (path_of_item m.chip item) purpose ++ flat_map (op_line m) ops
 
--- the same, where there are operations
+-- such a block, where there are operations
 abbrev pub some_block_text : ModelData → Item → (purpose : List ℕ) → List Op → List ℕ
 some_block_text m item purpose ops = if length ops == 0 then [] else block_text m item purpose ops
 

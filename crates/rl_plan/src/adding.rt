@@ -90,7 +90,7 @@ fn put_needed<K: Sink>(
     }
 }
 
-// Writes what is left of a session behind its head needs.
+// Writes what the script needs, which is left of a session behind its head.
 fn put_script<S: Source, K: Sink>(
     alloc: Global,
     asked: Asked,
