@@ -11,9 +11,10 @@ Runs the session (a description without flaws, `---`, a script) on the program w
     item     the first and the last bus item of the session
 
 A flaw is found where some event of the session with it has a difference or a bus error that the same event without it
-hasn't. Of the others those are hidden which change no event of any script, as `is_hidden` of rl_grade says; the rest is
-missed. `run` prints a line for each register, field and memory, and one for the items, with the counts of each and with
-the flaws that aren't found, and a last line with the totals; `missed` and `hidden` print those as rows of a description.
+hasn't. Of the others those are hidden which no script finds, as `is_hidden` of rl_grade says: they change no event of any
+script, or only what no check compares. The rest is missed. `run` prints a line for each register, field and memory, and one
+for the items, with the counts of each and with the flaws that aren't found, and a last line with the totals; `missed` and
+`hidden` print those as rows of a description.
 
 Flaws of different registers don't meet: neither changes what the device or the model has of the other's register, or how
 many events there are. So one run has up to 256 flaws, one a register, and each is found by the events of its own register;
@@ -203,8 +204,13 @@ def is_fixed(ways, bit, first):
     return not ways.backdoor and bit.stuck in (None, first) and (writes or not ways.written) and (reads or not ways.read)
 
 
+def is_compared(field):
+    """Whether a check compares the field."""
+    return field.get("compare", not field.get("volatile", False)) and field["policy"] not in WRITE_ONLY
+
+
 class Hidden:
-    """Which flaws of a chip change no event of any script, by the definitions of crates/rl_grade/specs/Hidden.antt."""
+    """Which flaws of a chip no script finds, by the definitions of Hidden.antt and Unchecked.antt in crates/rl_grade/specs."""
 
     def __init__(self, chip):
         self.items = {path(it): it for it in chip.get("reg", []) + chip.get("mem", [])}
@@ -223,9 +229,19 @@ class Hidden:
             and all(value >> it & 1 == resets.get("HARD", 0) >> it & 1 for value in resets.values()))
             for it in (range(number(field["width"])) if at is None else [at]))
 
+    def is_unchecked(self, flaw):
+        """Whether no check compares a field of the register that is volatile, or that the flaw could change."""
+        return not any(is_compared(it) and (
+            flaw.kind == "deaf" or it.get("volatile", False) or flaw.where == "{}.{}".format(flaw.item, it["name"]))
+            for it in self.items[flaw.item].get("field", []))
+
     def has(self, flaw):
         if flaw.kind in ("address", "item"):
             return False
+        return flaw.item not in self.mems and self.is_unchecked(flaw) or self.is_silent(flaw)
+
+    def is_silent(self, flaw):
+        """Whether it changes no event of any script."""
         fields = self.items[flaw.item].get("field", [])
         if flaw.kind == "deaf":
             if flaw.item in self.mems:

@@ -1,9 +1,10 @@
 #!/usr/bin/env bash
 # grade.sh GRADE PROGRAM: what regrun_grade does. The grades of two examples; the grades and the flaws that aren't found of
 # further sessions beside those of bench/grade.py, which runs the other program once for each flaw; shares that add up to the
-# whole, and how others are refused; the lines that find flaws, by scripts that are cut off; the object in JSON beside the other
-# texts; bounds; refusals and wrong words with their statuses; rows of missed flaws, with each of which a session shows nothing
-# new; and rows of hidden ones, with each of which the log is the same.
+# whole, and how others are refused; flaws that are waived, and how files of them are refused; the lines that find flaws, by
+# scripts that are cut off; the object in JSON beside the other texts; bounds; refusals and wrong words with their statuses; rows
+# of missed flaws and of hidden ones, with each of which a session shows nothing new; and rows of hidden ones with each of which
+# the log is the same.
 set -u
 grade=$(realpath "$1")
 program=$(realpath "$2")
@@ -168,10 +169,53 @@ assert told["at_least"] == 50 and told["passed"] == (found * 100 >= 50 * (flaws 
 JSON
 }
 
-# passes STATUS SESSION WORDS..: the status of a grading with a bound, which doesn't change what is told.
+# waives SESSION FILE: with this file of waivers the found rows stay, the others that stand in the file are waived, and all counts
+# are those of the rows.
+waives() {
+    python3 - "$grade" "$1" "$2" << 'WAIVE'
+import json, re, subprocess, sys
+grade, session, file = sys.argv[1:]
+def told(*words):
+    with open(session) as it:
+        return subprocess.run([grade, *words], stdin=it, capture_output=True, text=True).stdout
+def rows(text):
+    return re.findall(r"\[\[flaw\]\]\n(?:\w.*\n)+", text)
+known = rows(open(file).read() + "\n")
+before = {word: rows(told(word)) for word in ("found", "missed", "hidden")}
+after = {word: rows(told(word, "waive", file)) for word in ("found", "missed", "hidden", "waived")}
+assert after["found"] == before["found"]
+for word in ("missed", "hidden"):
+    assert after[word] == [row for row in before[word] if row not in known], word
+assert sorted(after["waived"]) == sorted(row for row in known if row not in before["found"])
+count = {word: len(each) for word, each in after.items()}
+count["needless"] = len(known) - count["waived"]
+flaws, can = sum(map(len, after.values())), count["found"] + count["missed"]
+share = lambda of: f"{count['found'] * 1000 // of / 10:.1f}"
+want = f"end: {flaws} flaws, {count['found']} found, {count['missed']} missed"
+for word, name in ("hidden", "hidden"), ("waived", "waived"), ("needless", "needless waivers"):
+    want += f", {count[word]} {name}" if count[word] else ""
+want += f", {share(flaws)} % found" + (f", {share(can)} % of those that can be found" if 0 < can < flaws else "")
+assert told("run", "waive", file).splitlines()[-1] == want, want
+object = json.loads(told("json", "waive", file))
+assert {word: object.get(word, 0) for word in count} == count
+assert object["percent_findable"] == (float(share(can)) if can else None)
+for word in "found", "missed", "hidden", "waived":
+    assert sum(kind.get(word, 0) for kind in object["by_kind"].values()) == count[word], word
+WAIVE
+}
+
+# shares_waive SESSION FILE: shares with this file of waivers add up to the whole, and one without isn't of the same grading.
+shares_waive() {
+    local k
+    for k in 1 2 3; do "$grade" run "$k/3" waive "$2" < "$1" > "waived$k" || return; done
+    cat waived? | sums 0 "$("$grade" run waive "$2" < "$1" | tail -n 1)" || return
+    "$grade" run 2/3 < "$1" | cat waived1 - waived3 | sums 2 'refused shares: share 2/3 is of another grading'
+}
+
+# passes STATUS SESSION WORD at-least P [WORDS..]: the status of a grading with a bound, which doesn't change what is told.
 passes() {
     "$grade" "${@:3}" < "$2" > out
-    [ $? = "$1" ] && "$grade" "$3" < "$2" | cmp out -
+    [ $? = "$1" ] && "$grade" "$3" "${@:6}" < "$2" | cmp out -
 }
 
 # refuses STATUS LINE SESSION WORDS..: what is written in place of a grade, and nothing else is said but where that is.
@@ -186,11 +230,17 @@ asks() {
     [ $? = 6 ] && [ ! -s out ] && [ "$(wc -l < messages)" = 1 ] && grep -q '^regrun-grade: ' messages
 }
 
-# shows_nothing WORD SESSION: with each missed flaw alone, the program's log ends as without it; with each hidden one it is the
-# same.
+# tells SESSION LINES..: a grading has each of these lines.
+tells() {
+    local line
+    "$grade" run < "$1" > out
+    for line in "${@:2}"; do grep -qxF "$line" out || { echo "$line"; return 1; }; done
+}
+
+# shows_nothing WORD SESSION LINES: with each missed or hidden flaw alone, the program's log has the same last line as without
+# it; with +1 for LINES all lines are the same.
 shows_nothing() {
-    local row lines=1 count=0
-    [ "$1" = missed ] || lines=+1
+    local row lines=$3 count=0
     "$program" run < "$2" | tail -n "$lines" > end
     rm -f row*
     "$grade" "$1" < "$2" | awk '/^\[\[flaw\]\]/ { n++ } { print > ("row" n) }' || return
@@ -214,6 +264,61 @@ large=("$rows"/{bit-bash-without-flaw,bursts,byte-map-in-word-map,session-over-t
 # The UART where nothing reads what is to be sent, so that its flaws are hidden.
 sed -e '/^name = "txd"/a backdoor = false' -e '/^item = "uart.txd"/a rights = "wo"' "$top/examples/uart.regrun" > unread.regrun
 large+=("$PWD/unread.regrun")
+# Two registers with a field that no check compares. Beside one of them hardware changes a field that is compared, so that an
+# update which is needed by one belief and not by another tells of the first field too.
+cat > unchecked.regrun << 'SESSION'
+[[reg]]
+name = "ctrl"
+bytes = 1
+[[reg.field]]
+name = "hint"
+lsb = 0
+width = 4
+policy = "RW"
+reset = 0
+compare = false
+[[reg.field]]
+name = "mode"
+lsb = 4
+width = 4
+policy = "RW"
+reset = 0
+[[reg]]
+name = "stat"
+bytes = 1
+[[reg.field]]
+name = "note"
+lsb = 0
+width = 4
+policy = "RW"
+reset = 0
+compare = false
+[[reg.field]]
+name = "seen"
+lsb = 4
+width = 1
+policy = "RW"
+reset = 0
+volatile = true
+compare = true
+[[map]]
+name = "bus"
+bytes = 1
+[[place]]
+map = "bus"
+item = "ctrl"
+[[place]]
+map = "bus"
+item = "stat"
+offset = 1
+---
+read stat
+set stat.note 1
+hw stat.seen 1
+update stat
+check stat
+SESSION
+small+=("$PWD/unchecked.regrun")
 [ -z "$alone" ] || small+=("${large[@]}")
 [ -n "$alone" ] || skipped=$((3 * ${#large[@]}))
 if python3 -c 'import tomllib' 2> /dev/null; then
@@ -233,6 +338,10 @@ judge 'hidden flaws' ends_with unread.regrun \
     'session: item 2 found 0 missed' \
     'end: 173 flaws, 94 found, 38 missed, 41 hidden, 54.3 % found, 71.2 % of those that can be found'
 
+judge 'fields that no check compares' tells unchecked.regrun \
+    'ctrl.hint: stuck 0 found 0 missed 8 hidden, reset 0 found 0 missed 4 hidden, policy 0 found 0 missed 24 hidden; hidden: stuck at 0 bit 0-3, stuck at 1 bit 0-3, reset HARD bit 0-3, policy all 24' \
+    'stat.note: stuck 1 found 7 missed, reset 1 found 3 missed, policy 0 found 24 missed; missed: stuck at 0 bit 0-3, stuck at 1 bit 1-3, reset HARD bit 1-3, policy all 24'
+
 judge 'shares of uart' adds run "$top/examples/uart.regrun"
 judge 'shares of hidden flaws' adds run unread.regrun
 judge 'shares of uart, lines' adds lines "$top/examples/uart.regrun"
@@ -250,8 +359,8 @@ most=18446744073709551615
 for k in 1 2; do printf '# share %s/2 of session 0x1\nend: %s flaws, %s found, 0 missed, 100.0 %% found\n' $k $most $most; done > most
 printf '# share %s/%s of session 0xffffffffffffffff\nend: 0 flaws, 0 found, 0 missed\n' $most $most > last
 all='share1 share2 share3 share4' total=$(tail -n 1 whole)
-judge 'enough in all' of_these 0 "$total" "$all" at-least 54
-judge 'too few in all' of_these 8 "$total" "$all" at-least 55
+judge 'enough in all' of_these 0 "$total" "$all" at-least 71
+judge 'too few in all' of_these 8 "$total" "$all" at-least 72
 judge 'sums that have come to their end' of_these 0 "end: $most flaws, $most found, 0 missed, 100.0 % found" most
 judge 'a last line without its end' of_these 0 "$total" 'share1 share2 share3 short'
 judge 'no share' of_these 2 'refused shares: there is none' /dev/null
@@ -282,13 +391,43 @@ if python3 -c 'import tomllib' 2> /dev/null; then
     done
 fi
 uart=$top/examples/uart.regrun
-judge 'enough are found' passes 0 "$uart" run at-least 54
-judge 'too few are found' passes 8 "$uart" run at-least 55
-judge 'too few are found, as rows' passes 8 "$uart" missed at-least 55
+judge 'enough are found' passes 0 "$uart" run at-least 71
+judge 'too few are found' passes 8 "$uart" run at-least 72
+judge 'too few are found, as rows' passes 8 "$uart" missed at-least 72
 judge 'all are asked for' passes 8 "$uart" found at-least 100
 judge 'none is asked for' passes 0 "$uart" lines at-least 0
 judge 'enough of those that can be found' passes 0 unread.regrun run at-least 71
 judge 'too few of those that can be found' passes 8 unread.regrun run at-least 72
+
+# Flaws that are waived: each third row that is missed or hidden, each fifth that is found, with comments and blank lines, and
+# no end of the last line.
+for name in uart unread; do
+    session=$top/examples/$name.regrun
+    [ -e "$session" ] || session=$name.regrun
+    for word in missed hidden found; do "$grade" "$word" < "$session" | grep -v '^#'; done |
+        awk '/^\[\[flaw\]\]/ { n++ } n % 3 == 0 || n % 5 == 0 { if (/^\[\[flaw\]\]/ && n % 15 == 0) print "\n# known"; print }' |
+        head -c -1 > "$name.waived"
+    judge "$name, waived flaws" waives "$session" "$name.waived"
+    judge "$name, shares with waived flaws" shares_waive "$session" "$name.waived"
+done
+"$grade" missed < "$uart" > all.waived
+judge 'all that is missed is waived' passes 0 "$uart" run at-least 100 waive all.waived
+judge 'enough with waivers' passes 0 "$uart" run at-least 81 waive uart.waived
+judge 'too few with waivers' passes 8 "$uart" run at-least 82 waive uart.waived
+judge 'an empty file of waivers' grades 'run waive /dev/null' "$uart" "$top/examples/uart.grade"
+{ cat all.waived && head -n 4 all.waived; } > twice.waived
+sed '0,/^policy/s/^policy = /policy=/' all.waived > blank.waived
+printf '# known\n\n[[flaw]]\nkind = "error-nth"\nnth = 1\nfield = "a"\n' > key.waived
+printf '# known\n\n[[flaw]]\nkind = "error-nth"\nnth = 3\n' > item.waived
+{ head -n 8 all.waived && printf '\nkind = "deaf"\n'; } > stray.waived
+printf '[[flaw]]\r\nkind = "error-nth"\r\nnth = 1\r\n' > ends.waived
+unknown='no flaw of this session is written so'
+judge 'a flaw that is waived twice' refuses 2 "refused waivers: line $(($(wc -l < all.waived) + 1)): this flaw is waived before" "$uart" run waive twice.waived
+judge 'another blank in a waiver' refuses 2 "refused waivers: line 1: $unknown" "$uart" json waive blank.waived
+judge 'a key too many in a waiver' refuses 2 "refused waivers: line 3: $unknown" "$uart" missed waive key.waived
+judge 'an item that is neither the first nor the last' refuses 2 "refused waivers: line 3: $unknown" "$uart" run 1/2 waive item.waived
+judge 'a line of no row' refuses 2 "refused waivers: line 10: $unknown" "$uart" run at-least 10 waive stray.waived
+judge 'other ends of lines' refuses 2 "refused waivers: line 1: $unknown" "$uart" lines waive ends.waived
 
 printf -- '---\nread\n' > line
 sed 's/^---$/---\nread/' "$top/examples/uart.regrun" > late
@@ -311,6 +450,10 @@ judge 'another word behind add' asks add run
 judge 'a bound without its number behind add' asks add at-least
 judge 'a word behind the bound of add' asks add at-least 90 1/3
 judge 'a bound of add above 100' asks add at-least 101
+judge 'waivers without their file' asks run waive
+judge 'waivers before a bound' asks run waive all.waived at-least 90
+judge 'waivers of shares' asks add waive all.waived
+judge 'waivers behind no word' asks waive all.waived
 for bound in 101 -1 0x10 x 9.5 '' 18446744073709551616; do
     judge "the bound $bound" asks run at-least "$bound"
 done
@@ -329,13 +472,16 @@ fails() {
     "${@:2}" > out 2> messages
     [ $? = "$1" ] && [ ! -s out ]
 }
+judge 'waivers that are not there' fails 3 "$grade" run waive no.waived
+judge 'waivers that can not be read' fails 3 "$grade" run waive "$room"
 judge 'shares that can not be read' fails 3 "$grade" add < "$room"
 judge 'a full disk for a sum' fails 4 sh -c '"$1" add < share1 > /dev/full' sh "$grade"
 
 for name in uart second-master; do
-    judge "$name, the rows of missed flaws" shows_nothing missed "$top/examples/$name.regrun"
+    judge "$name, the rows of missed flaws" shows_nothing missed "$top/examples/$name.regrun" 1
 done
-judge 'the rows of hidden flaws' shows_nothing hidden unread.regrun
+judge 'the rows of hidden flaws' shows_nothing hidden unread.regrun +1
+judge 'the rows of flaws that no check compares' shows_nothing hidden "$top/examples/uart.regrun" 1
 
 echo "$passed passed, $failed failed, $skipped skipped"
 [ "$failed" = 0 ]

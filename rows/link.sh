@@ -161,18 +161,28 @@ rough() {
     fi
 }
 
+# compiles TOOL WORD..: whether the simulator is there and this goes well. Where it is there and doesn't, that is a failure.
+compiles() {
+    command -v "$1" > /dev/null || return
+    "$@" > said 2>&1 && return
+    echo "link: $1 doesn't compile the bench:"
+    tail -n 5 said
+    failed=$((failed + 1))
+    return 1
+}
+
 bench=$here/../examples/rtl
 rough_session > session
-if command -v iverilog > /dev/null && iverilog -g2005 -o rough.vvp "$bench/bench.v" "$here/link/rough.v"; then
+if compiles iverilog -g2005 -o rough.vvp "$bench/bench.v" "$here/link/rough.v"; then
     rough 'Icarus Verilog' 201 vvp -n rough.vvp
     judge 'Icarus Verilog: its dump' 1 'peer: VCD info: dumpfile rough.vcd opened for output.' messages
 fi
-if command -v ghdl > /dev/null && ghdl -a --std=08 "$here/link/rough.vhd" "$bench/bench.vhd" && ghdl -e --std=08 bench; then
+if compiles ghdl -a --std=08 "$here/link/rough.vhd" "$bench/bench.vhd" && compiles ghdl -e --std=08 bench; then
     rough GHDL 201 ghdl -r --std=08 bench --vcd=rough.vcd
 fi
 # Verilator has no unknown values: what has none here is 0.
-if command -v verilator > /dev/null && verilator --binary --trace -Wno-fatal --top-module bench -Mdir rough.dir -o "$room/rough" \
-    "$bench/bench.v" "$here/link/rough.v" > said 2>&1; then
+if compiles verilator --binary --trace -Wno-fatal --top-module bench -Mdir rough.dir -o "$room/rough" \
+    "$bench/bench.v" "$here/link/rough.v"; then
     rough Verilator 1 ./rough
 fi
 

@@ -1,8 +1,9 @@
-"""python -m regrun junit|page|json|import ..: reports of logs, and descriptions from other formats.
+"""python -m regrun junit|page|json|missed|import ..: reports of logs and plans, and descriptions from other formats.
 
 junit   JUnit XML and a page of failing checks, of logs of the command
 page    a page of the registers of sessions, with the differing bits marked
 json    logs as JSON, one object a line
+missed  of each flaw that a script misses, whether its log shows it
 import  a description from IP-XACT, CMSIS-SVD, reggen or a table
 
 `python -m regrun WHAT --help` says more of each, and `python -m regrun --version` the version.
@@ -21,6 +22,7 @@ MODULES = {
     "junit": "regrun.reports.junit",
     "page": "regrun.reports.page",
     "json": "regrun.reports.lines",
+    "missed": "regrun.reports.missed",
     "import": "regrun.importer.cli",
 }
 

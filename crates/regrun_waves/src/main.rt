@@ -1,15 +1,12 @@
 //! Runs a session from a file, writes its log to standard output, and the pins of its APB transfers to another file.
 #![tactic(auto)]
 
-mod session;
-
-use crate::session::{Ran, run_waves};
 use rl_apb::fresh_adapters;
 use rl_bus::Adapters;
 use rl_cli::{KeptSink, KeptSource, advise, code_of, create_file, open_file, words};
 use rl_log::Status;
 use rl_report::{StdSink, StdSource};
-use rl_vcd::Fault;
+use rl_vcd::{Fault, Ran, run_waves};
 use std::alloc::AllocError;
 use std::io;
 use std::process::ExitCode;
@@ -25,7 +22,7 @@ fn fault_text(fault: Fault) -> &'static str {
 }
 
 // Says how the dump ended early, where it did. Answers the exit status.
-fn code_of_dump(rt: &impl Eprint, path: &str, ran: &Ran) -> u8 {
+fn code_of_dump<K>(rt: &impl Eprint, path: &str, ran: &Ran<K>) -> u8 {
     let Some(fault) = ran.fault else {
         return ran.status.code();
     };

@@ -133,7 +133,7 @@ all_shown t u n lanes (w ∷ ws) x y alike split low like =
 below_64 : (bytes j : ℕ) → bytes ≤ 8 → ltb (j / 8) bytes ≡ true → j < 64
 below_64 bytes j most e = grind (arith, nat_tests)
 
-setup_all : (ops : List BusOp) (d : State) (port : ℕ) → (state_after_all d port ops).setup ≡ d.setup
+pub setup_all : (ops : List BusOp) (d : State) (port : ℕ) → (state_after_all d port ops).setup ≡ d.setup
 setup_all [] d port = refl
 setup_all (o ∷ ops) d port = setup_all ops (state_after d port o) port ∙ setup-state_after d port o
 

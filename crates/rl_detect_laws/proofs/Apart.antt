@@ -58,7 +58,7 @@ pub record IsApart (c : ChipData) (l : LayoutData) (reg b : ℕ) (s : Scene) : T
   pub marked : HasMarks c device s.model.mirror
   pub apart : bit (slice_index device.bits reg) b ≢ bit (mirrored_of s.model.mirror reg) b
 
-read_spent : (c : ChipData) (n read fields : ℕ) (m : MirrorData) → (predict_read c n read fields m).spent ≡ m.spent
+pub read_spent : (c : ChipData) (n read fields : ℕ) (m : MirrorData) → (predict_read c n read fields m).spent ≡ m.spent
 unfolding predict_read
 read_spent c n read fields m = refl
 
@@ -211,7 +211,7 @@ check_other_own s new reg k b n map place event is other numbers h granted done 
     (λ same. h.apart (ap (λ z. bit z b) (sym both.0) ∙ same ∙ ap (λ z. bit z b) both.1))
 
 -- a check that read another bit than is believed names the field
-names_read : (c : ChipData) (field b i : ℕ) (s new : Scene) (o : Op) (e : Event) (read : ℕ) → IsBit c field (reg_of c field) (field - first_of c (reg_of c field)) b i
+pub names_read : (c : ChipData) (field b i : ℕ) (s new : Scene) (o : Op) (e : Event) (read : ℕ) → IsBit c field (reg_of c field) (field - first_of c (reg_of c field)) b i
     → s.model.chip ≡ c → ChecksRegister o (reg_of c field) → ChecksRegister e.op (reg_of c field) → Performs s new o e → e.end ≡ end.Value read
     → bit read b ≢ bit (mirrored_of s.model.mirror (reg_of c field)) b → IsNamedBy c field e
 names_read c field b i s new o e read is chip checks named performs ends apart =
@@ -314,7 +314,7 @@ back_check_own s new reg b q place event h there other done =
 
 -- ---- of any chip and layout
 
-by_grant : (c : ChipData) (l : LayoutData) (reg b : ℕ) (s new : Scene) (o : Op) (e : Event) (g : Grant) → grant s.model o ≡ g → IsApart c l reg b s
+pub by_grant : (c : ChipData) (l : LayoutData) (reg b : ℕ) (s new : Scene) (o : Op) (e : Event) (g : Grant) → grant s.model o ≡ g → IsApart c l reg b s
     → ((place : ℕ) → grant s.model o ≡ Ok place → IsDone s new o place e → IsApart c l reg b new)
     → MatchResult g (λ place. IsDone s new o place e) (λ why. IsRefused s new o why e) → IsApart c l reg b new
 by_grant c l reg b s new o e (Ok place) granted h leaves is = leaves place granted is

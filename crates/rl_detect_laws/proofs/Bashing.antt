@@ -26,7 +26,7 @@ use Rattle.rl_map.specs.Tables.{setup_of}
 use Rattle.rl_split.specs.Access.{all_bytes, op_of, sent_of, ops_of}
 use Rattle.rl_split.specs.Law.{no_flaws}
 use Rattle.rl_split.specs.Runs.{answers_of, state_after_all as ops_after}
-use Rattle.rl_split.specs.Step.{Register, every, wstep, ranswer, written_bit, shown_bit}
+use Rattle.rl_split.specs.Step.{Register, every, wstep, rstep, ranswer, written_bit, left_bit, shown_bit}
 use Rattle.rl_split.proofs.Steps.{none_failed}
 use Rattle.rl_mirror.specs.Mirror.{MirrorData, IsMirrorOf, mirrored_of}
 use Rattle.rl_mirror.specs.Prediction.{predict_read, learned_by_read, learned_bit}
@@ -59,8 +59,9 @@ use Rattle.rl_plain.proofs.Kept.{step_kept}
 use Rattle.rl_plain.proofs.Registers.{bit-ranswer}
 use Rattle.rl_detect_laws.specs.Devices.{IsSetUp}
 use Rattle.rl_detect_laws.proofs.Checks.{IsSceneOf, over, some_is, done_over, forgotten_built, from_own}
+use Rattle.rl_detect_laws.proofs.DeafReads.{NoneStuck, all_plain}
 use Rattle.rl_detect_laws.proofs.ReadsAlike.{IsReadOver, IsReadAlike, read_alike}
-use Rattle.rl_detect_laws.proofs.StuckBit.{unstuck, plain, IsFirm, HoldsStuck, firm_holds, IsStill, all_still}
+use Rattle.rl_detect_laws.proofs.StuckBit.{unstuck, plain, IsFirm, HoldsStuck, firm_holds, all_still}
 use Rattle.rl_detect_laws.proofs.Twins.{AreAlike, items_alike, writes_alike}
 use Rattle.rl_plain.proofs.NothingFound.{shows}
 
@@ -116,22 +117,32 @@ over_done s new o place e d told same found after done =
 
 -- ---- an operation is a step of its register, and leaves what stands
 
-record IsBashed (s new : Scene) (t : Setup) (reg b : ℕ) (v : Bool) (o : Op) (place n : ℕ) (e : Event) (d : State) : Type 0 where
-  stands : Holding s.model.chip s.model.layout t reg b v new
-  stepped : IsStepped (over s (plain d)) (over new (state_after_all (plain d) e.trace)) o e place n (plain d) (unmarked d n)
+abbrev Stepped : Scene → Scene → Op → (place n : ℕ) → Event → State → Type 0
+Stepped s new o place n e d = IsStepped (over s (plain d)) (over new (state_after_all (plain d) e.trace)) o e place n (plain d) (unmarked d n)
+
+-- the register then holds the bit so
+record IsLeftSo (reg b : ℕ) (u : Bool) (x y : State) : Type 0 where
+  bits : length y.bits ≡ length x.bits
+  marks : length y.marks ≡ length x.marks
+  here : bit (slice_index y.bits reg) b ≡ u
+
+record IsBashed (s new : Scene) (t : Setup) (reg b : ℕ) (u : Bool) (o : Op) (place n : ℕ) (e : Event) (d : State) : Type 0 where
+  stands : Holding s.model.chip s.model.layout t reg b u new
+  stepped : Stepped s new o place n e d
 
 kept_gathered : (failed : Option ℕ) (m : ModelData) (good : Outcome) → good.model.gathered ≡ m.gathered → (or_error failed m good).model.gathered ≡ m.gathered
 kept_gathered None m good e = e
 kept_gathered (Some k) m good e = refl
 
-bashed : (s new : Scene) (t : Setup) (reg b : ℕ) (v : Bool) (o : Op) (place n : ℕ) (e : Event) → IsStuckSetup s.model.chip s.model.layout t reg b v
+bashed : (s new : Scene) (t : Setup) (reg b : ℕ) (v u : Bool) (o : Op) (place n : ℕ) (e : Event) → IsStuckSetup s.model.chip s.model.layout t reg b v
     → (h : Holding s.model.chip s.model.layout t reg b v s) → IsAccess o → HasNumbers s.model.chip (length s.model.layout.maps) o
     → register_of s.model.chip o ≡ Some n → n < length s.model.chip.regs → grant s.model o ≡ Ok place → IsDone s new o place e
     → answers_of (plain h.device) (port_for s.model.layout place) (sends s.model o place) ≡ answers_of h.device (port_for s.model.layout place) (sends s.model o place)
     → found_by (plain h.device) o ≡ found_by h.device o → ((x : State) (k : ℕ) → device_after s.model o k e.trace x ≡ state_after_all x e.trace)
-    → new.model.gathered ≡ forgotten s.model.layout place s.model.gathered → IsStill reg b v h.device (state_after_all h.device e.trace)
-    → IsBashed s new t reg b v o place n e h.device
-bashed s new t reg b v o place n e is h access numbers register inside granted done same found after gathered still =
+    → new.model.gathered ≡ forgotten s.model.layout place s.model.gathered
+    → (Stepped s new o place n e h.device → IsLeftSo reg b u h.device (state_after_all h.device e.trace))
+    → IsBashed s new t reg b u o place n e h.device
+bashed s new t reg b v u o place n e is h access numbers register inside granted done same found after gathered leaves =
     let m = s.model in
     let c = m.chip in
     let l = m.layout in
@@ -152,6 +163,7 @@ bashed s new t reg b v o place n e is h access numbers register inside granted d
     let alike : AreAlike d x = record { deaf = []; stuck = []; setup = refl; beats = refl; items = refl } in
     let beats : (state_after_all x e.trace).beats ≡ next.beats = (items_alike d x e.trace alike).beats in
     let came : state_after_all x e.trace ≡ st.stepped.after = some_is st.stepped.told in
+    let left = leaves st in
     let kept = step_kept c n m.mirror new.model.mirror (unmarked d n) (step_of m o place) h.model.chip inside (record { built = h.model.mirror; reach = h.model.reach }) st.follows.mirror in
     let chip : new.model.chip ≡ c = st.follows.chip in
     let layout : new.model.layout ≡ l = st.follows.layout in
@@ -175,10 +187,10 @@ bashed s new t reg b v o place n e is h access numbers register inside granted d
         set_up = record {
           setup = setup-state_after_all d e.trace ∙ h.setup;
           beats = λ p a. ap (λ (f : ℕ → ℕ → ℕ). f p a) (sym beats) ∙ ap (λ (y : State). y.beats p a) came ∙ st.stepped.ready.beats p a;
-          bits = still.bits ∙ h.bits;
-          marks = still.marks ∙ h.marks;
+          bits = left.bits ∙ h.bits;
+          marks = left.marks ∙ h.marks;
         };
-        here = still.here (subst (λ q. reg < q) (sym h.bits) is.reg_in) h.here;
+        here = left.here;
       };
       stepped = st;
     }
@@ -189,24 +201,28 @@ all_writes : (l : LayoutData) (place index chosen value : ℕ) → All (λ (o : 
 unfolding ops_of
 all_writes l place index chosen value = All-map (λ (o : BusOp). o.write ≡ true) (op_of l place chosen value true) (sent_of l place index chosen) (λ k d low. refl)
 
-abbrev Writes : BusOp → Type 0
-Writes op = op.write ≡ true
+all_reads : (l : LayoutData) (place index chosen : ℕ) → All (λ (o : BusOp). o.write ≡ false) (ops_of l place index chosen 0 false)
+unfolding ops_of
+all_reads l place index chosen = All-map (λ (o : BusOp). o.write ≡ false) (op_of l place chosen 0 false) (sent_of l place index chosen) (λ k d low. refl)
 
-abbrev IsOfWrite : TraceItem → Type 0
-IsOfWrite item = item.op.write ≡ true
+-- all are writes, or all are reads
+abbrev AreOps : Bool → List BusOp → Type 0
+AreOps w ops = All (λ (op : BusOp). op.write ≡ w) ops
 
-unless_failed : (f : Bool) (more : List TraceItem) → All (λ (item : TraceItem). item.op.write ≡ true) more → All (λ (item : TraceItem). item.op.write ≡ true) (if f then [] else more)
-unless_failed true more all = All-nil IsOfWrite
-unless_failed false more all = all
+abbrev AreItems : Bool → List TraceItem → Type 0
+AreItems w items = All (λ (item : TraceItem). item.op.write ≡ w) items
 
-items_written : (a : Standing) (d : State) (port : ℕ) (ops : List BusOp) → All (λ (op : BusOp). op.write ≡ true) ops
-    → All (λ (item : TraceItem). item.op.write ≡ true) (items_of a d port ops)
-items_written a d port [] all = All-nil IsOfWrite
-items_written a d port (op ∷ ops) all =
+unless_failed : (w f : Bool) (more : List TraceItem) → AreItems w more → AreItems w (if f then [] else more)
+unless_failed w true more all = All-nil (λ (item : TraceItem). item.op.write ≡ w)
+unless_failed w false more all = all
+
+items_are : (w : Bool) (a : Standing) (d : State) (port : ℕ) (ops : List BusOp) → AreOps w ops → AreItems w (items_of a d port ops)
+items_are w a d port [] all = All-nil (λ (item : TraceItem). item.op.write ≡ w)
+items_are w a d port (op ∷ ops) all =
     let first = item_of a port op (answer_of d port op) in
     let more = items_of (took_item a first) (state_after d port op) port ops in
-    All-cons IsOfWrite first (if first.answer.failed then [] else more) (All-head Writes op ops all)
-    (unless_failed first.answer.failed more (items_written (took_item a first) (state_after d port op) port ops (All-tail Writes op ops all)))
+    All-cons (λ (item : TraceItem). item.op.write ≡ w) first (if first.answer.failed then [] else more) (All-head (λ (op : BusOp). op.write ≡ w) op ops all)
+    (unless_failed w first.answer.failed more (items_are w (took_item a first) (state_after d port op) port ops (All-tail (λ (op : BusOp). op.write ≡ w) op ops all)))
 
 wrote : (s new : Scene) (t : Setup) (reg b : ℕ) (v : Bool) (n : ℕ) (map : Option ℕ) (value place : ℕ) (e : Event) → IsStuckSetup s.model.chip s.model.layout t reg b v
     → (h : Holding s.model.chip s.model.layout t reg b v s) → HasNumbers s.model.chip (length s.model.layout.maps) (op.Write n map value)
@@ -218,10 +234,11 @@ wrote s new t reg b v n map value place e is h numbers granted done =
     let port = port_for s.model.layout place in
     let ops = sends s.model (op.Write n map value) place in
     let writes = all_writes s.model.layout place 0 _ value in
-    bashed s new t reg b v (op.Write n map value) place n e is h tt numbers refl numbers.0 granted done (writes_alike d (plain d) port ops alike writes) refl (λ x k. refl)
+    let still = all_still t d reg b v e.trace is.alone h.setup
+    (subst (AreItems true) (sym (done.answers d h.told)) (items_are true (standing_at s.adapters (adapter_for s.model.layout place)) d port ops writes)) in
+    bashed s new t reg b v v (op.Write n map value) place n e is h tt numbers refl numbers.0 granted done (writes_alike d (plain d) port ops alike writes) refl (λ x k. refl)
     (ap (λ (m : ModelData). m.gathered) done.model ∙ kept_gathered (failed_at e.trace) (forgetting s.model place) _ refl)
-    (all_still t d reg b v e.trace is.alone h.setup
-    (subst (All IsOfWrite) (sym (done.answers d h.told)) (items_written (standing_at s.adapters (adapter_for s.model.layout place)) d port ops writes)))
+    (λ st. record { bits = still.bits; marks = still.marks; here = still.here (subst (λ q. reg < q) (sym h.bits) is.reg_in) h.here })
 
 -- a check leaves the bit where it is stuck, or of another register
 abbrev pub Lasts : Setup → (reg b : ℕ) → Bool → (n : ℕ) → Type 0
@@ -242,11 +259,19 @@ bit_lasts t d reg b v n port ops words over at low lasts so = by lasts (cases_eq
         ap after (sym same) ∙ sym (over.stuck b low)
         ∙ ap (λ o. or_else o (after n)) (ap (λ (u : Setup). stuck_at u n b) at ∙ ap (λ q. stuck_at t q b) same ∙ stuck)
 
-checked : (s new : Scene) (t : Setup) (reg b : ℕ) (v : Bool) (n : ℕ) (map : Option ℕ) (place : ℕ) (e : Event) → IsStuckSetup s.model.chip s.model.layout t reg b v
-    → Lasts t reg b v n → (h : Holding s.model.chip s.model.layout t reg b v s) → HasNumbers s.model.chip (length s.model.layout.maps) (op.Check n map)
+-- what it leaves of the bit, by the reads and the step
+abbrev LeavesBit : Scene → Scene → (reg b : ℕ) → Bool → (n : ℕ) → Option ℕ → (place : ℕ) → Event → State → Type 0
+LeavesBit s new reg b u n map place e d =
+    (words : List ℕ) → IsReadOver d (port_for s.model.layout place) n (sends s.model (op.Check n map) place) words
+    → state_after_all d e.trace ≡ ops_after d (port_for s.model.layout place) (sends s.model (op.Check n map) place)
+    → Stepped s new (op.Check n map) place n e d → bit (slice_index (state_after_all d e.trace).bits reg) b ≡ u
+
+checked : (s new : Scene) (t : Setup) (reg b : ℕ) (v u : Bool) (n : ℕ) (map : Option ℕ) (place : ℕ) (e : Event) → IsStuckSetup s.model.chip s.model.layout t reg b v
+    → (h : Holding s.model.chip s.model.layout t reg b v s) → LeavesBit s new reg b u n map place e h.device
+    → HasNumbers s.model.chip (length s.model.layout.maps) (op.Check n map)
     → grant s.model (op.Check n map) ≡ Ok place → IsDone s new (op.Check n map) place e
-    → IsBashed s new t reg b v (op.Check n map) place n e h.device
-checked s new t reg b v n map place e is lasts h numbers granted done =
+    → IsBashed s new t reg b u (op.Check n map) place n e h.device
+checked s new t reg b v u n map place e is h leaves numbers granted done =
     let m = s.model in
     let d = h.device in
     let port = port_for m.layout place in
@@ -260,13 +285,17 @@ checked s new t reg b v n map place e is lasts h numbers granted done =
     let fine = subst (All (λ a. a.failed ≡ false)) (sym read.over.answers) (none_failed read.words) in
     let after : state_after_all d e.trace ≡ ops_after d port ops =
     ap (state_after_all d) (done.answers d h.told) ∙ (answered (standing_at s.adapters (adapter_for m.layout place)) d port ops fine).state in
-    bashed s new t reg b v (op.Check n map) place n e is h tt numbers refl numbers.0 granted done read.alike refl (λ x k. refl)
+    bashed s new t reg b v u (op.Check n map) place n e is h tt numbers refl numbers.0 granted done read.alike refl (λ x k. refl)
     (ap (λ (m : ModelData). m.gathered) done.model ∙ kept_gathered (failed_at e.trace) (forgetting s.model place) _ refl)
-    (record {
+    (λ st. record {
       bits = ap (λ (x : State). length x.bits) after ∙ read.over.bits;
       marks = ap (λ (x : State). length x.marks) after ∙ ap length read.over.marks;
-      here = λ inside so. ap (λ (x : State). bit (slice_index x.bits reg) b) after ∙ bit_lasts t d reg b v n port ops read.words read.over h.setup is.alone.low lasts so;
+      here = leaves read.words read.over after st;
     })
+
+pub bit-rstep : (fs : List FieldSeen) (r : Register) (b : ℕ) → b < 64 → bit (rstep fs every r).bits b ≡ left_bit fs every (place_at fs b) (bit r.bits b)
+unfolding rstep
+bit-rstep fs r b low = bit-from_bits 64 (λ b. left_bit fs every (place_at fs b) (bit r.bits b)) b low
 
 -- ---- of any chip and layout
 
@@ -285,14 +314,29 @@ write_done c l s new t reg b v n map value place e is h numbers granted performs
     let st = wrote s new t reg b v n map value place e is h numbers granted (done_of s new (op.Write n map value) place e granted performs) in
     record { stands = st.stands; predicted = st.stepped.follows.mirror }) is h numbers
 
--- a check that was granted read what the register holds, which is then believed
-pub record IsChecked (c : ChipData) (l : LayoutData) (t : Setup) (reg b : ℕ) (v : Bool) (s new : Scene) (n : ℕ) (e : Event) : Type 0 where
-  pub stands : Holding c l t reg b v new
+-- a check that was granted read what the register holds, which is then believed, and left the bit so
+pub record IsCheckedTo (c : ChipData) (l : LayoutData) (t : Setup) (reg b : ℕ) (v u : Bool) (s new : Scene) (n : ℕ) (e : Event) : Type 0 where
+  pub stands : Holding c l t reg b u new
   pub bits : ℕ
   pub held : n ≡ reg → bit bits b ≡ v
   pub predicted : IsPredictedRead c n every (ranswer (fields_of c n) every (unmarked_bits bits)) s.model.mirror new.model.mirror
   pub ends : e.end ≡ end.Value (ranswer (fields_of c n) every (unmarked_bits bits))
   pub checks : ChecksRegister e.op n
+
+-- and left the bit as it was
+abbrev pub IsChecked : ChipData → LayoutData → Setup → (reg b : ℕ) → Bool → (s new : Scene) → (n : ℕ) → Event → Type 0
+IsChecked c l t reg b v s new n e = IsCheckedTo c l t reg b v v s new n e
+
+checked_to : (s new : Scene) (t : Setup) (reg b : ℕ) (v u : Bool) (n : ℕ) (map : Option ℕ) (place : ℕ) (e : Event) → (h : Holding s.model.chip s.model.layout t reg b v s)
+    → IsBashed s new t reg b u (op.Check n map) place n e h.device → IsCheckedTo s.model.chip s.model.layout t reg b v u s new n e
+checked_to s new t reg b v u n map place e h st = record {
+  stands = st.stands;
+  bits = slice_index h.device.bits n;
+  held = λ same. ap (λ q. bit (slice_index h.device.bits q) b) same ∙ h.here;
+  predicted = st.stepped.follows.mirror;
+  ends = st.stepped.stepped.ends;
+  checks = subst (λ o. ChecksRegister o n) (sym (ap (λ (y : Event). y.op) st.stepped.event_is)) refl;
+}
 
 pub check_done : (c : ChipData) (l : LayoutData) (s new : Scene) (t : Setup) (reg b : ℕ) (v : Bool) (n : ℕ) (map : Option ℕ) (place : ℕ) (e : Event)
     → IsStuckSetup c l t reg b v → Lasts t reg b v n → Holding c l t reg b v s → HasNumbers c (length l.maps) (op.Check n map) → grant s.model (op.Check n map) ≡ Ok place
@@ -301,15 +345,39 @@ check_done c l s new t reg b v n map place e is lasts h numbers granted performs
     from_own c l s.model
     (λ x y. IsStuckSetup x y t reg b v → Holding x y t reg b v s → HasNumbers x (length y.maps) (op.Check n map) → IsChecked x y t reg b v s new n e) h.chip h.layout
     (λ is h numbers.
-    let st = checked s new t reg b v n map place e is lasts h numbers granted (done_of s new (op.Check n map) place e granted performs) in
-    record {
-      stands = st.stands;
-      bits = slice_index h.device.bits n;
-      held = λ same. ap (λ q. bit (slice_index h.device.bits q) b) same ∙ h.here;
-      predicted = st.stepped.follows.mirror;
-      ends = st.stepped.stepped.ends;
-      checks = subst (λ o. ChecksRegister o n) (sym (ap (λ (y : Event). y.op) st.stepped.event_is)) refl;
-    }) is h numbers
+    let d = h.device in
+    let port = port_for s.model.layout place in
+    let ops = sends s.model (op.Check n map) place in
+    checked_to s new t reg b v v n map place e h
+    (checked s new t reg b v v n map place e is h
+    (λ words over after st. ap (λ (x : State). bit (slice_index x.bits reg) b) after ∙ bit_lasts t d reg b v n port ops words over h.setup is.alone.low lasts h.here)
+    numbers granted (done_of s new (op.Check n map) place e granted performs))) is h numbers
+
+-- of a register that is deaf alone it leaves the bit by the field's policy
+pub check_deaf : (c : ChipData) (l : LayoutData) (s new : Scene) (t : Setup) (reg k b : ℕ) (v : Bool) (map : Option ℕ) (place : ℕ) (e : Event)
+    → IsStuckSetup c l t reg b v → NoneStuck t → place_at (fields_of c reg) b ≡ Some k → Holding c l t reg b v s → HasNumbers c (length l.maps) (op.Check reg map)
+    → grant s.model (op.Check reg map) ≡ Ok place → Performs s new (op.Check reg map) e
+    → IsCheckedTo c l t reg b v (after_read (policy_in (fields_of c reg) k) v) s new reg e
+check_deaf c l s new t reg k b v map place e is none at h numbers granted performs =
+    from_own c l s.model
+    (λ x y. IsStuckSetup x y t reg b v → place_at (fields_of x reg) b ≡ Some k → Holding x y t reg b v s → HasNumbers x (length y.maps) (op.Check reg map)
+    → IsCheckedTo x y t reg b v (after_read (policy_in (fields_of x reg) k) v) s new reg e) h.chip h.layout
+    (λ is at h numbers.
+    let m = s.model in
+    let d = h.device in
+    let fs = fields_of m.chip reg in
+    let p = policy_in fs k in
+    let done = done_of s new (op.Check reg map) place e granted performs in
+    let reads : AreItems false e.trace =
+    subst (AreItems false) (sym (done.answers d h.told))
+    (items_are false (standing_at s.adapters (adapter_for m.layout place)) d (port_for m.layout place) (sends m (op.Check reg map) place) (all_reads m.layout place 0 _)) in
+    let same = all_plain d e.trace (subst NoneStuck (sym h.setup) none) reads in
+    checked_to s new t reg b v (after_read p v) reg map place e h
+    (checked s new t reg b v (after_read p v) reg map place e is h
+    (λ words over after st.
+    ap (λ (x : State). bit (slice_index x.bits reg) b) (sym same ∙ some_is st.stepped.told) ∙ ap (λ x. bit x b) st.stepped.holds.bits
+    ∙ bit-rstep fs (unmarked d reg) b is.alone.low ∙ ap (λ o. left_bit fs every o (bit (slice_index d.bits reg) b)) at ∙ ap (after_read p) h.here)
+    numbers granted done)) is at h numbers
 
 -- refused or done, they leave what stands
 after_grant : (c : ChipData) (l : LayoutData) (t : Setup) (reg b : ℕ) (v : Bool) (s new : Scene) (o : Op) (e : Event) (g : Grant) → grant s.model o ≡ g

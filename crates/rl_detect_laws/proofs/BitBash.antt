@@ -189,12 +189,12 @@ split (look f) q s told new run =
     let more = split (f s.model) q s told new run in
     record { mid = more.mid; front = more.front; back = more.back; is = more.is; first = more.first; second = more.second }
 
-in_front : (IsSo : Event → Type 0) (front back : List Told) → HasEvent IsSo front → HasEvent IsSo (front ++ back)
+pub in_front : (IsSo : Event → Type 0) (front back : List Told) → HasEvent IsSo front → HasEvent IsSo (front ++ back)
 in_front IsSo [] back h = absurd h
 in_front IsSo (x ∷ front) back (inl h) = inl h
 in_front IsSo (x ∷ front) back (inr h) = inr (in_front IsSo front back h)
 
-in_back : (IsSo : Event → Type 0) (front back : List Told) → HasEvent IsSo back → HasEvent IsSo (front ++ back)
+pub in_back : (IsSo : Event → Type 0) (front back : List Told) → HasEvent IsSo back → HasEvent IsSo (front ++ back)
 in_back IsSo [] back h = h
 in_back IsSo (x ∷ front) back h = inr (in_back IsSo front back h)
 

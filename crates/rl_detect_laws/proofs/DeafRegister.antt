@@ -194,11 +194,11 @@ deaf_walk m block t field b i v kept place ok w at =
 
 -- ---- the law
 
-none_stuck : (c : ChipData) (l : LayoutData) (deaf : List ItemRow) (r k : ℕ) → stuck_at (setup_of c l (deaf_items deaf)) r k ≡ None
+pub none_stuck : (c : ChipData) (l : LayoutData) (deaf : List ItemRow) (r k : ℕ) → stuck_at (setup_of c l (deaf_items deaf)) r k ≡ None
 unfolding setup_of
 none_stuck c l deaf r k = refl
 
-without_them : (c : ChipData) (l : LayoutData) (deaf : List ItemRow) → unstuck (setup_of c l (deaf_items deaf)) ≡ setup_of c l no_flaws
+pub without_them : (c : ChipData) (l : LayoutData) (deaf : List ItemRow) → unstuck (setup_of c l (deaf_items deaf)) ≡ setup_of c l no_flaws
 unfolding setup_of
 without_them c l deaf = refl
 

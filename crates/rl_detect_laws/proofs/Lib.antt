@@ -16,6 +16,7 @@ pub mod Untouched
 pub mod DeafWalk
 pub mod StuckBit
 pub mod ReadsAlike
+pub mod DeafReads
 pub mod Bashing
 pub mod BitBash
 pub mod Turned
@@ -35,3 +36,11 @@ pub mod Beside
 pub mod Unseen
 pub mod Apart
 pub mod ApartFound
+pub mod Leads
+pub mod BitBeliefs
+pub mod BitWalk
+pub mod FirmBit
+pub mod PolicyChip
+pub mod PolicyBit
+pub mod BitFlaw
+pub mod BitTables

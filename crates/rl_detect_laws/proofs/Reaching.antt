@@ -43,7 +43,7 @@ is_place c l place item sound built there mine = record {
 
 -- ---- grants
 
-way_to : (c : ChipData) (l : LayoutData) (place : ℕ) (item : Item) (write : Bool) → IsPlaceOf c l place item → has_right (place_at l place).rights write ≡ true
+pub way_to : (c : ChipData) (l : LayoutData) (place : ℕ) (item : Item) (write : Bool) → IsPlaceOf c l place item → has_right (place_at l place).rights write ≡ true
     → (m : ModelData) → m.layout ≡ l → way m item (Some (map_at l place)) write ≡ Ok place
 way_to c l place item write p right m layout =
     ap (λ (x : LayoutData). with_right x write (placed (place_of x item (Some (map_at l place))))) layout

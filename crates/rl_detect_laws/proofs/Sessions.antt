@@ -50,7 +50,10 @@ use Rattle.rl_log.specs.Log.{comes_of, said, said_by as read_as}
 use Rattle.rl_log.specs.Recording.{no_counts}
 use Rattle.rl_session.specs.Judged.{first_world, judged_by, events_by}
 use Rattle.rl_session.specs.Session.{head_of, said_by, opening_after, opening_of, script_of}
+use Rattle.rl_plain.specs.Agree.{HasNoVolatile}
 use Rattle.rl_plain_log_laws.proofs.Openings.{each_opening_sound}
+use Rattle.rl_detect_laws.specs.BitFlaws.{IsComparedAt, HasFlaw}
+use Rattle.rl_detect_laws.specs.BitTables.{first_sides, first_believed}
 use Rattle.rl_detect_laws.specs.Deaf.{deaf_items, HasDeafItems, IsDeafTo, IsDeafBit, IsTurned}
 use Rattle.rl_detect_laws.specs.Errors.{EndsByError, HasError, SendsSome}
 use Rattle.rl_detect_laws.specs.Logged.{Leads, HasLogged, Shows}
@@ -58,10 +61,14 @@ use Rattle.rl_detect_laws.specs.Otherwise.{IsNewOtherwise}
 use Rattle.rl_detect_laws.specs.Resets.{wrong_resets, HasWrongResets, IsResetOtherwise, IsNamedBy}
 use Rattle.rl_detect_laws.specs.Sessions.{IsPlayed, HasSequence, IsFound, LoneLineIsPlayed, SessionFindsWrongReset, SessionFindsKeptReset, SessionFindsError}
 use Rattle.rl_detect_laws.specs.Sessions.{IsOnlyStuck, SessionFindsStuckBit, SessionFindsStuckBitBeside, SessionFindsStuckReset, SessionFindsDeafRegister, SessionFindsDeafMemory}
+use Rattle.rl_detect_laws.specs.Sessions.{HasOnlyFlaw, SessionFindsBitFlaw}
+use Rattle.rl_detect_laws.specs.Sides.{BitFlaw, sticks, hears_nothing, goes_by}
 use Rattle.rl_detect_laws.specs.Stuck.{HasStuckBit, IsComparedBit}
 use Rattle.rl_detect_laws.specs.Visited.{RunsAll, HasEvent, IsVisited}
 use Rattle.rl_detect_laws.proofs.ApartFound.{held_otherwise_is_named, new_one_is_held_otherwise}
 use Rattle.rl_detect_laws.proofs.BitBash.{stuck_bit_is_named, stuck_bit_beside_is_named}
+use Rattle.rl_detect_laws.proofs.BitFlaw.{bit_flaw_is_named}
+use Rattle.rl_detect_laws.proofs.BitTables.{new_one_has_flaw}
 use Rattle.rl_detect_laws.proofs.Checks.{from_own}
 use Rattle.rl_detect_laws.proofs.DeafRegister.{deaf_register_is_named}
 use Rattle.rl_detect_laws.proofs.DeafWalk.{deaf_memory_is_found}
@@ -362,3 +369,34 @@ session_finds_deaf_memory bytes adapters desc block mem place played has only at
     let both = subst (λ fs. HasDeafItems c l (first_of c l fs) × IsDeafTo c (first_of c l fs) mem) (sym only) new_one in
     found_first bytes adapters desc MemWalkOf block (λ e. e.differ ≡ 1) played has marked_shows
     (λ told new run. deaf_memory_is_found (scene_at w 0) new w.device block told mem place sound refl both.0 both.1 at run)
+
+-- ---- a flaw of a bit
+
+flaw_first : (desc : DescData) (adapters : List Standing) (field i : ℕ) (flaw : BitFlaw) → IsModel (first_world desc adapters).model → HasNoVolatile desc.chip
+    → IsComparedAt desc.chip field i → HasOnlyFlaw desc field i flaw
+    → HasFlaw desc.chip desc.layout (first_world desc adapters).device (fresh desc.chip) field i flaw (first_sides flaw (first_believed desc.chip field i))
+flaw_first desc adapters field i (sticks v) sound steady is only =
+    let c = desc.chip in
+    let l = desc.layout in
+    subst (λ fs. HasFlaw c l (first_of c l fs) (fresh c) field i (sticks v) (first_sides (sticks v) (first_believed c field i))) (sym only)
+    (new_one_has_flaw c l field i (sticks v) (locations_of c) sound.chip steady is)
+flaw_first desc adapters field i hears_nothing sound steady is only =
+    let c = desc.chip in
+    let l = desc.layout in
+    subst (λ fs. HasFlaw c l (first_of c l fs) (fresh c) field i hears_nothing (first_sides hears_nothing (first_believed c field i))) (sym only)
+    (new_one_has_flaw c l field i hears_nothing (locations_of c) sound.chip steady is)
+flaw_first desc adapters field i (goes_by q) sound steady is only =
+    let c = desc.chip in
+    let l = desc.layout in
+    subst (λ fs. HasFlaw c l (first_of c l fs) (fresh c) field i (goes_by q) (first_sides (goes_by q) (first_believed c field i))) (sym only)
+    (new_one_has_flaw c l field i (goes_by q) (locations_of c) sound.chip steady is)
+
+pub session_finds_bit_flaw : SessionFindsBitFlaw
+session_finds_bit_flaw bytes adapters desc which block field i place flaw played has only steady is at shown =
+    let c = desc.chip in
+    let w = first_world desc adapters in
+    let sound = model_of bytes adapters desc played in
+    found_first bytes adapters desc which block (IsNamedBy c field) played has (named_shows c field)
+    (λ told new run.
+    bit_flaw_is_named (scene_at w 0) new w.device which block told field i place flaw (first_sides flaw (first_believed c field i)) sound refl
+    (flaw_first desc adapters field i flaw sound steady is only) at shown run)

@@ -40,7 +40,7 @@ other_left : (step : Bool → Bool) (v : Bool) → leaves_other step v ≡ true 
 other_left step v so false = apart (step false) v (and_parts (either_alone (step false) v) (either_alone (step true) v) so).0
 other_left step v so true = apart (step true) v (and_parts (either_alone (step false) v) (either_alone (step true) v) so).1
 
-abbrev all_of : (Policy → Bool) → List Policy → Bool
+abbrev pub all_of : (Policy → Bool) → List Policy → Bool
 all_of test [] = true
 all_of test (p ∷ ps) = test p && all_of test ps
 

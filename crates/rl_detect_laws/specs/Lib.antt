@@ -9,3 +9,6 @@ pub mod Logged
 pub mod Sessions
 pub mod Policies
 pub mod Otherwise
+pub mod Sides
+pub mod BitFlaws
+pub mod BitTables

@@ -7,7 +7,7 @@ use Rattle.rl_model.specs.Chip.{value_for}
 use Rattle.rl_model.specs.Fields.{field_of}
 use Rattle.rl_model.specs.declared.rows.Item.TheVariants.{Reg, Mem}
 use Rattle.rl_map.specs.Tables.{setup_of}
-use Rattle.rl_flaw.specs.declared.flaw.Flaw.TheVariants.{OtherReset, Stuck, Deaf}
+use Rattle.rl_flaw.specs.declared.flaw.Flaw.TheVariants.{OtherPolicy, OtherReset, Stuck, Deaf}
 use Rattle.rl_flaw.specs.Flaws.{flaws_of}
 use Rattle.rl_mirror.specs.Mirror.{mirrored_of}
 use Rattle.rl_mirror.specs.Prediction.{fresh}
@@ -26,11 +26,14 @@ use Rattle.rl_session.specs.Judged.{first_world, judged, judged_events}
 use Rattle.rl_session.specs.Session.{opening_of, script_of}
 use Rattle.rl_plain.specs.Agree.{HasNoVolatile}
 use Rattle.rl_plain_log_laws.specs.Sound.{AreKinds}
+use Rattle.rl_detect_laws.specs.BitFlaws.{IsComparedAt, IsShown}
+use Rattle.rl_detect_laws.specs.BitTables.{first_sides, first_believed}
 use Rattle.rl_detect_laws.specs.Deaf.{IsTurned}
 use Rattle.rl_detect_laws.specs.Errors.{EndsByError, HasError, SendsSome}
 use Rattle.rl_detect_laws.specs.Logged.{Leads, SaysSequence, HasLogged}
 use Rattle.rl_detect_laws.specs.Otherwise.{ChecksWritten, KeepsApart}
 use Rattle.rl_detect_laws.specs.Resets.{IsNamedBy}
+use Rattle.rl_detect_laws.specs.Sides.{BitFlaw, sticks, hears_nothing, goes_by}
 use Rattle.rl_detect_laws.specs.Stuck.{IsComparedBit, IsShownTurned, IsShownBeside, IsBitBeside, IsStuckOtherwise}
 use Rattle.rl_detect_laws.specs.Visited.{IsVisited}
 
@@ -167,3 +170,21 @@ SessionFindsDeafMemory =
     → desc.flaws ≡ Deaf (Mem mem) ∷ []
     → IsVisited MemWalk desc.chip desc.layout block mem place
     → IsFound bytes adapters (λ e. e.differ ≡ 1)
+
+-- bit i of the field is stuck, its register is deaf, or the field has another policy, and nothing else is wrong
+abbrev pub HasOnlyFlaw : DescData → (field i : ℕ) → BitFlaw → Type 0
+HasOnlyFlaw desc field i (sticks v) = desc.flaws ≡ Stuck field i v ∷ []
+HasOnlyFlaw desc field i hears_nothing = desc.flaws ≡ Deaf (Reg (reg_of desc.chip field)) ∷ []
+HasOnlyFlaw desc field i (goes_by q) = desc.flaws ≡ OtherPolicy field q ∷ []
+
+-- such a flaw, where the steps over the bit show it from its first value on
+abbrev pub SessionFindsBitFlaw : Type 0
+SessionFindsBitFlaw =
+    (bytes : List ℕ) (adapters : List Standing) (desc : DescData) (which : Sequence) (block : Option ℕ)
+    (field i place : ℕ) (flaw : BitFlaw)
+    → IsPlayed bytes adapters desc → HasSequence bytes adapters desc [] which block
+    → HasOnlyFlaw desc field i flaw → HasNoVolatile desc.chip → IsComparedAt desc.chip field i
+    → IsVisited which desc.chip desc.layout block (reg_of desc.chip field) place
+    → IsShown which desc.chip desc.layout (reg_of desc.chip field) ((field_of desc.chip field).shape.lsb + i) place
+    flaw (field_of desc.chip field).shape.policy (first_sides flaw (first_believed desc.chip field i))
+    → IsFound bytes adapters (IsNamedBy desc.chip field)

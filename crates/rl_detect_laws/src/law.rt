@@ -1,4 +1,7 @@
 //! What the sequences find. Each function does nothing; its contract is the law.
+ghost use Rattle.rl_detect_laws.specs.BitFlaws.{BitFlawIsNamed};
+ghost use Rattle.rl_detect_laws.specs.BitTables.{DeafIsShown, NewOneHasFlaw, OtherPolicyIsShown, StuckIsShown};
+ghost use Rattle.rl_detect_laws.specs.BitTables.{FirstValueIsShown, FirstValueIsShownBehind, FirstValueShowsDeaf};
 ghost use Rattle.rl_detect_laws.specs.Deaf.{DeafMemoryIsFound, DeafRegisterIsNamed, NewOnesAgreeOnBits, NoneSpent};
 ghost use Rattle.rl_detect_laws.specs.Deaf.{NewOneHasDeafMemory, PoliciesTurn};
 ghost use Rattle.rl_detect_laws.specs.Errors.{NthErrorIsFound, SharedErrorIsFound, VisitedErrorIsFound};
@@ -100,4 +103,23 @@ pub fn held_otherwise_is_named()
     ensures named { HeldOtherwiseIsNamed }
     ensures policies { PoliciesKeepApart }
     ensures first { NewOneIsHeldOtherwise }
+{}
+
+/// `bit_bash`, `access_test` and `shared_access` find a bit of a compared field that is stuck, whose register is deaf, or
+/// whose field has another policy, wherever their steps over this one bit show it: a computation over the table of
+/// policies.
+pub fn bit_flaw_is_named()
+    ensures named { BitFlawIsNamed }
+    ensures first { NewOneHasFlaw }
+{}
+
+/// By that computation these policies show a stuck bit, a deaf register and another policy: whatever the bit resets to,
+/// or where it resets to 0, or to 1.
+pub fn policies_are_shown()
+    ensures stuck { StuckIsShown }
+    ensures deaf { DeafIsShown }
+    ensures other { OtherPolicyIsShown }
+    ensures stuck_first { FirstValueIsShown }
+    ensures stuck_behind { FirstValueIsShownBehind }
+    ensures deaf_first { FirstValueShowsDeaf }
 {}

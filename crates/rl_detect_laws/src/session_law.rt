@@ -1,6 +1,6 @@
 //! What a judged session says of the flaws of its description. Each function does nothing; its contract is the law.
 ghost use Rattle.rl_detect_laws.specs.Logged.{SequenceIsLogged, ShownIsFound, ShownNeverPasses};
-ghost use Rattle.rl_detect_laws.specs.Sessions.{LoneLineIsPlayed, SessionFindsDeafMemory, SessionFindsDeafRegister};
+ghost use Rattle.rl_detect_laws.specs.Sessions.{LoneLineIsPlayed, SessionFindsBitFlaw, SessionFindsDeafMemory, SessionFindsDeafRegister};
 ghost use Rattle.rl_detect_laws.specs.Sessions.{SessionFindsError, SessionFindsKeptReset, SessionFindsStuckBit};
 ghost use Rattle.rl_detect_laws.specs.Sessions.{SessionFindsStuckBitBeside, SessionFindsStuckReset};
 ghost use Rattle.rl_detect_laws.specs.Sessions.{SessionFindsWrongReset};
@@ -54,4 +54,10 @@ pub fn session_finds_deaf_register()
 /// A session whose one flaw is a deaf memory finds it by a first line `seq mem-walk`.
 pub fn session_finds_deaf_memory()
     ensures { SessionFindsDeafMemory }
+{}
+
+/// A session whose one flaw is a stuck bit, a deaf register or another policy of a field finds it by a first line
+/// `seq bit-bash`, `seq access` or `seq shared`, where no field is volatile and the steps over the bit show the flaw.
+pub fn session_finds_bit_flaw()
+    ensures { SessionFindsBitFlaw }
 {}

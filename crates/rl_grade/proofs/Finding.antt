@@ -1,5 +1,6 @@
 -- What the recorders know of the events that went to them.
-use Rattle.std.proofs.Common.{◌≡◌, ℕ, true, false, List, [], ◌∷◌, ◌++◌, length, drop, if◌then◌else◌, Option, Some, None, Ok, Err, refl, sym, ap, subst, ◌∙◌, append_assoc, append-nil}
+use Rattle.std.proofs.Common.{◌≡◌, ℕ, ◌<◌, get_or, true, false, List, [], ◌∷◌, ◌++◌, length, drop, if◌then◌else◌, Option, Some, None, Ok, Err, refl, sym, ap, subst, ◌∙◌, append_assoc, append-nil}
+use Rattle.std.proofs.lemmas.List.Elements.{All-cons, All-nil}
 use Rattle.rl_access.specs.declared.event.Event.{Event}
 use Rattle.rl_access.specs.declared.event.Op.{Op}
 use Rattle.rl_access.specs.HandsOver.{TakesAll}
@@ -10,6 +11,8 @@ use Rattle.rl_map.specs.Layout.{LayoutData}
 use Rattle.rl_model.specs.Rows.{ChipData}
 use Rattle.rl_bus.specs.State.{State}
 use Rattle.rl_desc.specs.Data.{DescData}
+use Rattle.rl_flaw.specs.declared.flaw.Flaw.{Flaw}
+use Rattle.rl_flaw.specs.Flaws.{AreFlawsOf, IsFlawOf}
 use Rattle.rl_session.specs.Judged.{first_world}
 use Rattle.rl_grade.specs.declared.job.Task.{Task}
 use Rattle.rl_grade.specs.Job.{TasksFit, heard_by}
@@ -25,6 +28,16 @@ use Rattle.rl_grade.specs.Record.{Finds, Keeps, Passes, items_from}
 pub fits_on : (c d : ChipData) (l k : LayoutData) (tasks : List Task) → c ≡ d → l ≡ k → TasksFit d (length k.maps) tasks → TasksFit c (length l.maps) tasks
 fits_on c d l k tasks chip layout h =
     subst (λ x. TasksFit x (length l.maps) tasks) (sym chip) (subst (λ (y : LayoutData). TasksFit d (length y.maps) tasks) (sym layout) h)
+
+-- a list of one flaw is of flaws where this is one
+pub one_flaw : (d : DescData) (flaw : Flaw) (flaws : List Flaw) → flaws ≡ flaw ∷ [] → IsFlawOf d.chip d.layout flaw → AreFlawsOf d.chip d.layout flaws
+one_flaw d flaw flaws is h =
+    subst (AreFlawsOf d.chip d.layout) (sym is) (All-cons (IsFlawOf d.chip d.layout) flaw [] h (All-nil (IsFlawOf d.chip d.layout)))
+
+-- each flaw of a list is one of a description that is the same
+pub flaw_again : (again d : DescData) (flaws : List Flaw) (n : ℕ) (x : Flaw) → again ≡ d → AreFlawsOf d.chip d.layout flaws → n < length flaws
+    → IsFlawOf again.chip again.layout (get_or flaws n x)
+flaw_again again d flaws n x same each low = subst (λ (e : DescData). IsFlawOf e.chip e.layout (get_or flaws n x)) (sym same) (each n x low)
 
 abbrev pub find_of : List Seen → Heard → Find
 find_of base h = record { line = h.line; op = h.told.event.op; new = new_in base h.told.event }

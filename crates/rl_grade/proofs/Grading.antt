@@ -1,5 +1,5 @@
 -- Flaw by flaw through a list, to the answers of a share.
-use Rattle.std.proofs.Common.{◌≡◌, ℕ, ◌+◌, Bool, true, false, if◌then◌else◌, List, [], ◌∷◌, ◌++◌, map, All, sym, ap, ◌∙◌, append_assoc, arith}
+use Rattle.std.proofs.Common.{◌≡◌, ℕ, ◌+◌, Bool, true, false, if◌then◌else◌, List, [], ◌∷◌, ◌++◌, map, All, sym, ap, ◌∙◌, append_assoc, append-nil, arith}
 use Rattle.std.proofs.lemmas.List.Elements.{All-cons, All-map, All-nil, All-tail}
 use Rattle.rl_flaw.specs.declared.flaw.Flaw.{Flaw}
 use Rattle.rl_desc.specs.Data.{DescData}
@@ -32,6 +32,10 @@ module _ (d : DescData) (tasks : List Task) (shown : List Seen) (share : Share) 
       ap (λ n. new ++ left n rest) next ∙ ap (λ gs. gs ++ left (before + 1) rest) same
       ∙ sym (ap (λ fs. done ++ left before fs) is
       ∙ ap (λ b. done ++ map (graded_by d tasks shown) (if b then flaw ∷ others else others)) (ap (is_in_share share) (sym next) ∙ passed)) ∙ h
+
+  -- where none is left
+  pub flaws_end : (before : ℕ) (from : List Flaw) (done all : List Graded) → from ≡ [] → done ++ left before from ≡ all → done ≡ all
+  flaws_end before from done all none h = sym (append-nil done) ∙ sym (ap (λ fs. done ++ left before fs) none) ∙ h
 
 -- ---- what holds of each flaw of a list holds of those of a share
 

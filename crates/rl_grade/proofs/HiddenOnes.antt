@@ -1,9 +1,9 @@
 -- Each kind of flaw that no script can show: with it the same is heard as without it.
-use Rattle.std.proofs.Common.{◌≡◌, ◌⊎◌, inl, inr, ℕ, zero, suc, ◌+◌, ◌-◌, ◌<◌, ◌≤◌, Bool, true, false, not, ◌&&◌, ◌||◌, ◌==◌, if◌then◌else◌, List, [], ◌∷◌, length, map, drop}
+use Rattle.std.proofs.Common.{◌≡◌, ℕ, zero, suc, ◌+◌, ◌<◌, Bool, true, false, not, ◌&&◌, ◌||◌, ◌==◌, if◌then◌else◌, List, [], ◌∷◌, length}
 use Rattle.std.proofs.Common.{Option, Some, None, option_map, refl, sym, ap, subst, ◌∙◌, arith}
 use Rattle.std.specs.Prelude.{bit_and, bit_xor, get_or, nat_le, nat_lt, slice_get, unwrap_or}
 use Rattle.std.specs.Int.Bits.{xor_self}
-use Rattle.std.specs.List.{list_all, range_with_len}
+use Rattle.std.specs.List.{range_with_len}
 use Rattle.std.specs.Option.{option_map_or, option_or}
 use Rattle.std.proofs.lemmas.Bool.{and_parts, eqb-true, eq-eqb, false_from_ne_true, le-leb, lt-ltb}
 use Rattle.std.proofs.lemmas.List.FromFn.{get_or-range_with_len, length-range_with_len}
@@ -14,11 +14,10 @@ use Rattle.rl_policy.specs.Bits.{is_within}
 use Rattle.rl_policy.specs.declared.policy.Policy.{Policy}
 use Rattle.rl_bus.specs.Standing.{Standing}
 use Rattle.rl_bus.specs.declared.table.FieldRow.{FieldRow}
-use Rattle.rl_bus.specs.declared.table.MemRow.{MemRow as Row}
 use Rattle.rl_bus.specs.declared.table.PolicyRow.{PolicyRow}
 use Rattle.rl_bus.specs.declared.table.ResetRow.{ResetRow}
 use Rattle.rl_bus.specs.declared.table.StuckRow.{StuckRow}
-use Rattle.rl_bus.specs.Setup.{Setup, Flaws, field_at, field_of as row_of_field, mem_of, no_mem, or_else, policy_of, reset_of, stuck_at, value_in}
+use Rattle.rl_bus.specs.Setup.{Flaws, field_at, field_of as row_of_field, no_mem, or_else, reset_of, stuck_at, value_in}
 use Rattle.rl_model.specs.declared.rows.Item.TheVariants.{Reg, Mem}
 use Rattle.rl_model.specs.declared.rows.MemRow.{MemRow}
 use Rattle.rl_model.specs.Chip.{IsSound}
@@ -39,12 +38,11 @@ use Rattle.rl_log.specs.Recording.{no_counts}
 use Rattle.rl_session.specs.Judged.{first_world}
 use Rattle.rl_grade.specs.declared.bits.FlawedBit.{FlawedBit}
 use Rattle.rl_grade.specs.declared.bits.Ways.{Ways}
-use Rattle.rl_grade.specs.declared.job.Task.{Task}
 use Rattle.rl_grade.specs.declared.seen.Seen.{Seen}
-use Rattle.rl_grade.specs.Alike.{HiddenChangesNoEvent, HiddenIsNotFound, HiddenLeavesTheLog, IsHiddenIn, IsSameLog, without_flaws}
+use Rattle.rl_grade.specs.Alike.{IsSameLog, IsSilentIn, SilentChangesNoEvent, SilentIsNotFound, SilentLeavesTheLog, without_flaws}
 use Rattle.rl_grade.specs.Find.{all_seen, beside, first_find, seen_of, shows}
 use Rattle.rl_grade.specs.Heard.{Heard}
-use Rattle.rl_grade.specs.Hidden.{deaf_bit, is_bit_hidden, is_deafness_hidden, is_field_hidden, is_hidden, is_unseen, other_bit, sound_bit, stuck_bit, ways_to}
+use Rattle.rl_grade.specs.Hidden.{deaf_bit, is_bit_hidden, is_deafness_hidden, is_field_hidden, is_silent, is_unseen, other_bit, sound_bit, stuck_bit, ways_to}
 use Rattle.rl_grade.specs.Job.{heard_by}
 use Rattle.rl_grade.specs.Place.{with_flaw}
 use Rattle.rl_grade.specs.Reached.{is_reached}
@@ -87,13 +85,13 @@ module _ (c : ChipData) (l : LayoutData) where
     abbrev policy_by : Bool → Policy → Policy
     policy_by k o = or_else (option_map (λ (r : PolicyRow). r.policy) (if k then Some (record { field = f; policy = p }) else None)) o
 
-    policy_hidden : is_hidden c l (OtherPolicy f p) ≡ true → (n i : ℕ) → i < (field_of c n).shape.width → (f == n) ≡ true
+    policy_hidden : is_silent c l (OtherPolicy f p) ≡ true → (n i : ℕ) → i < (field_of c n).shape.width → (f == n) ≡ true
         → is_bit_hidden (ways n) (other_bit (field_of c n) p) (field_of c n) i ≡ true
     policy_hidden h n i low so =
         each_bit (ways n) (other_bit (field_of c n) p) (field_of c n) i
         (subst (λ k. is_field_hidden (ways k) (other_bit (field_of c k) p) (field_of c k) ≡ true) (eqb-true f n so) h) low
 
-    other_policy : is_hidden c l (OtherPolicy f p) ≡ true
+    other_policy : is_silent c l (OtherPolicy f p) ≡ true
         → OnFields c l policies (λ n i. f == n) (way_with (λ n. p) None false) (λ n. p) false None
     unfolding setup_of
     other_policy h = record {
@@ -121,7 +119,7 @@ module _ (c : ChipData) (l : LayoutData) where
     abbrev resets : Flaws
     resets = flaws_of (OtherReset f k v ∷ [])
 
-    other_reset : is_hidden c l (OtherReset f k v) ≡ true → OnFields c l resets (λ n i. f == n) (λ n i. unseen) own false None
+    other_reset : is_silent c l (OtherReset f k v) ≡ true → OnFields c l resets (λ n i. f == n) (λ n i. unseen) own false None
     unfolding setup_of
     other_reset h = record {
       ranges = refl;
@@ -209,7 +207,7 @@ module _ (c : ChipData) (l : LayoutData) where
     closed true true h so = absurd cc
     closed true false h so = absurd cc
 
-    deaf_one : is_hidden c l (Deaf (Mem q)) ≡ true → OnFields c l deaf_memory (λ n i. false) (λ n i. alike) own false None
+    deaf_one : is_silent c l (Deaf (Mem q)) ≡ true → OnFields c l deaf_memory (λ n i. false) (λ n i. alike) own false None
     unfolding setup_of
     deaf_one h = record {
       ranges = refl;
@@ -300,7 +298,7 @@ module _ (c : ChipData) (l : LayoutData) where
     never false t h so = refl
     never true t h so = let both : true ≡ false = sym (h refl) ∙ so in absurd cc
 
-    stuck_hidden : is_hidden c l (Stuck f j v) ≡ true → (n i : ℕ) → touches n i ≡ true
+    stuck_hidden : is_silent c l (Stuck f j v) ≡ true → (n i : ℕ) → touches n i ≡ true
         → is_bit_hidden (ways n) (stuck_bit (field_of c n) v) (field_of c n) i ≡ true
     stuck_hidden h n i so =
         let parts = and_parts (f == n) (j == i) so in
@@ -328,7 +326,7 @@ module _ (c : ChipData) (l : LayoutData) where
         } in
         let both : None ≡ Some f = sym none ∙ field_there c l r b f sound here in absurd cc
 
-    stuck_one : is_hidden c l (Stuck f j v) ≡ true → OnFields c l stuck_flaws touches (way_with own (Some v) false) own false (Some v)
+    stuck_one : is_silent c l (Stuck f j v) ≡ true → OnFields c l stuck_flaws touches (way_with own (Some v) false) own false (Some v)
     unfolding setup_of
     stuck_one h = record {
       ranges = refl;
@@ -353,7 +351,7 @@ module _ (c : ChipData) (l : LayoutData) where
 
 -- ---- what is heard
 
-width_is : (c : ChipData) (f : ℕ) → f < length c.fields → width_of c f ≡ (field_of c f).shape.width
+pub width_is : (c : ChipData) (f : ℕ) → f < length c.fields → width_of c f ≡ (field_of c f).shape.width
 width_is c f inside = ap (λ o. unwrap_or (option_map (λ (s : FieldSeen). s.shape.width) o) 0) (slice_get-get_or c.fields f no_field inside)
 
 -- what is said of worlds that are related, whatever the relation
@@ -389,29 +387,29 @@ on_fields d flaw adapters P says sound touched chosen other deaf S f =
     by_relation d flaw adapters P says (λ r b. Stands (way r b)) (keeps c l g way sound (bits c l g touched chosen other deaf S f))
 
 -- what related worlds come to holds of the first ones with a hidden flaw and without it
-first_ones : (d : DescData) (flaw : Flaw) (adapters : List Standing) (P : World → World → Type 0) → Says d flaw adapters P → IsHiddenIn d flaw
+first_ones : (d : DescData) (flaw : Flaw) (adapters : List Standing) (P : World → World → Type 0) → Says d flaw adapters P → IsSilentIn d flaw
     → P (first_world (without_flaws d) adapters) (first_world (with_flaw d flaw) adapters)
 first_ones d (Stuck f j v) adapters P says h =
     let c = d.chip in
     let within : j < (field_of c f).shape.width = subst (λ w. j < w) (width_is c f h.one.0) h.one.1 in
-    on_fields d (Stuck f j v) adapters P says h.sound _ _ _ false (Some v) (stuck_one c d.layout h.sound f j v h.one.0 within h.hidden)
+    on_fields d (Stuck f j v) adapters P says h.sound _ _ _ false (Some v) (stuck_one c d.layout h.sound f j v h.one.0 within h.silent)
 first_ones d (OtherPolicy f p) adapters P says h =
-    on_fields d (OtherPolicy f p) adapters P says h.sound _ _ _ false None (other_policy d.chip d.layout f p h.hidden)
+    on_fields d (OtherPolicy f p) adapters P says h.sound _ _ _ false None (other_policy d.chip d.layout f p h.silent)
 first_ones d (OtherReset f k v) adapters P says h =
-    on_fields d (OtherReset f k v) adapters P says h.sound _ _ _ false None (other_reset d.chip d.layout f k v h.hidden)
+    on_fields d (OtherReset f k v) adapters P says h.sound _ _ _ false None (other_reset d.chip d.layout f k v h.silent)
 first_ones d (Deaf (Reg q)) adapters P says h =
-    on_fields d (Deaf (Reg q)) adapters P says h.sound _ _ _ true None (deaf_register d.chip d.layout q h.hidden)
+    on_fields d (Deaf (Reg q)) adapters P says h.sound _ _ _ true None (deaf_register d.chip d.layout q h.silent)
 first_ones d (Deaf (Mem q)) adapters P says h =
-    on_fields d (Deaf (Mem q)) adapters P says h.sound _ _ _ false None (deaf_one d.chip d.layout q h.hidden)
-first_ones d (ErrorRange port from to) adapters P says h = let no : false ≡ true = h.hidden in absurd cc
-first_ones d (ErrorNth nth) adapters P says h = let no : false ≡ true = h.hidden in absurd cc
+    on_fields d (Deaf (Mem q)) adapters P says h.sound _ _ _ false None (deaf_one d.chip d.layout q h.silent)
+first_ones d (ErrorRange port from to) adapters P says h = let no : false ≡ true = h.silent in absurd cc
+first_ones d (ErrorNth nth) adapters P says h = let no : false ≡ true = h.silent in absurd cc
 
-pub changes_no_event : HiddenChangesNoEvent
+pub changes_no_event : SilentChangesNoEvent
 changes_no_event d flaw adapters tasks h =
     first_ones d flaw adapters (λ w v. heard_by v tasks ≡ heard_by w tasks)
     (λ R keeps w v alike. heard_same d.chip (bare d.chip d.layout) (flaws_of (flaw ∷ [])) R keeps tasks w v alike) h
 
-pub leaves_the_log : HiddenLeavesTheLog
+pub leaves_the_log : SilentLeavesTheLog
 leaves_the_log d flaw script adapters h =
     first_ones d flaw adapters (λ w v. IsSameLog (script_from 1 no_counts w (lines_of script)) (script_from 1 no_counts v (lines_of script)))
     (λ R keeps w v alike. script_same d.chip (bare d.chip d.layout) (flaws_of (flaw ∷ [])) R keeps (lines_of script) 1 no_counts w v alike) h
@@ -428,11 +426,11 @@ quiet s = ap (λ n. not (n == 0) || (s.error && not s.error)) none ∙ by s.erro
     by true = refl
     by false = refl
 
-none_more : (heard : List Heard) → first_find (all_seen heard) heard ≡ None
+pub none_more : (heard : List Heard) → first_find (all_seen heard) heard ≡ None
 none_more [] = none_left []
 none_more (h ∷ heard) = passed_on (all_seen (h ∷ heard)) h heard (quiet (seen_of h.told.event)) ∙ none_more heard
 
-pub not_found : HiddenIsNotFound
+pub not_found : SilentIsNotFound
 not_found d flaw adapters tasks h =
     let base = heard_by (first_world (without_flaws d) adapters) tasks in
     ap (first_find (all_seen base)) (changes_no_event d flaw adapters tasks h) ∙ none_more base

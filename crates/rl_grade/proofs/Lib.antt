@@ -33,3 +33,13 @@ mod TogetherItems
 mod TogetherMakeup
 mod TogetherOutcomes
 mod TogetherSteps
+mod Trials
+mod UncheckedAccess
+mod UncheckedBeliefs
+mod UncheckedCourses
+mod UncheckedFinds
+mod UncheckedFlaws
+mod UncheckedItems
+mod UncheckedOutcomes
+mod UncheckedReach
+mod UncheckedTests

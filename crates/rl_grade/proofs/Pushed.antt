@@ -1,18 +1,19 @@
 -- One flaw more behind those that were appended.
 use Rattle.std.proofs.Common.{◌≡◌, ℕ, ◌+◌, ◌^◌, Bool, true, false, not, if◌then◌else◌, List, [], ◌∷◌, ◌++◌, map, filter, refl, sym, ap, ◌∙◌, append_assoc, append-nil, arith, add-one}
-use Rattle.std.specs.Prelude.{bit_xor, bytes_eq}
+use Rattle.std.specs.Prelude.{bit_xor, bytes_eq, length, Option, Some, None, option_map, slice_get, unwrap_or}
 use Rattle.std.proofs.lemmas.List.{map-append}
 use Rattle.std.proofs.lemmas.List.Elements.{filter-append}
 use Rattle.std.proofs.lemmas.List.FromFn.{map-range_with_len_more}
 use Rattle.rl_policy.specs.declared.policy.Policy.{Policy}
 use Rattle.rl_policy.specs.Names.{name_of}
 use Rattle.rl_model.specs.declared.rows.Item.{Item}
-use Rattle.rl_model.specs.Rows.{ChipData}
+use Rattle.rl_model.specs.declared.rows.Field.{Field}
+use Rattle.rl_model.specs.Rows.{ChipData, FieldSeen}
 use Rattle.rl_bus.specs.declared.table.WordRow.{WordRow}
 use Rattle.rl_flaw.specs.declared.flaw.Flaw.{Flaw}
 use Rattle.rl_flaw.specs.declared.flaw.Flaw.TheVariants.{ErrorRange, OtherPolicy, OtherReset, Stuck}
 use Rattle.rl_desc.specs.Flaws.{reset_value}
-use Rattle.rl_grade.specs.Flaws.{is_own, other_policies, own_addresses, row_at, stuck_bits, wrong_by, wrong_resets, wrong_values}
+use Rattle.rl_grade.specs.Flaws.{field_flaws, is_own, other_policies, own_addresses, policies_beside, policy_of, row_at, stuck_bits, wrong_by, wrong_resets, wrong_values}
 
 behind : {X : Type 0} (xs ys zs all new : List X) → new ≡ (xs ++ ys) ++ zs → all ≡ ys ++ zs → new ≡ xs ++ all
 behind xs ys zs all new is whole = is ∙ append_assoc xs ys zs ∙ ap (λ ws. xs ++ ws) (sym whole)
@@ -83,3 +84,30 @@ pub policy_passed : (before now new : List Flaw) (field : ℕ) (own : Policy) (s
 policy_passed before now new field own some p all same is so stays =
     stays ∙ so ∙ ap (λ xs. before ++ xs)
     (sym (ap (other_policies field own) is ∙ grown field own some p true same ∙ append-nil (other_policies field own some)))
+
+-- ---- of a field all
+
+width_in : (o : Option FieldSeen) (shape : Field) → option_map (λ (f : FieldSeen). f.shape) o ≡ Some shape
+    → unwrap_or (option_map (λ (f : FieldSeen). f.shape.width) o) 0 ≡ shape.width
+width_in None shape is = ap (λ (o : Option Field). unwrap_or (option_map (λ (s : Field). s.width) o) 0) is
+width_in (Some f) shape is = ap (λ (o : Option Field). unwrap_or (option_map (λ (s : Field). s.width) o) 0) is
+
+policy_in : (o : Option FieldSeen) (shape : Field) → option_map (λ (f : FieldSeen). f.shape) o ≡ Some shape
+    → option_map (λ (f : FieldSeen). f.shape.policy) o ≡ Some shape.policy
+policy_in None shape is = ap (option_map (λ (s : Field). s.policy)) is
+policy_in (Some f) shape is = ap (option_map (λ (s : Field). s.policy)) is
+
+pub all_of_field : (c : ChipData) (field : ℕ) (shape : Field) (policies : List Policy) (none low high wrong all : List Flaw)
+    → option_map (λ (f : FieldSeen). f.shape) (slice_get c.fields field) ≡ Some shape → none ≡ []
+    → low ≡ none ++ stuck_bits field shape.width false → high ≡ low ++ stuck_bits field shape.width true
+    → wrong ≡ high ++ wrong_resets c field shape.width (length c.kinds) → all ≡ wrong ++ other_policies field shape.policy policies
+    → all ≡ field_flaws c field policies
+all_of_field c field shape policies none low high wrong all is empty first second third fourth =
+    let a = stuck_bits field shape.width false in
+    let b = stuck_bits field shape.width true in
+    let r = wrong_resets c field shape.width (length c.kinds) in
+    let p = other_policies field shape.policy policies in
+    fourth ∙ ap (λ xs. xs ++ p) (third ∙ ap (λ xs. xs ++ r) (second ∙ ap (λ xs. xs ++ b) (first ∙ ap (λ xs. xs ++ a) empty)))
+    ∙ sym (ap (λ w. stuck_bits field w false ++ stuck_bits field w true ++ wrong_resets c field w (length c.kinds) ++ policies_beside field (policy_of c field) policies)
+    (width_in (slice_get c.fields field) shape is)
+    ∙ ap (λ o. a ++ b ++ r ++ policies_beside field o policies) (policy_in (slice_get c.fields field) shape is))

@@ -1,6 +1,7 @@
 -- Loops over the flaws of places, and over what is known of them.
-use Rattle.std.proofs.Common.{◌≡◌, ℕ, ◌+◌, Bool, true, false, if◌then◌else◌, List, [], ◌∷◌, ◌++◌, map, All, Option, Some, None, IfSome, IfOk, Result, Ok, Err, refl, sym, ap, subst, ◌∙◌, append_assoc}
+use Rattle.std.proofs.Common.{◌≡◌, ℕ, ◌+◌, Bool, true, false, if◌then◌else◌, List, [], ◌∷◌, ◌++◌, length, map, All, Option, Some, None, IfSome, IfOk, Result, Ok, Err, refl, sym, ap, subst, ◌∙◌, append_assoc, append-nil}
 use Rattle.std.specs.Prelude.{Contains, slice_index_or}
+use Rattle.std.proofs.lemmas.List.Concat.{flat_map-cons}
 use Rattle.std.proofs.lemmas.List.Elements.{All-append, All-cons, All-contains, All-nil, All-tail}
 use Rattle.rl_flaw.specs.declared.flaw.Flaw.{Flaw}
 use Rattle.rl_flaw.specs.Flaws.{IsFlawOf}
@@ -14,6 +15,7 @@ use Rattle.rl_grade.specs.declared.seen.Seen.{Seen}
 use Rattle.rl_grade.specs.Batch.{AreAnswers, AreKnown, flaw_at, flaws_of_places}
 use Rattle.rl_grade.specs.Place.{flaws_at}
 use Rattle.rl_grade.specs.Share.{graded_by, is_in_share, share_of}
+use Rattle.rl_grade.specs.Sorted.{IsBlank}
 
 -- ---- the flaws of a share
 
@@ -36,13 +38,52 @@ module _ (share : Share) where
       ∙ sym (ap (λ fs. done ++ share_of share before fs) is
       ∙ ap (λ b. done ++ (if b then flaw ∷ others else others)) (ap (is_in_share share) (sym next) ∙ passed)) ∙ h
 
+-- ---- the flaws of places
+
+module _ (d : DescData) (items : ℕ) where
+  pub places_next : (place : Place) (from rest : List Place) (done new all : List Flaw) → from ≡ place ∷ rest → new ≡ done ++ flaws_at d items place
+      → done ++ flaws_of_places d items from ≡ all → new ++ flaws_of_places d items rest ≡ all
+  places_next place from rest done new all is grown h =
+      let others = flaws_of_places d items rest in
+      ap (λ fs. fs ++ others) grown ∙ append_assoc done (flaws_at d items place) others
+      ∙ ap (λ fs. done ++ fs) (sym (flat_map-cons (flaws_at d items) place rest)) ∙ sym (ap (λ ps. done ++ flaws_of_places d items ps) is) ∙ h
+
+  pub places_end : (left : List Place) (done all : List Flaw) → left ≡ [] → done ++ flaws_of_places d items left ≡ all → done ≡ all
+  places_end left done all none h =
+      sym (append-nil done) ∙ sym (ap (λ ps. done ++ flaws_of_places d items ps) none) ∙ h
+
 -- ---- answers
 
 module _ (d : DescData) (tasks : List Task) (shown : List Seen) where
+  pub none_known : (flaws : List Flaw) (known : List (Option Graded)) → IsBlank (length flaws) known → AreKnown d tasks shown flaws known
+  none_known flaws known blank = record {
+    size = blank.size_is;
+    each = λ number it is. absurd (no_value it (sym is ∙ blank.none number));
+  }
+    where
+      no_value : (it : Graded) → Some it ≡ None → ⊥
+      no_value it is = cc
+
+  pub known_back : (again : DescData) (flaws : List Flaw) (known : List (Option Graded)) → again ≡ d → AreKnown again tasks shown flaws known
+      → AreKnown d tasks shown flaws known
+  known_back again flaws known same h = subst (λ x. AreKnown x tasks shown flaws known) same h
+
   pub known_here : (flaws : List Flaw) (known : List (Option Graded)) (number : ℕ) (flaw : Flaw) (o : Option Graded) → AreKnown d tasks shown flaws known
       → o ≡ slice_index_or known number None → flaw ≡ flaw_at flaws number → IfSome o (λ it. it ≡ graded_by d tasks shown flaw)
   known_here flaws known number flaw None h is at = tt
   known_here flaws known number flaw (Some it) h is at = h.each number it (sym is) ∙ ap (graded_by d tasks shown) (sym at)
+
+  -- the answer of one flaw more
+  pub answered_next : (again : DescData) (flaw : Flaw) (from rest : List Flaw) (done new all : List Graded) → again ≡ d → from ≡ flaw ∷ rest
+      → new ≡ done ++ graded_by again tasks shown flaw ∷ [] → done ++ map (graded_by d tasks shown) from ≡ all
+      → new ++ map (graded_by d tasks shown) rest ≡ all
+  answered_next again flaw from rest done new all same is tried h =
+      let answers = map (graded_by d tasks shown) in
+      ap (λ gs. gs ++ answers rest) (tried ∙ ap (λ x. done ++ graded_by x tasks shown flaw ∷ []) same)
+      ∙ append_assoc done (graded_by d tasks shown flaw ∷ []) (answers rest) ∙ sym (ap (λ fs. done ++ answers fs) is) ∙ h
+
+  pub answered_end : (from : List Flaw) (done all : List Graded) → from ≡ [] → done ++ map (graded_by d tasks shown) from ≡ all → done ≡ all
+  answered_end from done all none h = sym (append-nil done) ∙ sym (ap (λ fs. done ++ map (graded_by d tasks shown) fs) none) ∙ h
 
   -- one that is taken of those that are known
   pub answer_known : (again : DescData) (graded : List Graded) (flaw : Flaw) (o : Option Graded) → AreAnswers d tasks shown graded → again ≡ d

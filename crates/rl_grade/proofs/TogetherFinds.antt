@@ -37,7 +37,7 @@ use Rattle.rl_grade.proofs.TogetherSteps.{Alike, Rests}
 
 -- ---- first worlds
 
-blank_size : (c : ChipData) → HasSize c (blank c)
+pub blank_size : (c : ChipData) → HasSize c (blank c)
 blank_size c = record {
   mirrored = length-replicate (length c.regs) 0;
   desired = length-replicate (length c.regs) 0;
@@ -49,7 +49,7 @@ unfolding fresh
 fresh_size c = reset_size c 0 (blank c) (blank_size c)
 
 -- as many registers as the chip has
-bits_held : (c : ChipData) → length (replicate {A = ℕ} (length (map (λ (r : RegRow). r.bytes) c.regs)) 0) ≡ length c.regs
+pub bits_held : (c : ChipData) → length (replicate {A = ℕ} (length (map (λ (r : RegRow). r.bytes) c.regs)) 0) ≡ length c.regs
 bits_held c = length-replicate (length (map (λ (r : RegRow). r.bytes) c.regs)) 0 ∙ length-map c.regs (λ (r : RegRow). r.bytes)
 
 first_reset : (c : ChipData) (l : LayoutData) (flaws others : List Flaw) (r count : ℕ)
@@ -61,7 +61,7 @@ first_reset c l flaws others r count made =
     are_reset r 0 (empty_state (flawed (bare c l) (flaws_of flaws)) count) (empty_state (flawed (bare c l) (flaws_of others)) count) made
     (record { bits = refl; marks = refl }) refl refl
 
-first_rests : (d : DescData) (flaws : List Flaw) (adapters : List Standing) → Rests d.chip d.layout (flaws_of flaws) (first_world (with_flaws d flaws) adapters)
+pub first_rests : (d : DescData) (flaws : List Flaw) (adapters : List Standing) → Rests d.chip d.layout (flaws_of flaws) (first_world (with_flaws d flaws) adapters)
 unfolding setup_of
 first_rests d flaws adapters =
     let c = d.chip in
@@ -102,16 +102,16 @@ own_flaws_alone d flaws others reg adapters tasks sound mine its same =
 
 -- ---- finds
 
-head_is : {A : Type 0} (x y : A) (xs ys : List A) → x ∷ xs ≡ y ∷ ys → x ≡ y
+pub head_is : {A : Type 0} (x y : A) (xs ys : List A) → x ∷ xs ≡ y ∷ ys → x ≡ y
 head_is x y xs ys same = cc
 
-tail_is : {A : Type 0} (x y : A) (xs ys : List A) → x ∷ xs ≡ y ∷ ys → xs ≡ ys
+pub tail_is : {A : Type 0} (x y : A) (xs ys : List A) → x ∷ xs ≡ y ∷ ys → xs ≡ ys
 tail_is x y xs ys same = cc
 
 some_is : {A : Type 0} (x y : A) → Some x ≡ Some y → x ≡ y
 some_is x y same = cc
 
-no_value : {A : Type 0} (x : A) → Some x ≡ None → ⊥
+pub no_value : {A : Type 0} (x : A) → Some x ≡ None → ⊥
 no_value x is = cc
 
 -- what an event shows more, or what comes of the events behind it
@@ -122,14 +122,14 @@ module _ (c : ChipData) where
   abbrev paired : ℕ → Option Event → Option (ℕ × Event)
   paired line o = option_map (λ (e : Event). (line, e)) o
 
-  told_is : (q : ℕ) (h : Heard) → is_of_other c q h.told.event ≡ false → line_told c q h ≡ Some (h.line, untraced h.told.event)
+  pub told_is : (q : ℕ) (h : Heard) → is_of_other c q h.told.event ≡ false → line_told c q h ≡ Some (h.line, untraced h.told.event)
   told_is q h off = ap (λ b. paired h.line (if b then None else Some (untraced h.told.event))) off
 
-  untold_is : (q : ℕ) (h : Heard) → is_of_other c q h.told.event ≡ true → line_told c q h ≡ None
+  pub untold_is : (q : ℕ) (h : Heard) → is_of_other c q h.told.event ≡ true → line_told c q h ≡ None
   untold_is q h on = ap (λ b. paired h.line (if b then None else Some (untraced h.told.event))) on
 
   -- what is told of both is the same, where it is told of one
-  told_both : (q : ℕ) (a b : Heard) → line_told c q a ≡ line_told c q b → is_of_other c q a.told.event ≡ false
+  pub told_both : (q : ℕ) (a b : Heard) → line_told c q a ≡ line_told c q b → is_of_other c q a.told.event ≡ false
       → (b.line ≡ a.line) × (untraced b.told.event ≡ untraced a.told.event)
   told_both q a b same off = by (is_of_other c q b.told.event) refl
     where
@@ -139,7 +139,7 @@ module _ (c : ChipData) where
           let pair = some_is (b.line, untraced b.told.event) (a.line, untraced a.told.event) (sym (told_is q b is) ∙ sym same ∙ told_is q a off) in
           (ap (λ (p : ℕ × Event). p.0) pair, ap (λ (p : ℕ × Event). p.1) pair)
 
-  untold_both : (q : ℕ) (a b : Heard) → line_told c q a ≡ line_told c q b → is_of_other c q b.told.event ≡ true → is_of_other c q a.told.event ≡ true
+  pub untold_both : (q : ℕ) (a b : Heard) → line_told c q a ≡ line_told c q b → is_of_other c q b.told.event ≡ true → is_of_other c q a.told.event ≡ true
   untold_both q a b same on = by (is_of_other c q a.told.event) refl
     where
       by : (k : Bool) → is_of_other c q a.told.event ≡ k → k ≡ true
@@ -147,13 +147,13 @@ module _ (c : ChipData) where
       by false is = absurd (no_value (a.line, untraced a.told.event) (sym (told_is q a is) ∙ same ∙ untold_is q b on))
 
   -- whose an event is
-  of_none : (q : ℕ) (e : Event) → register_of c e.op ≡ None → is_of_other c q e ≡ false
+  pub of_none : (q : ℕ) (e : Event) → register_of c e.op ≡ None → is_of_other c q e ≡ false
   of_none q e is = ap (λ k. option_map_or (λ n. not (n == q)) k false) is
 
-  of_own : (q : ℕ) (e : Event) → register_of c e.op ≡ Some q → is_of_other c q e ≡ false
+  pub of_own : (q : ℕ) (e : Event) → register_of c e.op ≡ Some q → is_of_other c q e ≡ false
   of_own q e is = ap (λ k. option_map_or (λ n. not (n == q)) k false) is ∙ ap not (eq-eqb q q refl)
 
-  of_other : (p q : ℕ) (e : Event) → register_of c e.op ≡ Some p → (p ≡ q → ⊥) → is_of_other c q e ≡ true
+  pub of_other : (p q : ℕ) (e : Event) → register_of c e.op ≡ Some p → (p ≡ q → ⊥) → is_of_other c q e ≡ true
   of_other p q e is apart = ap (λ k. option_map_or (λ n. not (n == q)) k false) is ∙ ap not (ne_eqb p q apart)
 
   not_its : (q : ℕ) (e : Event) → is_of_other c q e ≡ true → is_of_register c q e ≡ false
@@ -250,7 +250,7 @@ alone_in : (c : ChipData) (flaw : Flaw) (reg : ℕ) → register_with c flaw ≡
 alone_in c flaw reg is =
     ap (λ o. if option_map_or (λ r. r == reg) o false then flaw ∷ [] else []) is ∙ ap (λ b. if b then flaw ∷ [] else []) (eq-eqb reg reg refl)
 
-none_in : (c : ChipData) (flaw : Flaw) (reg q : ℕ) → register_with c flaw ≡ Some reg → (q ≡ reg → ⊥) → flaws_in c q (flaw ∷ []) ≡ []
+pub none_in : (c : ChipData) (flaw : Flaw) (reg q : ℕ) → register_with c flaw ≡ Some reg → (q ≡ reg → ⊥) → flaws_in c q (flaw ∷ []) ≡ []
 none_in c flaw reg q is apart =
     ap (λ o. if option_map_or (λ r. r == q) o false then flaw ∷ [] else []) is
     ∙ ap (λ b. if b then flaw ∷ [] else []) (ne_eqb reg q (λ at. apart (sym at)))

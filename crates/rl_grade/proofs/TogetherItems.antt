@@ -214,23 +214,23 @@ word_shown_same s z op w made same =
 
 -- ---- one item over a device of which none fails
 
-abbrev fine_word : ℕ → Answer
+abbrev pub fine_word : ℕ → Answer
 fine_word n = record { word = n; failed = false }
 
-calm_fine : (d : State) (port : ℕ) (o : BusOp) → IsCalm d.setup → o.bytes ≡ slice_index d.setup.ports port → is_faulty d port o ≡ false
+pub calm_fine : (d : State) (port : ℕ) (o : BusOp) → IsCalm d.setup → o.bytes ≡ slice_index d.setup.ports port → is_faulty d port o ≡ false
 calm_fine d port o calm width =
     ap (λ b. not b || is_named d.setup port o.address d.items) (eq-eqb o.bytes (slice_index d.setup.ports port) width)
     ∙ ap (λ rs. list_any (λ (r : RangeRow). r.port == port && nat_le r.from o.address && nat_le o.address r.to) rs || list_any (λ nth. nth == d.items) d.setup.flaws.nths) calm.ranges
     ∙ ap (λ ns. list_any (λ nth. nth == d.items) ns) calm.nths
 
-touch_is : (d : State) (port : ℕ) (o : BusOp) (r : WordRow) → word_at d port o ≡ Some r → is_faulty (counted d) port o ≡ false
+pub touch_is : (d : State) (port : ℕ) (o : BusOp) (r : WordRow) → word_at d port o ≡ Some r → is_faulty (counted d) port o ≡ false
     → state_after d port o ≡ record (after_word (counted d) o r) { beats = beats_on (counted d) port o }
 unfolding state_after
 touch_is d port o r found fine =
     ap (after_touch (counted d) port o) found
     ∙ ap (λ b. if b then record (counted d) { beats = beats_back (counted d) r.place } else record (after_word (counted d) o r) { beats = beats_on (counted d) port o }) fine
 
-answer_is : (d : State) (port : ℕ) (o : BusOp) (r : WordRow) → word_at d port o ≡ Some r → is_faulty (counted d) port o ≡ false
+pub answer_is : (d : State) (port : ℕ) (o : BusOp) (r : WordRow) → word_at d port o ≡ Some r → is_faulty (counted d) port o ≡ false
     → answer_of d port o ≡ fine_word (if o.write then 0 else word_shown (counted d) o r)
 unfolding answer_of
 answer_is d port o r found fine =
@@ -250,7 +250,7 @@ pub record Swept (k : Cell) (d e : State) (items others : List TraceItem) : Type
   pub touches : TouchesOnly k d (state_after_all d items)
   pub beats : (p a : ℕ) → (state_after_all d items).beats p a ≡ 0
 
-items_is : (s : Standing) (d : State) (port : ℕ) (o : BusOp) (ops : List BusOp) (n : ℕ) → answer_of d port o ≡ fine_word n
+pub items_is : (s : Standing) (d : State) (port : ℕ) (o : BusOp) (ops : List BusOp) (n : ℕ) → answer_of d port o ≡ fine_word n
     → items_of s d port (o ∷ ops)
     ≡ item_of s port o (fine_word n) ∷ items_of (took_item s (item_of s port o (fine_word n))) (state_after d port o) port ops
 items_is s d port o ops n is =
@@ -284,10 +284,10 @@ pub record IsAt (t : Setup) (g : Flaws) (port : ℕ) (sent done : List Word) (d 
   pub stands : Stands d port sent done
 
 -- what the next item does to it, by the row that it meets
-record IsItem (t : Setup) (g : Flaws) (port : ℕ) (sent next : List Word) (o : BusOp) (r : WordRow) (d : State) : Type 0 where
-  state : state_after d port o ≡ record (after_word (counted d) o r) { beats = beats_on (counted d) port o }
-  answer : answer_of d port o ≡ fine_word (if o.write then 0 else word_shown (counted d) o r)
-  at : IsAt t g port sent next (state_after d port o)
+pub record IsItem (t : Setup) (g : Flaws) (port : ℕ) (sent next : List Word) (o : BusOp) (r : WordRow) (d : State) : Type 0 where
+  pub state : state_after d port o ≡ record (after_word (counted d) o r) { beats = beats_on (counted d) port o }
+  pub answer : answer_of d port o ≡ fine_word (if o.write then 0 else word_shown (counted d) o r)
+  pub at : IsAt t g port sent next (state_after d port o)
 
 -- after such an item of both
 record AreItems (k : Cell) (d e : State) (port : ℕ) (o : BusOp) (r : WordRow) : Type 0 where
@@ -352,7 +352,7 @@ module _ (t : Setup) (port : ℕ) (write : Bool) (cell : Cell) (row : Word → W
       ∙ ap (slice_get (words_at t port o.address o.write)) (there.stands.at port o.address ∙ sym (at.stands.at port o.address))
       ∙ sym (ap (λ (u : Setup). slice_get (words_at u port o.address o.write) (d.beats port o.address)) at.setup)
 
-  item : (g : Flaws) (done rest : List Word) (w : Word) (d : State) (r : WordRow) → IsCalm (flawed t g) → IsAt t g port sent done d → Turn w
+  pub item : (g : Flaws) (done rest : List Word) (w : Word) (d : State) (r : WordRow) → IsCalm (flawed t g) → IsAt t g port sent done d → Turn w
       → sent ≡ done ++ w ∷ rest → word_at d port (op w) ≡ Some r → IsItem t g port sent (done ++ w ∷ []) (op w) r d
   item g done rest w d r calm at turn is found =
       let o = op w in

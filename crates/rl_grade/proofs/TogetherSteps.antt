@@ -49,7 +49,7 @@ pub record SameReg (c : ChipData) (r : ℕ) (w v : World) : Type 0 where
   pub bits : slice_index v.device.bits r ≡ slice_index w.device.bits r
   pub marks : slice_index v.device.marks r ≡ slice_index w.device.marks r
 
-same_reg : (c : ChipData) (r : ℕ) (w : World) → SameReg c r w w
+pub same_reg : (c : ChipData) (r : ℕ) (w : World) → SameReg c r w w
 same_reg c r w = record { belief = same_belief c r w.model.mirror; bits = refl; marks = refl }
 
 reg_back : (c : ChipData) (r : ℕ) (w v : World) → SameReg c r w v → SameReg c r v w
@@ -63,30 +63,30 @@ reg_on c r u v w h k = record {
 }
 
 -- a step on a register that is the same in both: the same for it, and nothing for any other
-record StepsIn (c : ChipData) (l : LayoutData) (g : Flaws) (q : ℕ) (w : World) (s z : Step) : Type 0 where
-  event : untraced z.event ≡ untraced s.event
-  rests : Rests c l g s.world
-  same : SameReg c q s.world z.world
-  beside : (r : ℕ) → (r ≡ q → ⊥) → SameReg c r w s.world
-  locations : s.world.device.locations ≡ w.device.locations
+pub record StepsIn (c : ChipData) (l : LayoutData) (g : Flaws) (q : ℕ) (w : World) (s z : Step) : Type 0 where
+  pub event : untraced z.event ≡ untraced s.event
+  pub rests : Rests c l g s.world
+  pub same : SameReg c q s.world z.world
+  pub beside : (r : ℕ) → (r ≡ q → ⊥) → SameReg c r w s.world
+  pub locations : s.world.device.locations ≡ w.device.locations
 
 -- a step on a memory
-record StepsOn (c : ChipData) (l : LayoutData) (g : Flaws) (w : World) (s z : Step) : Type 0 where
-  event : untraced z.event ≡ untraced s.event
-  rests : Rests c l g s.world
-  beside : (r : ℕ) → SameReg c r w s.world
-  locations : z.world.device.locations ≡ s.world.device.locations
+pub record StepsOn (c : ChipData) (l : LayoutData) (g : Flaws) (w : World) (s z : Step) : Type 0 where
+  pub event : untraced z.event ≡ untraced s.event
+  pub rests : Rests c l g s.world
+  pub beside : (r : ℕ) → SameReg c r w s.world
+  pub locations : z.world.device.locations ≡ s.world.device.locations
 
 -- a reset, for one register
-record Resets (c : ChipData) (l : LayoutData) (g : Flaws) (r : ℕ) (s z : Step) : Type 0 where
-  event : untraced z.event ≡ untraced s.event
-  rests : Rests c l g s.world
-  same : SameReg c r s.world z.world
-  locations : z.world.device.locations ≡ s.world.device.locations
+pub record Resets (c : ChipData) (l : LayoutData) (g : Flaws) (r : ℕ) (s z : Step) : Type 0 where
+  pub event : untraced z.event ≡ untraced s.event
+  pub rests : Rests c l g s.world
+  pub same : SameReg c r s.world z.world
+  pub locations : z.world.device.locations ≡ s.world.device.locations
 
 -- ---- events
 
-named_register : (m : ModelData) (o : Op) → register_of m.chip (named m o) ≡ register_of m.chip o
+pub named_register : (m : ModelData) (o : Op) → register_of m.chip (named m o) ≡ register_of m.chip o
 named_register m (op.Reset kind) = refl
 named_register m _ = refl
 
@@ -135,10 +135,10 @@ module _ (c : ChipData) (l : LayoutData) (m n : MirrorData) (gathered others : L
 -- ---- one operation
 
 -- a world with this chip and layout
-abbrev with_parts : ChipData → LayoutData → World → World
+abbrev pub with_parts : ChipData → LayoutData → World → World
 with_parts c l w = world (modelled c l w.model.mirror w.model.gathered) w.adapters w.device
 
-by_parts : (c : ChipData) (l : LayoutData) (g : Flaws) (w : World) → Rests c l g w → (P : World → Type 0) → P (with_parts c l w) → P w
+pub by_parts : (c : ChipData) (l : LayoutData) (g : Flaws) (w : World) → Rests c l g w → (P : World → Type 0) → P (with_parts c l w) → P w
 by_parts c l g w h P made =
     subst P
     (ap (λ y. let k : ModelData = record { chip = c; layout = y; mirror = w.model.mirror; gathered = w.model.gathered } in world k w.adapters w.device) (sym h.layout)
@@ -287,7 +287,7 @@ module _ (c : ChipData) (l : LayoutData) (sound : AreSound c l) (g h : Flaws) (f
           locations = after.other_locations ∙ stored ∙ sym after.locations;
         }
 
-  rests_bare : (k : Flaws) (w : World) → Rests c l k w → Rests c l k (with_parts c l w)
+  pub rests_bare : (k : Flaws) (w : World) → Rests c l k w → Rests c l k (with_parts c l w)
   rests_bare k w rests = record {
     chip = refl;
     layout = refl;
@@ -301,7 +301,7 @@ module _ (c : ChipData) (l : LayoutData) (sound : AreSound c l) (g h : Flaws) (f
   same_bare : (q : ℕ) (w v : World) → SameReg c q w v → SameReg c q (with_parts c l w) (with_parts c l v)
   same_bare q w v same = record { belief = same.belief; bits = same.bits; marks = same.marks }
 
-  step_in : (w v : World) (o : Op) (q : ℕ) → Rests c l g w → Rests c l h v → SameReg c q w v → SameMakeup (flawed (bare c l) g) (flawed (bare c l) h) q
+  pub step_in : (w v : World) (o : Op) (q : ℕ) → Rests c l g w → Rests c l h v → SameReg c q w v → SameMakeup (flawed (bare c l) g) (flawed (bare c l) h) q
       → register_of c o ≡ Some q → StepsIn c l g q w (step_of w o) (step_of v o)
   step_in w v o q rests other same made is =
       let x = with_parts c l w in
@@ -312,7 +312,7 @@ module _ (c : ChipData) (l : LayoutData) (sound : AreSound c l) (g h : Flaws) (f
       (in_by w.model.mirror v.model.mirror w.model.gathered v.model.gathered w.adapters v.adapters w.device v.device first_rests then_rests o q is
       (ready w.model.mirror v.model.mirror w.model.gathered v.model.gathered w.adapters v.adapters w.device v.device first_rests then_rests q (same_bare q w v same) made)))
 
-  step_on : (w v : World) (o : Op) → Rests c l g w → Rests c l h v → register_of c o ≡ None → is_of_memory o ≡ true
+  pub step_on : (w v : World) (o : Op) → Rests c l g w → Rests c l h v → register_of c o ≡ None → is_of_memory o ≡ true
       → v.device.locations ≡ w.device.locations → StepsOn c l g w (step_of w o) (step_of v o)
   step_on w v o rests other is memory same =
       let x = with_parts c l w in
@@ -328,7 +328,7 @@ module _ (c : ChipData) (l : LayoutData) (sound : AreSound c l) (g h : Flaws) (f
       (by_parts c l h v other (λ y. StepsOn c l g x (unchanged x o why) (unchanged y o why))
       (refused_on w.model.mirror v.model.mirror w.model.gathered v.model.gathered w.adapters v.adapters w.device v.device (rests_bare g w rests) (rests_bare h v other) o why is same))
 
-  step_reset : (w v : World) (kind r : ℕ) → Rests c l g w → Rests c l h v → SameReg c r w v → SameMakeup (flawed (bare c l) g) (flawed (bare c l) h) r
+  pub step_reset : (w v : World) (kind r : ℕ) → Rests c l g w → Rests c l h v → SameReg c r w v → SameMakeup (flawed (bare c l) g) (flawed (bare c l) h) r
       → v.device.locations ≡ w.device.locations → Resets c l g r (step_of w (op.Reset kind)) (step_of v (op.Reset kind))
   step_reset w v kind r rests other same made stored =
       let x = with_parts c l w in
@@ -347,7 +347,7 @@ grant_op : (w : World) (o : Op) (k : Grant) → (step_by w o k).event.op ≡ nam
 grant_op w o (Ok place) = event_op (register_of w.model.chip (named w.model o)) (named w.model o) _ _
 grant_op w o (Err why) = event_op (register_of w.model.chip (named w.model o)) (named w.model o) _ _
 
-step_op : (w : World) (o : Op) → (step_of w o).event.op ≡ named w.model o
+pub step_op : (w : World) (o : Op) → (step_of w o).event.op ≡ named w.model o
 unfolding step_of
 step_op w o = grant_op w o (grant w.model o)
 
@@ -380,7 +380,7 @@ pub record StepPair (c : ChipData) (l : LayoutData) (g h : Flaws) (r : ℕ) (s z
 abbrev pub OpsFit : ChipData → (r : ℕ) → Op → Op → Type 0
 OpsFit c r o p = (p ≡ o) ⊎ ((q : ℕ) × (q ≡ r → ⊥) × (register_of c o ≡ Some q) × (register_of c p ≡ Some q))
 
-none_is : (c : ChipData) (o : Op) → register_of c o ≡ None → (is_of_memory o ≡ true) ⊎ ((kind : ℕ) × (o ≡ op.Reset kind))
+pub none_is : (c : ChipData) (o : Op) → register_of c o ≡ None → (is_of_memory o ≡ true) ⊎ ((kind : ℕ) × (o ≡ op.Reset kind))
 none_is c (op.MemWrite mem map index value) is = inl refl
 none_is c (op.MemRead mem map index) is = inl refl
 none_is c (op.MemCheck mem map index value) is = inl refl

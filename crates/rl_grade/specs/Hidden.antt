@@ -1,5 +1,5 @@
--- Flaws that no script can show: each bit that the flaw could change is alike with and without it, or has its first value at each
--- moment, or is never looked at.
+-- Flaws that no script finds. Most of them are silent: each bit that the flaw could change is alike with and without it, or has its
+-- first value at each moment, or is never looked at. The others change what no check compares.
 use Rattle.std.specs.Prelude.{ℕ, ◌<◌, ◌==◌, Bool, true, false, not, ◌&&◌, ◌||◌, if◌then◌else◌, List, length, unwrap_or, Option, Some, None}
 use Rattle.std.specs.List.{list_all, range_with_len}
 use Rattle.rl_policy.specs.Bits.{bit}
@@ -18,6 +18,7 @@ use Rattle.rl_flaw.specs.declared.flaw.Flaw.TheVariants.{Deaf, ErrorNth, ErrorRa
 use Rattle.rl_grade.specs.declared.bits.FlawedBit.{FlawedBit}
 use Rattle.rl_grade.specs.declared.bits.Ways.{Ways}
 use Rattle.rl_grade.specs.Reached.{is_reached}
+use Rattle.rl_grade.specs.Unchecked.{is_unchecked}
 
 -- ---- tests of bits
 
@@ -130,18 +131,22 @@ IsThere c (Deaf item) = HasItem c item
 IsThere c (ErrorRange port from to) = Unit {0}
 IsThere c (ErrorNth nth) = Unit {0}
 
--- no script can show the flaw, over these words
-abbrev pub is_hidden_by : ChipData → List WordRow → Flaw → Bool
-is_hidden_by c rows (Stuck field i v) =
+-- each event stays as it is without the flaw, over these words
+abbrev pub is_silent_by : ChipData → List WordRow → Flaw → Bool
+is_silent_by c rows (Stuck field i v) =
     let f = field_of c field in is_bit_hidden (ways_to c rows f.shape.reg) (stuck_bit f v) f i
-is_hidden_by c rows (OtherPolicy field p) =
+is_silent_by c rows (OtherPolicy field p) =
     let f = field_of c field in is_field_hidden (ways_to c rows f.shape.reg) (other_bit f p) f
-is_hidden_by c rows (OtherReset field kind value) =
+is_silent_by c rows (OtherReset field kind value) =
     let f = field_of c field in is_unseen (ways_to c rows f.shape.reg) (sound_bit f)
-is_hidden_by c rows (Deaf (Reg reg)) = is_deafness_hidden c rows reg
-is_hidden_by c rows (Deaf (Mem mem)) = not (is_writable c mem) || not (is_reached rows (Mem mem) true)
-is_hidden_by c rows (ErrorRange port from to) = false
-is_hidden_by c rows (ErrorNth nth) = false
+is_silent_by c rows (Deaf (Reg reg)) = is_deafness_hidden c rows reg
+is_silent_by c rows (Deaf (Mem mem)) = not (is_writable c mem) || not (is_reached rows (Mem mem) true)
+is_silent_by c rows (ErrorRange port from to) = false
+is_silent_by c rows (ErrorNth nth) = false
 
+abbrev pub is_silent : ChipData → LayoutData → Flaw → Bool
+is_silent c l flaw = is_silent_by c l.rows flaw
+
+-- no script finds it: each event stays as it is, or no check compares what the flaw changes
 abbrev pub is_hidden : ChipData → LayoutData → Flaw → Bool
-is_hidden c l flaw = is_hidden_by c l.rows flaw
+is_hidden c l flaw = is_silent c l flaw || is_unchecked c flaw

@@ -8,12 +8,14 @@ pub mod Flaws
 pub mod Hidden
 pub mod Heard
 pub mod Job
+pub mod NeverFound
 pub mod Parts
 pub mod Place
 pub mod Prelude
 pub mod Reached
 pub mod Reading
 pub mod Record
+pub mod Registers
 pub mod Run
 pub mod Same
 pub mod Script
@@ -21,3 +23,5 @@ pub mod Share
 pub mod Single
 pub mod Sorted
 pub mod Together
+pub mod Trial
+pub mod Unchecked

@@ -5,13 +5,11 @@ use Rattle.std.specs.Option.{option_map_or}
 use Rattle.rl_bus.specs.Standing.{Standing}
 use Rattle.rl_model.specs.Chip.{IsSound as IsSoundChip}
 use Rattle.rl_model.specs.Rows.{ChipData}
-use Rattle.rl_model.specs.declared.rows.Item.TheVariants.{Reg, Mem}
 use Rattle.rl_map.specs.Layout.{IsSound as IsSoundLayout}
 use Rattle.rl_map.specs.Maps.{IsBuiltWith}
 use Rattle.rl_access.specs.declared.event.Event.{Event}
-use Rattle.rl_access.specs.Operation.{reg_of, register_of}
+use Rattle.rl_access.specs.Operation.{register_of}
 use Rattle.rl_flaw.specs.declared.flaw.Flaw.{Flaw}
-use Rattle.rl_flaw.specs.declared.flaw.Flaw.TheVariants.{Deaf, ErrorNth, ErrorRange, OtherPolicy, OtherReset, Stuck}
 use Rattle.rl_desc.specs.Data.{DescData}
 use Rattle.rl_session.specs.Judged.{first_world}
 use Rattle.rl_grade.specs.declared.job.Task.{Task}
@@ -22,18 +20,9 @@ use Rattle.rl_grade.specs.Find.{all_seen, first_find, new_in, shows}
 use Rattle.rl_grade.specs.Heard.{Heard}
 use Rattle.rl_grade.specs.Job.{heard_by}
 use Rattle.rl_grade.specs.Place.{with_flaw}
+pub use Rattle.rl_grade.specs.Registers.{register_with}
 
 -- ---- flaws of registers
-
--- the register that a flaw is of; none where it is of a memory, of an address or of an item
-abbrev pub register_with : ChipData → Flaw → Option ℕ
-register_with c (Stuck field bit value) = Some (reg_of c field)
-register_with c (OtherReset field kind value) = Some (reg_of c field)
-register_with c (OtherPolicy field policy) = Some (reg_of c field)
-register_with c (Deaf (Reg reg)) = Some reg
-register_with c (Deaf (Mem mem)) = None
-register_with c (ErrorRange port from to) = None
-register_with c (ErrorNth nth) = None
 
 abbrev pub is_flaw_in : ChipData → (reg : ℕ) → Flaw → Bool
 is_flaw_in c reg flaw = option_map_or (λ r. r == reg) (register_with c flaw) false

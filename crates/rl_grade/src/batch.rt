@@ -5,7 +5,7 @@ ghost use Rattle.rl_grade.specs.Batch.{AreChosen, chosen_flaws, with_answer, wit
 ghost use Rattle.rl_grade.specs.Hidden.{IsThere};
 
 use crate::grade::Graded;
-use crate::register::{keep_number, no_numbers, register_with};
+use crate::register::{blank, keep_number, register_with};
 use crate::seen::Find;
 use rl_bench::Flaw;
 use rl_model::Chip;
@@ -28,7 +28,7 @@ pub(crate) fn choose(
     requires { All (IsThere chip.now) flaws.now }
     ensures { IfOk result (λ chosen. AreChosen chip.now flaws.now chosen.items) }
 {
-    let mut chosen = no_numbers(alloc, chip.regs())?;
+    let mut chosen = blank(alloc, chip.regs() as usize)?;
     for number in 0..flaws.len() {
         if is_open(known, number) {
             let reg = register_with(chip, flaws[number]);

@@ -56,13 +56,6 @@ pub struct Known {
     pub next: usize,
 }
 
-// A flaw with its answer, and the description again.
-#[derive(Drop)]
-struct Answered {
-    desc: Desc,
-    it: Graded,
-}
-
 // The answer of that number, if there are so many.
 fn answer_at(graded: &[Graded], number: usize) -> Option<Graded>
     ensures { IfSome result (Contains graded.now) }
@@ -101,36 +94,6 @@ impl Share {
     }
 }
 
-// The answer of a flaw: the one that is known, or that of a run with it alone.
-fn answer(
-    alloc: Global,
-    desc: Desc,
-    flaw: Flaw,
-    tasks: &[Task],
-    shown: &[Seen],
-    known: Option<Graded>,
-) -> Result<Answered, AllocError>
-    requires built_with { IsBuiltWith desc.layout desc.chip }
-    requires kinds { desc.layout.kinds ≡ kinds_of fresh_standings }
-    requires fits { TasksFit desc.chip (length desc.layout.maps) tasks.now }
-    requires flaw { IsFlawOf desc.chip desc.layout flaw }
-    requires known { IfSome known (λ it. it ≡ graded_by desc tasks.now shown.now flaw) }
-    ensures desc { IfOk result (λ answered. answered.desc ≡ desc) }
-    ensures it { IfOk result (λ answered. answered.it ≡ graded_by desc tasks.now shown.now flaw) }
-{
-    if let Some(it) = known {
-        return Ok(Answered { desc, it });
-    }
-    let tried = try_afresh(alloc, desc, flaw, tasks, shown)?;
-    Ok(Answered {
-        desc: tried.desc,
-        it: Graded {
-            flaw,
-            found: tried.found,
-        },
-    })
-}
-
 /// Appends the answer of a flaw: the one that is known, or that of a run with it alone.
 pub(crate) fn push_answer(
     alloc: Global,
@@ -150,10 +113,17 @@ pub(crate) fn push_answer(
         ++ graded_by tries.desc tasks.now shown.now flaw ∷ []) }
 {
     let Tries { desc, mut graded } = tries;
-    let answered = answer(alloc, desc, flaw, tasks, shown, known)?;
-    graded.push(answered.it)?;
+    if let Some(it) = known {
+        graded.push(it)?;
+        return Ok(Tries { desc, graded });
+    }
+    let tried = try_afresh(alloc, desc, flaw, tasks, shown)?;
+    graded.push(Graded {
+        flaw,
+        found: tried.found,
+    })?;
     Ok(Tries {
-        desc: answered.desc,
+        desc: tried.desc,
         graded,
     })
 }

@@ -1,4 +1,4 @@
-// Flaws that no script can show.
+// Flaws that no script finds.
 ghost use Rattle.std.specs.Prelude.{◌≡◌, ◌<◌, IfOk, length};
 ghost use Rattle.std.specs.List.{list_all};
 ghost use Rattle.rl_policy.specs.Bits.{bit};
@@ -6,11 +6,12 @@ ghost use Rattle.rl_model.specs.Fields.{field_of};
 ghost use Rattle.rl_flaw.specs.Flaws.{IsFlawOf};
 ghost use Rattle.rl_grade.specs.Hidden.{IsThere, deaf_bit, first_bit, is_bit_hidden, is_deaf_hidden};
 ghost use Rattle.rl_grade.specs.Hidden.{is_deafness_hidden, is_field_hidden};
-ghost use Rattle.rl_grade.specs.Hidden.{is_hidden, is_hidden_by, is_same, other_bit, sound_bit, stuck_bit, ways_to};
+ghost use Rattle.rl_grade.specs.Hidden.{is_hidden, is_same, is_silent_by, other_bit, sound_bit, stuck_bit, ways_to};
 ghost use Rattle.rl_grade.specs.Reached.{is_reached, lets};
 
 use crate::bits::{FlawedBit, Ways, is_alike, is_fixed, is_same, is_unseen};
 use crate::flaws::is_of;
+use crate::unchecked::is_unchecked;
 use rl_bench::Flaw;
 use rl_bus::WordRow;
 use rl_map::Layout;
@@ -72,13 +73,9 @@ fn stuck_bit(chip: &Chip, field: u32, value: bool) -> FlawedBit
     requires { field < length chip.now.fields }
     ensures { result ≡ stuck_bit (field_of chip.now field) value }
 {
-    let shape = chip.field(field);
     FlawedBit {
-        own: shape.policy,
-        other: shape.policy,
         stuck: Some(value),
-        deaf: false,
-        volatile: shape.volatile,
+        ..sound_bit(chip, field)
     }
 }
 
@@ -86,13 +83,9 @@ fn other_bit(chip: &Chip, field: u32, other: Policy) -> FlawedBit
     requires { field < length chip.now.fields }
     ensures { result ≡ other_bit (field_of chip.now field) other }
 {
-    let shape = chip.field(field);
     FlawedBit {
-        own: shape.policy,
         other,
-        stuck: None,
-        deaf: false,
-        volatile: shape.volatile,
+        ..sound_bit(chip, field)
     }
 }
 
@@ -100,13 +93,9 @@ fn deaf_bit(chip: &Chip, field: u32) -> FlawedBit
     requires { field < length chip.now.fields }
     ensures { result ≡ deaf_bit (field_of chip.now field) }
 {
-    let shape = chip.field(field);
     FlawedBit {
-        own: shape.policy,
-        other: shape.policy,
-        stuck: None,
         deaf: true,
-        volatile: shape.volatile,
+        ..sound_bit(chip, field)
     }
 }
 
@@ -191,9 +180,10 @@ fn ways_to_field(chip: &Chip, rows: &[WordRow], field: u32) -> Ways
     ways_to(chip, rows, reg)
 }
 
-fn is_hidden_by(chip: &Chip, rows: &[WordRow], flaw: Flaw) -> bool
+// Whether each event stays as it is.
+fn is_silent_by(chip: &Chip, rows: &[WordRow], flaw: Flaw) -> bool
     requires { IsThere chip.now flaw }
-    ensures { result ≡ is_hidden_by chip.now rows.now flaw }
+    ensures { result ≡ is_silent_by chip.now rows.now flaw }
 {
     match flaw {
         Flaw::Stuck { field, bit, value } => {
@@ -218,8 +208,11 @@ fn is_hidden_by(chip: &Chip, rows: &[WordRow], flaw: Flaw) -> bool
     }
 }
 
-/// Whether no script can show a flaw of a description: with it, each event of every script is that of the device
-/// without it. Flaws of which this isn't known are no, as those of a field that no check compares, but reads change.
+/// Whether no script finds a flaw of a description: no event of a script shows more with it than without it. So it is
+/// where each event stays as it is, to the byte; and where of the flaw's register no check compares a field that the
+/// flaw could change, or one that is volatile, so that values differ at most.
+///
+/// Flaws of which neither is known are no, though no script may find some of these either.
 ///
 /// # Errors
 ///
@@ -229,5 +222,5 @@ pub fn is_hidden(chip: &Chip, layout: &Layout, flaw: Flaw) -> Result<bool, Alloc
     ensures { IfOk result (λ hidden. hidden ≡ is_hidden chip.now layout.now flaw) }
 {
     let rows = layout.shared_rows()?;
-    Ok(is_hidden_by(chip, &rows, flaw))
+    Ok(is_silent_by(chip, &rows, flaw) || is_unchecked(chip, flaw))
 }

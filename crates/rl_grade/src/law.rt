@@ -1,7 +1,8 @@
 //! What holds of the lists of single flaws, of shares and finds, and of a script and its tasks. Each function does
 //! nothing; its contract is the law.
 ghost use Rattle.rl_grade.specs.First.{FindIsFirst};
-ghost use Rattle.rl_grade.specs.Alike.{HiddenChangesNoEvent, HiddenIsNotFound, HiddenLeavesTheLog};
+ghost use Rattle.rl_grade.specs.Alike.{SilentChangesNoEvent, SilentIsNotFound, SilentLeavesTheLog};
+ghost use Rattle.rl_grade.specs.NeverFound.{HiddenIsNotFound, UncheckedShowsNothing, UncheckedShowsTheSame};
 ghost use Rattle.rl_grade.specs.Parts.{EachIsInOne, PlacesAddUp, ShareIsByNumber, WholeHasAll};
 ghost use Rattle.rl_grade.specs.Run.{HeardAreEvents, RunDoesTasks, RunStopsThere};
 ghost use Rattle.rl_grade.specs.Single.{NoneIsLeftOut, NoneIsMadeUp, NoneStandsTwice, PlacesAreApart};
@@ -61,12 +62,25 @@ pub fn what_is_heard_are_the_events()
     ensures { HeardAreEvents }
 {}
 
-/// A flaw that `is_hidden` names changes nothing that a script does: from the first state on, each event, each bus item
-/// and what is believed after it are those of the device without the flaw, and so is the log of each script, byte for
-/// byte. So no script finds it.
-pub fn a_hidden_flaw_changes_no_event()
-    ensures events { HiddenChangesNoEvent }
-    ensures log { HiddenLeavesTheLog }
+/// A silent flaw changes nothing that a script does: from the first state on, each event, each bus item and what is
+/// believed after it are those of the device without the flaw, and so is the log of each script, byte for byte. So no
+/// script finds it.
+pub fn a_silent_flaw_changes_no_event()
+    ensures events { SilentChangesNoEvent }
+    ensures log { SilentLeavesTheLog }
+    ensures found { SilentIsNotFound }
+{}
+
+/// Where each field that a flaw could change is compared by no check, and no field that is compared in its register is
+/// volatile, no script's event on this register names a field or ends by a bus error. So each event of a script names
+/// the fields that it names without the flaw, and ends by a bus error where it does so without it; values may differ.
+pub fn an_unchecked_flaw_shows_nothing()
+    ensures register { UncheckedShowsNothing }
+    ensures same { UncheckedShowsTheSame }
+{}
+
+/// No script finds a flaw that `is_hidden` names.
+pub fn a_hidden_flaw_is_never_found()
     ensures found { HiddenIsNotFound }
 {}
 

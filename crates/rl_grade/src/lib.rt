@@ -24,6 +24,8 @@ mod script;
 mod seen;
 mod sort;
 mod together;
+mod trial;
+mod unchecked;
 
 pub use flaws::{field_flaws, item_flaws, session_flaws};
 pub use grade::{Graded, Known, PlaceGrade, Share, Tries, grade_place, grade_place_known};

@@ -69,23 +69,12 @@ pub(crate) fn register_with(chip: &Chip, flaw: Flaw) -> Option<u32>
 
 // ---- tables
 
-/// A table of so many finds, of which none is known.
-pub(crate) fn no_finds(alloc: Global, regs: u32) -> Result<Vec<Option<Find>>, AllocError>
-    ensures { IfOk result (λ table. IsBlank regs table.items) }
+/// A table of so many places, of which each is empty.
+pub(crate) fn blank<T: Copy>(alloc: Global, size: usize) -> Result<Vec<Option<T>>, AllocError>
+    ensures { IfOk result (λ table. IsBlank size table.items) }
 {
     let mut table = Vec::new(alloc);
-    for _ in 0..regs {
-        table.push(None)?;
-    }
-    Ok(table)
-}
-
-/// A table of so many numbers, of which none is known.
-pub(crate) fn no_numbers(alloc: Global, regs: u32) -> Result<Vec<Option<usize>>, AllocError>
-    ensures { IfOk result (λ table. IsBlank regs table.items) }
-{
-    let mut table = Vec::new(alloc);
-    for _ in 0..regs {
+    for _ in 0..size {
         table.push(None)?;
     }
     Ok(table)

@@ -7,11 +7,11 @@ use crate::drive::do_tasks;
 use crate::job::Task;
 use crate::recorders::{Keep, Watch};
 use crate::seen::{Find, Seen};
+use crate::trial::begin;
 use rl_access::Model;
 use rl_bench::{Bench, Flaw};
 use rl_bus::{Adapter, Adapters};
 use rl_desc::Desc;
-use rl_session::open;
 use std::alloc::{AllocError, Global};
 
 /// What a script shows without the flaw that is asked for.
@@ -115,25 +115,10 @@ pub fn try_flaw(
     ensures found { IfOk result (λ tried. tried.found ≡ first_find base.now
         (heard_by (first_world (with_flaw desc flaw) (map standing adapters.old.items)) tasks.now)) }
 {
-    let Desc {
-        chip,
-        layout,
-        flaws: declared,
-    } = desc;
-    let mut flaws = Vec::new(alloc);
-    flaws.push(flaw)?;
-    let flawed = Desc {
-        chip,
-        layout,
-        flaws,
-    };
-    let (mut model, mut bench) = open(alloc, flawed)?;
-    let found = watch_tasks(&mut model, &mut bench, adapters, tasks, base);
-    let (chip, layout) = model.into_parts();
-    let desc = Desc {
-        chip,
-        layout,
-        flaws: declared,
-    };
-    Ok(Tried { desc, found })
+    let mut trial = begin(alloc, desc, &[flaw])?;
+    let found = watch_tasks(&mut trial.model, &mut trial.bench, adapters, tasks, base);
+    Ok(Tried {
+        desc: trial.end(),
+        found,
+    })
 }

@@ -58,12 +58,15 @@ fn write_burst(
     ensures named { result ≡ job_named model.now (say.BurstWrite mem.now first values map.now) }
     ensures fits { IfSome result (JobFits model.now.chip (length model.now.layout.maps)) }
 {
-    Some(Job::BurstWrite {
-        mem: mem_at(model, mem)?,
-        map: map_asked(model, map)?,
-        first,
-        values,
-    })
+    match (mem_at(model, mem), map_asked(model, map)) {
+        (Some(mem), Some(map)) => Some(Job::BurstWrite {
+            mem,
+            map,
+            first,
+            values,
+        }),
+        _ => None,
+    }
 }
 
 // So many consecutive locations, if both names are there.

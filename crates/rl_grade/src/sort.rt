@@ -8,14 +8,14 @@ ghost use Rattle.rl_grade.specs.Together.{IsSoundDesc, with_flaws};
 use crate::drive::do_job;
 use crate::job::Task;
 use crate::recorders::{behind, front};
-use crate::register::{keep_find, no_finds, register_of};
+use crate::register::{blank, keep_find, register_of};
 use crate::seen::{Find, Seen};
+use crate::trial::begin;
 use rl_access::{Event, Model, Recorder};
 use rl_apb::fresh_adapters;
 use rl_bench::{Bench, Flaw};
 use rl_bus::{Adapter, Adapters, Failed};
 use rl_desc::Desc;
-use rl_session::open;
 use std::alloc::{AllocError, Global};
 
 // Keeps the first event of each register that shows more than the one of its number without the flaws.
@@ -109,42 +109,36 @@ fn sort_tasks(
 fn try_flaws(
     alloc: Global,
     desc: Desc,
-    flaws: Vec<Flaw>,
+    flaws: &[Flaw],
     adapters: &mut Adapters,
     tasks: &[Task],
     base: &[Seen],
 ) -> Result<Sorted, AllocError>
     requires built_with { IsBuiltWith desc.layout desc.chip }
-    requires flaws { All (IsFlawOf desc.chip desc.layout) flaws.items }
+    requires flaws { All (IsFlawOf desc.chip desc.layout) flaws.now }
     requires kinds { desc.layout.kinds ≡ kinds_of (map standing adapters.old.items) }
     requires fits { TasksFit desc.chip (length desc.layout.maps) tasks.now }
     ensures kinds { kinds_of (map standing adapters.new.items) ≡ kinds_of (map standing adapters.old.items) }
     ensures desc { IfOk result (λ sorted. sorted.desc ≡ desc) }
     ensures sound { IfOk result (λ sorted. IsSoundDesc desc) }
     ensures found { IfOk result (λ sorted. AreSorted desc.chip (length desc.chip.regs) base.now
-        (heard_by (first_world (with_flaws desc flaws.items) (map standing adapters.old.items)) tasks.now)
+        (heard_by (first_world (with_flaws desc flaws.now) (map standing adapters.old.items)) tasks.now)
         sorted.found.items) }
 {
-    let Desc {
-        chip,
-        layout,
-        flaws: declared,
-    } = desc;
-    let found = no_finds(alloc, chip.regs())?;
-    let flawed = Desc {
-        chip,
-        layout,
-        flaws,
-    };
-    let (mut model, mut bench) = open(alloc, flawed)?;
-    let found = sort_tasks(&mut model, &mut bench, adapters, tasks, base, found)?;
-    let (chip, layout) = model.into_parts();
-    let desc = Desc {
-        chip,
-        layout,
-        flaws: declared,
-    };
-    Ok(Sorted { desc, found })
+    let found = blank(alloc, desc.chip.regs() as usize)?;
+    let mut trial = begin(alloc, desc, flaws)?;
+    let found = sort_tasks(
+        &mut trial.model,
+        &mut trial.bench,
+        adapters,
+        tasks,
+        base,
+        found,
+    )?;
+    Ok(Sorted {
+        desc: trial.end(),
+        found,
+    })
 }
 
 /// Tries flaws at once over a plain and an APB adapter that have sent nothing. They are made here, since an
@@ -156,18 +150,18 @@ fn try_flaws(
 pub(crate) fn try_flaws_afresh(
     alloc: Global,
     desc: Desc,
-    flaws: Vec<Flaw>,
+    flaws: &[Flaw],
     tasks: &[Task],
     base: &[Seen],
 ) -> Result<Sorted, AllocError>
     requires built_with { IsBuiltWith desc.layout desc.chip }
-    requires flaws { All (IsFlawOf desc.chip desc.layout) flaws.items }
+    requires flaws { All (IsFlawOf desc.chip desc.layout) flaws.now }
     requires kinds { desc.layout.kinds ≡ kinds_of fresh_standings }
     requires fits { TasksFit desc.chip (length desc.layout.maps) tasks.now }
     ensures desc { IfOk result (λ sorted. sorted.desc ≡ desc) }
     ensures sound { IfOk result (λ sorted. IsSoundDesc desc) }
     ensures found { IfOk result (λ sorted. AreSorted desc.chip (length desc.chip.regs) base.now
-        (heard_by (first_world (with_flaws desc flaws.items) fresh_standings) tasks.now) sorted.found.items) }
+        (heard_by (first_world (with_flaws desc flaws.now) fresh_standings) tasks.now) sorted.found.items) }
 {
     let (plain, apb) = fresh_adapters();
     let mut adapters: Adapters = Vec::new(alloc);

@@ -4,13 +4,13 @@ ghost use Rattle.rl_grade.specs.Batch.{AreAnswers, AreKnown, IsShown, flaws_of_p
 ghost use Rattle.rl_grade.specs.Prelude.{IsBuiltWith, IsFlawOf, IsPlaceIn, TasksFit, flaws_at, fresh_standings};
 ghost use Rattle.rl_grade.specs.Prelude.{graded_by, grades_of, kinds_of};
 ghost use Rattle.rl_grade.specs.Share.{share_of};
-ghost use Rattle.rl_grade.specs.Sorted.{IsBlank};
 
 use crate::batch::{batch_of, choose, keep_answers};
 use crate::grade::{Graded, Share, Tries, push_answer};
 use crate::job::Task;
 use crate::meter::Meter;
 use crate::place::{Place, flaws_at};
+use crate::register::blank;
 use crate::run::Shown;
 use crate::sort::try_flaws_afresh;
 use rl_bench::Flaw;
@@ -89,17 +89,6 @@ struct Rounds {
     tried: u64,
 }
 
-// A table of so many answers, of which none is known.
-fn no_answers(alloc: Global, flaws: usize) -> Result<Vec<Option<Graded>>, AllocError>
-    ensures { IfOk result (λ table. IsBlank flaws table.items) }
-{
-    let mut table = Vec::new(alloc);
-    for _ in 0..flaws {
-        table.push(None)?;
-    }
-    Ok(table)
-}
-
 // Tries of each register one flaw that has no answer yet, all of them at once.
 fn try_round(
     alloc: Global,
@@ -130,7 +119,7 @@ fn try_round(
     if tried_now < 2 {
         return Ok(Rounds { desc, known, tried });
     }
-    let sorted = try_flaws_afresh(alloc, desc, batch, tasks, &shown.seen)?;
+    let sorted = try_flaws_afresh(alloc, desc, &batch, tasks, &shown.seen)?;
     keep_answers(&mut known, flaws, &chosen, &sorted.found);
     Ok(Rounds {
         desc: sorted.desc,
@@ -157,7 +146,7 @@ fn try_rounds<M: Meter>(
     ensures known { IfOk result (λ rounds.
         AreKnown desc tasks.now shown.now.seen.items flaws.now rounds.known.items) }
 {
-    let known = no_answers(alloc, flaws.len())?;
+    let known = blank(alloc, flaws.len())?;
     let mut rounds = Rounds {
         desc,
         known,

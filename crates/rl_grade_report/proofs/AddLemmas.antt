@@ -34,7 +34,7 @@ use Rattle.rl_grade_report.specs.Progress.{TellsGraded, status_of}
 use Rattle.rl_grade_report.specs.Shares.{Came, and_then, closed, refused_by, shares_from, with_line}
 use Rattle.rl_grade_report.specs.Sums.{has_share, plus, sum_of, twice_in}
 use Rattle.rl_grade_report.specs.Totals.{capped, is_below}
-use Rattle.rl_grade_report.proofs.SessionLemmas.{caused_by, complete_if, told_by}
+use Rattle.rl_grade_report.proofs.SessionLemmas.{caused_by, complete_by, complete_if, told_by}
 
 -- ---- the first line
 
@@ -161,6 +161,11 @@ capped_more sum more = by (2 ^ 64 - 1)
     by : (most : ℕ) → min (min sum most + more) most ≡ min (sum + more) most
     by most = omega arith
 
+pub same_totals : (a b x y m n u v p q : ℕ) → a ≡ b → x ≡ y → m ≡ n → u ≡ v → p ≡ q
+    → (let t : Totals = record { flaws = a; found = x; hidden = m; waived = u; needless = p } in t)
+    ≡ record { flaws = b; found = y; hidden = n; waived = v; needless = q }
+same_totals a b x y m n u v p q flaws found hidden waived needless = cc
+
 pub sums_more : (ps : List Part) (i : ℕ) (d : Part) → i < length ps → plus (sum_of (take i ps)) (get_or ps i d).totals ≡ sum_of (take (i + 1) ps)
 sums_more ps i d low =
     let p = get_or ps i d in
@@ -170,22 +175,17 @@ sums_more ps i d low =
     ∙ ap capped (sym (sum_by_more (λ (p : Part). p.totals.found) ps i d low)) in
     let hidden = capped_more (sum_by (λ (p : Part). p.totals.hidden) (take i ps)) p.totals.hidden
     ∙ ap capped (sym (sum_by_more (λ (p : Part). p.totals.hidden) ps i d low)) in
-    all_same _ _ _ _ _ _ flaws found hidden
-  where
-    all_same : (a b x y m n : ℕ) → a ≡ b → x ≡ y → m ≡ n
-        → (let t : Totals = record { flaws = a; found = x; hidden = m } in t) ≡ record { flaws = b; found = y; hidden = n }
-    all_same a b x y m n flaws found hidden = cc
+    let waived = capped_more (sum_by (λ (p : Part). p.totals.waived) (take i ps)) p.totals.waived
+    ∙ ap capped (sym (sum_by_more (λ (p : Part). p.totals.waived) ps i d low)) in
+    let needless = capped_more (sum_by (λ (p : Part). p.totals.needless) (take i ps)) p.totals.needless
+    ∙ ap capped (sym (sum_by_more (λ (p : Part). p.totals.needless) ps i d low)) in
+    same_totals _ _ _ _ _ _ _ _ _ _ flaws found hidden waived needless
 
 -- ---- what is written
 
 complete_told : (bound : Option ℕ) (r : Result Totals Unfit) → is_complete (sums_told bound r).status ≡ true
 complete_told bound (Ok sums) = complete_if (is_below bound sums)
 complete_told bound (Err why) = refl
-
-complete_by : (r : Result Status Status) (expected : Status) → IfOk r (λ s. s ≡ expected) → is_complete expected ≡ true
-    → IfOk r (λ s. is_complete s ≡ true)
-complete_by (Ok s) expected same whole = ap is_complete same ∙ whole
-complete_by (Err s) expected same whole = tt
 
 module _ (bound : Option ℕ) (text : List ℕ) (r : Result Status Status) (status result : Status) (is : status ≡ status_of r)
     (right : IfOk r (λ s. s ≡ (added_of bound text).status)) (same : result ≢ SinkFault → result ≡ status) where

@@ -8,11 +8,13 @@ use Rattle.rl_desc.specs.Data.{DescData}
 use Rattle.rl_grade.specs.declared.grade.Graded.{Graded}
 use Rattle.rl_grade_report.specs.declared.verdict.Judged.{Judged}
 use Rattle.rl_grade_report.specs.declared.verdict.Verdict.{Verdict}
-use Rattle.rl_grade_report.specs.Verdict.{AreJudged, flaws_with, has_verdict, judged_by}
+use Rattle.rl_grade_report.specs.Judging.{judged_by}
+use Rattle.rl_grade_report.specs.Verdict.{AreJudged, flaws_with, has_verdict}
+use Rattle.rl_grade_report.specs.Waivers.{RowData}
 
-pub judged_are : (d : DescData) (graded : List Graded) → All (λ g. IsFlawOf d.chip d.layout g.flaw) graded
-    → AreJudged d.chip d.layout (map (judged_by d) graded)
-judged_are d graded h = All-map (λ (j : Judged). IsFlawOf d.chip d.layout j.flaw) (judged_by d) graded h
+pub judged_are : (d : DescData) (waivers : List RowData) (graded : List Graded) → All (λ g. IsFlawOf d.chip d.layout g.flaw) graded
+    → AreJudged d.chip d.layout (map (judged_by d waivers) graded)
+judged_are d waivers graded h = All-map (λ (j : Judged). IsFlawOf d.chip d.layout j.flaw) (judged_by d waivers) graded h
 
 pub flaws_are : (c : ChipData) (l : LayoutData) (verdict : Verdict) (judged : List Judged) → AreJudged c l judged
     → All (IsFlawOf c l) (flaws_with verdict judged)

@@ -3,7 +3,9 @@ mod EachOnce
 mod Flaws
 pub mod Parts
 mod PlaceLemmas
+mod PlainLemmas
 mod Placed
 mod SessionLemmas
 mod Together
+mod WaiverLemmas
 mod WordLemmas

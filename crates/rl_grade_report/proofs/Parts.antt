@@ -26,6 +26,18 @@ four_behind : (t a b c d : List ℕ) → (((t ++ a) ++ b) ++ c) ++ d ≡ t ++ jo
 unfolding joined
 four_behind t a b c d = simp (append_assoc, append-nil)
 
+two_behind : (t a b : List ℕ) → (t ++ a) ++ b ≡ t ++ joined (a ∷ b ∷ [])
+unfolding joined
+two_behind t a b = simp (append_assoc, append-nil)
+
+-- pieces, and two more behind them
+pub then_two : (xs : List (List ℕ)) (a b : List ℕ) → (joined xs ++ a) ++ b ≡ joined (xs ++ a ∷ b ∷ [])
+then_two xs a b = two_behind (joined xs) a b ∙ joined_more xs (a ∷ b ∷ [])
+
+pub three_parts : (a b c : List ℕ) → (a ++ b) ++ c ≡ joined (a ∷ b ∷ c ∷ [])
+unfolding joined
+three_parts a b c = simp (append_assoc, append-nil)
+
 -- pieces, and four more behind them one after another
 pub then_four : (xs : List (List ℕ)) (a b c d : List ℕ) → (((joined xs ++ a) ++ b) ++ c) ++ d ≡ joined (xs ++ a ∷ b ∷ c ∷ d ∷ [])
 then_four xs a b c d = four_behind (joined xs) a b c d ∙ joined_more xs (a ∷ b ∷ c ∷ d ∷ [])

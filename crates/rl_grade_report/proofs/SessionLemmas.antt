@@ -36,18 +36,19 @@ use Rattle.rl_grade.specs.Adapters.{fresh_standings}
 use Rattle.rl_grade.specs.Alike.{without_flaws}
 use Rattle.rl_grade.specs.Batch.{IsShown}
 use Rattle.rl_grade.specs.Find.{all_seen}
+use Rattle.rl_grade.specs.Heard.{Heard}
 use Rattle.rl_grade.specs.Job.{heard_by}
 use Rattle.rl_grade.specs.Reading.{refused_line}
+use Rattle.rl_grade.specs.Record.{items_from}
 use Rattle.rl_grade.specs.Script.{tasks_from}
 use Rattle.rl_grade_report.specs.declared.asked.Asked.{Asked}
-use Rattle.rl_grade_report.specs.declared.totals.Totals.{Totals}
-use Rattle.rl_grade_report.specs.Asked.{is_marked, status_at}
-use Rattle.rl_grade_report.specs.Grading.{Grading, graded_as, grading_of, grading_with, opened_graded, script_graded, tasks_graded}
-use Rattle.rl_grade_report.specs.Mark.{mark_of}
+use Rattle.rl_grade_report.specs.Asked.{is_marked}
+use Rattle.rl_grade_report.specs.Grading.{Base, Grading, graded_as, graded_over, grading_of, grading_with, opened_graded, script_graded, tasks_graded}
+use Rattle.rl_grade_report.specs.Mark.{mark_from, mark_of}
 use Rattle.rl_grade_report.specs.Opening.{flaws_text, unflawed}
 use Rattle.rl_grade_report.specs.Progress.{TellsGraded, desc_of, status_of}
 use Rattle.rl_grade_report.specs.Refusal.{EndsUnread}
-use Rattle.rl_grade_report.specs.Totals.{is_below}
+use Rattle.rl_grade_report.specs.Waivers.{rows_of}
 
 -- ---- a text and its status
 
@@ -75,19 +76,30 @@ caused_by (Ok Words) source source_now sink sink_now whole h = absurd (true≢fa
 caused_by (Err s) source source_now sink sink_now whole h =
     record { source_fault = λ e. absurd (omega (arith, h.source_fault e)); sink_fault = h.sink_fault; known = h.known }
 
-whole_by : (asked : Asked) (totals : Totals) (r : Result Status Status) → IfOk r (λ s. s ≡ status_at asked totals)
+pub complete_by : (r : Result Status Status) (expected : Status) → IfOk r (λ s. s ≡ expected) → is_complete expected ≡ true
     → IfOk r (λ s. is_complete s ≡ true)
-whole_by asked totals (Ok s) same = ap is_complete same ∙ complete_if (is_below asked.bound totals)
-whole_by asked totals (Err s) same = tt
+complete_by (Ok s) expected same whole = ap is_complete same ∙ whole
+complete_by (Err s) expected same whole = tt
 
-pub leaves_graded : {K : Type 0} (sink : Sink K) (asked : Asked) (totals : Totals) (r : Result Status Status) (source source_now : ℕ) (old new : K)
-    → source ≤ source_now → IfOk r (λ s. s ≡ status_at asked totals) → IfErr r (λ s. IsCaused s 0 0 (sink.faults old) (sink.faults new))
+pub leaves_graded : {K : Type 0} (sink : Sink K) (r : Result Status Status) (source source_now : ℕ) (old new : K) → source ≤ source_now
+    → IfOk r (λ s. is_complete s ≡ true) → IfErr r (λ s. IsCaused s 0 0 (sink.faults old) (sink.faults new))
     → StaysOpen sink.written sink.faults sink.ends old new → LeavesOpen sink (status_of r) source source_now old new
-leaves_graded sink asked totals r source source_now old new later same cause stays = record {
+leaves_graded sink r source source_now old new later whole cause stays = record {
   source_later = later;
-  cause = caused_by r source source_now (sink.faults old) (sink.faults new) (whole_by asked totals r same) cause;
+  cause = caused_by r source source_now (sink.faults old) (sink.faults new) whole cause;
   stays = stays;
 }
+
+-- what the tasks show, by what is heard of them
+pub over_heard : (asked : Asked) (mark : Option ℕ) (waivers : List ℕ) (desc d : DescData) (tasks : List Task) (heard : List Heard) (seen : List Seen)
+    (items : ℕ) → desc ≡ d → seen ≡ all_seen heard → items ≡ items_from 0 heard
+    → graded_over asked mark desc (record { waivers = rows_of waivers; tasks = tasks; seen = seen; items = items })
+    ≡ graded_as asked mark waivers d tasks heard
+over_heard asked mark waivers desc d tasks heard seen items same seen_are items_are =
+    let base : List Seen → ℕ → Base = λ seen items. record { waivers = rows_of waivers; tasks = tasks; seen = seen; items = items } in
+    ap (λ d. graded_over asked mark d (base seen items)) same
+    ∙ ap (λ s. graded_over asked mark d (base s items)) seen_are
+    ∙ ap (λ n. graded_over asked mark d (base (all_seen heard) n)) items_are
 
 -- ---- a script
 
@@ -117,10 +129,10 @@ pub shown_is : (m : ModelData) (st : State) (desc : DescData) (standings : List 
 shown_is m st desc standings tasks shown is begun same =
     is ∙ ap (λ w. all_seen (heard_by w tasks)) (begun ∙ ap (λ (d : DescData). first_world (without_flaws d) fresh_standings) (sym same))
 
-module _ (asked : Asked) (mark : Option ℕ) where
+module _ (asked : Asked) (mark : Option ℕ) (waivers : List ℕ) where
   -- what is graded of these events, from this description
   abbrev graded_of : DescData → List Task → World → Grading
-  graded_of desc tasks w = graded_as asked mark desc tasks (heard_by w tasks)
+  graded_of desc tasks w = graded_as asked mark waivers desc tasks (heard_by w tasks)
 
   pub script_told : (input : Option (List ℕ)) (desc : DescData) (m : ModelData) (st : State)
       (standings : List Standing) (tasks : List Task) (r : Result Status Status) (old new : Option (List ℕ)) → standings ≡ fresh_standings
@@ -128,7 +140,7 @@ module _ (asked : Asked) (mark : Option ℕ) where
       → IfSome input (λ bytes. tasks_from m 1 (lines_of bytes) ≡ Ok tasks)
       → Puts old new (graded_of (desc_of m) tasks (world m standings st)).text r
       → IfOk r (λ s. s ≡ (graded_of (desc_of m) tasks (world m standings st)).status) → IfErr r (λ s. is_complete s ≡ false)
-      → IfSome input (λ bytes. TellsGraded (script_graded asked mark desc (lines_of bytes)) (status_of r) old new)
+      → IfSome input (λ bytes. TellsGraded (script_graded asked mark waivers desc (lines_of bytes)) (status_of r) old new)
   script_told None desc m st standings tasks r old new fresh h none given p same broken = tt
   script_told (Some bytes) desc m st standings tasks r old new fresh h none given p same broken =
       let lines = lines_of bytes in
@@ -138,32 +150,32 @@ module _ (asked : Asked) (mark : Option ℕ) where
       let g = graded_of (desc_of m) tasks (world m standings st) in
       let told = subst (λ (g : Grading). Tells (status_of r) g.status old new g.text) is (told_by r g.status old new g.text p same broken) in
       let read = subst (λ m. tasks_from m 1 lines ≡ Ok tasks) h.model_is given in
-      subst (λ t. TellsGraded (tasks_graded asked mark desc t) (status_of r) old new) (sym read) told
+      subst (λ t. TellsGraded (tasks_graded asked mark waivers desc t) (status_of r) old new) (sym read) told
 
 early : (g : Grading) (status : Status) (old new : Option (List ℕ)) → is_complete status ≡ false → Keeps old new
     → TellsGraded g status old new
 early g status old new broken kept = tells_none status g.status old new g.text broken kept
 
-pub script_early : (input : Option (List ℕ)) (asked : Asked) (mark : Option ℕ) (desc : DescData) (status : Status) (old new : Option (List ℕ))
+pub script_early : (input : Option (List ℕ)) (asked : Asked) (mark : Option ℕ) (waivers : List ℕ) (desc : DescData) (status : Status) (old new : Option (List ℕ))
     → is_complete status ≡ false → Keeps old new
-    → IfSome input (λ bytes. TellsGraded (script_graded asked mark desc (lines_of bytes)) status old new)
-script_early None asked mark desc status old new broken kept = tt
-script_early (Some bytes) asked mark desc status old new broken kept =
-    early (script_graded asked mark desc (lines_of bytes)) status old new broken kept
+    → IfSome input (λ bytes. TellsGraded (script_graded asked mark waivers desc (lines_of bytes)) status old new)
+script_early None asked mark waivers desc status old new broken kept = tt
+script_early (Some bytes) asked mark waivers desc status old new broken kept =
+    early (script_graded asked mark waivers desc (lines_of bytes)) status old new broken kept
 
-pub script_unread : (input : Option (List ℕ)) (asked : Asked) (mark : Option ℕ) (desc : DescData) (m : ModelData) (standings : List Standing)
+pub script_unread : (input : Option (List ℕ)) (asked : Asked) (mark : Option ℕ) (waivers : List ℕ) (desc : DescData) (m : ModelData) (standings : List Standing)
     (why : ScriptFault) (status : Status) (old new : Option (List ℕ)) → m ≡ (first_world desc standings).model
     → IfSome (refused_line why) (λ at. IfSome input (λ bytes. tasks_from m 1 (lines_of bytes) ≡ Err at))
     → EndsUnread why status old new
-    → IfSome input (λ bytes. TellsGraded (script_graded asked mark desc (lines_of bytes)) status old new)
-script_unread None asked mark desc m standings why status old new is given ends = tt
-script_unread (Some bytes) asked mark desc m standings (fault.Line number reason) status old new is given ends =
+    → IfSome input (λ bytes. TellsGraded (script_graded asked mark waivers desc (lines_of bytes)) status old new)
+script_unread None asked mark waivers desc m standings why status old new is given ends = tt
+script_unread (Some bytes) asked mark waivers desc m standings (fault.Line number reason) status old new is given ends =
     let read = subst (λ m. tasks_from m 1 (lines_of bytes) ≡ Err (record { number = number; why = reason })) is given in
-    subst (λ t. TellsGraded (tasks_graded asked mark desc t) status old new) (sym read) ends
-script_unread (Some bytes) asked mark desc m standings fault.Source status old new is given ends =
-    early (script_graded asked mark desc (lines_of bytes)) status old new ends.0 ends.1
-script_unread (Some bytes) asked mark desc m standings fault.Memory status old new is given ends =
-    early (script_graded asked mark desc (lines_of bytes)) status old new ends.0 ends.1
+    subst (λ t. TellsGraded (tasks_graded asked mark waivers desc t) status old new) (sym read) ends
+script_unread (Some bytes) asked mark waivers desc m standings fault.Source status old new is given ends =
+    early (script_graded asked mark waivers desc (lines_of bytes)) status old new ends.0 ends.1
+script_unread (Some bytes) asked mark waivers desc m standings fault.Memory status old new is given ends =
+    early (script_graded asked mark waivers desc (lines_of bytes)) status old new ends.0 ends.1
 
 -- ---- what passes the check
 
@@ -180,81 +192,84 @@ none_flawed desc is = no_flaws desc.flaws (passes desc (length desc.flaws == 0) 
 
 -- ---- a session
 
-stopped : (asked : Asked) (mark : Option ℕ) (lines : List (List ℕ)) (opening : Result DescData (List ℕ)) (status : Status) (old new : Option (List ℕ))
-    → Stops opening status old new → TellsGraded (opened_graded asked mark lines opening) status old new
-stopped asked mark lines (Ok desc) status old new s = early (script_graded asked mark desc lines) status old new s.0 s.1
-stopped asked mark lines (Err line) status old new s = s
+stopped : (asked : Asked) (mark : Option ℕ) (waivers : List ℕ) (lines : List (List ℕ)) (opening : Result DescData (List ℕ)) (status : Status) (old new : Option (List ℕ))
+    → Stops opening status old new → TellsGraded (opened_graded asked mark waivers lines opening) status old new
+stopped asked mark waivers lines (Ok desc) status old new s = early (script_graded asked mark waivers desc lines) status old new s.0 s.1
+stopped asked mark waivers lines (Err line) status old new s = s
 
-pub session_stopped : (input : Option (List ℕ)) (asked : Asked) (mark : Option ℕ) (standings : List Standing) (status : Status) (old new : Option (List ℕ))
+pub session_stopped : (input : Option (List ℕ)) (asked : Asked) (mark : Option ℕ) (waivers : List ℕ) (standings : List Standing) (status : Status) (old new : Option (List ℕ))
     → standings ≡ fresh_standings → IfSome input (λ bytes. Stops (unflawed (opening_of bytes (kinds_of standings))) status old new)
-    → IfSome input (λ bytes. TellsGraded (grading_with asked mark bytes) status old new)
-session_stopped None asked mark standings status old new fresh s = tt
-session_stopped (Some bytes) asked mark standings status old new fresh s =
-    stopped asked mark (script_of bytes) (unflawed (opening_of bytes (kinds_of fresh_standings))) status old new
+    → IfSome input (λ bytes. TellsGraded (grading_with asked mark waivers bytes) status old new)
+session_stopped None asked mark waivers standings status old new fresh s = tt
+session_stopped (Some bytes) asked mark waivers standings status old new fresh s =
+    stopped asked mark waivers (script_of bytes) (unflawed (opening_of bytes (kinds_of fresh_standings))) status old new
     (subst (λ a. Stops (unflawed (opening_of bytes (kinds_of a))) status old new) fresh s)
 
-pub session_graded : {K : Type 0} (written : K → Option (List ℕ)) (input : Option (List ℕ)) (asked : Asked) (mark : Option ℕ) (standings : List Standing)
+pub session_graded : {K : Type 0} (written : K → Option (List ℕ)) (input : Option (List ℕ)) (asked : Asked) (mark : Option ℕ) (waivers : List ℕ) (standings : List Standing)
     (desc : DescData) (lines : Reading) (left : Option (List ℕ)) (status : Status) (old mid new : K) → standings ≡ fresh_standings
     → IfSome input (λ bytes. OpensAs (unflawed (opening_of bytes (kinds_of standings))) bytes desc lines left) → mid ≡ old
-    → IfSome (input_of lines left) (λ bytes. TellsGraded (script_graded asked mark desc (lines_of bytes)) status (written mid) (written new))
-    → IfSome input (λ bytes. TellsGraded (grading_with asked mark bytes) status (written old) (written new))
-session_graded written None asked mark standings desc lines left status old mid new fresh opens same t = tt
-session_graded written (Some bytes) asked mark standings desc lines left status old mid new fresh opens same t =
-    let told = subst (λ i. IfSome i (λ bytes. TellsGraded (script_graded asked mark desc (lines_of bytes)) status (written mid) (written new)))
+    → IfSome (input_of lines left) (λ bytes. TellsGraded (script_graded asked mark waivers desc (lines_of bytes)) status (written mid) (written new))
+    → IfSome input (λ bytes. TellsGraded (grading_with asked mark waivers bytes) status (written old) (written new))
+session_graded written None asked mark waivers standings desc lines left status old mid new fresh opens same t = tt
+session_graded written (Some bytes) asked mark waivers standings desc lines left status old mid new fresh opens same t =
+    let told = subst (λ i. IfSome i (λ bytes. TellsGraded (script_graded asked mark waivers desc (lines_of bytes)) status (written mid) (written new)))
     opens.rest t in
     let opening = subst (λ a. unflawed (opening_of bytes (kinds_of a)) ≡ Ok desc) fresh opens.opening in
-    let graded = subst (λ o. TellsGraded (opened_graded asked mark (script_of bytes) o) status (written mid) (written new)) (sym opening) told in
-    subst (λ k. TellsGraded (grading_with asked mark bytes) status (written k) (written new)) same graded
+    let graded = subst (λ o. TellsGraded (opened_graded asked mark waivers (script_of bytes) o) status (written mid) (written new)) (sym opening) told in
+    subst (λ k. TellsGraded (grading_with asked mark waivers bytes) status (written k) (written new)) same graded
 
-pub session_ended : (input : Option (List ℕ)) (asked : Asked) (mark : Option ℕ) (status result : Status) (old mid new : Option (List ℕ))
+pub session_ended : (input : Option (List ℕ)) (asked : Asked) (mark : Option ℕ) (waivers : List ℕ) (status result : Status) (old mid new : Option (List ℕ))
     → (result ≢ SinkFault → result ≡ status) → KeepsEarlier old new → Keeps mid new
-    → IfSome input (λ bytes. TellsGraded (grading_with asked mark bytes) status old mid)
-    → IfSome input (λ bytes. TellsGraded (grading_with asked mark bytes) result old new)
-session_ended None asked mark status result old mid new same earlier kept t = tt
-session_ended (Some bytes) asked mark status result old mid new same earlier kept t =
-    let g = grading_with asked mark bytes in
+    → IfSome input (λ bytes. TellsGraded (grading_with asked mark waivers bytes) status old mid)
+    → IfSome input (λ bytes. TellsGraded (grading_with asked mark waivers bytes) result old new)
+session_ended None asked mark waivers status result old mid new same earlier kept t = tt
+session_ended (Some bytes) asked mark waivers status result old mid new same earlier kept t =
+    let g = grading_with asked mark waivers bytes in
     tells_written status result g.status old mid new [] g.text same earlier (subst (Keeps mid) (sym (append_none new)) kept) (λ c. kept) t
 
 -- ---- whether the mark is told
 
-module _ (asked : Asked) (bytes : List ℕ) where
+module _ (asked : Asked) (waivers bytes : List ℕ) where
   abbrev with_mark : Bool → Grading
-  with_mark marked = grading_with asked (if marked then Some (mark_of bytes) else None) bytes
+  with_mark marked = grading_with asked (if marked then Some (mark_from (mark_of bytes) waivers) else None) waivers bytes
 
-  pub marked_is : is_marked asked ≡ true → grading_of asked bytes ≡ grading_with asked (Some (mark_of bytes)) bytes
+  pub marked_is : is_marked asked ≡ true
+      → grading_of asked waivers bytes ≡ grading_with asked (Some (mark_from (mark_of bytes) waivers)) waivers bytes
   marked_is at = ap with_mark at
 
-  pub unmarked_is : is_marked asked ≡ false → grading_of asked bytes ≡ grading_with asked None bytes
+  pub unmarked_is : is_marked asked ≡ false → grading_of asked waivers bytes ≡ grading_with asked None waivers bytes
   unmarked_is at = ap with_mark at
 
-pub told_marked : (input : Option (List ℕ)) (asked : Asked) (status : Status) (old new : Option (List ℕ)) → is_marked asked ≡ true
-    → IfSome input (λ bytes. TellsGraded (grading_with asked (Some (mark_of bytes)) bytes) status old new)
-    → IfSome input (λ bytes. TellsGraded (grading_of asked bytes) status old new)
-told_marked None asked status old new at t = tt
-told_marked (Some bytes) asked status old new at t = subst (λ g. TellsGraded g status old new) (sym (marked_is asked bytes at)) t
+pub told_marked : (input : Option (List ℕ)) (asked : Asked) (waivers : List ℕ) (status : Status) (old new : Option (List ℕ)) → is_marked asked ≡ true
+    → IfSome input (λ bytes. TellsGraded (grading_with asked (Some (mark_from (mark_of bytes) waivers)) waivers bytes) status old new)
+    → IfSome input (λ bytes. TellsGraded (grading_of asked waivers bytes) status old new)
+told_marked None asked waivers status old new at t = tt
+told_marked (Some bytes) asked waivers status old new at t =
+    subst (λ g. TellsGraded g status old new) (sym (marked_is asked waivers bytes at)) t
 
-pub told_unmarked : (input : Option (List ℕ)) (asked : Asked) (status : Status) (old new : Option (List ℕ)) → is_marked asked ≡ false
-    → IfSome input (λ bytes. TellsGraded (grading_with asked None bytes) status old new)
-    → IfSome input (λ bytes. TellsGraded (grading_of asked bytes) status old new)
-told_unmarked None asked status old new at t = tt
-told_unmarked (Some bytes) asked status old new at t = subst (λ g. TellsGraded g status old new) (sym (unmarked_is asked bytes at)) t
+pub told_unmarked : (input : Option (List ℕ)) (asked : Asked) (waivers : List ℕ) (status : Status) (old new : Option (List ℕ)) → is_marked asked ≡ false
+    → IfSome input (λ bytes. TellsGraded (grading_with asked None waivers bytes) status old new)
+    → IfSome input (λ bytes. TellsGraded (grading_of asked waivers bytes) status old new)
+told_unmarked None asked waivers status old new at t = tt
+told_unmarked (Some bytes) asked waivers status old new at t =
+    subst (λ g. TellsGraded g status old new) (sym (unmarked_is asked waivers bytes at)) t
 
 -- ---- a session that was read whole
 
-pub whole_told : (input : Option (List ℕ)) (asked : Asked) (whole : List ℕ) (mark : ℕ) (status : Status) (old new : Option (List ℕ))
-    → IfSome input (λ bytes. whole ≡ bytes) → mark ≡ mark_of whole
-    → TellsGraded (grading_with asked (Some mark) whole) status old new
-    → IfSome input (λ bytes. TellsGraded (grading_with asked (Some (mark_of bytes)) bytes) status old new)
-whole_told None asked whole mark status old new same is t = tt
-whole_told (Some bytes) asked whole mark status old new same is t =
-    subst (λ bytes. TellsGraded (grading_with asked (Some (mark_of bytes)) bytes) status old new) same
-    (subst (λ mark. TellsGraded (grading_with asked (Some mark) whole) status old new) is t)
+pub whole_told : (input : Option (List ℕ)) (asked : Asked) (waivers whole : List ℕ) (mark : ℕ) (status : Status) (old new : Option (List ℕ))
+    → IfSome input (λ bytes. whole ≡ bytes) → mark ≡ mark_from (mark_of whole) waivers
+    → TellsGraded (grading_with asked (Some mark) waivers whole) status old new
+    → IfSome input (λ bytes. TellsGraded (grading_with asked (Some (mark_from (mark_of bytes) waivers)) waivers bytes) status old new)
+whole_told None asked waivers whole mark status old new same is t = tt
+whole_told (Some bytes) asked waivers whole mark status old new same is t =
+    subst (λ bytes. TellsGraded (grading_with asked (Some (mark_from (mark_of bytes) waivers)) waivers bytes) status old new) same
+    (subst (λ mark. TellsGraded (grading_with asked (Some mark) waivers whole) status old new) is t)
 
-pub unread_told : (input : Option (List ℕ)) (asked : Asked) (status : Status) (old : Option (List ℕ)) → is_complete status ≡ false
-    → IfSome input (λ bytes. TellsGraded (grading_with asked (Some (mark_of bytes)) bytes) status old old)
-unread_told None asked status old broken = tt
-unread_told (Some bytes) asked status old broken =
-    early (grading_with asked (Some (mark_of bytes)) bytes) status old old broken (Keeps-refl old)
+pub unread_told : (input : Option (List ℕ)) (asked : Asked) (waivers : List ℕ) (status : Status) (old : Option (List ℕ)) → is_complete status ≡ false
+    → IfSome input (λ bytes. TellsGraded (grading_with asked (Some (mark_from (mark_of bytes) waivers)) waivers bytes) status old old)
+unread_told None asked waivers status old broken = tt
+unread_told (Some bytes) asked waivers status old broken =
+    early (grading_with asked (Some (mark_from (mark_of bytes) waivers)) waivers bytes) status old old broken (Keeps-refl old)
 
 -- nothing came of it but that its source was read
 pub unread_leaves : {K : Type 0} (sink : Sink K) (status : Status) (source source_now : ℕ) (log : K) → source ≤ source_now

@@ -20,14 +20,16 @@ use Rattle.rl_grade_report.specs.declared.shares.Part.{Part}
 use Rattle.rl_grade_report.specs.declared.shares.Unfit.{Unfit}
 use Rattle.rl_grade_report.specs.declared.totals.Totals.{Totals}
 use Rattle.rl_grade_report.specs.declared.verdict.Judged.{Judged}
-use Rattle.rl_grade_report.specs.declared.verdict.Verdict.TheVariants.{Hidden}
+use Rattle.rl_grade_report.specs.declared.verdict.Verdict.TheVariants.{Hidden, Waived}
 use Rattle.rl_grade_report.specs.Asked.{whole}
+use Rattle.rl_grade_report.specs.Judging.{judged_by}
 use Rattle.rl_grade_report.specs.Grading.{Base, all_judged, flaws_behind, judged_at, judged_from}
 use Rattle.rl_grade_report.specs.Places.{places_of}
 use Rattle.rl_grade_report.specs.Sums.{has_share, is_of, lacking_in, other_in, sum_of, sums_from, sums_in, sums_unless, twice_in}
 use Rattle.rl_grade_report.specs.Together.{IsCounted, SumsAreOfAll, share_totals}
 use Rattle.rl_grade_report.specs.Totals.{capped}
-use Rattle.rl_grade_report.specs.Verdict.{has_verdict, judged_by}
+use Rattle.rl_grade_report.specs.Verdict.{has_verdict, is_needless}
+use Rattle.rl_grade_report.proofs.AddLemmas.{same_totals}
 
 -- ---- sums over a list
 
@@ -137,20 +139,20 @@ module _ (parts : List Part) (once : EachOnce parts) where
     graded flaw = graded_by d base.tasks base.seen flaw
 
     judged_sum : (w : Judged → ℕ) (flaws : List Flaw)
-        → sum_by w (map (judged_by d) (map graded flaws)) ≡ sum_by (λ flaw. w (judged_by d (graded flaw))) flaws
+        → sum_by w (map (judged_by d base.waivers) (map graded flaws)) ≡ sum_by (λ flaw. w (judged_by d base.waivers (graded flaw))) flaws
     judged_sum w flaws =
-        sum_map w (judged_by d) (map graded flaws) ∙ sum_map (λ g. w (judged_by d g)) graded flaws
+        sum_map w (judged_by d base.waivers) (map graded flaws) ∙ sum_map (λ g. w (judged_by d base.waivers g)) graded flaws
 
     place_sum : (w : Judged → ℕ) (before : ℕ) (place : Place)
         → sum_by (λ p. sum_by w (judged_at (with_share p.head.share) d base before place)) parts
         ≡ sum_by w (judged_at (with_share whole) d base before place)
     place_sum w before place =
         let flaws = flaws_at d base.items place in
-        let mine = λ (p : Part). sum_by (λ flaw. w (judged_by d (graded flaw))) (share_of p.head.share before flaws) in
+        let mine = λ (p : Part). sum_by (λ flaw. w (judged_by d base.waivers (graded flaw))) (share_of p.head.share before flaws) in
         sum_same (λ p. sum_by w (judged_at (with_share p.head.share) d base before place)) mine parts
         (λ i e low. judged_sum w (share_of (get_or parts i e).head.share before flaws))
-        ∙ shares_sum (λ flaw. w (judged_by d (graded flaw))) before flaws ∙ sym (judged_sum w flaws)
-        ∙ ap (λ (fs : List Flaw). sum_by w (map (judged_by d) (map graded fs))) (sym (whole_all before flaws))
+        ∙ shares_sum (λ flaw. w (judged_by d base.waivers (graded flaw))) before flaws ∙ sym (judged_sum w flaws)
+        ∙ ap (λ (fs : List Flaw). sum_by w (map (judged_by d base.waivers) (map graded fs))) (sym (whole_all before flaws))
 
     places_sum : (w : Judged → ℕ) (before : ℕ) (places : List Place)
         → sum_by (λ p. sum_by w (judged_from (with_share p.head.share) d base before places)) parts
@@ -254,10 +256,6 @@ module _ (one : EachIsInOne) where
     unless_none None None (Some number) every all sums h = absurd (cc)
     unless_none None None None every all sums h = (refl, refl, refl, cc)
 
-    same_totals : (a b x y m n : ℕ) → a ≡ b → x ≡ y → m ≡ n
-        → (let t : Totals = record { flaws = a; found = x; hidden = m } in t) ≡ record { flaws = b; found = y; hidden = n }
-    same_totals a b x y m n flaws found hidden = cc
-
     flaws_of : (share : Share) → (share_totals asked d base share).flaws ≡ capped (sum_by (λ (j : Judged). 1) (all_judged (record asked { share = share }) d base))
     flaws_of share =
         let judged = all_judged (record asked { share = share }) d base in
@@ -273,6 +271,16 @@ module _ (one : EachIsInOne) where
     hidden_of share =
         ap capped (zero-add (count_by (λ (j : Judged). has_verdict Hidden j) (all_judged (record asked { share = share }) d base)))
 
+    waived_of : (share : Share) → (share_totals asked d base share).waived
+        ≡ capped (sum_by (λ (j : Judged). cond (has_verdict Waived j) 1 0) (all_judged (record asked { share = share }) d base))
+    waived_of share =
+        ap capped (zero-add (count_by (λ (j : Judged). has_verdict Waived j) (all_judged (record asked { share = share }) d base)))
+
+    needless_of : (share : Share) → (share_totals asked d base share).needless
+        ≡ capped (sum_by (λ (j : Judged). cond (is_needless j) 1 0) (all_judged (record asked { share = share }) d base))
+    needless_of share =
+        ap capped (zero-add (count_by (λ (j : Judged). is_needless j) (all_judged (record asked { share = share }) d base)))
+
     sums_by_first : WholeHasAll → (p : Part) (ps : List Part) (sums : Totals) → All (IsCounted asked d base) (p ∷ ps)
         → sums_from p.head (p ∷ ps) ≡ Ok sums → sums ≡ share_totals asked d base whole
     sums_by_first whole_all p ps sums counted is =
@@ -287,8 +295,13 @@ module _ (one : EachIsInOne) where
         (λ i e low. let c = counted i e low in ap (λ (t : Totals). t.found) c.totals ∙ found_of (get_or parts i e).head.share) in
         let hidden = capped_sum parts once whole_all asked d base (λ t. t.hidden) (λ (j : Judged). cond (has_verdict Hidden j) 1 0)
         (λ i e low. let c = counted i e low in ap (λ (t : Totals). t.hidden) c.totals ∙ hidden_of (get_or parts i e).head.share) in
+        let waived = capped_sum parts once whole_all asked d base (λ t. t.waived) (λ (j : Judged). cond (has_verdict Waived j) 1 0)
+        (λ i e low. let c = counted i e low in ap (λ (t : Totals). t.waived) c.totals ∙ waived_of (get_or parts i e).head.share) in
+        let needless = capped_sum parts once whole_all asked d base (λ t. t.needless) (λ (j : Judged). cond (is_needless j) 1 0)
+        (λ i e low. let c = counted i e low in ap (λ (t : Totals). t.needless) c.totals ∙ needless_of (get_or parts i e).head.share) in
         sym none.3
-        ∙ same_totals _ _ _ _ _ _ (flaws ∙ sym (flaws_of whole)) (found ∙ sym (found_of whole)) (hidden ∙ sym (hidden_of whole))
+        ∙ same_totals _ _ _ _ _ _ _ _ _ _ (flaws ∙ sym (flaws_of whole)) (found ∙ sym (found_of whole)) (hidden ∙ sym (hidden_of whole))
+        (waived ∙ sym (waived_of whole)) (needless ∙ sym (needless_of whole))
 
 pub sums_are_of_all : EachIsInOne → WholeHasAll → SumsAreOfAll
 sums_are_of_all one whole_all asked d base [] sums counted is = absurd (cc)

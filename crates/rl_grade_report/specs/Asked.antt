@@ -12,7 +12,7 @@ use Rattle.rl_grade_report.specs.declared.totals.Totals.{Totals}
 use Rattle.rl_grade_report.specs.Totals.{is_below}
 use Rattle.rl_grade_report.specs.declared.asked.Asked.{Asked}
 use Rattle.rl_grade_report.specs.declared.asked.Tell.{Tell}
-use Rattle.rl_grade_report.specs.declared.asked.Tell.TheVariants.{Run, Missed, Hidden, Found, Lines, Json}
+use Rattle.rl_grade_report.specs.declared.asked.Tell.TheVariants.{Run, Missed, Hidden, Found, Waived, Lines, Json}
 
 -- all flaws
 abbrev pub whole : Share
@@ -23,6 +23,7 @@ is_json Run = false
 is_json Missed = false
 is_json Hidden = false
 is_json Found = false
+is_json Waived = false
 is_json Lines = false
 is_json Json = true
 
@@ -85,8 +86,9 @@ tell_named word =
     else (if bytes_eq word (codes "missed") then Some Missed
     else (if bytes_eq word (codes "hidden") then Some Hidden
     else (if bytes_eq word (codes "found") then Some Found
+    else (if bytes_eq word (codes "waived") then Some Waived
     else (if bytes_eq word (codes "lines") then Some Lines
-    else (if bytes_eq word (codes "json") then Some Json else None)))))
+    else (if bytes_eq word (codes "json") then Some Json else None))))))
 
 abbrev pub asked_if : Option Tell → Option Share → Option (Option ℕ) → Option Asked
 asked_if (Some tell) (Some share) (Some bound) = Some (record { tell = tell; share = share; bound = bound })

@@ -19,7 +19,7 @@ use Rattle.rl_grade_report.specs.declared.kind.TheConstants.{KINDS}
 use Rattle.rl_grade_report.specs.declared.totals.Totals.{Totals}
 use Rattle.rl_grade_report.specs.declared.verdict.Judged.{Judged}
 use Rattle.rl_grade_report.specs.declared.verdict.Verdict.TheVariants.{Missed}
-use Rattle.rl_grade_report.specs.Counts.{counts_of, is_told, led}
+use Rattle.rl_grade_report.specs.Counts.{count_if, counts_of, is_told, led}
 use Rattle.rl_grade_report.specs.Groups.{kind_text, root_name}
 use Rattle.rl_grade_report.specs.Kinds.{kind_name}
 use Rattle.rl_grade_report.specs.Lines.{field_name}
@@ -92,13 +92,21 @@ decimal_json tenths = joined (decimal (tenths / 10) ∷ codes "." ∷ decimal (t
 abbrev pub percent_json : (found flaws : ℕ) → List ℕ
 percent_json found flaws = if flaws == 0 then codes "null" else decimal_json (tenths found flaws)
 
--- the share of all, and that of those that can be found
-abbrev pub totals_json : Totals → List ℕ
-totals_json t =
+-- of those that are waived, and of the needless waivers, where there are some
+abbrev pub counted_json : Totals → List ℕ
+counted_json t =
     joined (codes "\"flaws\": " ∷ decimal t.flaws ∷ codes ", \"found\": " ∷ decimal t.found
     ∷ codes ", \"missed\": " ∷ decimal (missed_in t) ∷ codes ", \"hidden\": " ∷ decimal t.hidden
-    ∷ codes ", \"percent\": " ∷ percent_json t.found t.flaws
+    ∷ count_if (codes ", \"waived\": ") t.waived [] ∷ count_if (codes ", \"needless\": ") t.needless [] ∷ [])
+
+-- the share of all, and that of those that can be found
+abbrev pub percents_json : Totals → List ℕ
+percents_json t =
+    joined (codes ", \"percent\": " ∷ percent_json t.found t.flaws
     ∷ codes ", \"percent_findable\": " ∷ percent_json t.found (findable t) ∷ codes ",\n" ∷ [])
+
+abbrev pub totals_json : Totals → List ℕ
+totals_json t = counted_json t ++ percents_json t
 
 abbrev pub least_json : Option ℕ → List ℕ
 least_json None = codes "null"
@@ -116,7 +124,7 @@ bound_json bound t =
 abbrev pub count_json : Kind → Counts → List ℕ
 count_json kind counts =
     joined (codes "\"" ∷ kind_name kind ∷ codes "\": {\"found\": " ∷ decimal counts.found ∷ codes ", \"missed\": " ∷ decimal counts.missed
-    ∷ codes ", \"hidden\": " ∷ decimal counts.hidden ∷ codes "}" ∷ [])
+    ∷ codes ", \"hidden\": " ∷ decimal counts.hidden ∷ count_if (codes ", \"waived\": ") counts.waived [] ∷ codes "}" ∷ [])
 
 -- of the kinds that are there
 abbrev pub kinds_parts : List Judged → List Kind → List (List ℕ)

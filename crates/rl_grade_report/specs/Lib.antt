@@ -7,12 +7,14 @@ pub mod Firsts
 pub mod Grading
 pub mod Groups
 pub mod Json
+pub mod Judging
 pub mod Kinds
 pub mod Lines
 pub mod Mark
 pub mod Members
 pub mod Opening
 pub mod Places
+pub mod Plain
 pub mod Prelude
 pub mod Progress
 pub mod Refusal
@@ -23,4 +25,6 @@ pub mod Sums
 pub mod Together
 pub mod Totals
 pub mod Verdict
+pub mod Waivers
+pub mod Waiving
 pub mod Whole

@@ -10,10 +10,11 @@ use Rattle.rl_grade.specs.declared.run.Shown.{Shown}
 use Rattle.rl_grade_report.specs.declared.asked.Asked.{Asked}
 use Rattle.rl_grade_report.specs.declared.verdict.Judged.{Judged}
 use Rattle.rl_grade_report.specs.Grading.{Base, Grading, flaws_behind, judged_at}
+use Rattle.rl_grade_report.specs.Waivers.{RowData}
 
--- what these tasks show
-abbrev pub base_shown : List Task → Shown → Base
-base_shown tasks shown = record { tasks = tasks; seen = shown.seen.items; items = shown.items }
+-- what these tasks show, where so much is waived
+abbrev pub base_shown : (waivers : List RowData) → List Task → Shown → Base
+base_shown waivers tasks shown = record { waivers = waivers; tasks = tasks; seen = shown.seen.items; items = shown.items }
 
 -- a model's chip and layout, without a flaw
 abbrev pub desc_of : ModelData → DescData

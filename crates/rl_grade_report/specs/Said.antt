@@ -68,6 +68,8 @@ totals_in line = record {
   flaws = count_of (codes "flaws") line;
   found = count_of (codes "found") line;
   hidden = count_of (codes "hidden") line;
+  waived = count_of (codes "waived") line;
+  needless = count_of (codes "needless") line;
 }
 
 -- the totals with which a line ends a share: the line is its last, byte for byte

@@ -38,6 +38,8 @@ plus sums more = record {
   flaws = capped (sums.flaws + more.flaws);
   found = capped (sums.found + more.found);
   hidden = capped (sums.hidden + more.hidden);
+  waived = capped (sums.waived + more.waived);
+  needless = capped (sums.needless + more.needless);
 }
 
 -- a sum that has come to its end stays there
@@ -46,6 +48,8 @@ sum_of parts = record {
   flaws = capped (sum_by (λ part. part.totals.flaws) parts);
   found = capped (sum_by (λ part. part.totals.found) parts);
   hidden = capped (sum_by (λ part. part.totals.hidden) parts);
+  waived = capped (sum_by (λ part. part.totals.waived) parts);
+  needless = capped (sum_by (λ part. part.totals.needless) parts);
 }
 
 -- the sums, unless one is of another grading, came more than once or is lacking; the first of these is told

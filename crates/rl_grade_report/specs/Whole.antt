@@ -8,9 +8,13 @@ use Rattle.rl_grade.specs.Place.{IsPlaceIn, flaws_at}
 use Rattle.rl_grade.specs.Single.{IsSingleAt}
 use Rattle.rl_grade_report.specs.Places.{places_of}
 
--- those of its places, one place after another, where the session sends so many bus items
+-- those of these places, one place after another, where the session sends so many bus items
+abbrev pub flaws_over : DescData → (items : ℕ) → List Place → List Flaw
+flaws_over d items places = flat_map (flaws_at d items) places
+
+-- those of all its places
 abbrev pub all_flaws : DescData → (items : ℕ) → List Flaw
-all_flaws d items = flat_map (flaws_at d items) (places_of d.chip)
+all_flaws d items = flaws_over d items (places_of d.chip)
 
 -- the flaw is a single one of some register, field or memory of the description, or of the session
 abbrev pub IsSingle : DescData → (items : ℕ) → Flaw → Type 0

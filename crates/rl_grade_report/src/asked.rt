@@ -1,8 +1,9 @@
 // What the words of a call ask for.
-ghost use Rattle.std.specs.Prelude.{◌≡◌, ◌<◌, ◌==◌, position, IfSome};
+ghost use Rattle.std.specs.Prelude.{◌≡◌, ◌<◌, ◌==◌, true, position, IfSome};
 ghost use Rattle.rl_grade_report.specs.Asked.{whole, is_decimal, value_of, decimal_of, share_if, share_named};
 ghost use Rattle.rl_grade_report.specs.Asked.{tell_named, percent_if, bound_named, asked_if, asked_by};
 ghost use Rattle.rl_grade_report.specs.Asked.{is_json, is_part, is_marked, status_at};
+ghost use Rattle.rl_log.specs.Statuses.{is_complete};
 
 use crate::totals::Totals;
 use rl_grade::Share;
@@ -20,6 +21,8 @@ pub enum Tell {
     Hidden,
     /// Each flaw that is found, as a row behind the number of the line that finds it first.
     Found,
+    /// Each flaw that is waived and isn't found, as a row of a description.
+    Waived,
     /// For each line of the script how many flaws it finds first, and the totals.
     Lines,
     /// All of it as one object in JSON.
@@ -64,7 +67,8 @@ impl Asked {
 
     // How a grading ends that wrote its text.
     pub(crate) fn status(self, totals: Totals) -> Status
-        ensures { result ≡ status_at self totals }
+        ensures status { result ≡ status_at self totals }
+        ensures whole { is_complete result ≡ true }
     {
         if totals.is_below(self.bound) {
             Status::Found
@@ -140,6 +144,7 @@ fn tell_named(word: &str) -> Option<Tell>
         "missed" => Some(Tell::Missed),
         "hidden" => Some(Tell::Hidden),
         "found" => Some(Tell::Found),
+        "waived" => Some(Tell::Waived),
         "lines" => Some(Tell::Lines),
         "json" => Some(Tell::Json),
         _ => None,
@@ -179,8 +184,8 @@ fn asked_if(tell: Option<Tell>, share: Option<Share>, bound: Option<Option<u64>>
     Some(Asked { tell, share, bound })
 }
 
-/// What the words ask for: `run`, `missed`, `hidden`, `found`, `lines` or `json`; then, if so wanted, a share `K/N`
-/// with K from 1 to N; then, if so wanted, `at-least P` with P up to 100. None where they ask for nothing known.
+/// What the words ask for: `run`, `missed`, `hidden`, `found`, `waived`, `lines` or `json`; then, if so wanted, a share
+/// `K/N` with K from 1 to N; then, if so wanted, `at-least P` with P up to 100. None where they ask for nothing known.
 pub fn asked_by(words: &[String]) -> Option<Asked>
     ensures asked { result ≡ asked_by words.now }
     ensures every { IfSome result (λ asked. 0 < asked.share.every) }

@@ -1,6 +1,7 @@
-// How many flaws of a kind are found, missed and hidden.
+// How many flaws of a kind are found, missed, hidden and waived.
 ghost use Rattle.std.specs.Prelude.{◌≡◌, ◌++◌, OnOk};
-ghost use Rattle.rl_grade_report.specs.Counts.{count_of, count_text, counts_of, counts_text, is_found, is_of, is_told};
+ghost use Rattle.rl_grade_report.specs.Counts.{count_of, count_text, counts_of, counts_text, found_of};
+ghost use Rattle.rl_grade_report.specs.Counts.{is_found, is_of, is_told};
 
 use crate::kind::{KINDS, Kind};
 use crate::pieces::{lead, push_count_if};
@@ -9,12 +10,13 @@ use itoa::Buffer;
 use rl_session::push_pieces;
 use std::alloc::AllocError;
 
-// How many of some flaws are found, and how many missed and hidden.
+// How many of some flaws are found, and how many missed, hidden and waived.
 #[derive(Clone, Copy, Debug, PartialEq, Eq)]
 pub(crate) struct Counts {
     pub(crate) found: usize,
     pub(crate) missed: usize,
     pub(crate) hidden: usize,
+    pub(crate) waived: usize,
 }
 
 // Whether it is a flaw of the kind that is found.
@@ -31,6 +33,12 @@ fn is_of(it: &Judged, kind: Kind, verdict: Verdict) -> bool
     kind.has(it.flaw) && it.has(verdict)
 }
 
+fn found_of(judged: &[Judged], kind: Kind) -> usize
+    ensures { result ≡ found_of judged.now kind }
+{
+    judged.iter().filter(|it| is_found(it, kind)).count()
+}
+
 fn count_of(judged: &[Judged], kind: Kind, verdict: Verdict) -> usize
     ensures { result ≡ count_of judged.now kind verdict }
 {
@@ -42,9 +50,10 @@ pub(crate) fn counts_of(judged: &[Judged], kind: Kind) -> Counts
     ensures { result ≡ counts_of judged.now kind }
 {
     Counts {
-        found: judged.iter().filter(|it| is_found(it, kind)).count(),
+        found: found_of(judged, kind),
         missed: count_of(judged, kind, Verdict::Missed),
         hidden: count_of(judged, kind, Verdict::Hidden),
+        waived: count_of(judged, kind, Verdict::Waived),
     }
 }
 
@@ -53,7 +62,7 @@ impl Counts {
     pub(crate) fn is_told(self) -> bool
         ensures { result ≡ is_told self }
     {
-        self.found > 0 || (self.missed > 0 || self.hidden > 0)
+        self.found > 0 || (self.missed > 0 || (self.hidden > 0 || self.waived > 0))
     }
 }
 
@@ -78,7 +87,8 @@ fn push_count(
         b" missed",
     ];
     push_pieces(text, &pieces)?;
-    push_count_if(text, b" ", counts.hidden as u64, b" hidden")
+    push_count_if(text, b" ", counts.hidden as u64, b" hidden")?;
+    push_count_if(text, b" ", counts.waived as u64, b" waived")
 }
 
 // Appends the counts of the kinds that are there.

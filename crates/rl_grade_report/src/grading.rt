@@ -1,20 +1,23 @@
 // A session that is graded.
-ghost use Rattle.std.specs.Prelude.{◌≡◌, ◌≢◌, ◌≤◌, ◌<◌, ◌^◌, ◌++◌, [], Some, None, false, map, length, All, IfErr, IfOk, IfSome};
+ghost use Rattle.std.specs.Prelude.{◌≡◌, ◌≢◌, ◌≤◌, ◌<◌, ◌^◌, ◌++◌, [], Some, None, true, false, map, length, All, IfErr, IfOk, IfSome};
 ghost use Rattle.rl_grade_report.specs.Prelude.{AreAnswers, AreJudged, AwaitsScript, IsBuiltWith, IsCaused, IsNext, IsPlaceIn};
 ghost use Rattle.rl_grade_report.specs.Prelude.{IsReady, IsShown, LeavesEnded, LeavesOpen, Puts, Stays, TasksFit, Tells, TellsGraded};
-ghost use Rattle.rl_grade_report.specs.Prelude.{all_judged, base_of, base_shown, bench_state, desc_of, facts_of};
+ghost use Rattle.rl_grade_report.specs.Prelude.{all_judged, base_shown, bench_state, desc_of, facts_of, graded_as, graded_over};
 ghost use Rattle.rl_grade_report.specs.Prelude.{first_world, fresh_standings, judged_at, judged_from, grading_of, grading_with};
-ghost use Rattle.rl_grade_report.specs.Prelude.{heard_by, input_of, is_complete, kinds_of, lines_of, mark_of};
-ghost use Rattle.rl_grade_report.specs.Prelude.{place_text, places_of, places_text, report, reported, script_graded};
+ghost use Rattle.rl_grade_report.specs.Prelude.{heard_by, input_of, is_complete, kinds_of, lines_of, mark_from, mark_of};
+ghost use Rattle.rl_grade_report.specs.Prelude.{place_text, places_of, places_text, reported, rows_of, script_graded};
 ghost use Rattle.rl_grade_report.specs.Prelude.{status_at, status_of, totals_of, world};
 
 use crate::asked::Asked;
 use crate::facts::Facts;
-use crate::mark::mark_of;
+use crate::judging::judge;
+use crate::mark::{mark_from, mark_of};
 use crate::places::places_of;
 use crate::refusal::{Unflawed, end_unread};
 use crate::totals::Totals;
-use crate::verdict::{Judged, judge};
+use crate::verdict::Judged;
+use crate::waivers::{Row, rows_of};
+use crate::waiving::{fault_in, put_unwaived};
 use crate::whole::{Bytes, read_all};
 use crate::writing::{put_head, put_last, put_place};
 use rl_access::Model;
@@ -46,6 +49,7 @@ struct Progress {
 fn grade_next<K: Sink>(
     alloc: Global,
     asked: Asked,
+    waivers: &[Row],
     tasks: &[Task],
     shown: &Shown,
     place: Place,
@@ -60,8 +64,8 @@ fn grade_next<K: Sink>(
     requires each { AreJudged progress.desc.chip progress.desc.layout progress.judged.items }
     requires known { AreAnswers progress.desc tasks.now shown.now.seen.items progress.known.graded.items }
     ensures bytes { Puts (K.written log.old) (K.written log.new) (place_text asked.tell progress.desc place
-        (judged_at asked progress.desc (base_shown tasks.now shown.now) progress.number place)) result }
-    ensures next { IfOk result (λ next. IsNext asked (base_shown tasks.now shown.now) place
+        (judged_at asked progress.desc (base_shown waivers.now tasks.now shown.now) progress.number place)) result }
+    ensures next { IfOk result (λ next. IsNext asked (base_shown waivers.now tasks.now shown.now) place
         progress.desc progress.number progress.judged.items next.desc next.number next.judged.items) }
     ensures each { IfOk result (λ next. AreJudged progress.desc.chip progress.desc.layout next.judged.items) }
     ensures known { IfOk result (λ next. next.known.graded ≡ progress.known.graded) }
@@ -80,7 +84,7 @@ fn grade_next<K: Sink>(
     else {
         return Err(Status::Memory);
     };
-    let Ok(here) = judge(alloc, &grade.desc, &grade.graded) else {
+    let Ok(here) = judge(alloc, &grade.desc, waivers, &grade.graded) else {
         return Err(Status::Memory);
     };
     let Ok(()) = judged.extend_from_slice(&here) else {
@@ -99,6 +103,7 @@ fn grade_next<K: Sink>(
 fn grade_places<K: Sink>(
     alloc: Global,
     asked: Asked,
+    waivers: &[Row],
     desc: Desc,
     tasks: &[Task],
     shown: &Shown,
@@ -113,10 +118,10 @@ fn grade_places<K: Sink>(
     requires every { 0 < asked.share.every }
     requires known { AreAnswers desc tasks.now shown.now.seen.items known.graded.items }
     ensures bytes { Puts (K.written log.old) (K.written log.new)
-        (places_text asked desc (base_shown tasks.now shown.now) 0 places.now) result }
+        (places_text asked desc (base_shown waivers.now tasks.now shown.now) 0 places.now) result }
     ensures desc { IfOk result (λ done. done.desc ≡ desc) }
     ensures judged { IfOk result (λ done.
-        done.judged.items ≡ judged_from asked desc (base_shown tasks.now shown.now) 0 places.now) }
+        done.judged.items ≡ judged_from asked desc (base_shown waivers.now tasks.now shown.now) 0 places.now) }
     ensures each { IfOk result (λ done. AreJudged desc.chip desc.layout done.judged.items) }
     ensures broken { IfErr result (λ status. is_complete status ≡ false) }
     ensures cause { IfErr result (λ status. IsCaused status 0 0 (K.faults log.old) (K.faults log.new)) }
@@ -129,14 +134,14 @@ fn grade_places<K: Sink>(
         known,
     };
     for place in places {
-        progress = grade_next(alloc, asked, tasks, shown, *place, progress, log)?;
+        progress = grade_next(alloc, asked, waivers, tasks, shown, *place, progress, log)?;
     }
     Ok(progress)
 }
 
 // What is told of the session of these tasks.
 fn facts_of(mark: Option<u64>, tasks: &[Task], shown: &Shown) -> Facts
-    ensures { result ≡ facts_of mark (base_shown tasks.now shown.now) }
+    ensures { result ≡ facts_of mark (base_shown [] tasks.now shown.now) }
 {
     Facts {
         mark,
@@ -146,11 +151,13 @@ fn facts_of(mark: Option<u64>, tasks: &[Task], shown: &Shown) -> Facts
     }
 }
 
-// Tries the flaws of a description without flaws of its own, where this is what the tasks show.
-fn grade_shown<K: Sink, M: Meter>(
+// Tries the flaws of a description without flaws of its own, where this is what the tasks show, and where the waivers name
+// flaws that are there.
+fn grade_waived<K: Sink, M: Meter>(
     alloc: Global,
     asked: Asked,
     mark: Option<u64>,
+    waivers: &[Row],
     desc: Desc,
     tasks: &[Task],
     shown: &Shown,
@@ -163,9 +170,10 @@ fn grade_shown<K: Sink, M: Meter>(
     requires every { 0 < asked.share.every }
     requires shown { IsShown desc tasks.now shown.now.seen.items }
     ensures bytes { Puts (K.written log.old) (K.written log.new)
-        (reported asked mark desc (base_shown tasks.now shown.now)) result }
+        (reported asked mark desc (base_shown waivers.now tasks.now shown.now)) result }
     ensures status { IfOk result (λ status.
-        status ≡ status_at asked (totals_of (all_judged asked desc (base_shown tasks.now shown.now)))) }
+        status ≡ status_at asked (totals_of (all_judged asked desc (base_shown waivers.now tasks.now shown.now)))) }
+    ensures whole { IfOk result (λ status. is_complete status ≡ true) }
     ensures broken { IfErr result (λ status. is_complete status ≡ false) }
     ensures cause { IfErr result (λ status. IsCaused status 0 0 (K.faults log.old) (K.faults log.new)) }
     ensures stays { Stays K.faults K.ends K.target log.old log.new }
@@ -183,9 +191,48 @@ fn grade_shown<K: Sink, M: Meter>(
         next: 0,
     };
     put_head(alloc, asked, facts, log)?;
-    let done = grade_places(alloc, asked, tries.desc, tasks, shown, &places, known, log)?;
+    let done = grade_places(
+        alloc, asked, waivers, tries.desc, tasks, shown, &places, known, log,
+    )?;
     put_last(alloc, asked, facts, &done.desc, tasks, &done.judged, log)?;
     Ok(asked.status(Totals::NONE.with(&done.judged)))
+}
+
+// Tries the flaws of a description without flaws of its own, where this is what the tasks show, unless the waivers name
+// what isn't there.
+fn grade_shown<K: Sink, M: Meter>(
+    alloc: Global,
+    asked: Asked,
+    mark: Option<u64>,
+    waivers: &[u8],
+    desc: Desc,
+    tasks: &[Task],
+    shown: &Shown,
+    log: &mut K,
+    meter: &mut M,
+) -> Result<Status, Status>
+    requires built_with { IsBuiltWith desc.layout desc.chip }
+    requires kinds { desc.layout.kinds ≡ kinds_of fresh_standings }
+    requires fits { TasksFit desc.chip (length desc.layout.maps) tasks.now }
+    requires every { 0 < asked.share.every }
+    requires shown { IsShown desc tasks.now shown.now.seen.items }
+    ensures bytes { Puts (K.written log.old) (K.written log.new)
+        (graded_over asked mark desc (base_shown (rows_of waivers.now) tasks.now shown.now)).text result }
+    ensures status { IfOk result (λ status.
+        status ≡ (graded_over asked mark desc (base_shown (rows_of waivers.now) tasks.now shown.now)).status) }
+    ensures whole { IfOk result (λ status. is_complete status ≡ true) }
+    ensures broken { IfErr result (λ status. is_complete status ≡ false) }
+    ensures cause { IfErr result (λ status. IsCaused status 0 0 (K.faults log.old) (K.faults log.new)) }
+    ensures stays { Stays K.faults K.ends K.target log.old log.new }
+{
+    let Ok(rows) = rows_of(alloc, waivers) else {
+        return Err(Status::Memory);
+    };
+    match fault_in(alloc, &desc, shown.items, waivers, &rows) {
+        Ok(None) => grade_waived(alloc, asked, mark, &rows, desc, tasks, shown, log, meter),
+        Ok(Some(why)) => put_unwaived(alloc, why, log),
+        Err(_) => Err(Status::Memory),
+    }
 }
 
 // Does the tasks without a flaw, and then tries the flaws.
@@ -193,6 +240,7 @@ fn grade_tasks<K: Sink, M: Meter>(
     alloc: Global,
     asked: Asked,
     mark: Option<u64>,
+    waivers: &[u8],
     model: Model,
     bench: Bench,
     adapters: &mut Adapters,
@@ -206,10 +254,11 @@ fn grade_tasks<K: Sink, M: Meter>(
     requires every { 0 < asked.share.every }
     requires first { world model (map standing adapters.old.items) (bench_state bench)
         ≡ first_world (desc_of model) fresh_standings }
-    ensures bytes { Puts (K.written log.old) (K.written log.new) (report asked mark (desc_of model) tasks.now
-        (heard_by (world model (map standing adapters.old.items) (bench_state bench)) tasks.now)) result }
-    ensures status { IfOk result (λ status. status ≡ status_at asked (totals_of (all_judged asked (desc_of model)
-        (base_of tasks.now (heard_by (world model (map standing adapters.old.items) (bench_state bench)) tasks.now))))) }
+    ensures bytes { Puts (K.written log.old) (K.written log.new) (graded_as asked mark waivers.now (desc_of model) tasks.now
+        (heard_by (world model (map standing adapters.old.items) (bench_state bench)) tasks.now)).text result }
+    ensures status { IfOk result (λ status. status ≡ (graded_as asked mark waivers.now (desc_of model) tasks.now
+        (heard_by (world model (map standing adapters.old.items) (bench_state bench)) tasks.now)).status) }
+    ensures whole { IfOk result (λ status. is_complete status ≡ true) }
     ensures broken { IfErr result (λ status. is_complete status ≡ false) }
     ensures cause { IfErr result (λ status. IsCaused status 0 0 (K.faults log.old) (K.faults log.new)) }
     ensures stays { Stays K.faults K.ends K.target log.old log.new }
@@ -225,7 +274,7 @@ fn grade_tasks<K: Sink, M: Meter>(
         layout,
         flaws: Vec::new(alloc),
     };
-    grade_shown(alloc, asked, mark, desc, tasks, &shown, log, meter)
+    grade_shown(alloc, asked, mark, waivers, desc, tasks, &shown, log, meter)
 }
 
 // How a grading ends that wrote its text, or a front of it.
@@ -243,6 +292,7 @@ fn grade_script<S: Source, K: Sink, M: Meter>(
     alloc: Global,
     asked: Asked,
     mark: Option<u64>,
+    waivers: &[u8],
     desc: Desc,
     lines: &mut LineReader,
     source: &mut S,
@@ -255,7 +305,7 @@ fn grade_script<S: Source, K: Sink, M: Meter>(
     requires fresh { map standing adapters.old.items ≡ fresh_standings }
     requires every { 0 < asked.share.every }
     ensures tells { IfSome (input_of lines.old (S.left source.old)) (λ bytes.
-        TellsGraded (script_graded asked mark desc (lines_of bytes)) result (K.written log.old) (K.written log.new)) }
+        TellsGraded (script_graded asked mark waivers.now desc (lines_of bytes)) result (K.written log.old) (K.written log.new)) }
     ensures leaves { LeavesOpen K.Sink result (S.faults source.old) (S.faults source.new) log.old log.new }
 {
     let Ok((model, bench)) = open(alloc, desc) else {
@@ -263,7 +313,7 @@ fn grade_script<S: Source, K: Sink, M: Meter>(
     };
     match read_script(alloc, &model, lines, source) {
         Ok(tasks) => status_of(grade_tasks(
-            alloc, asked, mark, model, bench, adapters, &tasks, log, meter,
+            alloc, asked, mark, waivers, model, bench, adapters, &tasks, log, meter,
         )),
         Err(fault) => end_unread(fault, log),
     }
@@ -274,6 +324,7 @@ fn grade_session<S: Source, K: Sink, M: Meter>(
     alloc: Global,
     asked: Asked,
     mark: Option<u64>,
+    waivers: &[u8],
     source: &mut S,
     log: &mut K,
     adapters: &mut Adapters,
@@ -282,7 +333,7 @@ fn grade_session<S: Source, K: Sink, M: Meter>(
     requires fresh { map standing adapters.old.items ≡ fresh_standings }
     requires every { 0 < asked.share.every }
     ensures tells { IfSome (S.left source.old) (λ bytes.
-        TellsGraded (grading_with asked mark bytes) result (K.written log.old) (K.written log.new)) }
+        TellsGraded (grading_with asked mark waivers.now bytes) result (K.written log.old) (K.written log.new)) }
     ensures leaves { LeavesEnded K.Sink result (S.faults source.old) (S.faults source.new) log.old log.new }
 {
     let (desc, mut lines) = match open_checked(alloc, source, log, adapters, &Unflawed {}) {
@@ -290,7 +341,7 @@ fn grade_session<S: Source, K: Sink, M: Meter>(
         Err(status) => return end_log(status, log),
     };
     let graded = grade_script(
-        alloc, asked, mark, desc, &mut lines, source, log, adapters, meter,
+        alloc, asked, mark, waivers, desc, &mut lines, source, log, adapters, meter,
     );
     end_log(graded, log)
 }
@@ -299,6 +350,7 @@ fn grade_session<S: Source, K: Sink, M: Meter>(
 fn grade_marked<S: Source, K: Sink, M: Meter>(
     alloc: Global,
     asked: Asked,
+    waivers: &[u8],
     source: &mut S,
     log: &mut K,
     adapters: &mut Adapters,
@@ -307,26 +359,40 @@ fn grade_marked<S: Source, K: Sink, M: Meter>(
     requires fresh { map standing adapters.old.items ≡ fresh_standings }
     requires every { 0 < asked.share.every }
     ensures tells { IfSome (S.left source.old) (λ bytes.
-        TellsGraded (grading_with asked (Some (mark_of bytes)) bytes) result (K.written log.old) (K.written log.new)) }
+        TellsGraded (grading_with asked (Some (mark_from (mark_of bytes) waivers.now)) waivers.now bytes) result (K.written log.old) (K.written log.new)) }
     ensures leaves { LeavesEnded K.Sink result (S.faults source.old) (S.faults source.new) log.old log.new }
 {
     let bytes = match read_all(alloc, source) {
         Ok(bytes) => bytes,
         Err(status) => return status,
     };
-    let mark = mark_of(&bytes);
+    let mark = mark_from(mark_of(&bytes), waivers);
     let mut whole = Bytes { left: &bytes };
-    grade_session(alloc, asked, Some(mark), &mut whole, log, adapters, meter)
+    grade_session(
+        alloc,
+        asked,
+        Some(mark),
+        waivers,
+        &mut whole,
+        log,
+        adapters,
+        meter,
+    )
 }
 
 /// Grades a session: tries which single flaws of its device its script finds, and writes what is asked for. The adapters
 /// are a plain and an APB adapter that have sent nothing.
+///
+/// `waivers` is the text of a file of flaws that are known and accepted, each as the row that `Tell::Missed` writes, and
+/// empty where there are none. A flaw that is waived and not found counts as such, and isn't among those that can be
+/// found. Where a row comes twice, or is that of no flaw of the session, one line says so in place of the grading.
 ///
 /// Nothing is written before the whole script was read. The log is finished once, where its last line was written. Where
 /// a bound is asked for and fewer flaws were found, the status is `Found`.
 pub fn run_grade<S: Source, K: Sink, M: Meter>(
     alloc: Global,
     asked: Asked,
+    waivers: &[u8],
     source: &mut S,
     log: &mut K,
     adapters: &mut Adapters,
@@ -337,14 +403,14 @@ pub fn run_grade<S: Source, K: Sink, M: Meter>(
 
     // Which sessions are refused and in what words, what is written of the others, and the statuses.
     ensures tells { IfSome (S.left source.old) (λ bytes.
-        TellsGraded (grading_of asked bytes) result (K.written log.old) (K.written log.new)) }
+        TellsGraded (grading_of asked waivers.now bytes) result (K.written log.old) (K.written log.new)) }
 
     // However it ends, the log keeps the bytes that it had before, and is ended exactly where its last line was
     // written. No fault is made up, and the status is never that of other words.
     ensures leaves { LeavesEnded K.Sink result (S.faults source.old) (S.faults source.new) log.old log.new }
 {
     if asked.is_marked() {
-        return grade_marked(alloc, asked, source, log, adapters, meter);
+        return grade_marked(alloc, asked, waivers, source, log, adapters, meter);
     }
-    grade_session(alloc, asked, None, source, log, adapters, meter)
+    grade_session(alloc, asked, None, waivers, source, log, adapters, meter)
 }

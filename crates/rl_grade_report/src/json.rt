@@ -4,7 +4,8 @@ ghost use Rattle.rl_flaw.specs.Flaws.{IsFlawOf};
 ghost use Rattle.rl_model.specs.Chip.{HasItem};
 ghost use Rattle.rl_grade_report.specs.Json.{of_field_json, value_json, stuck_json, reset_json, policy_json, range_json};
 ghost use Rattle.rl_grade_report.specs.Json.{nth_json, deaf_json, flaw_json, mark_json, facts_json, share_json};
-ghost use Rattle.rl_grade_report.specs.Json.{percent_json, totals_json, least_json, passed_json, bound_json, count_json};
+ghost use Rattle.rl_grade_report.specs.Json.{percent_json, percents_json, counted_json, totals_json, least_json};
+ghost use Rattle.rl_grade_report.specs.Json.{passed_json, bound_json, count_json};
 ghost use Rattle.rl_grade_report.specs.Json.{decimal_json, head_json, json_text, kinds_json, lists_json, missed_json};
 ghost use Rattle.rl_grade_report.specs.Verdict.{AreJudged};
 
@@ -13,7 +14,7 @@ use crate::counts::{Counts, counts_of};
 use crate::facts::Facts;
 use crate::kind::{KINDS, Kind};
 use crate::line::push_field;
-use crate::pieces::lead;
+use crate::pieces::{lead, push_count_if};
 use crate::totals::{Totals, tenths};
 use crate::verdict::{Judged, Verdict};
 use itoa::Buffer;
@@ -235,14 +236,14 @@ fn push_percent(text: &mut Vec<u8>, found: u64, flaws: u64) -> Result<(), AllocE
     push_decimal(text, tenths(found, flaws))
 }
 
-fn push_totals(text: &mut Vec<u8>, totals: Totals) -> Result<(), AllocError>
-    ensures { OnOk result (text.new.items ≡ text.old.items ++ totals_json totals) }
+fn push_counted(text: &mut Vec<u8>, totals: Totals) -> Result<(), AllocError>
+    ensures { OnOk result (text.new.items ≡ text.old.items ++ counted_json totals) }
 {
     let mut flaws = Buffer::new();
     let mut found = Buffer::new();
     let mut missed = Buffer::new();
     let mut hidden = Buffer::new();
-    let pieces: [&[u8]; 9] = [
+    let pieces: [&[u8]; 8] = [
         b"\"flaws\": ",
         flaws.format(totals.flaws).as_bytes(),
         b", \"found\": ",
@@ -251,13 +252,27 @@ fn push_totals(text: &mut Vec<u8>, totals: Totals) -> Result<(), AllocError>
         missed.format(totals.missed()).as_bytes(),
         b", \"hidden\": ",
         hidden.format(totals.hidden).as_bytes(),
-        b", \"percent\": ",
     ];
     push_pieces(text, &pieces)?;
+    push_count_if(text, b", \"waived\": ", totals.waived, b"")?;
+    push_count_if(text, b", \"needless\": ", totals.needless, b"")
+}
+
+fn push_percents(text: &mut Vec<u8>, totals: Totals) -> Result<(), AllocError>
+    ensures { OnOk result (text.new.items ≡ text.old.items ++ percents_json totals) }
+{
+    text.extend_from_slice(b", \"percent\": ")?;
     push_percent(text, totals.found, totals.flaws)?;
     text.extend_from_slice(b", \"percent_findable\": ")?;
     push_percent(text, totals.found, totals.findable())?;
     text.extend_from_slice(b",\n")
+}
+
+fn push_totals(text: &mut Vec<u8>, totals: Totals) -> Result<(), AllocError>
+    ensures { OnOk result (text.new.items ≡ text.old.items ++ totals_json totals) }
+{
+    push_counted(text, totals)?;
+    push_percents(text, totals)
 }
 
 fn push_least(text: &mut Vec<u8>, bound: Option<u64>) -> Result<(), AllocError>
@@ -302,7 +317,7 @@ fn push_count(
     let mut missed = Buffer::new();
     let mut hidden = Buffer::new();
     text.extend_from_slice(before)?;
-    let pieces: [&[u8]; 9] = [
+    let pieces: [&[u8]; 8] = [
         b"\"",
         kind.name(),
         b"\": {\"found\": ",
@@ -311,9 +326,10 @@ fn push_count(
         missed.format(counts.missed).as_bytes(),
         b", \"hidden\": ",
         hidden.format(counts.hidden).as_bytes(),
-        b"}",
     ];
-    push_pieces(text, &pieces)
+    push_pieces(text, &pieces)?;
+    push_count_if(text, b", \"waived\": ", counts.waived as u64, b"")?;
+    text.extend_from_slice(b"}")
 }
 
 // Appends the counts of the kinds that are there.
@@ -384,8 +400,8 @@ fn push_lists(
     text.extend_from_slice(b"]}\n")
 }
 
-/// Appends one object in JSON: the session, which share of its flaws was tried, how many were found, missed and hidden,
-/// in all and by kind, whether they are enough, and those that are missed, each with the keys of its row in a
+/// Appends one object in JSON: the session, which share of its flaws was tried, how many were found, missed, hidden and,
+/// where there are some, waived, in all and by kind, whether they are enough, and those that are missed, each with the keys of its row in a
 /// description.
 ///
 /// # Errors

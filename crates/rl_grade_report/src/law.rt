@@ -1,5 +1,6 @@
-//! What holds of the flaws that a grading goes over, place by place, and of its shares. Each function does nothing; its
+//! What holds of the flaws that a grading goes over, place by place, of its shares, and of waivers. Each function does nothing; its
 //! contract is the law.
+ghost use Rattle.rl_grade_report.specs.Plain.{NoWaiverWaivesNone, NoneWaivedIsPlain};
 ghost use Rattle.rl_grade_report.specs.Together.{SumsAreOfAll};
 ghost use Rattle.rl_grade_report.specs.Whole.{EachIsGraded, NoOtherIsGraded, NoneIsGradedTwice};
 
@@ -28,3 +29,14 @@ pub fn shares_add_up_to_the_whole()
 {
     shares_have_each_flaw_once();
 }
+
+/// Where no row waives a flaw, no flaw is waived, and none that is found.
+pub fn no_waiver_waives_none()
+    ensures { NoWaiverWaivesNone }
+{}
+
+/// Where none is, the last line, the counts of a kind, the flaws of a place in words, and the counts in JSON tell of
+/// found, missed and hidden flaws alone, byte for byte.
+pub fn nothing_is_told_of_no_waivers()
+    ensures { NoneWaivedIsPlain }
+{}

@@ -1,8 +1,9 @@
-//! The text of a grading: a line for each register, field, memory and the session, which counts the flaws found, missed
-//! and hidden and tells those that aren't found; each that is missed, hidden or found as a row of a description; how
-//! many flaws each line of the script finds first; or all of it as one object in JSON.
+//! The text of a grading: a line for each register, field, memory and the session, which counts the flaws found, missed,
+//! hidden and waived and tells those that aren't found; each that is missed, hidden, waived or found as a row of a
+//! description; how many flaws each line of the script finds first; or all of it as one object in JSON.
 //!
 //! The grading of a session: refuses what can't be graded, tries the flaws place by place, and writes what was found.
+//! A file of waivers names flaws that are known and accepted.
 //!
 //! The shares of a grading, added to the last line of the whole.
 #![tactic(auto)]
@@ -17,6 +18,7 @@ mod firsts;
 mod grading;
 mod groups;
 mod json;
+mod judging;
 mod kind;
 pub mod law;
 mod line;
@@ -31,6 +33,8 @@ mod shares;
 mod sums;
 mod totals;
 mod verdict;
+mod waivers;
+mod waiving;
 mod whole;
 mod writing;
 
@@ -48,3 +52,4 @@ pub use rl_grade::Meter;
 pub use row::{push_found_rows, push_rows};
 pub use totals::{Totals, push_end};
 pub use verdict::{Judged, Verdict};
+pub use whole::read_all;

@@ -86,8 +86,8 @@ fn push_told(
     text.extend_from_slice(b"\n")
 }
 
-/// Appends the line of a place: what it is called, how many of its flaws are found, missed and hidden by kind, and
-/// those that aren't found in words. Where none was tried there is no line.
+/// Appends the line of a place: what it is called, how many of its flaws are found, missed, hidden and waived by kind,
+/// and those that aren't found in words. Where none was tried there is no line.
 ///
 /// # Errors
 ///

@@ -142,7 +142,12 @@ fn push_deaf(text: &mut Vec<u8>, chip: &Chip, item: Item) -> Result<(), AllocErr
 }
 
 // Appends a flaw as a row of a description.
-fn push_row(text: &mut Vec<u8>, chip: &Chip, layout: &Layout, flaw: Flaw) -> Result<(), AllocError>
+pub(crate) fn push_row(
+    text: &mut Vec<u8>,
+    chip: &Chip,
+    layout: &Layout,
+    flaw: Flaw,
+) -> Result<(), AllocError>
     requires { IsFlawOf chip.now layout.now flaw }
     ensures { OnOk result (text.new.items ≡ text.old.items ++ flaw_row chip.now layout.now flaw) }
 {

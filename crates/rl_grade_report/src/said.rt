@@ -106,6 +106,8 @@ fn totals_in(line: &[u8]) -> Totals
         flaws: count_of(line, b"flaws"),
         found: count_of(line, b"found"),
         hidden: count_of(line, b"hidden"),
+        waived: count_of(line, b"waived"),
+        needless: count_of(line, b"needless"),
     }
 }
 

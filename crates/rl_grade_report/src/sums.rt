@@ -61,6 +61,8 @@ fn plus(sums: Totals, more: Totals) -> Totals
         flaws: sums.flaws.saturating_add(more.flaws),
         found: sums.found.saturating_add(more.found),
         hidden: sums.hidden.saturating_add(more.hidden),
+        waived: sums.waived.saturating_add(more.waived),
+        needless: sums.needless.saturating_add(more.needless),
     }
 }
 

@@ -1,7 +1,8 @@
 // The last line of a grading.
-ghost use Rattle.std.specs.Prelude.{◌≡◌, ◌++◌, OnOk};
-ghost use Rattle.rl_grade_report.specs.Totals.{end_text, findable, findable_text, is_below, missed_in, percent_text};
-ghost use Rattle.rl_grade_report.specs.Totals.{share_text, tenths, with_judged};
+ghost use Rattle.std.specs.Prelude.{◌≡◌, ◌++◌, OnOk, count_by, is_ok};
+ghost use Rattle.rl_grade_report.specs.Totals.{end_text, findable, findable_text, is_below, left_out_text, missed_in};
+ghost use Rattle.rl_grade_report.specs.Totals.{percent_text, share_text, tenths, with_judged};
+ghost use Rattle.rl_grade_report.specs.Verdict.{has_verdict, is_needless};
 
 use crate::pieces::push_count_if;
 use crate::verdict::{Judged, Verdict};
@@ -9,13 +10,36 @@ use itoa::Buffer;
 use rl_session::push_pieces;
 use std::alloc::AllocError;
 
-/// How many flaws were tried, how many of them were found, and how many no script finds. A count that has come to its
-/// end stays there.
+/// How many flaws were tried, how many of them were found, and of those that weren't how many no script finds and how
+/// many are waived; and how many are found though they are waived. A count that has come to its end stays there.
 #[derive(Clone, Copy, Debug, PartialEq, Eq)]
 pub struct Totals {
     pub flaws: u64,
     pub found: u64,
     pub hidden: u64,
+    pub waived: u64,
+    pub needless: u64,
+}
+
+// How many of these are found.
+fn found_in(judged: &[Judged]) -> u64
+    ensures { result ≡ count_by (λ j. is_ok j.found) judged.now }
+{
+    judged.iter().filter(|it| it.found.is_ok()).count() as u64
+}
+
+// Of how many of these this is said.
+fn count_with(judged: &[Judged], verdict: Verdict) -> u64
+    ensures { result ≡ count_by (λ j. has_verdict verdict j) judged.now }
+{
+    judged.iter().filter(|it| it.has(verdict)).count() as u64
+}
+
+// How many of these are waived, and found all the same.
+fn needless_in(judged: &[Judged]) -> u64
+    ensures { result ≡ count_by (λ j. is_needless j) judged.now }
+{
+    judged.iter().filter(|it| it.is_needless()).count() as u64
 }
 
 impl Totals {
@@ -24,13 +48,17 @@ impl Totals {
         flaws: 0,
         found: 0,
         hidden: 0,
+        waived: 0,
+        needless: 0,
     };
 
     // How many can be found.
     pub(crate) fn findable(self) -> u64
         ensures { result ≡ findable self }
     {
-        self.flaws.saturating_sub(self.hidden)
+        self.flaws
+            .saturating_sub(self.hidden)
+            .saturating_sub(self.waived)
     }
 
     // How many were missed.
@@ -44,12 +72,16 @@ impl Totals {
     pub fn with(self, judged: &[Judged]) -> Totals
         ensures { result ≡ with_judged self judged.now }
     {
-        let found = judged.iter().filter(|it| it.found.is_ok()).count();
-        let hidden = judged.iter().filter(|it| it.has(Verdict::Hidden)).count();
         Totals {
             flaws: self.flaws.saturating_add(judged.len() as u64),
-            found: self.found.saturating_add(found as u64),
-            hidden: self.hidden.saturating_add(hidden as u64),
+            found: self.found.saturating_add(found_in(judged)),
+            hidden: self
+                .hidden
+                .saturating_add(count_with(judged, Verdict::Hidden)),
+            waived: self
+                .waived
+                .saturating_add(count_with(judged, Verdict::Waived)),
+            needless: self.needless.saturating_add(needless_in(judged)),
         }
     }
 
@@ -116,8 +148,17 @@ fn push_findable(text: &mut Vec<u8>, totals: Totals) -> Result<(), AllocError>
     )
 }
 
-/// Appends the last line of a grading: how many flaws were tried, found, missed and hidden, the share that was found,
-/// and that of those that can be found.
+// Appends how many flaws are left out of those that can be found, and how many needn't be.
+fn push_left_out(text: &mut Vec<u8>, totals: Totals) -> Result<(), AllocError>
+    ensures { OnOk result (text.new.items ≡ text.old.items ++ left_out_text totals) }
+{
+    push_count_if(text, b", ", totals.hidden, b" hidden")?;
+    push_count_if(text, b", ", totals.waived, b" waived")?;
+    push_count_if(text, b", ", totals.needless, b" needless waivers")
+}
+
+/// Appends the last line of a grading: how many flaws were tried, found, missed, hidden and waived, how many waivers are
+/// needless, the share that was found, and that of those that can be found.
 ///
 /// # Errors
 ///
@@ -138,7 +179,7 @@ pub fn push_end(text: &mut Vec<u8>, totals: Totals) -> Result<(), AllocError>
         b" missed",
     ];
     push_pieces(text, &pieces)?;
-    push_count_if(text, b", ", totals.hidden, b" hidden")?;
+    push_left_out(text, totals)?;
     push_share(text, totals.found, totals.flaws, b" % found")?;
     push_findable(text, totals)?;
     text.extend_from_slice(b"\n")

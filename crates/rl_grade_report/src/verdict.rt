@@ -1,12 +1,9 @@
-// What is said of the flaws that were tried.
-ghost use Rattle.std.specs.Prelude.{◌≡◌, map, All, IfOk};
-ghost use Rattle.rl_flaw.specs.Flaws.{IsFlawOf};
-ghost use Rattle.rl_grade_report.specs.Verdict.{AreJudged, flaws_with, has_verdict, is_verdict, judged_by};
-ghost use Rattle.rl_grade_report.specs.Verdict.{lead_of, verdict_of};
+// What can be said of a flaw that was tried.
+ghost use Rattle.std.specs.Prelude.{◌≡◌, IfOk};
+ghost use Rattle.rl_grade_report.specs.Verdict.{flaws_with, has_verdict, is_needless, is_verdict, lead_of};
 
 use rl_bench::Flaw;
-use rl_desc::Desc;
-use rl_grade::{Find, Graded, is_hidden};
+use rl_grade::Find;
 use std::alloc::{AllocError, Global};
 
 /// What is said of a flaw that the script doesn't find.
@@ -14,12 +11,14 @@ use std::alloc::{AllocError, Global};
 pub enum Verdict {
     /// Another script may find it.
     Missed,
-    /// No script can: with it each event of every script is that of the device without it.
+    /// No script finds it, as `is_hidden` tells.
     Hidden,
+    /// It is known and accepted: a row of the waivers is the flaw's.
+    Waived,
 }
 
 // In the order in which they are told.
-pub(crate) const VERDICTS: [Verdict; 2] = [Verdict::Missed, Verdict::Hidden];
+pub(crate) const VERDICTS: [Verdict; 3] = [Verdict::Missed, Verdict::Hidden, Verdict::Waived];
 
 /// A flaw that was tried.
 #[derive(Clone, Copy, Debug, PartialEq, Eq)]
@@ -27,6 +26,8 @@ pub struct Judged {
     pub flaw: Flaw,
     /// The first event that shows more with it than without it, or what is said where there is none.
     pub found: Result<Find, Verdict>,
+    /// Whether a row of the waivers is its.
+    pub waived: bool,
 }
 
 impl Verdict {
@@ -37,6 +38,7 @@ impl Verdict {
         match (self, other) {
             (Verdict::Missed, Verdict::Missed) => true,
             (Verdict::Hidden, Verdict::Hidden) => true,
+            (Verdict::Waived, Verdict::Waived) => true,
             _ => false,
         }
     }
@@ -48,6 +50,7 @@ impl Verdict {
         match self {
             Verdict::Missed => b"; missed: ",
             Verdict::Hidden => b"; hidden: ",
+            Verdict::Waived => b"; waived: ",
         }
     }
 }
@@ -62,54 +65,13 @@ impl Judged {
             Err(own) => verdict.is_same(own),
         }
     }
-}
 
-// What is said of a flaw that the script doesn't find.
-fn verdict_of(desc: &Desc, flaw: Flaw) -> Result<Verdict, AllocError>
-    requires { IsFlawOf desc.now.chip desc.now.layout flaw }
-    ensures { IfOk result (λ verdict. verdict ≡ verdict_of desc.now flaw) }
-{
-    if is_hidden(&desc.chip, &desc.layout, flaw)? {
-        return Ok(Verdict::Hidden);
+    // Whether it is waived and found all the same.
+    pub(crate) fn is_needless(&self) -> bool
+        ensures { result ≡ is_needless self.now }
+    {
+        self.waived && self.found.is_ok()
     }
-    Ok(Verdict::Missed)
-}
-
-fn judged_by(desc: &Desc, it: &Graded) -> Result<Judged, AllocError>
-    requires { IsFlawOf desc.now.chip desc.now.layout it.now.flaw }
-    ensures { IfOk result (λ judged. judged ≡ judged_by desc.now it.now) }
-{
-    let flaw = it.flaw;
-    match it.found {
-        Some(find) => Ok(Judged {
-            flaw,
-            found: Ok(find),
-        }),
-        None => {
-            let verdict = verdict_of(desc, flaw)?;
-            Ok(Judged {
-                flaw,
-                found: Err(verdict),
-            })
-        }
-    }
-}
-
-// These flaws, each with what is said of it.
-pub(crate) fn judge(
-    alloc: Global,
-    desc: &Desc,
-    graded: &[Graded],
-) -> Result<Vec<Judged>, AllocError>
-    requires { All (λ g. IsFlawOf desc.now.chip desc.now.layout g.flaw) graded.now }
-    ensures judged { IfOk result (λ judged. judged.items ≡ map (judged_by desc.now) graded.now) }
-    ensures each { IfOk result (λ judged. AreJudged desc.now.chip desc.now.layout judged.items) }
-{
-    let mut judged = Vec::new(alloc);
-    for it in graded {
-        judged.push(judged_by(desc, it)?)?;
-    }
-    Ok(judged)
 }
 
 // The flaws of which this is said.

@@ -60,7 +60,7 @@ fn append(bytes: &mut Vec<u8>, more: &[u8]) -> Result<(), Status>
 /// # Errors
 ///
 /// `SourceFault` where the source fails, and `Memory`.
-pub(crate) fn read_all<S: Source>(alloc: Global, source: &mut S) -> Result<Vec<u8>, Status>
+pub fn read_all<S: Source>(alloc: Global, source: &mut S) -> Result<Vec<u8>, Status>
     ensures bytes { IfOk result (λ bytes. IfSome (S.left source.old) (λ all. bytes.items ≡ all)) }
     ensures later { S.faults source.old ≤ S.faults source.new }
     ensures broken { IfErr result (λ status. is_complete status ≡ false) }

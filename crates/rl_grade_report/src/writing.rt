@@ -70,6 +70,7 @@ fn place_text(
         Tell::Missed => push_rows(&mut text, &desc.chip, &desc.layout, judged, Verdict::Missed)?,
         Tell::Hidden => push_rows(&mut text, &desc.chip, &desc.layout, judged, Verdict::Hidden)?,
         Tell::Found => push_found_rows(&mut text, &desc.chip, &desc.layout, judged)?,
+        Tell::Waived => push_rows(&mut text, &desc.chip, &desc.layout, judged, Verdict::Waived)?,
         Tell::Lines | Tell::Json => {}
     }
     Ok(text)
@@ -102,7 +103,9 @@ fn last_text(
     let totals = Totals::NONE.with(judged);
     match asked.tell {
         Tell::Run => push_end(&mut text, totals)?,
-        Tell::Missed | Tell::Hidden | Tell::Found => push_part(&mut text, asked, totals)?,
+        Tell::Missed | Tell::Hidden | Tell::Found | Tell::Waived => {
+            push_part(&mut text, asked, totals)?
+        }
         Tell::Lines => {
             push_lines(&mut text, tasks, judged)?;
             push_end(&mut text, totals)?;

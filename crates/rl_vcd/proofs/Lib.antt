@@ -1,4 +1,9 @@
+mod AdaptedLemmas
 mod DumpLemmas
 mod LabelLemmas
+mod LineLemmas
 mod NotedLemmas
+mod RecordLemmas
+mod RunLemmas
+mod ScriptLemmas
 mod TextLemmas

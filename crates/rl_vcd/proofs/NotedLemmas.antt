@@ -1,11 +1,10 @@
 -- A dump, event by event and as a whole.
-use Rattle.std.proofs.Common.{◌≡◌, ℕ, ◌≤◌, Bool, true, false, List, [], ◌∷◌, ◌++◌, Some, None, is_some, IsNone, IsSome, refl, sym, ap, subst, ◌∙◌, append_assoc, append-nil, arith}
+use Rattle.std.proofs.Common.{◌≡◌, ℕ, Bool, true, false, List, [], ◌∷◌, ◌++◌, Some, None, is_some, IsNone, IsSome, refl, sym, ap, subst, ◌∙◌, append_assoc, append-nil, arith}
 use Rattle.std.specs.declared.option.Option.{Option}
-use Rattle.std.specs.Io.KnownBytes.{Appends, Keeps, append_known}
+use Rattle.std.specs.Io.KnownBytes.{Appends, append_known}
 use Rattle.std.proofs.KnownBytes.{Appends-kept, Appends-trans, Keeps-refl}
 use Rattle.std.proofs.lemmas.Bool.{true≢false}
 use Rattle.std.proofs.lemmas.List.{append_cancel_left}
-use Rattle.rl_bus.specs.Causes.{Rose}
 use Rattle.rl_map.specs.Layout.{LayoutData}
 use Rattle.rl_access.specs.declared.event.Event.{Event}
 use Rattle.rl_access.specs.HandsOver.{Told, TakesAll}
@@ -16,11 +15,11 @@ use Rattle.rl_report.proofs.PieceLemmas.{front_before}
 use Rattle.rl_log.proofs.KnownLemmas.{front_none}
 use Rattle.rl_vcd.specs.declared.dump.Dump.{Dump}
 use Rattle.rl_vcd.specs.declared.dump.Fault.{Fault}
-use Rattle.rl_vcd.specs.declared.dump.Fault.TheVariants.{Full, Sink as SinkFailed}
+use Rattle.rl_vcd.specs.declared.dump.Fault.TheVariants.{Sink as SinkFailed}
 use Rattle.rl_vcd.specs.Drawn.{EventsRunOut, RunsOut, cycle_behind_event, cycle_behind_events, dump_text, event_drawn, events_drawn}
 use Rattle.rl_vcd.specs.Dump.{header_text}
 use Rattle.rl_vcd.specs.Items.{buses_of}
-use Rattle.rl_vcd.specs.Noted.{HasEvents, IsDumpOf, Notes, told_of}
+use Rattle.rl_vcd.specs.Noted.{Closes, HasEvents, IsDumpOf, Notes, told_of}
 use Rattle.rl_vcd.specs.Told.{told}
 
 -- ---- the text of events
@@ -163,24 +162,20 @@ module _ {K : Type 0} (sink : Sink K) (l : LayoutData) where
     -- ---- as a whole
 
     -- nothing went wrong until it was ended
-    ended_sound : (events : List Told) (old new : Dump K) → IsNone old.fault
-        → (IsNone new.fault → Keeps (told sink.written old) (sink.written new.sink))
-        → (IsNone new.fault → Rose (sink.ends old.sink) (sink.ends new.sink))
-        → AppendsFront (sink.written old.sink) (sink.written new.sink) old.wave.text.items
-        → (IsSome new.fault → new.fault ≡ Some SinkFailed)
-        → (new.fault ≡ Some SinkFailed → Rose (sink.faults old.sink) (sink.faults new.sink))
-        → HasEvents sink before l events old → IsDumpOf sink before l events new
-    ended_sound events old new sound whole ended front only cause h = record {
-      whole = λ none. Appends-kept (sink.written before) (told sink.written old) (sink.written new.sink) (dump_text l events) (h.whole sound) (whole none);
-      ended = λ none. omega (arith, h.ends_kept, ended none);
-      front = subst (AppendsFront (sink.written before) (sink.written new.sink)) (append-nil (dump_text l events))
-          (front_on (sink.written before) (sink.written old.sink) (sink.written new.sink) old.wave.text.items (dump_text l events) []
-          (h.whole sound) h.front (subst (AppendsFront (sink.written old.sink) (sink.written new.sink)) (sym (append-nil old.wave.text.items)) front));
-      cause = λ is. omega (arith, h.later, cause is);
-      full = λ is. let other : new.fault ≡ Some SinkFailed = only (ap is_some is) in absurd (cc);
+    ended_sound : (events : List Told) (d : Dump K) (fault : Option Fault) (now : K) → IsNone d.fault → Closes sink d fault now
+        → HasEvents sink before l events d → IsDumpOf sink before l events fault now
+    ended_sound events d fault now sound c h = record {
+      whole = λ none. Appends-kept (sink.written before) (told sink.written d) (sink.written now) (dump_text l events) (h.whole sound) (c.whole none);
+      ended = λ none. omega (arith, h.ends_kept, c.ended none);
+      front = subst (AppendsFront (sink.written before) (sink.written now)) (append-nil (dump_text l events))
+          (front_on (sink.written before) (sink.written d.sink) (sink.written now) d.wave.text.items (dump_text l events) []
+          (h.whole sound) h.front (subst (AppendsFront (sink.written d.sink) (sink.written now)) (sym (append-nil d.wave.text.items)) c.front));
+      cause = λ is. omega (arith, h.later, c.cause sound is);
+      full = λ is. let other : fault ≡ Some SinkFailed = c.only sound (ap is_some is) in absurd (cc);
     }
 
-    ended_broken : (events : List Told) (d : Dump K) → IsSome d.fault → HasEvents sink before l events d → IsDumpOf sink before l events d
+    ended_broken : (events : List Told) (d : Dump K) → IsSome d.fault → HasEvents sink before l events d
+        → IsDumpOf sink before l events d.fault d.sink
     ended_broken events d broken h = record {
       whole = λ none. absurd (true≢false (sym broken ∙ none));
       ended = λ none. absurd (true≢false (sym broken ∙ none));
@@ -189,14 +184,15 @@ module _ {K : Type 0} (sink : Sink K) (l : LayoutData) where
       full = h.full;
     }
 
-    pub ended_by : (b : Bool) (events : List Told) (old new : Dump K) → is_some old.fault ≡ b → (IsSome old.fault → new ≡ old)
-        → (IsNone new.fault → Keeps (told sink.written old) (sink.written new.sink))
-        → (IsNone new.fault → Rose (sink.ends old.sink) (sink.ends new.sink))
-        → AppendsFront (sink.written old.sink) (sink.written new.sink) old.wave.text.items
-        → (IsNone old.fault → IsSome new.fault → new.fault ≡ Some SinkFailed)
-        → (IsNone old.fault → new.fault ≡ Some SinkFailed → Rose (sink.faults old.sink) (sink.faults new.sink))
-        → HasEvents sink before l events old → IsDumpOf sink before l events new
-    ended_by true events old new is silent whole ended front only cause h =
-        subst (IsDumpOf sink before l events) (sym (silent is)) (ended_broken events old is h)
-    ended_by false events old new is silent whole ended front only cause h =
-        ended_sound events old new is whole ended front (only is) (cause is) h
+    ended_by : (b : Bool) (events : List Told) (d : Dump K) (fault : Option Fault) (now : K) → is_some d.fault ≡ b
+        → Closes sink d fault now → HasEvents sink before l events d → IsDumpOf sink before l events fault now
+    ended_by true events d fault now is c h =
+        let same = c.silent is in
+        subst (λ f. IsDumpOf sink before l events f now) (sym same.0)
+        (subst (IsDumpOf sink before l events d.fault) (sym same.1) (ended_broken events d is h))
+    ended_by false events d fault now is c h = ended_sound events d fault now is c h
+
+    -- a dump that has these events, once it was ended
+    pub ended_all : (events : List Told) (d : Dump K) (fault : Option Fault) (now : K) → Closes sink d fault now
+        → HasEvents sink before l events d → IsDumpOf sink before l events fault now
+    ended_all events d fault now c h = ended_by (is_some d.fault) events d fault now refl c h

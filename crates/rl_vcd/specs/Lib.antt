@@ -1,8 +1,13 @@
+pub mod Adapted
 pub mod Drawn
 pub mod Dump
 pub mod Items
 pub mod Label
+pub mod Lines
 pub mod Noted
 pub mod Pins
+pub mod Playing
+pub mod Script
+pub mod Session
 pub mod Signals
 pub mod Told

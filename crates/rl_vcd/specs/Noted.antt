@@ -1,6 +1,6 @@
 -- What becomes of a dump, event by event.
-use Rattle.std.specs.Prelude.{◌≡◌, ℕ, ◌≤◌, List, ◌∷◌, ◌++◌, Some, IsNone, IsSome}
-use Rattle.std.specs.Io.KnownBytes.{Appends}
+use Rattle.std.specs.Prelude.{◌≡◌, ◌≤◌, List, ◌++◌, Option, Some, IsNone, IsSome}
+use Rattle.std.specs.Io.KnownBytes.{Appends, Keeps}
 use Rattle.rl_bus.specs.Causes.{Rose}
 use Rattle.rl_map.specs.Layout.{LayoutData}
 use Rattle.rl_access.specs.declared.event.Event.{Event}
@@ -9,6 +9,7 @@ use Rattle.rl_access.specs.Model.{ModelData}
 use Rattle.rl_report.specs.Pieces.{AppendsFront}
 use Rattle.rl_report.specs.declared.sink.Sink.{Ghosts as Sink}
 use Rattle.rl_vcd.specs.declared.dump.Dump.{Dump}
+use Rattle.rl_vcd.specs.declared.dump.Fault.{Fault}
 use Rattle.rl_vcd.specs.declared.dump.Fault.TheVariants.{Full, Sink as SinkFailed}
 use Rattle.rl_vcd.specs.Drawn.{EventsRunOut, RunsOut, cycle_behind_event, cycle_behind_events, dump_text, event_drawn}
 use Rattle.rl_vcd.specs.Told.{told}
@@ -50,10 +51,27 @@ pub record HasEvents {K : Type 0} (sink : Sink K) (before : K) (l : LayoutData) 
   pub later : sink.faults before ≤ sink.faults d.sink
   pub ends_kept : sink.ends d.sink ≡ sink.ends before
 
--- One that was ended: as long as nothing went wrong, exactly its text was written, and its sink was ended.
-pub record IsDumpOf {K : Type 0} (sink : Sink K) (before : K) (l : LayoutData) (events : List Told) (d : Dump K) : Type 0 where
-  pub whole : IsNone d.fault → Appends (sink.written before) (sink.written d.sink) (dump_text l events)
-  pub ended : IsNone d.fault → Rose (sink.ends before) (sink.ends d.sink)
-  pub front : AppendsFront (sink.written before) (sink.written d.sink) (dump_text l events)
-  pub cause : d.fault ≡ Some SinkFailed → Rose (sink.faults before) (sink.faults d.sink)
-  pub full : d.fault ≡ Some Full → EventsRunOut events 1
+-- It was ended from where it stood: as long as nothing went wrong, what was kept back was written, and its sink was ended.
+pub record Closes {K : Type 0} (sink : Sink K) (d : Dump K) (fault : Option Fault) (now : K) : Type 0 where
+  pub whole : IsNone fault → Keeps (told sink.written d) (sink.written now)
+  pub ended : IsNone fault → Rose (sink.ends d.sink) (sink.ends now)
+  -- A front of what was kept back is written in any case, and only the sink can fail.
+  pub front : AppendsFront (sink.written d.sink) (sink.written now) d.wave.text.items
+  pub only : IsNone d.fault → IsSome fault → fault ≡ Some SinkFailed
+  pub cause : IsNone d.fault → fault ≡ Some SinkFailed → Rose (sink.faults d.sink) (sink.faults now)
+  -- Once something went wrong, nothing is done.
+  pub silent : IsSome d.fault → (fault ≡ d.fault) × (now ≡ d.sink)
+
+-- A dump over a layout has these events, from its first byte to its end, or up to a fault.
+pub record IsDumpOf {K : Type 0} (sink : Sink K) (before : K) (l : LayoutData) (events : List Told) (fault : Option Fault)
+    (now : K) : Type 0 where
+  -- As long as nothing went wrong, exactly its text was written: the header, and behind it the transfers of these events
+  -- in order. Its sink was ended then.
+  pub whole : IsNone fault → Appends (sink.written before) (sink.written now) (dump_text l events)
+  pub ended : IsNone fault → Rose (sink.ends before) (sink.ends now)
+  -- Whatever went wrong, a front of the text was written.
+  pub front : AppendsFront (sink.written before) (sink.written now) (dump_text l events)
+  -- It ended early by the sink only where this has failed, and by its length only where no further cycle can be counted.
+  -- Else memory ran out.
+  pub cause : fault ≡ Some SinkFailed → Rose (sink.faults before) (sink.faults now)
+  pub full : fault ≡ Some Full → EventsRunOut events 1

@@ -1,6 +1,6 @@
 // The dump of a session's events, and what is kept back of its text.
 ghost use Rattle.std.specs.Prelude.{◌≡◌, ◌++◌, ◌≤◌, ◌<◌, ◌-◌, ◌^◌, Ok, Err, None, Some, IsNone, IsSome, true};
-ghost use Rattle.std.specs.Prelude.{IfOk, OnOk, OnErr, All};
+ghost use Rattle.std.specs.Prelude.{IfErr, IfOk, OnOk, OnErr, All};
 ghost use Rattle.std.specs.Io.KnownBytes.{Appends, Keeps, append_known};
 ghost use Rattle.rl_bus.specs.Causes.{Rose};
 ghost use Rattle.rl_access.specs.Event.{EventFits, ItemFits};
@@ -118,21 +118,37 @@ fn draw_items(
     Ok(())
 }
 
-impl<K: Sink + Drop> Dump<K> {
+// What a dump over this layout begins with.
+fn first_wave(alloc: Global, layout: &Layout) -> Result<Wave, AllocError>
+    ensures header { IfOk result (λ wave. wave.text.items ≡ header_text (buses_of layout.now)) }
+    ensures first { IfOk result (λ wave. wave.cycle ≡ 1) }
+{
+    let buses = buses_of(alloc, layout)?;
+    Wave::build(alloc, &buses)
+}
+
+impl<K: Sink> Dump<K> {
     /// The dump of a session over this layout, with no event yet.
-    pub fn build(alloc: Global, layout: &Layout, sink: K) -> Result<Dump<K>, AllocError>
+    ///
+    /// # Errors
+    ///
+    /// Want of memory: the sink comes back, and nothing was written.
+    pub fn build(alloc: Global, layout: &Layout, sink: K) -> Result<Dump<K>, K>
         ensures sink { IfOk result (λ dump. dump.sink ≡ sink) }
         ensures header { IfOk result (λ dump. dump.wave.text.items ≡ header_text (buses_of layout.now)) }
         ensures first { IfOk result (λ dump. dump.wave.cycle ≡ 1) }
-        ensures whole { IfOk result (λ dump. dump.fault ≡ None) }
+        ensures sound { IfOk result (λ dump. dump.fault ≡ None) }
+        ensures back { IfErr result (λ back. back ≡ sink) }
     {
-        let buses = buses_of(alloc, layout)?;
-        Ok(Dump {
-            sink,
-            wave: Wave::build(alloc, &buses)?,
-            label: Label::new(),
-            fault: None,
-        })
+        match first_wave(alloc, layout) {
+            Ok(wave) => Ok(Dump {
+                sink,
+                wave,
+                label: Label::new(),
+                fault: None,
+            }),
+            Err(AllocError) => Err(sink),
+        }
     }
 }
 

@@ -32,7 +32,7 @@ try_flaws-requires-clause-kinds c =
 
 pub returns-clause-found : goal.returns-clause-found
 returns-clause-found c =
-    sorted_afresh c.args.desc c.args.flaws.items c.args.tasks.now c.args.base.now c.try_flaws.result _
+    sorted_afresh c.args.desc c.args.flaws.now c.args.tasks.now c.args.base.now c.try_flaws.result _
     (two_are _ _ _ _ _ _ _ _ c.in_ok-push-2.ensures.items c.in_ok-push.ensures.items c.new-adapters.ensures.items
     (read_made {G = Ghosts} {C = Dict} (dyn-1-ghosts (own-1, lawful-own-1)).0 _ at-1-1 refl Standing (λ j v. j.1.standing v)
     c.into_dyn_box.result.vtable c.into_dyn_box.result.value c.in_ok-new.field-0.value c.into_dyn_box.ensures.1 ∙ ap plain_standing (c.in_ok-new.ensures.ok ∙ c.fresh_adapters.ensures.plain))

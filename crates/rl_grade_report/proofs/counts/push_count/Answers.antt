@@ -1,9 +1,9 @@
 use Rattle.std.proofs.Common.{[], ◌∷◌, ◌++◌, codes, decimal}
 use Rattle.rl_report.specs.Pieces.{joined}
-use Rattle.rl_session.proofs.ListingLemmas.{then_pushed}
+use Rattle.rl_session.proofs.ListingLemmas.{pushed_twice, then_pushed}
 use Rattle.rl_grade_report.specs.Counts.{count_if}
 use Rattle.rl_grade_report.specs.Kinds.{kind_name}
-use Rattle.rl_grade_report.proofs.Parts.{joined_last}
+use Rattle.rl_grade_report.proofs.Parts.{then_two}
 use Rattle.rl_grade_report.proofs.counts.push_count.Goals as goal
 
 pub returns : goal.returns
@@ -11,6 +11,7 @@ returns c =
     let counts = c.args.counts in
     let first = c.args.text.now.items ++ c.args.before.now in
     let hidden = count_if (codes " ") counts.hidden (codes " hidden") in
+    let waived = count_if (codes " ") counts.waived (codes " waived") in
     let front = kind_name c.args.kind ∷ codes " " ∷ decimal counts.found ∷ codes " found " ∷ decimal counts.missed ∷ codes " missed" ∷ [] in
     let pieces = rw (
       c.name.ensures,
@@ -20,4 +21,5 @@ returns c =
       c.format-2.ensures.text,
       c.in_ok-extend_from_slice.ensures.items,
     ) at c.in_ok-push_pieces.ensures in
-    then_pushed _ first _ _ hidden (joined front) _ pieces (joined_last front hidden) c.push_count_if.ensures
+    let one = pushed_twice first _ _ (joined front) hidden pieces c.in_ok-push_count_if.ensures in
+    then_pushed _ first _ _ waived (joined front ++ hidden) _ one (then_two front hidden waived) c.push_count_if-2.ensures

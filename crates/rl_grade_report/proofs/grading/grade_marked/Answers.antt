@@ -2,7 +2,7 @@ use Rattle.rl_grade_report.proofs.SessionLemmas.{unread_leaves, unread_told, who
 use Rattle.rl_grade_report.proofs.grading.grade_marked.Goals as goal
 
 pub returns-in-Err-clause-tells : goal.returns-in-Err-clause-tells
-returns-in-Err-clause-tells g c = unread_told _ c.args.asked _ _ c.in-Err.ensures.broken
+returns-in-Err-clause-tells g c = unread_told _ c.args.asked c.args.waivers.now _ _ c.in-Err.ensures.broken
 
 pub returns-in-Err-clause-leaves : goal.returns-in-Err-clause-leaves
 returns-in-Err-clause-leaves g c =
@@ -10,7 +10,7 @@ returns-in-Err-clause-leaves g c =
 
 pub returns-clause-tells : goal.returns-clause-tells
 returns-clause-tells g c =
-    whole_told _ c.args.asked _ _ _ _ _ c.in-Ok.ensures.bytes (rw c.deref.ensures.value at c.mark_of-mark.ensures)
+    whole_told _ c.args.asked c.args.waivers.now _ _ _ _ _ c.in-Ok.ensures.bytes (rw (c.mark_of.ensures, c.deref.ensures.value) at c.mark_from-mark.ensures)
     (rw c.deref-2.ensures.value at c.grade_session.ensures.tells)
 
 pub returns-clause-leaves : goal.returns-clause-leaves

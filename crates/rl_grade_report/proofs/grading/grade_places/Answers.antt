@@ -26,7 +26,7 @@ pub loop-place-preserved : goal.loop-place-preserved
 loop-place-preserved g c =
     let i = c.loop-place.invariant in
     let e = c.in_ok-progress.ensures in
-    let base = base_shown c.args.tasks.now c.args.shown.now in
+    let base = base_shown c.args.waivers.now c.args.tasks.now c.args.shown.now in
     record {
       desc_is = e.next.desc_is ∙ i.desc_is;
       put = place_done c.args.asked base c.args.desc _ _ _ _ _ _ _ _ _ _ c.args.places.now
@@ -43,15 +43,15 @@ loop-place-preserved g c =
 pub returns-in_err-progress-clause-bytes : goal.returns-in_err-progress-clause-bytes
 returns-in_err-progress-clause-bytes g c =
     let i = c.loop-place.invariant in
-    place_stopped c.args.asked (base_shown c.args.tasks.now c.args.shown.now) c.args.desc _ _ _ _ _ _ c.args.places.now
+    place_stopped c.args.asked (base_shown c.args.waivers.now c.args.tasks.now c.args.shown.now) c.args.desc _ _ _ _ _ _ c.args.places.now
     c.loop-place.place-index _ _ c.loop-place-test.true i.desc_is i.put c.from_residual.ensures.0 c.in_err-progress.ensures.bytes.part
 
 pub returns-clause-bytes : goal.returns-clause-bytes
 returns-clause-bytes g c =
-    places_done c.args.asked (base_shown c.args.tasks.now c.args.shown.now) c.args.desc _ _ _ _ c.args.places.now
+    places_done c.args.asked (base_shown c.args.waivers.now c.args.tasks.now c.args.shown.now) c.args.desc _ _ _ _ c.args.places.now
     c.loop-place.place-index _ (omega arith) c.loop-place.invariant.put
 
 pub returns-clause-judged : goal.returns-clause-judged
 returns-clause-judged g c =
-    all_done c.args.asked (base_shown c.args.tasks.now c.args.shown.now) c.args.desc _ _ _ c.args.places.now
+    all_done c.args.asked (base_shown c.args.waivers.now c.args.tasks.now c.args.shown.now) c.args.desc _ _ _ c.args.places.now
     c.loop-place.place-index (omega arith) c.loop-place.invariant.judged

@@ -9,7 +9,7 @@ use Rattle.rl_grade_report.proofs.grading.grade_places.Given as goal
 abbrev pub invariant-loop-place : goal.invariant-loop-place
 invariant-loop-place g l =
     let written = g.K.Sink.written in
-    let base = base_shown l.tasks l.shown in
+    let base = base_shown l.waivers l.tasks l.shown in
     record {
       desc_is : l.progress.desc ≡ l.fn.desc;
       put : IsLeft (written l.initial.log) (written l.log) (places_text l.asked l.fn.desc base 0 l.places)

@@ -9,8 +9,8 @@ pub returns-in-Err-clause-tells : goal.returns-in-Err-clause-tells
 returns-in-Err-clause-tells g c =
     let e = c.in-Err.ensures in
     let f = c.end_log.ensures in
-    session_ended _ c.args.asked c.args.mark _ _ _ _ _ f.kept (earlier_kept _ _ _ e.leaves.stays.earlier f.told) f.told
-    (session_stopped _ c.args.asked c.args.mark _ _ _ _ c.requires.fresh e.stops)
+    session_ended _ c.args.asked c.args.mark c.args.waivers.now _ _ _ _ _ f.kept (earlier_kept _ _ _ e.leaves.stays.earlier f.told) f.told
+    (session_stopped _ c.args.asked c.args.mark c.args.waivers.now _ _ _ _ c.requires.fresh e.stops)
 
 pub returns-in-Err-clause-leaves : goal.returns-in-Err-clause-leaves
 returns-in-Err-clause-leaves g c =
@@ -22,8 +22,8 @@ returns-clause-tells g c =
     let e = c.in-Ok.ensures in
     let s = c.grade_script-graded.ensures in
     let f = c.end_log-2.ensures in
-    session_ended _ c.args.asked c.args.mark _ _ _ _ _ f.kept (kept_behind g.K.Sink _ _ _ _ _ _ _ e.unwritten s.leaves f.told) f.told
-    (session_graded g.K.Sink.written _ c.args.asked c.args.mark _ _ _ _ _ _ _ _ c.requires.fresh e.opens e.unwritten s.tells)
+    session_ended _ c.args.asked c.args.mark c.args.waivers.now _ _ _ _ _ f.kept (kept_behind g.K.Sink _ _ _ _ _ _ _ e.unwritten s.leaves f.told) f.told
+    (session_graded g.K.Sink.written _ c.args.asked c.args.mark c.args.waivers.now _ _ _ _ _ _ _ _ c.requires.fresh e.opens e.unwritten s.tells)
 
 pub returns-clause-leaves : goal.returns-clause-leaves
 returns-clause-leaves g c =

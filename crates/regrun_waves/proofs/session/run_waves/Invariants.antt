@@ -1,5 +1,0 @@
--- The earlier bytes are those of the log as it comes.
-use Rattle.regrun_waves.proofs.session.run_waves.Given as goal
-
-abbrev pub ghosts-run_through : goal.ghosts-run_through
-ghosts-run_through g a = record { bytes = g.Q.Sink.written a.log.now }

@@ -1,7 +1,0 @@
--- The bytes from the next one on are left.
-use Rattle.std.proofs.Common.{◌≡◌, drop}
-use Rattle.rl_grade_report.specs.Mark.{mark_from, mark_of}
-use Rattle.rl_grade_report.proofs.mark.mark_of.Given as goal
-
-abbrev pub invariant-loop-byte : goal.invariant-loop-byte
-invariant-loop-byte l = mark_from l.mark (drop l.byte-index l.session) ≡ mark_of l.session
