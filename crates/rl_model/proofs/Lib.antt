@@ -18,4 +18,5 @@ pub mod ChipSound
 pub mod Within
 pub mod ChipLaws
 pub mod Repeats
+pub mod Backdoors
 pub mod EffectLemmas

@@ -1,6 +1,6 @@
 -- What a chip answers.
 use Rattle.std.specs.Prelude.{◌≡◌, ◌≢◌, ◌⊎◌, true, false, nat_le, IsSomeAnd, sum_by, ℕ, ◌+◌, ◌*◌, ◌^◌, ◌<◌, ◌≤◌, ◌==◌, nat_lt, ◌&&◌, Bool, if◌then◌else◌}
-use Rattle.std.specs.Prelude.{List, [], ◌∷◌, ◌++◌, length, take, slice_get, slice_index, Option, Some, None, option_map, unwrap_or, bytes_eq}
+use Rattle.std.specs.Prelude.{List, [], ◌∷◌, ◌++◌, length, map, take, slice_get, slice_index, Option, Some, None, option_map, unwrap_or, bytes_eq}
 use Rattle.rl_model.specs.declared.rows.Item.{Item}
 use Rattle.rl_model.specs.declared.rows.Item.TheVariants.{Reg, Mem}
 use Rattle.std.specs.List.{list_any}
@@ -26,6 +26,17 @@ bytes_of c (Mem n) = option_map (λ m. m.bytes) (slice_get c.mems n)
 abbrev pub backdoor_of : ChipData → Item → Option Bool
 backdoor_of c (Reg n) = option_map (λ r. r.backdoor) (slice_get c.regs n)
 backdoor_of c (Mem n) = option_map (λ m. m.backdoor) (slice_get c.mems n)
+
+-- rows without a backdoor, and else as they are
+abbrev pub closed_reg : RegRow → RegRow
+closed_reg r = record r { backdoor = false }
+
+abbrev pub closed_mem : MemRow → MemRow
+closed_mem m = record m { backdoor = false }
+
+-- the chip as it is, but nothing in it has a backdoor
+abbrev pub closed_chip : ChipData → ChipData
+closed_chip c = record c { regs = map closed_reg c.regs; mems = map closed_mem c.mems }
 
 -- The sequences that leave the item out, by the names of their resources (IEEE 1800.2-2017, Annex E).
 abbrev pub skip_of : ChipData → Item → Option Skip

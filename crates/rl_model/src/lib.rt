@@ -9,6 +9,7 @@
 //! their order.
 #![tactic(auto)]
 
+mod backdoor;
 mod build;
 mod check;
 mod chip;

@@ -207,6 +207,20 @@ fn tells_an_item_by_its_number(rt: HostRuntime) -> Result<(), Fail> {
     Ok(())
 }
 
+fn first_is_open(chip: &Chip) -> bool {
+    chip.regs() == 2 && chip.backdoor(Item::Reg(0))
+}
+
+#[test]
+fn loses_its_backdoors(rt: HostRuntime) -> Result<(), Fail> {
+    let mut chip = built(rt.alloc(), WHOLE)?;
+    assert!(rt; first_is_open(&chip));
+    chip.close_backdoors();
+    assert!(rt; !first_is_open(&chip));
+    assert!(rt; first_is_skipped(&chip));
+    Ok(())
+}
+
 /// What refuses parts: a cause, an array, a row and a field of it.
 #[derive(Clone, Copy)]
 struct Refusal(ModelCause, Array, u32, Option<u32>);
