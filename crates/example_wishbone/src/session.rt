@@ -1,5 +1,5 @@
 // A session on a device of one's own, from its bytes to its log.
-ghost use Rattle.std.specs.Prelude.{◌≡◌, ◌<◌, ◌^◌, map, length, option_map, IfSome, refl};
+ghost use Rattle.std.specs.Prelude.{◌≡◌, ◌<◌, ◌^◌, map, length, option_map, IfSome, refl, true};
 ghost use Rattle.example_wishbone.specs.Prelude.{LeavesEnded, RunsOnTimer, has_flaws, on_timer};
 
 use crate::timer::Timer;
@@ -40,6 +40,12 @@ impl Check for OnTimer {
 
 impl Host for OnTimer {
     type Made = Timer;
+
+    ghost backdoor = { true };
+
+    fn has_backdoor(&self) -> bool {
+        true
+    }
 
     fn device(self, _alloc: Global, _desc: &Desc) -> Result<Timer, AllocError> {
         Ok(Timer::new())

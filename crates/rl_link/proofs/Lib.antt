@@ -1,4 +1,3 @@
-mod BackdoorLemmas
 mod BreakLemmas
 mod ComingLemmas
 mod NameLemmas

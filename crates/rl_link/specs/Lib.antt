@@ -5,6 +5,5 @@ pub mod Message
 pub mod Opening
 pub mod Peer
 pub mod Prelude
-pub mod Refusals
 pub mod Requests
 pub mod Session

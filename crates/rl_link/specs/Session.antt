@@ -11,8 +11,8 @@ use Rattle.rl_link.specs.Opening.{linked_opening}
 
 -- ---- a session
 
--- It is refused by what it describes and for the link, or its script is played. `errors` is how often the link failed
--- until the last line, where there is one.
+-- It is refused by what it describes and for the link, or its script is played on what it describes without backdoors.
+-- `errors` is how often the link failed until the last line, where there is one.
 abbrev pub RunsLinked : (bytes : List ℕ) → Status → (old new : Option (List ℕ)) → (adapters now : List Standing)
     → (errors : Option ℕ) → Type 0
 RunsLinked bytes status old new adapters now errors =

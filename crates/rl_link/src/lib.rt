@@ -3,7 +3,8 @@
 //! What stands at the other end, as the bench of an RTL simulator, is the peer. The lines of both directions are this
 //! project's own.
 //!
-//! Runs a session on a device over a link: refuses what a link can't have, plays the script, and says how it broke.
+//! Runs a session on a device over a link: refuses a flaw, plays the script as if nothing had a backdoor, and says how
+//! the link broke.
 #![tactic(auto)]
 
 mod answer;
@@ -14,7 +15,6 @@ mod link;
 mod message;
 mod names;
 mod ran;
-mod refusal;
 mod request;
 mod session;
 mod talk;
@@ -25,6 +25,5 @@ pub use held::Held;
 pub use link::{Break, Link, Streams};
 pub use names::Names;
 pub use ran::Ran;
-pub use refusal::{Refusal, put_refusal, refusal_of};
 pub use session::run_linked;
 pub use talk::Talk;

@@ -46,7 +46,7 @@ pub struct Break {
 ///
 /// A transfer goes out as one line, and the peer's next line that is an answer answers it. A reset and a change
 /// by the hardware go the same way. There is no backdoor: a deposit breaks the link, and a peek, which can't fail,
-/// gives 0, so a caller refuses an item that has one. Once something went wrong, the link is broken: nothing is sent
+/// gives 0, so a caller's model has none either. Once something went wrong, the link is broken: nothing is sent
 /// or read any more, and each transfer fails.
 ///
 /// Two more sinks are told what a log can't say of its items. The notes are lines for the log itself, behind `# `: how the

@@ -25,9 +25,9 @@ fn closed<S: Source, K: Sink, N: Sink, M: Sink>(
 
 /// Runs a session on a device over a link to these streams, and writes its log.
 ///
-/// The description is read before anything is sent. Requests go to the sink, and answers come from the source. The log
-/// is finished once, where its last line was written. A link that breaks doesn't end the session: the answer's `code`
-/// tells of it.
+/// The description is read before anything is sent. The script is played as if no item had a backdoor: a link has none.
+/// Requests go to the sink, and answers come from the source. The log is finished once, where its last line was written.
+/// A link that breaks doesn't end the session: the answer's `code` tells of it.
 ///
 /// # Examples
 ///

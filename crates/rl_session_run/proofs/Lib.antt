@@ -1,3 +1,4 @@
+pub mod BackdoorLemmas
 pub mod JudgedLemmas
 pub mod LeavesLemmas
 pub mod OpeningLemmas

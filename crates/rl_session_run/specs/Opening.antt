@@ -1,6 +1,7 @@
 -- How a session is opened: its bytes up to the separator, and what they describe.
-use Rattle.std.specs.Prelude.{◌≡◌, ◌≢◌, ℕ, ◌≤◌, List, [], ◌++◌, length, true, false, Option, Some, Result, Ok}
+use Rattle.std.specs.Prelude.{◌≡◌, ◌≢◌, ℕ, ◌≤◌, List, [], ◌++◌, length, Bool, true, false, Option, Some, Result, Ok, Err}
 use Rattle.rl_bus.specs.declared.op.AdapterKind.{AdapterKind}
+use Rattle.rl_model.specs.Chip.{closed_chip}
 use Rattle.rl_map.specs.Maps.{IsBuiltWith}
 use Rattle.rl_flaw.specs.Flaws.{AreFlawsOf}
 use Rattle.rl_desc.specs.Data.{DescData}
@@ -38,6 +39,21 @@ pub record OpensAs (described : Result DescData (List ℕ)) (bytes : List ℕ) (
     (left : Option (List ℕ)) : Type 0 where
   pub opening : described ≡ Ok desc
   pub rest : input_of lines left ≡ Some (behind (separator_at bytes) bytes)
+
+-- the description as it is, but nothing in it has a backdoor
+abbrev pub without_backdoors : DescData → DescData
+without_backdoors desc = record desc { chip = closed_chip desc.chip }
+
+-- what of a description is played on a device that has a backdoor, or that has none
+abbrev pub played_on : (backdoor : Bool) → DescData → DescData
+played_on true desc = desc
+played_on false desc = without_backdoors desc
+
+-- what a session opens with on such a device, or the line that refuses it
+abbrev pub opening_on : (backdoor : Bool) → Result DescData (List ℕ) → Result DescData (List ℕ)
+opening_on true opening = opening
+opening_on false (Ok desc) = Ok (without_backdoors desc)
+opening_on false (Err line) = Err line
 
 -- A description that may be run: of adapters of these kinds, whose parts belong together.
 pub record IsRunnable (desc : DescData) (kinds : List AdapterKind) : Type 0 where

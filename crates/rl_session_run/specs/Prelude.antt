@@ -10,6 +10,7 @@ pub use Rattle.rl_log.specs.Statuses.{is_complete}
 pub use Rattle.rl_session.specs.Prelude.{Standing, kinds_of, IsBuiltWith, opening_after}
 pub use Rattle.rl_session.specs.Session.{opening_of}
 pub use Rattle.rl_session_run.specs.Opening.{AwaitsScript, IsBehindHead, IsFresh, IsRunnable, LeavesScript, OpensAs, OpensWith, ReadsHead}
+pub use Rattle.rl_session_run.specs.Opening.{opening_on, played_on}
 pub use Rattle.rl_session_run.specs.Output.{output_of, run_lines, WritesJudged}
 pub use Rattle.rl_session_run.specs.Stays.{LeavesEnded, LeavesOpen, Stays, StaysOpen}
 pub use Rattle.rl_session_run.specs.Telling.{Checks, Stops, refused_status}

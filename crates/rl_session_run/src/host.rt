@@ -1,7 +1,7 @@
 // A whole session on a device of one's own.
 ghost use Rattle.std.specs.Prelude.{◌≡◌, ◌<◌, ◌^◌, ℕ, List, None, Err, map, length, IfOk, IfSome};
 ghost use Rattle.std.specs.Prelude.{IsNone, option_map};
-ghost use Rattle.rl_session_run.specs.Prelude.{LeavesEnded, RunsSession, kinds_of, opening_of};
+ghost use Rattle.rl_session_run.specs.Prelude.{LeavesEnded, RunsSession, kinds_of, opening_of, opening_on, played_on};
 
 use crate::checking::{Check, open_checked};
 use crate::ending::end_log;
@@ -14,13 +14,31 @@ use std::alloc::{AllocError, Global};
 
 /// What a session runs on: a device that tells nothing, and what of a description it can't have.
 pub trait Host: Check {
+    ghost use Rattle.std.specs.Prelude.{Bool};
+
     /// The device.
     type Made: Device + Drop;
+
+    /// Whether the device has a backdoor.
+    ghost backdoor: { Bool };
+
+    /// Whether the device has a backdoor. A script on one that has none is played as if no item had one.
+    fn has_backdoor(&self) -> bool
+        ensures { result ≡ backdoor };
 
     /// The device of a description that passed the check.
     fn device(self, alloc: Global, desc: &Desc) -> Result<Self::Made, AllocError>
         ensures silent { IfOk result (λ device. Self.Made.state device ≡ None) }
         ensures unfailed { IfOk result (λ device. Self.Made.errors device ≡ 0) };
+}
+
+// Takes the backdoors of a description away, where the device has none.
+fn fit_backdoors(desc: &mut Desc, backdoor: bool)
+    ensures { desc.new ≡ played_on backdoor desc.old }
+{
+    if !backdoor {
+        desc.chip.close_backdoors();
+    }
 }
 
 /// How a session on a device ended, and the device where it came to its script.
@@ -34,8 +52,8 @@ pub struct Hosted<D> {
 
 /// Runs a session on the device that a host makes for it, and writes its log.
 ///
-/// The description is read and checked before there is a device. The log is finished once, where its last line was
-/// written.
+/// The description is read and checked before there is a device. Where the device has no backdoor, no item of the
+/// description has one from there on. The log is finished once, where its last line was written.
 pub fn run_on<P: Source, Q: Sink, H: Host + Drop>(
     alloc: Global,
     session: &mut P,
@@ -48,15 +66,17 @@ pub fn run_on<P: Source, Q: Sink, H: Host + Drop>(
     // Which sessions are refused and in what words, what is written of the others, the statuses, and where the device is
     // handed out, which has failed as often as the log's events say, one fact a field.
     ensures does { IfSome (P.left session.old) (λ bytes.
-        RunsSession (H.over (opening_of bytes (kinds_of (map standing adapters.old.items)))) bytes result.status
+        RunsSession (opening_on H.backdoor (H.over (opening_of bytes (kinds_of (map standing adapters.old.items)))))
+        bytes result.status
         (Q.written log.old) (Q.written log.new) (map standing adapters.old.items) (map standing adapters.new.items)
         (option_map H.Made.errors result.device)) }
     ensures unmade { IfSome (P.left session.old) (λ bytes. (line : List ℕ)
-        → H.over (opening_of bytes (kinds_of (map standing adapters.old.items))) ≡ Err line → IsNone result.device) }
+        → opening_on H.backdoor (H.over (opening_of bytes (kinds_of (map standing adapters.old.items)))) ≡ Err line
+        → IsNone result.device) }
     ensures kinds { kinds_of (map standing adapters.new.items) ≡ kinds_of (map standing adapters.old.items) }
     ensures leaves { LeavesEnded Q.Sink result.status (P.faults session.old) (P.faults session.new) log.old log.new }
 {
-    let (desc, mut lines) = match open_checked(alloc, session, log, adapters, &host) {
+    let (mut desc, mut lines) = match open_checked(alloc, session, log, adapters, &host) {
         Ok(opened) => opened,
         Err(status) => {
             return Hosted {
@@ -65,6 +85,7 @@ pub fn run_on<P: Source, Q: Sink, H: Host + Drop>(
             };
         }
     };
+    fit_backdoors(&mut desc, host.has_backdoor());
     let Ok(mut device) = host.device(alloc, &desc) else {
         return Hosted {
             status: Status::Memory,
