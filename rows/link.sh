@@ -1,21 +1,24 @@
 #!/usr/bin/env bash
-# link.sh PROGRAM: what regrun_link does where something goes wrong: the peer's answers, the files, the words. Each case has
-# what is answered, the status, and what the message or the log says. Then a session of 1,000 lines over a block that behaves
-# badly (link/rough.v, link/rough.vhd), on each of Icarus Verilog, GHDL and Verilator that is installed.
+# link.sh LINK [RUN GRADE WAVES]: what regrun_link does where something goes wrong: the peer's answers, the files, the words.
+# Each case has what is answered, the status, and what the message or the log says. Then one description for all programs, in
+# which each register has a backdoor. Then a session of 1,000 lines over a block that behaves badly (link/rough.v,
+# link/rough.vhd), on each of Icarus Verilog, GHDL and Verilator that is installed.
 set -u
 program=$(realpath "$1")
+others=()
+for other in "${@:2}"; do others+=("$(realpath "$other")"); done
 here=$(cd "$(dirname "$(realpath "$0")")" && pwd)
 room=$(mktemp -d "${TMPDIR:-/tmp}/regrun-link.XXXXXX") || exit 73
 trap 'rm -rf "$room"' EXIT
 cd "$room" || exit 73
 passed=0 failed=0
 
-# describe BACKDOOR REST..: a description of a register, and what follows it.
+# describe REST..: a description of a register, and what follows it.
 describe() {
-    printf '[[reg]]\nname = "ctrl"\nbytes = 4\nbackdoor = %s\n' "$1"
+    printf '[[reg]]\nname = "ctrl"\nbytes = 4\n'
     printf 'field = [{ name = "value", lsb = 0, width = 32, policy = "RW", reset = 0, volatile = true }]\n'
     printf '[[map]]\nname = "bus"\nbytes = 4\n[[place]]\nmap = "bus"\nitem = "ctrl"\n'
-    printf '%b' "${@:2}"
+    printf '%b' "$@"
 }
 
 # judge NAME STATUS WANT FILE: the status, and whether the file has the text.
@@ -29,17 +32,27 @@ judge() {
     fi
 }
 
+# alike NAME WANT FILE: whether two files are the same.
+alike() {
+    if cmp "$2" "$3"; then
+        passed=$((passed + 1))
+    else
+        failed=$((failed + 1))
+        echo "$1 differs"
+    fi
+}
+
 # answer NAME STATUS WANT ANSWERS FILE: one read, what the peer says to it, and what the file of messages or the log has.
 answer() {
-    describe false '---\nread ctrl\n' > session
+    describe '---\nread ctrl\n' > session
     printf '%b' "$4" | "$program" session log > requests 2> messages
     status=$?
     judge "$1" "$2" "$3" "${5:-messages}"
 }
 
-# refused NAME WANT REST BACKDOOR: a session that is refused before anything is sent.
+# refused NAME WANT REST: a session that is refused before anything is sent.
 refused() {
-    describe "$4" "$3" > session
+    describe "$3" > session
     "$program" session log < /dev/null > requests 2> messages
     status=$?
     judge "$1" 2 "$2" log
@@ -84,41 +97,76 @@ converse() {
     rm answers
 }
 
-describe false '---\nreset SOFT\nread ctrl\n' > session
+describe '---\nreset SOFT\nread ctrl\n' > session
 converse none 'ok 1'
 judge 'a reset that is not done' 1 '# not done: `reset SOFT`; the answer was `none`' log
 judge 'an item behind it' 1 'read ctrl @bus: ok 0x00000001' log
-describe false '---\nhw ctrl.value 0x1f\nread ctrl\n' > session
+describe '---\nhw ctrl.value 0x1f\nread ctrl\n' > session
 converse none 'ok 1'
 judge 'a change that is not done' 1 '# not done: `hw ctrl.value 0x1f`; the answer was `none`' log
-describe false '---\nread ctrl\nread ctrl\nread ctrl\n' > session
+describe '---\nread ctrl\nread ctrl\nread ctrl\n' > session
 converse 'ok 1' 'error 7' ok
 judge 'items after a break' 7 'bus error at word 0' log
 judge 'the last request' 7 '#1' requests
 judge 'nothing sent after a break' 7 'the request was `r bus 0x0 0x0 1111 #1`' messages
 
-describe false '---\nhw ctrl.value 0x1f\n' > session
+describe '---\nhw ctrl.value 0x1f\n' > session
 printf 'ok\n' | "$program" session log > requests 2> messages
 status=$?
 judge 'a change by the hardware' 0 'hw ctrl.value 0x1f' requests
 
-refused 'a backdoor' 'refused description reg 1: no backdoor over a link' '---\n' true
-refused 'a memory with a backdoor' 'refused description mem 1: no backdoor over a link' '[[mem]]\nname = "ram"\nbytes = 4\nsize = 4\n---\n' false
-refused 'a flaw' 'refused description flaw 1: no flaws over a link' '[[flaw]]\nkind = "error-nth"\nnth = 1\n---\n' false
-refused 'a description' 'refused description map 2: missing key bytes' '[[map]]\nname = "x"\n---\n' false
-refused 'no separator' 'refused session: no separator' '' false
+refused 'a flaw' 'refused description flaw 1: no flaws over a link' '[[flaw]]\nkind = "error-nth"\nnth = 1\n---\n'
+refused 'a description' 'refused description map 2: missing key bytes' '[[map]]\nname = "x"\n---\n'
+refused 'no separator' 'refused session: no separator' ''
+
+# closed NAME LINE WANT [FILE]: a line that goes by a backdoor, which nothing has over a link, sends nothing.
+closed() {
+    describe '[[mem]]\nname = "ram"\nbytes = 4\nsize = 4\n[[place]]\nmap = "bus"\nitem = "ram"\noffset = 16\n' "---\n$2\n" > session
+    "$program" session log < /dev/null > requests 2> messages
+    status=$?
+    judge "$1" 0 "$3" "${4:-log}"
+    [ ! -s requests ] || { failed=$((failed + 1)); echo "$1: something was sent"; }
+}
+
+closed 'a peek' 'peek ctrl' 'peek ctrl: refused no backdoor'
+closed 'a deposit' 'poke ctrl 1' 'poke ctrl 0x1: refused no backdoor'
+closed 'a write by the backdoor' 'back-write ctrl 1' 'back-write ctrl 0x1: refused no backdoor'
+closed 'a check by the backdoor' 'back-check ctrl' 'back-check ctrl: refused no backdoor'
+closed 'a peek of a memory' 'mem-peek ram 0' 'mem-peek ram 0x0: refused no backdoor'
+closed 'a deposit into a memory' 'mem-poke ram 0 1' 'mem-poke ram 0x0 0x1: refused no backdoor'
+closed 'a sequence by the backdoor' 'seq access *' 'seq access *: 0 steps, 0 differences, 0 bus errors'
+closed 'a sequence that made no step' 'seq access *' 'regrun-link: note: seq access * made no step' messages
+
+# One description for all programs. The peer answers as the device model does, so the log is that of `run`.
+uart=$here/../examples/uart
+cp "$uart.regrun" session
+mapfile -t said < <(sed -n 's/^reset [^:]*: ok$/ok/p; s/^hw .*/ok/p; s/^  apb0 r [^ ]* \([^ ]*\) .*/ok \1/p; s/^  apb0 w .*/ok/p' "$uart.log")
+converse "${said[@]}"
+judge 'a description with backdoors' 0 'end: 13 events' log
+alike 'its log' "$uart.log" log
+if [ "${#others[@]}" = 3 ]; then
+    "${others[0]}" run < "$uart.regrun" > log 2> messages
+    alike 'the description in run' "$uart.log" log
+    "${others[0]}" map < "$uart.regrun" > log 2> messages
+    status=$?
+    judge 'the description in map' 0 'uart.ctrl' log
+    "${others[1]}" run < "$uart.regrun" > log 2> messages
+    alike 'the description in regrun-grade' "$uart.grade" log
+    "${others[2]}" "$uart.regrun" dump > log 2> messages
+    alike 'the description in regrun-waves' "$uart.log" log
+fi
 
 "$program" missing log < /dev/null > requests 2> messages
 status=$?
 judge 'no session' 3 'missing' messages
-describe false '---\n' > session
+describe '---\n' > session
 "$program" session no/log < /dev/null > requests 2> messages
 status=$?
 judge 'no log' 4 'no/log' messages
 "$program" session < /dev/null > requests 2> messages
 status=$?
 judge 'one word' 6 'SESSION' messages
-describe false '---\nread ctrl\n' > session
+describe '---\nread ctrl\n' > session
 printf 'ok 1\n' | "$program" session /dev/full > requests 2> messages
 status=$?
 judge 'a full disk' 4 'r bus' requests
@@ -127,7 +175,7 @@ judge 'a full disk' 4 'r bus' requests
 rough_session() {
     local name offset=0 k
     for name in plain unset slow hung unsure; do
-        printf '[[reg]]\nname = "%s"\nbytes = 4\nbackdoor = false\n' "$name"
+        printf '[[reg]]\nname = "%s"\nbytes = 4\n' "$name"
         printf 'field = [{ name = "value", lsb = 0, width = 32, policy = "RW", reset = 0, volatile = true, compare = true }]\n'
     done
     printf '[[map]]\nname = "apb"\nbytes = 4\nadapter = "apb"\n'

@@ -175,11 +175,11 @@ program=weave
 line 'other-write uart.ctrl 1\n' ''
 line 'other-write uart.ctrl 1\nother-read uart.ctr\n' 'regrun: line 44: no such name: uart.ctr (uart.ctrl?)'
 line 'read uart.ctrl\n' 'regrun: line 43: not woven'
-program=1 chip=$tmp/empty
-echo '---' > "$chip"
-line 'raed a\n' 'regrun-link: line 2: no such command: raed (read?)'
+program=1
+line 'raed a\n' 'regrun-link: line 43: no such command: raed (read?)'
 line 'seq shared *\n' 'regrun-link: note: seq shared * made no step'
-chip=$tmp/chip
+# Over a link nothing has a backdoor.
+line 'seq access *\n' 'regrun-link: note: seq access * made no step'
 text 'width = 1' 'widht = 1' 'regrun-link: line 15: reg 1 (ctrl) field 1 (en): unknown key: widht (width?)'
 program=2
 line 'read uart.ctrl\nraed uart.ctrl\n' 'regrun-waves: line 44: no such command: raed (read?)'

@@ -34,7 +34,7 @@ CHECKS = [
     ("examples/regression/check.sh", "bash examples/regression/check.sh {regrun}"),
     ("examples/rtl/run.sh, iverilog", "env TOOL=iverilog bash examples/rtl/run.sh {regrun-link}"),
     ("examples/rtl/run.sh, ghdl", "env TOOL=ghdl bash examples/rtl/run.sh {regrun-link}"),
-    ("rows/link.sh", "bash rows/link.sh {regrun-link}"),
+    ("rows/link.sh", "bash rows/link.sh {regrun-link} {regrun} {regrun-grade} {regrun-waves}"),
     ("rows/words.sh", "bash rows/words.sh {regrun} {regrun-link} {regrun-waves} {regrun-grade}"),
 ]
 
