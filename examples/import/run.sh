@@ -22,7 +22,7 @@ fi
 run() {
   local name=$1 script=$2
   shift 2
-  (cd "$here/stm32" && "$python" -m regrun import stm32f205.svd --no-backdoor "$@" --report "$folder/$name.report" \
+  (cd "$here/stm32" && "$python" -m regrun import stm32f205.svd "$@" --report "$folder/$name.report" \
     -o "$folder/$name.toml" 2>&1) | tail -1
   "$python" "$here/stm32/over_qemu.py" "$folder/$name.toml" "$here/stm32/$script" "$folder/$name.log" \
     "$here/stm32/differences.txt" "$name"

@@ -13,7 +13,6 @@ def event(name, bit, doc):
 ctrl = Register(
     "ctrl",
     bytes=4,
-    backdoor=False,
     fields=[
         Field("enable", 0, 1, "RW", reset=0, doc="Sends and receives."),
         Field("parity", 1, 2, "RW", reset=0, values={"none": 0, "even": 1, "odd": 2}),
@@ -23,12 +22,11 @@ ctrl = Register(
         ),
     ],
 )
-baud = Register("baud", 4, [Field("divider", 0, 16, "RW", reset=0x01B2)], backdoor=False)
-enable = Register("enable", 4, [Field("events", 0, 4, "RW", reset=0)], backdoor=False)
+baud = Register("baud", 4, [Field("divider", 0, 16, "RW", reset=0x01B2)])
+enable = Register("enable", 4, [Field("events", 0, 4, "RW", reset=0)])
 events = Register(
     "events",
     bytes=4,
-    backdoor=False,
     fields=[
         event("sent", SENT, "A byte is out."),
         event("received", RECEIVED, "A byte is in."),
@@ -36,10 +34,8 @@ events = Register(
         event("broken", BROKEN, "The line was low for too long."),
     ],
 )
-data = Register("data", 4, [Field("byte", 0, 8, "WO", reset=0)], backdoor=False)
-errors = Register(
-    "errors", 4, [Field("count", 0, 8, "RC", reset=0, volatile=True, compare=True)], backdoor=False
-)
+data = Register("data", 4, [Field("byte", 0, 8, "WO", reset=0)])
+errors = Register("errors", 4, [Field("count", 0, 8, "RC", reset=0, volatile=True, compare=True)])
 
 uart = Block(
     "uart",

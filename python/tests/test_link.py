@@ -10,7 +10,6 @@ CHIP = """
 [[reg]]
 name = "ctrl"
 bytes = 4
-backdoor = false
 field = [{ name = "value", lsb = 0, width = 32, policy = "RW", reset = 0, volatile = true, compare = true }]
 [[map]]
 name = "bus"
@@ -166,6 +165,15 @@ def test_an_interrupt_while_an_answer_is_owed(link, caught):
     assert time.monotonic() - start < 30
     assert (target.asked, target.closed) == (3, 1)
     assert s._program._process is None
+
+
+def test_nothing_has_a_backdoor(link):
+    target = Words()
+    with regrun.Session(CHIP, target, program=link) as s:
+        with pytest.raises(regrun.Refused, match="refused no backdoor"):
+            s.peek("ctrl")
+        assert s.read("ctrl").value == 0
+        assert target.words == {}
 
 
 def test_a_description_is_refused_before_anything_is_asked(link):
