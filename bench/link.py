@@ -9,7 +9,6 @@ import time
 DESCRIPTION = """[[reg]]
 name = "ctrl"
 bytes = 4
-backdoor = false
 field = [{ name = "value", lsb = 0, width = 32, policy = "RW", reset = 0 }]
 [[map]]
 name = "bus"
