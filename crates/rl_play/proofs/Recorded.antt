@@ -18,7 +18,7 @@ use Rattle.rl_report.proofs.PieceLemmas.{front_after, front_before}
 use Rattle.rl_log.specs.declared.counts.Counts.{Counts}
 use Rattle.rl_log.specs.Recording.{with_events, told_text, events_text}
 use Rattle.rl_bus.specs.Causes.{HasCause}
-use Rattle.rl_play.specs.AnyDevice.{Logs, LogsTallied, Point}
+use Rattle.rl_play.specs.AnyDevice.{AppendsToLast, Logs, LogsInTurn, Point}
 use Rattle.rl_play.specs.Work.{Work, Does, BreaksOff, planned, burst, single}
 use Rattle.rl_play.specs.Recording.{IsWritten, IsBegun}
 use Rattle.rl_play.specs.Stage.{IsRecorded}
@@ -85,6 +85,24 @@ module _ {R : Type 0} (written : R → Option (List ℕ)) (counts : R → Counts
       front_after (written old) (written mid) (written new) (told_text t) (events_text (u ∷ told)) first.text
       (last_begun (u ∷ told) mid new rest)
 
+  -- each was written before the next one
+  last_in_turn : (told : List Told) (old new : R) → BreaksAtLast Takes Breaks old told new
+      → AppendsToLast (written old) (written new) told
+  last_in_turn [] old new h = absurd h
+  last_in_turn (t ∷ []) old new h =
+      record { whole = []; last = t; split = refl; mid = written old; written = Appends-nil (written old); cut = h.text }
+  last_in_turn (t ∷ u ∷ told) old new (mid, first, rest) =
+      let others = last_in_turn (u ∷ told) mid new rest in
+      record {
+        whole = t ∷ others.whole;
+        last = others.last;
+        split = ap (λ l. t ∷ l) others.split;
+        mid = others.mid;
+        written = Appends-trans (written old) (written mid) others.mid (told_text t) (events_text others.whole) first.text
+            others.written;
+        cut = others.cut;
+      }
+
   last_counted : (told : List Told) (old new : R) → BreaksAtLast Takes Breaks old told new → counts new ≡ with_events
       (counts old) told
   last_counted [] old new h = absurd h
@@ -99,35 +117,41 @@ module _ {R : Type 0} (written : R → Option (List ℕ)) (counts : R → Counts
 
   all_logged : {E : Type 0} (work : Work) (s new : Scene) (old rec : R) (told : List Told) (tally : Tally) → Does work s told new
       → TakesAll Takes old told rec → tally ≡ counted_all no_tally told
-      → LogsTallied {E = E} work (at s old) (at new rec) (Ok tally)
+      → LogsInTurn {E = E} work (at s old) (at new rec) (Ok tally)
   all_logged work s new old rec told tally run taken counted = record {
-    logs = record {
-      told = told;
-      run = run;
-      whole = all_written told old rec taken;
-      part = tt;
-      counted = all_counted told old rec taken;
+    tallied = record {
+      logs = record {
+        told = told;
+        run = run;
+        whole = all_written told old rec taken;
+        part = tt;
+        counted = all_counted told old rec taken;
+      };
+      tally = counted;
     };
-    tally = counted;
+    in_turn = tt;
   }
 
   cut_logged : {E : Type 0} (work : Work) (s new : Scene) (old rec : R) (told : List Told) (e : E) → BreaksOff work s told new
-      → BreaksAtLast Takes Breaks old told rec → LogsTallied work (at s old) (at new rec) (Err e)
+      → BreaksAtLast Takes Breaks old told rec → LogsInTurn work (at s old) (at new rec) (Err e)
   cut_logged work s new old rec told e run taken = record {
-    logs = record {
-      told = told;
-      run = run;
-      whole = tt;
-      part = last_begun told old rec taken;
-      counted = last_counted told old rec taken;
+    tallied = record {
+      logs = record {
+        told = told;
+        run = run;
+        whole = tt;
+        part = last_begun told old rec taken;
+        counted = last_counted told old rec taken;
+      };
+      tally = tt;
     };
-    tally = tt;
+    in_turn = last_in_turn told old rec taken;
   }
 
   -- ---- a sequence
 
   sequence_logged : {E : Type 0} (p : Plan) (s new : Scene) (old rec : R) (r : Result Tally E)
-      → IsSequence Takes Breaks old rec s new p r → LogsTallied (planned p) (at s old) (at new rec) r
+      → IsSequence Takes Breaks old rec s new p r → LogsInTurn (planned p) (at s old) (at new rec) r
   sequence_logged p s new old rec (Ok tally) q =
       all_logged (planned p) s new old rec q.told tally q.run q.handed.all q.counts
   sequence_logged p s new old rec (Err e) q = cut_logged (planned p) s new old rec q.told e q.run q.handed.part
@@ -140,7 +164,7 @@ module _ {R : Type 0} (written : R → Option (List ℕ)) (counts : R → Counts
 
   burst_logged : {E : Type 0} (granted : Grant) (op : Op) (ops : List Op) (s new : Scene) (old rec : R)
       (r : Result Tally E) → IsBurst Takes Breaks old rec s new granted op ops r
-      → LogsTallied (burst granted op ops) (at s old) (at new rec) r
+      → LogsInTurn (burst granted op ops) (at s old) (at new rec) r
   burst_logged (Ok place) op ops s new old rec (Ok tally) q =
       all_logged (burst (Ok place) op ops) s new old rec q.told tally q.run.0 q.handed.all q.run.1
   burst_logged (Ok place) op ops s new old rec (Err e) q =

@@ -18,7 +18,7 @@ use Rattle.rl_log.specs.declared.status.Status.{Status}
 use Rattle.rl_log.specs.declared.status.Status.TheVariants as ended
 use Rattle.rl_log.specs.Endings.{added, end_status}
 use Rattle.rl_log.specs.Log.{said}
-use Rattle.rl_log.specs.Recording.{no_counts, with_events, events_text}
+use Rattle.rl_log.specs.Recording.{no_counts, with_events, told_text, events_text}
 use Rattle.rl_log.specs.Statuses.{is_complete}
 use Rattle.rl_log.specs.Texts.{refused_text, end_text}
 use Rattle.rl_play.specs.Moment.{Moment, moment}
@@ -56,6 +56,21 @@ pub record Logs {T E : Type 0} (work : Work) (before after : Point) (r : Result 
 pub record LogsTallied {E : Type 0} (work : Work) (before after : Point) (r : Result Tally E) : Type 0 where
   pub logs : Logs work before after r
   pub tally : IfOk r (λ tally. tally ≡ counted_all no_tally logs.told)
+
+-- the text of each of these events but the last was appended, and a front of the last one's
+pub record AppendsToLast (old new : Option (List ℕ)) (told : List Told) : Type 0 where
+  pub whole : List Told
+  pub last : Told
+  pub split : whole ++ last ∷ [] ≡ told
+  pub mid : Option (List ℕ)
+  pub written : Appends old mid (events_text whole)
+  pub cut : AppendsFront mid new (told_text last)
+
+-- Each of these events was written before the next one was performed:
+-- where the sink failed, it had the whole text of all but the last of those that were performed.
+pub record LogsInTurn {E : Type 0} (work : Work) (before after : Point) (r : Result Tally E) : Type 0 where
+  pub tallied : LogsTallied work before after r
+  pub in_turn : OnErr r (AppendsToLast before.text after.text tallied.logs.told)
 
 -- ---- a line
 

@@ -8,7 +8,7 @@ pub use Rattle.rl_log.specs.Telling.{Tells}
 pub use Rattle.rl_log.specs.Entry.{plan_of}
 pub use Rattle.rl_log.specs.Log.{said_by}
 pub use Rattle.rl_log.specs.Texts.{refused_text, end_text}
-pub use Rattle.rl_play.specs.AnyDevice.{spot, Logs, LogsTallied, RunsOn, Turns, PlaysOnAnyDevice}
+pub use Rattle.rl_play.specs.AnyDevice.{spot, Logs, LogsInTurn, RunsOn, Turns, PlaysOnAnyDevice}
 pub use Rattle.rl_play.specs.Work.{asked, one_op, planned, single}
 pub use Rattle.rl_play.specs.Done.{DoesFirstEvents}
 pub use Rattle.rl_log.specs.Earlier.{KeepsEarlier}

@@ -7,7 +7,7 @@ use Rattle.rl_bus.specs.Causes.{HasCause}
 use Rattle.rl_bus.specs.Standing.{Standing}
 use Rattle.rl_bus.specs.State.{State}
 use Rattle.rl_bus.specs.declared.device.Device.{Ghosts as Device}
-use Rattle.rl_play.specs.AnyDevice.{Point, spot, LogsTallied}
+use Rattle.rl_play.specs.AnyDevice.{Point, spot, LogsInTurn}
 use Rattle.rl_play.specs.Leaves.{StaysReady}
 use Rattle.rl_play.specs.Work.{Work}
 use Rattle.rl_play.specs.declared.line.Stage.{Stage}
@@ -29,11 +29,11 @@ abbrev pub recorded : {A D K : Type 0} → (A → Standing) → (D → ℕ) → 
 recorded standing errors state written model adapters device rec =
     spot standing errors state written model adapters device rec.sink.now rec.counts
 
--- A recorder was told of the events of some work: each was written and counted, and the next call may follow. It failed
+-- A recorder was told of the events of some work: each was written and counted in turn, and the next call may follow. It failed
 -- only where the sink has failed once more. The sink is the same, was ended as often, and its bytes go where they went.
 pub record IsRecorded {K E : Type 0} (k : Sink K) (work : Work) (before after : Point) (old new : Writing K)
     (result : Result Tally E) : Type 0 where
-  pub logs : LogsTallied work before after result
+  pub logs : LogsInTurn work before after result
   pub ready : IsReady after.scene.model after.scene.adapters after.scene.device
   pub parts : IsSameChip before.scene.model after.scene.model
   pub cause : HasCause (k.faults old.sink.now) (k.faults new.sink.now) result

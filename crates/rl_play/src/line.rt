@@ -1,7 +1,7 @@
 // What a line does, and its log.
 ghost use Rattle.std.specs.Prelude.{◌≡◌, ◌<◌, length, map as each, IfSome, MatchResult, None, Ok, Err};
 ghost use Rattle.rl_play.specs.Prelude.{IsReady, line_said, plan_of, JobHasNumbers, asked};
-ghost use Rattle.rl_play.specs.Prelude.{job_work, one_op, planned, spot, LogsTallied, RunsOn, SinkStays};
+ghost use Rattle.rl_play.specs.Prelude.{job_work, one_op, planned, spot, LogsInTurn, RunsOn, SinkStays};
 ghost use Rattle.rl_play.specs.Prelude.{StaysReady};
 ghost use Rattle.rl_play.specs.Stage.{CanRun, IsRecorded, StaysOn, recorded, spot_of};
 ghost use Rattle.rl_script.specs.declared.line.Line.TheVariants as say;
@@ -110,12 +110,12 @@ fn record_job<D: Device, K: Log>(
     }
 }
 
-// Runs what a line asks for, and writes its events to a sink.
+// Runs what a line asks for, and writes each of its events to a sink before the next one.
 #[tactic(auto, using(crate::proofs::ReadyLemmas::all_steady))]
 fn log_job<D: Device, K: Log>(stage: &mut Stage<'_, D, K>, job: Job<'_>) -> Result<Tally, Failed>
     requires ready { CanRun D.Device (each standing stage.old.adapters.now.items) stage.old }
     requires numbers { JobHasNumbers stage.old.model.now.chip (length stage.old.model.now.layout.maps) job }
-    ensures logs { LogsTallied (job_work job.entry stage.old.model.now)
+    ensures logs { LogsInTurn (job_work job.entry stage.old.model.now)
         (spot_of D.Device K.Sink (each standing stage.old.adapters.now.items) stage.old)
         (spot_of D.Device K.Sink (each standing stage.new.adapters.now.items) stage.new) result }
     ensures stays { StaysOn D.Device K.Sink (each standing stage.new.adapters.now.items) stage.old stage.new result }

@@ -16,14 +16,14 @@ returns-in_err-tally-clause-run g c =
     let asks = one_is _ c.in-Some.block (λ block. sequence c.args.which c.args.path.now (plan_of c.args.which c.args.stage.now.model.now block))
     (sym c.block_asked.ensures.named ∙ c.in-Some.is) in
     events_failed _ _ _ _ _ _ _ _ _ c.from_residual-in_err-tally.ensures.0 asks
-    c.in_ok-put_sequence_begin.ensures.bytes.whole c.in_err-tally.ensures.logs
+    c.in_ok-put_sequence_begin.ensures.bytes.whole c.in_err-tally.ensures.logs.tallied
 
 pub returns-clause-run : goal.returns-clause-run
 returns-clause-run g c =
     let asks = one_is _ c.in-Some.block (λ block. sequence c.args.which c.args.path.now (plan_of c.args.which c.args.stage.now.model.now block))
     (sym c.block_asked.ensures.named ∙ c.in-Some.is) in
     closing_ran _ _ _ _ _ _ _ _ _ _ _ c.put_sequence_end.result _ asks c.in_ok-put_sequence_begin.ensures.bytes.whole
-    c.in_ok-tally.ensures.logs c.of.ensures c.ran.ensures c.put_sequence_end.ensures.bytes
+    c.in_ok-tally.ensures.logs.tallied c.of.ensures c.ran.ensures c.put_sequence_end.ensures.bytes
 
 pub returns-in_default-clause-run : goal.returns-in_default-clause-run
 returns-in_default-clause-run g c =
