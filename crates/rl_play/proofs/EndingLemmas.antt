@@ -7,10 +7,9 @@ use Rattle.std.specs.declared.option.Option.{Option}
 use Rattle.std.specs.Io.KnownBytes.{Keeps, append_known}
 use Rattle.rl_log.specs.declared.counts.Counts.{Counts}
 use Rattle.rl_log.specs.declared.status.Status.{Status}
-use Rattle.rl_log.specs.declared.status.Status.TheVariants.{Passed, Found, SinkFault}
+use Rattle.rl_log.specs.declared.status.Status.TheVariants.{Passed, Found}
 use Rattle.rl_log.specs.Endings.{is_clean, end_status, IsCounted}
 use Rattle.rl_log.specs.Statuses.{is_complete}
-use Rattle.rl_log.proofs.TellingLemmas.{not_sink_fault}
 
 -- ---- nothing is kept back
 
@@ -34,13 +33,6 @@ keeps_when_empty a b c kept told none written =
     Keeps-trans a b c (subst (Keeps a) (ap (append_known b) none ∙ append_none b) told) written
 
 -- ---- a status that goes by the counts
-
-pub counted_kept : (status result : Status) (counts : Counts) → (result ≢ SinkFault → result ≡ status)
-    → IsCounted status counts → IsCounted result counts
-counted_kept status result counts same h = record {
-  passed = λ e. h.passed (sym (same (not_sink_fault result (ap is_complete e))) ∙ e);
-  found = λ e. h.found (sym (same (not_sink_fault result (ap is_complete e))) ∙ e);
-}
 
 pub counted_other : (status : Status) (counts : Counts) → status ≢ Passed → status ≢ Found → IsCounted status counts
 counted_other status counts p f = record { passed = λ e. absurd (p e); found = λ e. absurd (f e) }

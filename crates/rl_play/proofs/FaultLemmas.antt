@@ -1,7 +1,7 @@
 -- What was told when a source failed.
-use Rattle.std.proofs.Common.{◌≡◌, ◌≢◌, ℕ, ◌+◌, ◌≤◌, Bool, true, false, List, [], ◌∷◌, ◌++◌, slice_range}
+use Rattle.std.proofs.Common.{◌≡◌, ◌≢◌, ℕ, ◌+◌, Bool, true, false, List, [], ◌∷◌, ◌++◌}
 use Rattle.std.proofs.Common.{Option, Some, None, IfSome, Result, refl, sym, ap, subst, ◌∙◌, arith}
-use Rattle.std.specs.Io.KnownBytes.{Keeps, append_known}
+use Rattle.std.specs.Io.KnownBytes.{Keeps}
 use Rattle.std.proofs.lemmas.Bool.{true≢false}
 use Rattle.rl_bus.specs.Standing.{Standing}
 use Rattle.rl_bus.specs.State.{State}
@@ -23,8 +23,7 @@ use Rattle.rl_log.specs.Log.{comes_of, lines_text, said, text_on}
 use Rattle.rl_log.specs.Causes.{IsCaused}
 use Rattle.rl_play.specs.Played.{BreaksAfter, Breaks, IsTurn, RanOn}
 use Rattle.rl_access.specs.World.{World, world, IsAt}
-use Rattle.std.proofs.KnownBytes.{Appends-kept, Keeps-refl}
-use Rattle.rl_play.proofs.EndingLemmas.{incomplete, keeps_when_empty, none_kept}
+use Rattle.rl_play.proofs.EndingLemmas.{incomplete}
 use Rattle.rl_play.proofs.CutLemmas.{cut_behind, cut_here}
 use Rattle.rl_play.proofs.PlayLemmas.{heard_said}
 
@@ -108,31 +107,11 @@ breaks_later number counts now m n a b (Some d) after (Some bytes) got.End line 
     not_end not_long h is heard same t going f =
     absurd (not_end refl)
 
--- ---- what was written in the end
-
-pub breaks_written : (number : ℕ) (m : ModelData) (a : List Standing) (st : Option State)
-    (input left old told new : Option (List ℕ)) → Breaks number m a st input left old told → Keeps told new
-    → Breaks number m a st input left old new
-breaks_written number m a None input left old told new h same = tt
-breaks_written number m a (Some d) None left old told new h same = tt
-breaks_written number m a (Some d) (Some bytes) left old told new h same =
-    record {
-      taken = h.taken;
-      others = h.others;
-      split = h.split;
-      is_left = h.is_left;
-      text = Appends-kept old told new
-          (lines_text number (world m a d) (whole_lines h.taken)) h.text same;
-    }
+-- ---- a status that stays
 
 pub same_status : (status result : Status) → (result ≢ SinkFault → result ≡ status) → result ≡ SourceFault
     → status ≡ SourceFault
 same_status status result kept is = sym (kept (λ e. let f : SourceFault ≡ SinkFault = sym is ∙ e in absurd (cc))) ∙ is
-
-pub written_out : (a b : Option (List ℕ)) (bytes : List ℕ) (start end : ℕ) → start ≤ end → Keeps a
-    (append_known b (slice_range bytes start end)) → end ≡ 0 → Keeps a b
-written_out a b bytes start end ordered h none =
-    keeps_when_empty a b b (slice_range bytes start end) h (none_kept bytes start end ordered none) (Keeps-refl b)
 
 -- a source that didn't fail is no cause
 pub no_source : (status : Status) (sink now : ℕ) → IsCaused status 0 0 sink now → status ≢ SourceFault

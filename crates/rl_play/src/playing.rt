@@ -2,17 +2,18 @@
 ghost use Rattle.std.specs.Prelude.{◌≡◌, ◌≢◌, ◌≤◌, map, true, false, Ok, Err, MatchResult, IfOk, IfErr, IfSome, OnOk};
 ghost use Rattle.std.specs.Prelude.{Some};
 ghost use Rattle.std.specs.Io.KnownBytes.{Keeps};
-ghost use Rattle.rl_play.specs.Prelude.{Rose, IsReady, IsSameChip, IsCaused, NoneFailed, DoesFirstEvents};
+ghost use Rattle.rl_play.specs.Prelude.{IsReady, IsSameChip, IsCaused, DoesFirstEvents};
 ghost use Rattle.rl_play.specs.Prelude.{KeepsEarlier, end_status, IsCounted, PlayEnds, said_by, moment_of};
 ghost use Rattle.rl_play.specs.Prelude.{BreaksFrom, KeepsCut, PlaysLine, PlaysScript, PlaysThrough, asked, spot, Turns};
 ghost use Rattle.rl_play.specs.Prelude.{PlaysOnAnyDevice, heard, is_complete, Tells, refused_text};
-ghost use Rattle.rl_play.specs.Prelude.{end_text, told, Hands, read_of, line_said, input_of, HoldsLine};
+ghost use Rattle.rl_play.specs.Prelude.{end_text, Hands, read_of, line_said, input_of, HoldsLine};
 ghost use Rattle.rl_play.specs.Prelude.{stop_of, fault_of, NotByCounts, StaysReady, Leaves, LeavesLines, CutsLine};
 
-use crate::buffered::{Buffered, Earlier};
+use crate::buffered::Earlier;
 use crate::line::run_line;
 use crate::log::Log;
 use crate::texts::{put_end, put_line_refused, refusal_of};
+use crate::unbuffered::Unbuffered;
 use rl_access::Model;
 use rl_bus::{Adapter, Adapters, Device};
 use rl_log::{Counts, LineRefusal, Status};
@@ -259,32 +260,7 @@ pub fn play_lines<S: Source, D: Device, L: Log>(
     }
 }
 
-// Writes what is kept back of a run that is over.
-fn settle<K: Sink, E: Earlier>(status: Status, out: &mut Buffered<'_, K, E>) -> Status
-    requires { status ≢ Status.Words }
-    ensures sink_later { K.faults out.old.sink.now ≤ K.faults out.new.sink.now }
-    ensures kept { result ≢ Status.SinkFault → result ≡ status }
-    ensures cause { result ≡ Status.SinkFault → status ≢ Status.SinkFault
-        → Rose (K.faults out.old.sink.now) (K.faults out.new.sink.now) }
-    ensures told { Keeps (told K.written out.old) (told K.written out.new) }
-    ensures whole { is_complete result ≡ true → Keeps (told K.written out.old) (K.written out.new.sink.now) }
-    ensures at_fault { status ≡ Status.SourceFault → out.old.end ≡ 0
-        → Keeps (told K.written out.old) (K.written out.new.sink.now) }
-    ensures at_memory { result ≡ Status.Memory → NoneFailed (K.faults out.old.sink.now) (K.faults out.new.sink.now)
-        → Keeps (told K.written out.old) (K.written out.new.sink.now) }
-    ensures ends_kept { K.ends out.new.sink.now ≡ K.ends out.old.sink.now }
-    ensures same_sink { out.new.sink.ghost_name ≡ out.old.sink.ghost_name }
-{
-    if status == Status::SinkFault {
-        return status;
-    }
-    match out.flush() {
-        Err(Failed) if status.is_complete() => Status::SinkFault,
-        _ => status,
-    }
-}
-
-// Runs the lines that are left through a buffer. Whatever the answer, the sink keeps the bytes that it had before.
+// Runs the lines that are left with nothing kept back. Whatever the answer, the sink keeps the bytes that it had before.
 fn play_through<S: Source, K: Sink, D: Device, E: Earlier>(
     alloc: Global,
     model: &mut Model,
@@ -314,14 +290,14 @@ fn play_through<S: Source, K: Sink, D: Device, E: Earlier>(
         (S.faults source.old) (S.faults source.new) (K.faults sink.old) (K.faults sink.new) }
     ensures ends_kept { K.ends sink.new ≡ K.ends sink.old }
 {
-    let mut out = Buffered::<K, E>::new(sink);
-    let status = play_lines(
+    let mut out = Unbuffered::<K, E>::new(sink);
+    play_lines(
         alloc, model, device, adapters, lines, source, &mut out, counts,
-    );
-    settle(status, &mut out)
+    )
 }
 
-/// Runs the lines that are left on a device, and writes the log of each and the last line.
+/// Runs the lines that are left on a device, and writes the log of each and the last line. Nothing is kept back: each
+/// event is written to the sink before the next one is performed, within a sequence and a burst too.
 ///
 /// Lines are numbered from the first that is read here, and the last line and the status are by the lines of this
 /// call alone. The counts rise by what happened. The output isn't finished.
