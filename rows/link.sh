@@ -110,7 +110,47 @@ judge 'items after a break' 7 'bus error at word 0' log
 judge 'the last request' 7 '#1' requests
 judge 'nothing sent after a break' 7 'the request was `r bus 0x0 0x0 1111 #1`' messages
 
-describe '---\nhw ctrl.value 0x1f\n' > session
+# look ANSWER..: a peer that answers the next requests so, and hangs at the one behind them. It looks at the log, and ends.
+look() {
+    local answer
+    for answer in "$@"; do
+        read -r _ || return
+        printf '%b\n' "$answer"
+    done
+    read -r _ && cp log seen
+}
+
+# A sequence over five registers, of which three are answered.
+{
+    for name in a b c d e; do
+        printf '[[reg]]\nname = "%s"\nbytes = 4\nbackdoor = false\n' "$name"
+        printf 'field = [{ name = "value", lsb = 0, width = 32, policy = "RW", reset = 0 }]\n'
+    done
+    printf '[[map]]\nname = "bus"\nbytes = 4\n'
+    offset=0
+    for name in a b c d e; do
+        printf '[[place]]\nmap = "bus"\nitem = "%s"\noffset = %d\n' "$name" "$offset"
+        offset=$((offset + 4))
+    done
+    printf -- '---\nread a\nseq hw-reset *\n'
+} > session
+: > seen
+mkfifo answers
+timeout 20 "$program" session log < answers 2> messages | look 'ok 1' ok 'ok 0' 'ok 0' 'ok 0' > answers
+status=${PIPESTATUS[0]}
+rm answers
+tail -n 8 seen > shown
+judge 'a peer that hangs: the line before' 7 'read a @bus: ok 0x00000001' seen
+judge 'a peer that hangs: the sequence' 7 'seq hw-reset *: begin' shown
+judge 'a peer that hangs: the first access' 7 '  bus r 0x0 0x00000000 1111 #1 ok' shown
+tail -n 1 seen > shown
+judge 'a peer that hangs: the last access' 7 '  bus r 0x8 0x00000000 1111 #3 ok' shown
+sed -n '/^# the link broke/,$p' log > shown
+judge 'a break within a sequence' 7 'check d @bus: bus error at word 0' shown
+grep -c '#[0-9]* ok$' shown > behind
+judge 'nothing is answered behind a break' 7 0 behind
+
+describe false '---\nhw ctrl.value 0x1f\n' > session
 printf 'ok\n' | "$program" session log > requests 2> messages
 status=$?
 judge 'a change by the hardware' 0 'hw ctrl.value 0x1f' requests

@@ -5,6 +5,7 @@ mod adapter;
 mod commands;
 mod device;
 mod fixture;
+mod noting;
 mod playing;
 mod running;
 mod sessions;

@@ -20,8 +20,8 @@ place = [{map = 'bus', item = 'a'}]
 "
 }
 
-// A reader that is past the separator.
-fn reader<S: Source>(alloc: Global, source: &mut S) -> Result<LineReader, Fail>
+/// A reader that is past the separator.
+pub(crate) fn reader<S: Source>(alloc: Global, source: &mut S) -> Result<LineReader, Fail>
     ensures { IfOk result (λ lines. (lines.found ≡ true) × (lines.refused ≡ false)) }
 {
     let mut lines = LineReader::build(alloc)?;

@@ -51,10 +51,11 @@ impl Source for Asking<'_> {
     }
 }
 
-// Counts the lines that it hears.
+/// A sink that counts the lines that it hears.
 #[derive(Drop)]
-struct Hearing<'a> {
-    heard: &'a Cell<usize>,
+pub(crate) struct Hearing<'a> {
+    /// How many.
+    pub(crate) heard: &'a Cell<usize>,
 }
 
 fn ends_in(piece: &[u8]) -> usize {
