@@ -489,10 +489,11 @@ class Session:
             names.require(block, names.blocks, "block")
         found = self._run(f"seq {name} {block}")
         total = self._others.pop()
-        self._others.pop()
-        first = total.line - 1 - sum(1 + len(it._items) for it in found)
+        # Over a target notes may stand between its events.
+        begin = next(it for it in reversed(self._others) if it.kind == "begin")
+        self._others.remove(begin)
         steps, differences, bus_errors = total.counts
-        run = SequenceRun(first, name, block, steps, differences, bus_errors, found)
+        run = SequenceRun(begin.line, name, block, steps, differences, bus_errors, found)
         self._last = run
         self._raise_target()
         if not run.ok and self._raises(on_error):

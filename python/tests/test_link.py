@@ -123,6 +123,15 @@ def test_what_a_target_can_answer(link, odd, do, cause, text):
         assert told in s.log
 
 
+def test_a_note_stands_before_its_event_in_a_sequence(link):
+    with regrun.Session(CHIP, Words(reset="none"), program=link) as s:
+        s.read("ctrl")
+        run = s.seq("hw-reset")
+        assert (run.line, [it.line for it in run.events]) == (4, [6, 7])
+        assert [(it.line, it.kind) for it in s.others] == [(5, "note")]
+        assert s.log.splitlines()[4].startswith("# not done: `reset HARD`")
+
+
 def test_a_target_that_cannot_start_is_closed(link):
     class Broken(Words):
         def start(self):
