@@ -2,7 +2,7 @@
 ghost use Rattle.std.specs.Prelude.{◌≡◌, ◌+◌, ◌<◌, map as each, length, Err, IfOk, IfErr, IfSome, IsOkAnd, OnOk, OnErr};
 ghost use Rattle.rl_access.specs.declared.event.Op.TheVariants as op;
 ghost use Rattle.rl_mam.specs.Prelude.{EventFits, HasCause, IsBurst, IsManagerOf, IsMapIn, IsReady, LeavesOutside};
-ghost use Rattle.rl_mam.specs.Prelude.{Performs, location_in, region_at, scene_of, write_grant, writes_of};
+ghost use Rattle.rl_mam.specs.Prelude.{Performs, grant, location_in, region_at, scene_of, write_grant, writes_of};
 
 use crate::mam::Mam;
 use crate::region::RegionFault;
@@ -34,6 +34,8 @@ impl Mam {
             (op.MemWrite self.now.mem map (first + k) value))) }
         ensures refused { OnErr result (device.new ≡ device.old) }
         ensures not_sent { OnErr result (adapters.new ≡ adapters.old) }
+        ensures not_granted { OnErr (grant model.old (op.MemWrite self.now.mem map (first + k) value))
+            (device.new ≡ device.old) }
         ensures outside { IfSome (region_at self.now.regions first) (λ r.
             LeavesOutside model.old.chip self.now.mem r (D.state device.old) (D.state device.new)) }
     {
@@ -67,6 +69,8 @@ impl Mam {
             (op.MemRead self.now.mem map (first + k)))) }
         ensures refused { OnErr result (device.new ≡ device.old) }
         ensures not_sent { OnErr result (adapters.new ≡ adapters.old) }
+        ensures not_granted { OnErr (grant model.old (op.MemRead self.now.mem map (first + k)))
+            (device.new ≡ device.old) }
         ensures outside { IfSome (region_at self.now.regions first) (λ r.
             LeavesOutside model.old.chip self.now.mem r (D.state device.old) (D.state device.new)) }
     {
@@ -109,6 +113,8 @@ impl Mam {
         ensures steady { R.steady rec.new ≡ R.steady rec.old }
         ensures refused { OnErr (location_in self.now.regions first k (length values.now))
             ((device.new ≡ device.old) × (adapters.new ≡ adapters.old) × (rec.new ≡ rec.old)) }
+        ensures not_granted { OnErr (write_grant model.old self.now.mem map (first + k) values.now)
+            (device.new ≡ device.old) }
         ensures outside { IfSome (region_at self.now.regions first) (λ r.
             LeavesOutside model.old.chip self.now.mem r (D.state device.old) (D.state device.new)) }
     {
@@ -144,6 +150,7 @@ fn burst_at<D: Device, R: Recorder>(
     ensures recorder { IfErr result (λ why. why ≡ RegionFault.Recorder) }
     ensures cause { HasCause (R.faults rec.old) (R.faults rec.new) result }
     ensures steady { R.steady rec.new ≡ R.steady rec.old }
+    ensures refused { OnErr (write_grant model.old mem map at values.now) (device.new ≡ device.old) }
 {
     match burst_write(model, device, adapters, mem, map, at, values, rec) {
         Ok(tally) => Ok(tally),
