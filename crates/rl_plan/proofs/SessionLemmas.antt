@@ -1,5 +1,5 @@
 -- What was told of a session for whose description a plan is made.
-use Rattle.std.proofs.Common.{◌≡◌, ◌≢◌, ◌==◌, ℕ, ◌≤◌, Bool, true, false, if◌then◌else◌, List, [], ◌∷◌, length, Result, Ok, Err, Some, None, IfSome, refl, sym, subst, arith}
+use Rattle.std.proofs.Common.{◌≡◌, ◌≢◌, ◌==◌, ℕ, ◌≤◌, Bool, true, false, if◌then◌else◌, List, [], ◌∷◌, length, Result, Ok, Err, Some, None, IfSome, refl, sym, ◌∙◌, subst, arith}
 use Rattle.std.specs.declared.option.Option.{Option}
 use Rattle.std.specs.Io.KnownBytes.{Keeps}
 use Rattle.std.proofs.lemmas.Bool.{eqb-true}
@@ -11,10 +11,11 @@ use Rattle.rl_report.specs.declared.sink.Sink.{Ghosts as Sink}
 use Rattle.rl_report.specs.Pieces.{Puts}
 use Rattle.rl_report.specs.Reading.{Reading}
 use Rattle.rl_log.specs.declared.status.Status.{Status}
-use Rattle.rl_log.specs.declared.status.Status.TheVariants.{Passed, SinkFault}
+use Rattle.rl_log.specs.declared.status.Status.TheVariants.{Passed, SinkFault, SourceFault}
 use Rattle.rl_log.specs.Causes.{IsCaused}
 use Rattle.rl_log.specs.Telling.{Tells}
 use Rattle.rl_log.specs.Earlier.{KeepsEarlier}
+use Rattle.rl_log.specs.Statuses.{is_complete}
 use Rattle.rl_log.proofs.TellingLemmas.{tells_all, tells_front, tells_none, tells_written}
 use Rattle.rl_play.proofs.EndingLemmas.{append_none}
 use Rattle.rl_session.specs.Session.{opening_of}
@@ -93,3 +94,20 @@ no_flaws (flaw ∷ flaws) none = absurd (omega (arith, eqb-true (length (flaw �
 
 pub none_flawed : (d : DescData) → unflawed (Ok d) ≡ Ok d → d.flaws ≡ []
 none_flawed d is = no_flaws d.flaws (passes d (length d.flaws == 0) is)
+
+-- ---- how a session ended, by how its log ended
+
+pub no_error : {X : Type 0} {r : Result X Status} {x : X} {why : Status} → r ≡ Ok x → r ≢ Err why
+no_error is other = cc
+
+-- one that ended whole wasn't stopped for a cause by which none ends so
+pub not_stopped : {X : Type 0} {r : Result X Status} (status result why : Status) → is_complete result ≡ true
+    → (result ≢ SinkFault → result ≡ status) → r ≡ Err status → is_complete why ≡ false → r ≢ Err why
+not_stopped status result why whole same is incomplete other =
+    let kept : result ≡ status = same (λ s. let bad : false ≡ true = subst (λ x. is_complete x ≡ true) s whole in cc) in
+    let equal : status ≡ why = cc in
+    let bad : false ≡ true = sym incomplete ∙ subst (λ x. is_complete x ≡ true) (kept ∙ equal) whole in
+    cc
+
+pub fault_kept : (status result : Status) → result ≡ SourceFault → (result ≢ SinkFault → result ≡ status) → status ≡ SourceFault
+fault_kept status result is same = sym (same (λ s. cc)) ∙ is

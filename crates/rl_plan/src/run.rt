@@ -1,8 +1,9 @@
 // The plan of a session's description.
-ghost use Rattle.std.specs.Prelude.{◌≡◌, ◌<◌, ◌^◌, IfSome, length, map};
+ghost use Rattle.std.specs.Prelude.{◌≡◌, ◌<◌, ◌^◌, IfSome, length, map, true};
 ghost use Rattle.rl_log.specs.declared.status.Status.TheVariants.{Passed};
 ghost use Rattle.rl_log.specs.Telling.{Tells};
-ghost use Rattle.rl_session_run.specs.Prelude.{IsBuiltWith, IsCaused, LeavesEnded, StaysOpen, kinds_of};
+ghost use Rattle.rl_session_run.specs.Prelude.{IsBuiltWith, IsCaused, LeavesEnded, LeavesScript, StaysOpen};
+ghost use Rattle.rl_session_run.specs.Prelude.{TakesNoHead, is_complete, kinds_of};
 ghost use Rattle.rl_plan.specs.Run.{TellsPlan, model_of, planned_of, status_of};
 ghost use Rattle.rl_plan.specs.Text.{plan_text};
 
@@ -55,7 +56,7 @@ fn put_plan<K: Sink>(alloc: Global, asked: Asked, desc: Desc, log: &mut K) -> St
 }
 
 /// Writes the plan of a session's description: a script that finds each single flaw of the device which a check can
-/// show. The adapters are those of which a root map names one; nothing is sent. What stands behind the separator isn't read.
+/// show. The adapters are those of which a root map names one; nothing is sent. The script isn't looked at.
 ///
 /// The log is finished once, where its last line was written.
 pub fn run_plan<S: Source, K: Sink>(
@@ -75,6 +76,14 @@ pub fn run_plan<S: Source, K: Sink>(
     // However it ends, the log keeps the bytes that it had before, and is ended exactly where its last line was
     // written. No fault is made up, and the status is never that of other words.
     ensures leaves { LeavesEnded K.Sink result (S.faults source.old) (S.faults source.new) log.old log.new }
+
+    // Where its last line was written, the script is unread but for what was taken with the separator.
+    ensures unread { is_complete result ≡ true
+        → IfSome (S.left source.old) (λ bytes. LeavesScript bytes (S.left source.new)) }
+
+    // Where the source fails, no whole separator was taken.
+    ensures at_fault { result ≡ Status.SourceFault
+        → IfSome (S.left source.old) (λ bytes. TakesNoHead bytes (S.left source.new)) }
 {
     let (desc, _) = match open_checked(alloc, source, log, adapters, &Unflawed {}) {
         Ok(opened) => opened,
