@@ -1,20 +1,23 @@
 #!/usr/bin/env python3
 """where.py: checks the tables of "Where to add what" in docs/ARCHITECTURE.md: each file that they name exists, and each file
-that lists all policies, flaws or commands is named in the table of its kind. The last line has the counts."""
+that lists all policies, flaws, commands, sequences or keys is named in the table of its kind. The last line has the counts."""
 import pathlib
 import re
 import subprocess
 import sys
 
 TOP = pathlib.Path(__file__).resolve().parent.parent
-# A file that has all these words, whatever their case and without - and _, lists all of the kind.
+# A file that has all words of a row, whatever their case and without - and _, lists all of the kind. Each word is a pattern.
 LISTS = {
-    'A field access policy': 'w1src w0crs wsrc wos wo1',
-    'A kind of flaw': 'errornth errorrange deaf stuck reset policy',
-    'A command of the script': 'mempeek backcheck otherread burstwrite',
+    'A field access policy': ['w1src w0crs wsrc wos wo1'],
+    'A kind of flaw': ['errornth errorrange deaf stuck (other)?reset (other)?policy'],
+    # all, those over the bus, and those that need no bus
+    'A command of the script': ['mempeek backcheck otherread', 'otherread fieldread memcheck', 'mempeek backcheck hw poke'],
+    'A sequence': ['hwreset bitbash access(test)? shared(access)? memwalk'],
+    'A key of the description': ['volatile alone adapter predict rights skip'],
 }
-# Lists that follow from others, and that no one writes by hand.
-MADE = re.compile(r'(rows/|examples/|python/|docs/index\.html|docs/PROFILE\.md|docs/ARCHITECTURE\.md|crates/test_rows/|docs/where\.py|CHANGELOG)')
+# Examples and tests show what there is; the others are made from lists, or say which of a standard's things there are.
+APART = re.compile(r'(examples/|python/tests/|crates/test_rows/|docs/(index\.html|(PROFILE|ARCHITECTURE|DEFINITIONS)\.md|where\.py)|CHANGELOG)')
 
 
 def tables():
@@ -39,14 +42,17 @@ def path_of(crate, name):
     return None
 
 
-def listing(words):
-    """The files of the repository that have all the words."""
+def texts():
+    """The files of the repository that may list a kind, each with its text."""
     names = subprocess.run(['git', 'ls-files'], cwd=TOP, capture_output=True, text=True, check=True).stdout.split('\n')
     for name in names:
-        if name and not MADE.match(name) and (TOP / name).is_file():
-            text = (TOP / name).read_bytes().decode('utf-8', 'replace').lower().replace('-', '').replace('_', '')
-            if all(re.search(rf'(?<![a-z]){word}', text) for word in words.split()):
-                yield TOP / name
+        if name and not APART.match(name) and (TOP / name).is_file():
+            yield TOP / name, (TOP / name).read_bytes().decode('utf-8', 'replace').lower().replace('-', '').replace('_', '')
+
+
+def lists_all(text, words):
+    """Whether a text has all of these words."""
+    return all(re.search(rf'(?<![a-z0-9])({word})(?![a-z0-9])', text) for word in words.split())
 
 
 def main():
@@ -60,12 +66,13 @@ def main():
             else:
                 passed += 1
                 named.setdefault(heading, set()).add(place)
-    for heading, words in LISTS.items():
-        for place in listing(words):
-            if place in named.get(heading, ()):
-                passed += 1
-            else:
-                wrong.append(f'{heading}: {place.relative_to(TOP)} lists them all, and no row names it')
+    for place, text in texts():
+        for heading, kinds in LISTS.items():
+            if any(lists_all(text, words) for words in kinds):
+                if place in named.get(heading, ()):
+                    passed += 1
+                else:
+                    wrong.append(f'{heading}: {place.relative_to(TOP)} lists them all, and no row names it')
     print(*wrong, sep='\n', end='\n' if wrong else '')
     print(f'{passed} passed, {len(wrong)} failed')
     return 1 if wrong else 0
