@@ -1,4 +1,4 @@
--- Which sequences find a bit that is stuck, deaf or has another policy, wherever the computation over its steps shows it.
+-- Which sequences find a bit that is stuck, deaf or has another policy, where the computation over its steps shows it.
 use Rattle.std.specs.Prelude.{◌≡◌, ◌≢◌, ◌⊎◌, ℕ, ◌+◌, ◌<◌, Bool, true, false, List, [], ◌∷◌, length, slice_index, Option, Some}
 use Rattle.rl_policy.specs.Bits.{bit}
 use Rattle.rl_policy.specs.declared.policy.Policy.{Policy}
@@ -80,8 +80,8 @@ pub record HasTwoPlaces (l : LayoutData) (reg place other : ℕ) : Type 0 where
   pub here : (may_read l place ≡ true) × (may_write l place ≡ true)
   pub there : (is_of l other (Reg reg) ≡ true) × (may_read l other ≡ true) × (may_write l other ≡ true)
 
--- `bit_bash` comes to the lowest compared bit of a register first; to another one when lower ones were written, so it has
--- to show whatever is held and believed then
+-- `bit_bash` comes to the lowest compared bit of a register first; to another one when lower ones were written, so it
+-- has to show whatever is held and believed then
 abbrev pub IsShown : Sequence → ChipData → LayoutData → (reg b place : ℕ) → BitFlaw → Policy → Sides → Type 0
 IsShown HwReset c l reg b place f p x = ⊥
 IsShown BitBash c l reg b place f p x =
@@ -97,7 +97,8 @@ BitFlawIsNamed =
     (flaw : BitFlaw) (x : Sides)
     → IsModel s.model → s.device ≡ Some d → HasFlaw s.model.chip s.model.layout d s.model.mirror field i flaw x
     → IsVisited which s.model.chip s.model.layout block (reg_of s.model.chip field) place
-    → IsShown which s.model.chip s.model.layout (reg_of s.model.chip field) ((field_of s.model.chip field).shape.lsb + i)
+    → IsShown which s.model.chip s.model.layout (reg_of s.model.chip field)
+    ((field_of s.model.chip field).shape.lsb + i)
     place flaw (field_of s.model.chip field).shape.policy x
     → RunsAll which block s told new
     → HasEvent (IsNamedBy s.model.chip field) told

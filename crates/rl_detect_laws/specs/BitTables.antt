@@ -1,4 +1,4 @@
--- Which policies the computation over one bit shows: the cells of the tables in docs/DETECTION.md that are proved by it.
+-- Which policies the computation over one bit shows: the proved cells of the tables in docs/DETECTION.md.
 use Rattle.std.specs.Prelude.{◌≡◌, ℕ, ◌+◌, Bool, true, false, All, List, [], ◌∷◌}
 use Rattle.rl_policy.specs.Bits.{bit}
 use Rattle.rl_policy.specs.declared.policy.Policy.{Policy}
@@ -57,7 +57,8 @@ behind_at_1 = Rw ∷ Wrc ∷ Wrs ∷ Wc ∷ Wcrs ∷ W1c ∷ W0c ∷ W0t ∷ W1c
 abbrev pub StuckIsShown : Type 0
 StuckIsShown =
     All (ShowsAlways shows_twice (sticks false)) turned_at_0 × All (ShowsAlways shows_twice (sticks true)) turned_at_1
-    × All (ShowsAlways shows_behind (sticks false)) behind_at_0 × All (ShowsAlways shows_behind (sticks true)) behind_at_1
+    × All (ShowsAlways shows_behind (sticks false)) behind_at_0
+    × All (ShowsAlways shows_behind (sticks true)) behind_at_1
 
 -- ---- a deaf register
 
@@ -100,7 +101,9 @@ FirstValueShowsDeaf =
 -- twice turned, of a new bit
 abbrev pub found_twice : Policy → List Policy
 found_twice Ro = Rw ∷ Wrc ∷ Wrs ∷ W1src ∷ W0crs ∷ W1 ∷ []
-found_twice Rw = Ro ∷ Rc ∷ Rs ∷ Wc ∷ Ws ∷ Wsrc ∷ Wcrs ∷ W1c ∷ W1s ∷ W1t ∷ W0c ∷ W0s ∷ W0t ∷ W1crs ∷ W0src ∷ Wo ∷ Woc ∷ Wos ∷ W1 ∷ Wo1 ∷ []
+found_twice Rw =
+    Ro ∷ Rc ∷ Rs ∷ Wc ∷ Ws ∷ Wsrc ∷ Wcrs ∷ W1c ∷ W1s ∷ W1t ∷ W0c ∷ W0s ∷ W0t ∷ W1crs ∷ W0src ∷ Wo ∷ Woc ∷ Wos ∷ W1 ∷ Wo1
+    ∷ []
 found_twice Rc = Rw ∷ Rs ∷ Wrc ∷ Wrs ∷ Ws ∷ Wsrc ∷ W1s ∷ W1src ∷ W0crs ∷ W1 ∷ []
 found_twice Rs = Rw ∷ Rc ∷ Wrc ∷ Wrs ∷ Wc ∷ Wcrs ∷ W0c ∷ W1src ∷ W0crs ∷ Wo ∷ Woc ∷ Wos ∷ W1 ∷ Wo1 ∷ []
 found_twice Wrc = Ro ∷ Rc ∷ Rs ∷ Wc ∷ Wcrs ∷ W1c ∷ W1t ∷ W0c ∷ W0s ∷ W0t ∷ W1crs ∷ W0src ∷ Wo ∷ Woc ∷ Wos ∷ Wo1 ∷ []

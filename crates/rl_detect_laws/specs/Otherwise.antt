@@ -1,5 +1,5 @@
--- Which sequences find what the device holds otherwise than it is believed, as after a wrong reset value, by a check that
--- comes after a write: `bit_bash`, `access_test` and `shared_access`, where each write keeps the two apart.
+-- Which sequences find what the device holds otherwise than it is believed, as after a wrong reset value, by a check
+-- that comes after a write: `bit_bash`, `access_test` and `shared_access`, where each write keeps the two apart.
 use Rattle.std.specs.Prelude.{◌≡◌, ◌≢◌, ℕ, ◌+◌, ◌^◌, ◌<◌, Bool, not, All, List, [], ◌∷◌, length, slice_index, Option, Some}
 use Rattle.rl_policy.specs.Bits.{bit}
 use Rattle.rl_policy.specs.Table.{after_write}

@@ -1,5 +1,5 @@
--- One bit of a field, in a device where it is stuck, deaf or has another policy: what a write and a check make of it, and
--- which steps of a sequence show it. It is a computation over the table of policies.
+-- One bit of a field, in a device where it is stuck, deaf or has another policy: what a write and a check make of it,
+-- and which steps of a sequence show it. It is a computation over the table of policies.
 use Rattle.std.specs.Prelude.{Bool, not, ◌||◌}
 use Rattle.rl_policy.specs.Table.{either_alone, after_write, after_read, value_read, spends_mark}
 use Rattle.rl_policy.specs.declared.policy.Policy.{Policy}
@@ -83,13 +83,13 @@ differs_behind x = either_alone x.held x.believed
 abbrev pub turned : BitFlaw → Policy → Sides → Sides
 turned f p x = written f p (not x.believed) x
 
--- Twice the other value is written and the register checked: one of the two checks differs. So `bit_bash` does with each
--- bit, and `shared_access` with each register at two places.
+-- Twice the other value is written and the register checked: one of the two checks differs. So `bit_bash` does with
+-- each bit, and `shared_access` with each register at two places.
 abbrev pub shows_twice : BitFlaw → Policy → Sides → Bool
 shows_twice f p x = differs f (turned f p x) || differs f (turned f p (checked f p (turned f p x)))
 
--- `access_test` writes the other value over the bus and checks it by the backdoor, and then the first value the other way
--- round.
+-- `access_test` writes the other value over the bus and checks it by the backdoor, and then the first value the other
+-- way round.
 abbrev pub shows_behind : BitFlaw → Policy → Sides → Bool
 shows_behind f p x =
     differs_behind (turned f p x)

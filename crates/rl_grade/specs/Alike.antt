@@ -33,7 +33,8 @@ SilentChangesNoEvent =
 abbrev pub SilentIsNotFound : Type 0
 SilentIsNotFound =
     (d : DescData) (flaw : Flaw) (adapters : List Standing) (tasks : List Task) → IsSilentIn d flaw
-    → first_find (all_seen (heard_by (first_world (without_flaws d) adapters) tasks)) (heard_by (first_world (with_flaw d flaw) adapters) tasks) ≡ None
+    → first_find (all_seen (heard_by (first_world (without_flaws d) adapters) tasks))
+    (heard_by (first_world (with_flaw d flaw) adapters) tasks) ≡ None
 
 -- ---- the log
 

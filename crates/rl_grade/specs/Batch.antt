@@ -56,7 +56,8 @@ abbrev pub AreAnswers : DescData → List Task → (shown : List Seen) → List 
 AreAnswers d tasks shown graded = All (λ it. it ≡ graded_by d tasks shown it.flaw) graded
 
 -- answers by the numbers of their flaws, where they are known
-pub record AreKnown (d : DescData) (tasks : List Task) (shown : List Seen) (flaws : List Flaw) (known : List (Option Graded))
+pub record AreKnown (d : DescData) (tasks : List Task) (shown : List Seen) (flaws : List Flaw)
+    (known : List (Option Graded))
     : Type 0 where
   pub size : length known ≡ length flaws
   pub each : (number : ℕ) (it : Graded) → slice_index_or known number None ≡ Some it
@@ -76,7 +77,8 @@ with_answer flaws (Some number) found known =
     slice_set known number (Some (record { flaw = flaw_at flaws number; found = found }))
 
 -- those of the chosen flaws, register by register
-unfoldable pub with_answers : List Flaw → (chosen : List (Option ℕ)) → (found : List (Option Find)) → List (Option Graded)
+unfoldable pub with_answers : List Flaw → (chosen : List (Option ℕ)) → (found : List (Option Find))
+    → List (Option Graded)
     → List (Option Graded)
 with_answers flaws [] found known = known
 with_answers flaws (number ∷ chosen) found known =

@@ -10,7 +10,8 @@ use Rattle.rl_log.specs.Course.{Course}
 use Rattle.rl_grade.specs.Heard.{Heard}
 
 -- those before one were taken, and at that one it failed
-pub record Broke {R : Type 0} (takes breaks : R → ModelData → Event → R → Type 0) (old new : R) (told : List Told) : Type 0 where
+pub record Broke {R : Type 0} (takes breaks : R → ModelData → Event → R → Type 0) (old new : R) (told : List Told)
+    : Type 0 where
   pub done : List Told
   pub last : Told
   pub others : List Told
@@ -32,7 +33,8 @@ abbrev pub told_of : List Heard → List Told
 told_of heard = map (λ h. h.told) heard
 
 -- a recorder took the events before one of the line of that number, and broke at this one
-pub record BrokeIn {R : Type 0} (takes breaks : R → ModelData → Event → R → Type 0) (old new : R) (heard : List Heard) (line : ℕ) : Type 0 where
+pub record BrokeIn {R : Type 0} (takes breaks : R → ModelData → Event → R → Type 0) (old new : R) (heard : List Heard)
+    (line : ℕ) : Type 0 where
   pub done : List Heard
   pub last : Heard
   pub others : List Heard
@@ -42,7 +44,8 @@ pub record BrokeIn {R : Type 0} (takes breaks : R → ModelData → Event → R 
   pub taken : TakesAll takes old (told_of done) mid
   pub broken : breaks mid last.told.model last.told.event new
 
-pub record DrivesAll {R T : Type 0} (takes breaks : R → ModelData → Event → R → Type 0) (old new : R) (heard : List Heard) (r : Result T ℕ) : Type 0 where
+pub record DrivesAll {R T : Type 0} (takes breaks : R → ModelData → Event → R → Type 0) (old new : R)
+    (heard : List Heard) (r : Result T ℕ) : Type 0 where
   pub whole : OnOk r (TakesAll takes old (told_of heard) new)
   pub part : IfErr r (BrokeIn takes breaks old new heard)
 

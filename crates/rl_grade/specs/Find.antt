@@ -30,7 +30,8 @@ new_in base e = beside (seen_of e) (front base)
 unfoldable pub first_find : (base : List Seen) → List Heard → Option Find
 first_find base [] = None
 first_find base (h ∷ heard) =
-    if shows (new_in base h.told.event) then Some (record { line = h.line; op = h.told.event.op; new = new_in base h.told.event })
+    if shows (new_in base h.told.event)
+    then Some (record { line = h.line; op = h.told.event.op; new = new_in base h.told.event })
     else first_find (drop 1 base) heard
 
 -- what each event shows

@@ -41,7 +41,8 @@ wrong_resets c field width (suc kinds) =
 
 -- each of these policies that isn't the field's own
 abbrev pub other_policies : (field : ℕ) → (own : Policy) → List Policy → List Flaw
-other_policies field own policies = map (OtherPolicy field) (filter (λ p. not (bytes_eq (name_of p) (name_of own))) policies)
+other_policies field own policies =
+    map (OtherPolicy field) (filter (λ p. not (bytes_eq (name_of p) (name_of own))) policies)
 
 abbrev pub policy_of : ChipData → ℕ → Option Policy
 policy_of c field = option_map (λ f. f.shape.policy) (slice_get c.fields field)
@@ -88,7 +89,9 @@ abbrev pub own_addresses : ChipData → List WordRow → Item → (words : ℕ) 
 own_addresses c rows item zero = []
 own_addresses c rows item (suc k) =
     own_addresses c rows item k
-    ++ (if is_own c rows k item then ErrorRange (row_at rows k).port (row_at rows k).address (row_at rows k).address ∷ [] else [])
+    ++ (if is_own c rows k item
+    then ErrorRange (row_at rows k).port (row_at rows k).address (row_at rows k).address ∷ []
+    else [])
 
 -- it is deaf, and each of its addresses fails
 abbrev pub item_flaws : ChipData → LayoutData → Item → List Flaw

@@ -1,5 +1,5 @@
--- Flaws that no script finds. Most of them are silent: each bit that the flaw could change is alike with and without it, or has its
--- first value at each moment, or is never looked at. The others change what no check compares.
+-- Flaws that no script finds. Most of them are silent: each bit that the flaw could change is alike with and without
+-- it, or has its first value at each moment, or is never looked at. The others change what no check compares.
 use Rattle.std.specs.Prelude.{ℕ, ◌<◌, ◌==◌, Bool, true, false, not, ◌&&◌, ◌||◌, if◌then◌else◌, List, length, unwrap_or, Option, Some, None}
 use Rattle.std.specs.List.{list_all, range_with_len}
 use Rattle.rl_policy.specs.Bits.{bit}
@@ -41,7 +41,8 @@ writes_alike b =
 -- and by each read, which answers the same
 abbrev pub reads_alike : FlawedBit → Bool
 reads_alike b =
-    is_same (is_write_only b.own) (is_write_only b.other) && for_both (λ old. is_same (after_read b.own old) (after_read b.other old))
+    is_same (is_write_only b.own) (is_write_only b.other)
+    && for_both (λ old. is_same (after_read b.own old) (after_read b.other old))
 
 abbrev pub is_loose : Option Bool → Bool
 is_loose None = true
@@ -74,7 +75,9 @@ abbrev pub is_fixed : Bool → Ways → FlawedBit → Bool
 is_fixed v w b =
     not w.backdoor && (not b.volatile && (may_hold v b.stuck
     && ((not w.written || (keeps_written v b.own && (b.deaf || keeps_written v b.other)))
-    && (not w.read || (keeps_read v b.own && (keeps_read v b.other && is_same (is_write_only b.own) (is_write_only b.other)))))))
+    && (not w.read
+    || (keeps_read v b.own && (keeps_read v b.other
+    && is_same (is_write_only b.own) (is_write_only b.other)))))))
 
 -- the value of bit i of a field at a HARD reset; 0 where it has none
 abbrev pub first_bit : FieldSeen → (i : ℕ) → Bool
@@ -98,16 +101,19 @@ ways_to c rows reg = record {
 }
 
 abbrev pub sound_bit : FieldSeen → FlawedBit
-sound_bit f = record { own = f.shape.policy; other = f.shape.policy; stuck = None; deaf = false; volatile = f.shape.volatile }
+sound_bit f =
+    record { own = f.shape.policy; other = f.shape.policy; stuck = None; deaf = false; volatile = f.shape.volatile }
 
 abbrev pub stuck_bit : FieldSeen → Bool → FlawedBit
-stuck_bit f v = record { own = f.shape.policy; other = f.shape.policy; stuck = Some v; deaf = false; volatile = f.shape.volatile }
+stuck_bit f v =
+    record { own = f.shape.policy; other = f.shape.policy; stuck = Some v; deaf = false; volatile = f.shape.volatile }
 
 abbrev pub other_bit : FieldSeen → Policy → FlawedBit
 other_bit f p = record { own = f.shape.policy; other = p; stuck = None; deaf = false; volatile = f.shape.volatile }
 
 abbrev pub deaf_bit : FieldSeen → FlawedBit
-deaf_bit f = record { own = f.shape.policy; other = f.shape.policy; stuck = None; deaf = true; volatile = f.shape.volatile }
+deaf_bit f =
+    record { own = f.shape.policy; other = f.shape.policy; stuck = None; deaf = true; volatile = f.shape.volatile }
 
 -- each bit of the field is hidden
 abbrev pub is_field_hidden : Ways → FlawedBit → FieldSeen → Bool

@@ -42,4 +42,5 @@ ShareIsByNumber = (share : Share) (before : ℕ) (flaws : List Flaw) (flaw : Fla
 abbrev pub PlacesAddUp : Type 0
 PlacesAddUp =
     (share : Share) (before : ℕ) (first others : List Flaw)
-    → share_of share before (first ++ others) ≡ share_of share before first ++ share_of share (before + length first) others
+    → share_of share before (first ++ others)
+    ≡ share_of share before first ++ share_of share (before + length first) others

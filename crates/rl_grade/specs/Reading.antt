@@ -28,7 +28,8 @@ Answers asked (Err (Refused why)) = asked ≡ Err why
 Answers asked (Err Memory) = Unit {0}
 
 -- The first line of these bytes asks for this, and what is left are the lines behind it.
-pub record IsAsked (m : ModelData) (number : ℕ) (bytes : List ℕ) (rest : Option (List ℕ)) (job : Option Job) : Type 0 where
+pub record IsAsked (m : ModelData) (number : ℕ) (bytes : List ℕ) (rest : Option (List ℕ)) (job : Option Job)
+    : Type 0 where
   pub some : 0 < length bytes
   pub asked : job_asked m (said number (first_line bytes)) ≡ Ok job
   pub rest_is : rest ≡ Some (after_line bytes)
@@ -40,7 +41,8 @@ pub record IsRefused (m : ModelData) (number : ℕ) (bytes : List ℕ) (at : Ref
   pub asked : job_asked m (said number (first_line bytes)) ≡ Err at.why
 
 -- what comes of the next line, unless the source failed or memory ran out
-abbrev pub Reads : ModelData → (number : ℕ) → (bytes : List ℕ) → (rest : Option (List ℕ)) → Result Turn ScriptFault → Type 0
+abbrev pub Reads : ModelData → (number : ℕ) → (bytes : List ℕ) → (rest : Option (List ℕ)) → Result Turn ScriptFault
+    → Type 0
 Reads m number bytes rest (Ok End) = bytes ≡ []
 Reads m number bytes rest (Ok (Line job)) = IsAsked m number bytes rest job
 Reads m number bytes rest (Err (fault.Line at why)) = IsRefused m number bytes (record { number = at; why = why })

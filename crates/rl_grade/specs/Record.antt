@@ -8,7 +8,8 @@ use Rattle.rl_grade.specs.Find.{seen_of, new_in, shows}
 use Rattle.rl_grade.specs.Heard.{Heard}
 
 -- it shows no more than the first of these, and the next is beside the second
-pub record Passes (base : List Seen) (found : Option (Op × Seen)) (e : Event) (rest : List Seen) (now : Option (Op × Seen)) : Type 0 where
+pub record Passes (base : List Seen) (found : Option (Op × Seen)) (e : Event) (rest : List Seen)
+    (now : Option (Op × Seen)) : Type 0 where
   pub shows_none : shows (new_in base e) ≡ false
   pub rest_is : rest ≡ drop 1 base
   pub found_kept : now ≡ found

@@ -23,7 +23,8 @@ heard_on number (Ok entry) rest = heard_in number entry.course ++ rest entry.cou
 -- of the lines from that number on
 unfoldable pub heard_from : (number : ℕ) → World → List (List ℕ) → List Heard
 heard_from number w [] = []
-heard_from number w (line ∷ lines) = heard_on number (comes_of w (said number line)) (λ w. heard_from (number + 1) w lines)
+heard_from number w (line ∷ lines) =
+    heard_on number (comes_of w (said number line)) (λ w. heard_from (number + 1) w lines)
 
 abbrev pub told_after : Happened → Told
 told_after h = record { model = h.after; event = h.event }
@@ -53,7 +54,8 @@ pub record StopsAt (e : Ending) (at : RefusedLine) : Type 0 where
 -- ---- tasks
 
 -- A run of the lines does the tasks, and comes to its end.
-pub record DoesTasks (number : ℕ) (counts : Counts) (w : World) (lines : List (List ℕ)) (tasks : List Task) : Type 0 where
+pub record DoesTasks (number : ℕ) (counts : Counts) (w : World) (lines : List (List ℕ)) (tasks : List Task)
+    : Type 0 where
   pub heard : heard_by w tasks ≡ heard_from number w lines
   pub ending : ComesToItsEnd (script_from number counts w lines)
 

@@ -50,7 +50,8 @@ behind first (Ok tasks) = Ok (first ++ tasks)
 behind first (Err at) = Err at
 
 -- nothing comes after a line that is refused
-abbrev pub tasks_on : (number : ℕ) → Result (Option Job) LineRefusal → (rest : Result (List Task) RefusedLine) → Result (List Task) RefusedLine
+abbrev pub tasks_on : (number : ℕ) → Result (Option Job) LineRefusal → (rest : Result (List Task) RefusedLine)
+    → Result (List Task) RefusedLine
 tasks_on number (Err why) rest = Err (record { number = number; why = why })
 tasks_on number (Ok job) rest = behind (tasks_at number job) rest
 

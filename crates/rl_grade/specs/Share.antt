@@ -20,7 +20,8 @@ is_in_share share number = nat_le share.first number && (number - share.first) %
 abbrev pub share_of : Share → (before : ℕ) → List Flaw → List Flaw
 share_of share before [] = []
 share_of share before (flaw ∷ flaws) =
-    if is_in_share share (before + 1) then flaw ∷ share_of share (before + 1) flaws else share_of share (before + 1) flaws
+    if is_in_share share (before + 1) then flaw ∷ share_of share (before + 1) flaws
+    else share_of share (before + 1) flaws
 
 -- a flaw with its answer: by the tasks from the first state of the description with it alone, over fresh adapters
 abbrev pub graded_by : DescData → List Task → (shown : List Seen) → Flaw → Graded

@@ -28,12 +28,14 @@ IsOtherThan (Some own) p = bytes_eq (name_of p) (name_of own) ≡ false
 -- an address that is the item's own
 abbrev pub HasAddress : ChipData → List WordRow → Item → (port address : ℕ) → Type 0
 HasAddress c rows i port address =
-    (k : ℕ) × (k < length rows) × (is_own c rows k i ≡ true) × ((row_at rows k).port ≡ port) × ((row_at rows k).address ≡ address)
+    (k : ℕ) × (k < length rows) × (is_own c rows k i ≡ true) × ((row_at rows k).port ≡ port)
+    × ((row_at rows k).address ≡ address)
 
 -- the flaw is a single one of the place, where the session sends so many bus items
 abbrev pub IsSingleAt : DescData → (items : ℕ) → Place → Flaw → Type 0
 IsSingleAt d items (OfField f) (Stuck g b v) = (g ≡ f) × (b < width_of d.chip f)
-IsSingleAt d items (OfField f) (OtherReset g k v) = (g ≡ f) × (k < length d.chip.kinds) × IsWrongIn (width_of d.chip f) (reset_value d.chip f k) v
+IsSingleAt d items (OfField f) (OtherReset g k v) =
+    (g ≡ f) × (k < length d.chip.kinds) × IsWrongIn (width_of d.chip f) (reset_value d.chip f k) v
 IsSingleAt d items (OfField f) (OtherPolicy g p) = (g ≡ f) × IsOtherThan (policy_of d.chip f) p
 IsSingleAt d items (OfItem i) (Deaf j) = j ≡ i
 IsSingleAt d items (OfItem i) (ErrorRange port from to) = (to ≡ from) × HasAddress d.chip d.layout.rows i port from
@@ -42,7 +44,9 @@ IsSingleAt d items place flaw = ⊥
 
 -- each single flaw of a place is in its list
 abbrev pub NoneIsLeftOut : Type 0
-NoneIsLeftOut = (d : DescData) (items : ℕ) (place : Place) (flaw : Flaw) → IsSingleAt d items place flaw → Contains (flaws_at d items place) flaw
+NoneIsLeftOut =
+    (d : DescData) (items : ℕ) (place : Place) (flaw : Flaw) → IsSingleAt d items place flaw
+    → Contains (flaws_at d items place) flaw
 
 -- each flaw of a place's list is a single one of it
 abbrev pub NoneIsMadeUp : Type 0

@@ -10,7 +10,8 @@ use Rattle.rl_session.specs.Judged.{first_world}
 use Rattle.rl_grade.specs.Together.{with_flaws}
 
 -- they stand as a description with these flaws and no others begins; beside them are those that it declares
-pub record IsTrialOf (d : DescData) (flaws : List Flaw) (model : ModelData) (state : State) (declared : List Flaw) : Type 0 where
+pub record IsTrialOf (d : DescData) (flaws : List Flaw) (model : ModelData) (state : State) (declared : List Flaw)
+    : Type 0 where
   pub chip : model.chip ≡ d.chip
   pub layout : model.layout ≡ d.layout
   pub declared_are : declared ≡ d.flaws

@@ -20,7 +20,8 @@ of_share share said =
 
 abbrev pub refusal_text : Unfit → List ℕ
 refusal_text NoShare = codes "refused shares: there is none\n"
-refusal_text (NoHead line) = joined (codes "refused shares: line " ∷ decimal line ∷ codes ": no share begins here\n" ∷ [])
+refusal_text (NoHead line) =
+    joined (codes "refused shares: line " ∷ decimal line ∷ codes ": no share begins here\n" ∷ [])
 refusal_text (Cut share) = of_share share (codes " is cut\n")
 refusal_text (OfAnother share) = of_share share (codes " is of another grading\n")
 refusal_text (Twice share) = of_share share (codes " came twice\n")

@@ -57,7 +57,8 @@ decimal_of text = if is_decimal text then value_of (number_of text) else None
 
 -- from 1 to the number of shares
 abbrev pub share_if : (first every : Option ℕ) → Option Share
-share_if (Some first) (Some every) = if nat_le 1 first && nat_le first every then Some (record { first = first; every = every }) else None
+share_if (Some first) (Some every) =
+    if nat_le 1 first && nat_le first every then Some (record { first = first; every = every }) else None
 share_if (Some first) None = None
 share_if None every = None
 
@@ -76,7 +77,8 @@ percent_if None = None
 percent_if (Some percent) = if nat_le percent 100 then Some percent else None
 
 abbrev pub bound_named : (word percent : List ℕ) → Option (Option ℕ)
-bound_named word percent = if bytes_eq word (codes "at-least") then option_map Some (percent_if (decimal_of percent)) else None
+bound_named word percent =
+    if bytes_eq word (codes "at-least") then option_map Some (percent_if (decimal_of percent)) else None
 
 -- ---- the words
 

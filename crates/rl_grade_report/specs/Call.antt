@@ -40,7 +40,8 @@ grade_of None words = option_map Grade (asked_of words)
 abbrev pub call_of : List (List ℕ) → Option Call
 call_of [] = None
 call_of (word ∷ words) =
-    if bytes_eq word (codes "add") then option_map Add (bound_of words) else grade_of (waived_of (word ∷ words)) (word ∷ words)
+    if bytes_eq word (codes "add") then option_map Add (bound_of words)
+    else grade_of (waived_of (word ∷ words)) (word ∷ words)
 
 abbrev pub call_by : {Z : Type 0} → (words : List (String Z)) → Option Call
 call_by words = call_of (map string_bytes words)

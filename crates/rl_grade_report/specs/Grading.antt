@@ -91,7 +91,8 @@ places_text asked d base before (place ∷ places) =
 -- which share of which session
 abbrev pub share_line : Share → (mark : ℕ) → List ℕ
 share_line share mark =
-    joined (codes "# share " ∷ decimal share.first ∷ codes "/" ∷ decimal share.every ∷ codes " of session 0x" ∷ hex_digits mark
+    joined (codes "# share " ∷ decimal share.first ∷ codes "/" ∷ decimal share.every ∷ codes " of session 0x"
+    ∷ hex_digits mark
     ∷ codes "\n" ∷ [])
 
 abbrev pub head_of : (json : Bool) → Share → (mark : Option ℕ) → List ℕ
@@ -157,8 +158,10 @@ abbrev pub graded_as : Asked → (mark : Option ℕ) → (waivers : List ℕ) �
 graded_as asked mark waivers d tasks heard = graded_over asked mark d (base_of (rows_of waivers) tasks heard)
 
 -- the tasks are done over adapters that have sent nothing
-abbrev pub tasks_graded : Asked → (mark : Option ℕ) → (waivers : List ℕ) → DescData → Result (List Task) RefusedLine → Grading
-tasks_graded asked mark waivers d (Ok tasks) = graded_as asked mark waivers d tasks (heard_by (first_world d fresh_standings) tasks)
+abbrev pub tasks_graded : Asked → (mark : Option ℕ) → (waivers : List ℕ) → DescData → Result (List Task) RefusedLine
+    → Grading
+tasks_graded asked mark waivers d (Ok tasks) =
+    graded_as asked mark waivers d tasks (heard_by (first_world d fresh_standings) tasks)
 tasks_graded asked mark waivers d (Err at) = refused_with (refused_text at.number at.why)
 
 abbrev pub script_graded : Asked → (mark : Option ℕ) → (waivers : List ℕ) → DescData → (lines : List (List ℕ)) → Grading
@@ -167,7 +170,8 @@ script_graded asked mark waivers d lines =
 
 -- ---- a session
 
-abbrev pub opened_graded : Asked → (mark : Option ℕ) → (waivers : List ℕ) → (lines : List (List ℕ)) → Result DescData (List ℕ) → Grading
+abbrev pub opened_graded : Asked → (mark : Option ℕ) → (waivers : List ℕ) → (lines : List (List ℕ))
+    → Result DescData (List ℕ) → Grading
 opened_graded asked mark waivers lines (Ok d) = script_graded asked mark waivers d lines
 opened_graded asked mark waivers lines (Err line) = refused_with line
 

@@ -43,7 +43,8 @@ stuck_json c field bit value =
 abbrev pub reset_json : ChipData → (field kind value : ℕ) → List ℕ
 reset_json c field kind value =
     of_field_json c (codes "reset") field
-    ++ joined (codes "\", \"on\": \"" ∷ kind_text c kind ∷ codes "\", \"value\": \"0x" ∷ hex_digits value ∷ codes "\"}" ∷ [])
+    ++ joined (codes "\", \"on\": \"" ∷ kind_text c kind ∷ codes "\", \"value\": \"0x" ∷ hex_digits value ∷ codes "\"}"
+    ∷ [])
 
 abbrev pub policy_json : ChipData → (field : ℕ) → Policy → List ℕ
 policy_json c field policy =
@@ -51,7 +52,8 @@ policy_json c field policy =
 
 abbrev pub range_json : LayoutData → (port from to : ℕ) → List ℕ
 range_json l port from to =
-    joined (codes "\n{\"kind\": \"error-range\", \"map\": \"" ∷ root_name l port ∷ codes "\", \"from\": \"0x" ∷ hex_digits from
+    joined (codes "\n{\"kind\": \"error-range\", \"map\": \"" ∷ root_name l port ∷ codes "\", \"from\": \"0x"
+    ∷ hex_digits from
     ∷ codes "\", \"to\": \"0x" ∷ hex_digits to ∷ codes "\"}" ∷ [])
 
 abbrev pub nth_json : ℕ → List ℕ
@@ -81,7 +83,8 @@ facts_json facts =
 
 abbrev pub share_json : Share → List ℕ
 share_json share =
-    joined (codes "\"share\": {\"first\": " ∷ decimal share.first ∷ codes ", \"every\": " ∷ decimal share.every ∷ codes "},\n" ∷ [])
+    joined (codes "\"share\": {\"first\": " ∷ decimal share.first ∷ codes ", \"every\": " ∷ decimal share.every
+    ∷ codes "},\n" ∷ [])
 
 -- ---- the totals
 
@@ -117,14 +120,17 @@ passed_json below = if below then codes "false" else codes "true"
 
 abbrev pub bound_json : Option ℕ → Totals → List ℕ
 bound_json bound t =
-    joined (codes "\"at_least\": " ∷ least_json bound ∷ codes ", \"passed\": " ∷ passed_json (is_below bound t) ∷ codes ",\n" ∷ [])
+    joined (codes "\"at_least\": " ∷ least_json bound ∷ codes ", \"passed\": " ∷ passed_json (is_below bound t)
+    ∷ codes ",\n" ∷ [])
 
 -- ---- by kind, and the missed ones
 
 abbrev pub count_json : Kind → Counts → List ℕ
 count_json kind counts =
-    joined (codes "\"" ∷ kind_name kind ∷ codes "\": {\"found\": " ∷ decimal counts.found ∷ codes ", \"missed\": " ∷ decimal counts.missed
-    ∷ codes ", \"hidden\": " ∷ decimal counts.hidden ∷ count_if (codes ", \"waived\": ") counts.waived [] ∷ codes "}" ∷ [])
+    joined (codes "\"" ∷ kind_name kind ∷ codes "\": {\"found\": " ∷ decimal counts.found ∷ codes ", \"missed\": "
+    ∷ decimal counts.missed
+    ∷ codes ", \"hidden\": " ∷ decimal counts.hidden ∷ count_if (codes ", \"waived\": ") counts.waived [] ∷ codes "}"
+    ∷ [])
 
 -- of the kinds that are there
 abbrev pub kinds_parts : List Judged → List Kind → List (List ℕ)
@@ -150,6 +156,7 @@ lists_json c l judged =
     joined (codes "\"by_kind\": {" ∷ kinds_json judged ∷ codes "},\n\"missed_flaws\": [" ∷ missed_json c l judged
     ∷ codes "]}\n" ∷ [])
 
--- the session, which share of its flaws was tried, how many were found, whether they are enough, and those that are missed
+-- the session, which share of its flaws was tried, how many were found, whether they are enough, and those that are
+-- missed
 abbrev pub json_text : Asked → Facts → ChipData → LayoutData → List Judged → List ℕ
 json_text asked facts c l judged = head_json asked facts (totals_of judged) ++ lists_json c l judged

@@ -22,7 +22,8 @@ follows numbers place =
 abbrev pub number_text : List ℕ → ℕ → List ℕ
 number_text numbers place =
     if not (follows numbers place) then joined (codes " " ∷ decimal (slice_index numbers place) ∷ [])
-    else (if not (follows numbers (place + 1)) then joined (codes "-" ∷ decimal (slice_index numbers place) ∷ []) else [])
+    else (if not (follows numbers (place + 1)) then joined (codes "-" ∷ decimal (slice_index numbers place) ∷ [])
+    else [])
 
 abbrev pub ranges_text : List ℕ → List ℕ
 ranges_text numbers = flat_map (number_text numbers) (range_with_len 0 (length numbers))
@@ -57,7 +58,8 @@ words_text flaws = flat_map word_text flaws
 -- by name, unless they are all policies but the field's own
 abbrev pub policies_text : List Flaw → List ℕ
 policies_text flaws =
-    if nat_lt (length flaws + 1) (length POLICIES) then words_text flaws else joined (codes " all " ∷ decimal (length flaws) ∷ [])
+    if nat_lt (length flaws + 1) (length POLICIES) then words_text flaws
+    else joined (codes " all " ∷ decimal (length flaws) ∷ [])
 
 -- bits and items by number, policies by name, addresses; of a deaf item there is no more to tell
 abbrev pub members_text : ChipData → (one : Flaw) → List Flaw → List ℕ

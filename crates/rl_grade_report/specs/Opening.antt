@@ -13,6 +13,7 @@ abbrev pub unflawed : Result DescData (List ℕ) → Result DescData (List ℕ)
 unflawed (Ok desc) = if length desc.flaws == 0 then Ok desc else Err flaws_text
 unflawed (Err line) = Err line
 
--- what a session describes, or its last line where it is refused before its script: as `run` refuses it, and then for a flaw
+-- what a session describes, or its last line where it is refused before its script: as `run` refuses it, and then for a
+-- flaw
 abbrev pub graded_opening : List ℕ → Result DescData (List ℕ)
 graded_opening bytes = unflawed (opening_of bytes (kinds_of fresh_standings))

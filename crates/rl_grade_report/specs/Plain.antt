@@ -43,7 +43,8 @@ plain_counted_json t =
 
 abbrev pub plain_count_json : Kind → Counts → List ℕ
 plain_count_json kind counts =
-    joined (codes "\"" ∷ kind_name kind ∷ codes "\": {\"found\": " ∷ decimal counts.found ∷ codes ", \"missed\": " ∷ decimal counts.missed
+    joined (codes "\"" ∷ kind_name kind ∷ codes "\": {\"found\": " ∷ decimal counts.found ∷ codes ", \"missed\": "
+    ∷ decimal counts.missed
     ∷ codes ", \"hidden\": " ∷ decimal counts.hidden ∷ codes "}" ∷ [])
 
 -- ---- where nothing is waived
@@ -54,7 +55,8 @@ NoneIsWaived judged = All (λ j. (has_verdict Waived j ≡ false) × (is_needles
 
 -- With an empty file of waivers none is.
 abbrev pub NoWaiverWaivesNone : Type 0
-NoWaiverWaivesNone = (asked : Asked) (d : DescData) (base : Base) → base.waivers ≡ [] → NoneIsWaived (all_judged asked d base)
+NoWaiverWaivesNone =
+    (asked : Asked) (d : DescData) (base : Base) → base.waivers ≡ [] → NoneIsWaived (all_judged asked d base)
 
 -- the last line, the counts of a kind, the flaws in words, and both counts in JSON
 pub record IsPlain (c : ChipData) (l : LayoutData) (judged : List Judged) : Type 0 where
@@ -62,7 +64,8 @@ pub record IsPlain (c : ChipData) (l : LayoutData) (judged : List Judged) : Type
   pub counts_are : (kind : Kind) → count_text kind (counts_of judged kind) ≡ plain_count kind (counts_of judged kind)
   pub words_are : unfound_text c l judged ≡ said_text c l judged Missed ++ said_text c l judged Hidden
   pub counted_is : counted_json (totals_of judged) ≡ plain_counted_json (totals_of judged)
-  pub kinds_are : (kind : Kind) → count_json kind (counts_of judged kind) ≡ plain_count_json kind (counts_of judged kind)
+  pub kinds_are : (kind : Kind)
+      → count_json kind (counts_of judged kind) ≡ plain_count_json kind (counts_of judged kind)
 
 -- Then each text tells of found, missed and hidden flaws alone.
 abbrev pub NoneWaivedIsPlain : Type 0

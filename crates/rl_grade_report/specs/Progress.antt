@@ -14,13 +14,15 @@ use Rattle.rl_grade_report.specs.Waivers.{RowData}
 
 -- what these tasks show, where so much is waived
 abbrev pub base_shown : (waivers : List RowData) → List Task → Shown → Base
-base_shown waivers tasks shown = record { waivers = waivers; tasks = tasks; seen = shown.seen.items; items = shown.items }
+base_shown waivers tasks shown =
+    record { waivers = waivers; tasks = tasks; seen = shown.seen.items; items = shown.items }
 
 -- a model's chip and layout, without a flaw
 abbrev pub desc_of : ModelData → DescData
 desc_of m = record { chip = m.chip; layout = m.layout; flaws = [] }
 
--- A place was done: the description is the same, its flaws stand before the next place, and those tried come behind the earlier ones.
+-- A place was done: the description is the same, its flaws stand before the next place, and those tried come behind the
+-- earlier ones.
 pub record IsNext (asked : Asked) (base : Base) (place : Place) (d : DescData) (before : ℕ) (judged : List Judged)
     (d-next : DescData) (before-next : ℕ) (judged-next : List Judged) : Type 0 where
   pub desc_is : d-next ≡ d

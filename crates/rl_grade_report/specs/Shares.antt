@@ -37,7 +37,8 @@ begun whole number say.Stray = Err (NoHead number)
 -- where one is open, it goes on or ends
 abbrev pub gone_on : List Part → Head → Said → Result Came Unfit
 gone_on whole head (say.Head other) = Err (Cut head.share)
-gone_on whole head (say.End totals) = Ok (record { whole = whole ++ record { head = head; totals = totals } ∷ []; current = None })
+gone_on whole head (say.End totals) =
+    Ok (record { whole = whole ++ record { head = head; totals = totals } ∷ []; current = None })
 gone_on whole head say.Place = Ok (record { whole = whole; current = Some head })
 gone_on whole head say.Stray = Err (Cut head.share)
 

@@ -53,7 +53,8 @@ sum_of parts = record {
 }
 
 -- the sums, unless one is of another grading, came more than once or is lacking; the first of these is told
-abbrev pub sums_unless : (other twice : Option Part) → (lacking : Option ℕ) → (every : ℕ) → (sums : Totals) → Result Totals Unfit
+abbrev pub sums_unless : (other twice : Option Part) → (lacking : Option ℕ) → (every : ℕ) → (sums : Totals)
+    → Result Totals Unfit
 sums_unless (Some part) twice lacking every sums = Err (OfAnother part.head.share)
 sums_unless None (Some part) lacking every sums = Err (Twice part.head.share)
 sums_unless None None (Some number) every sums = Err (Lacking (record { first = number; every = every }))
@@ -62,7 +63,8 @@ sums_unless None None None every sums = Ok sums
 -- of shares of which this is the first
 abbrev pub sums_from : (first : Head) → List Part → Result Totals Unfit
 sums_from first parts =
-    sums_unless (other_in first parts) (twice_in parts) (lacking_in first.share.every parts) first.share.every (sum_of parts)
+    sums_unless (other_in first parts) (twice_in parts) (lacking_in first.share.every parts) first.share.every
+    (sum_of parts)
 
 abbrev pub sums_by : (first : Option Part) → List Part → Result Totals Unfit
 sums_by None parts = Err NoShare

@@ -22,7 +22,9 @@ IsSingle d items flaw = (place : Place) × IsPlaceIn d.chip place × IsSingleAt 
 
 -- each single flaw of a description is among them
 abbrev pub EachIsGraded : Type 0
-EachIsGraded = (d : DescData) (items : ℕ) (flaw : Flaw) → IsSound d.chip → IsSingle d items flaw → Contains (all_flaws d items) flaw
+EachIsGraded =
+    (d : DescData) (items : ℕ) (flaw : Flaw) → IsSound d.chip → IsSingle d items flaw
+    → Contains (all_flaws d items) flaw
 
 -- and no other flaw is
 abbrev pub NoOtherIsGraded : Type 0

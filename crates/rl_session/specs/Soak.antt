@@ -44,7 +44,8 @@ reg_text k =
     ∷ codes "', reset = 0}]\n" ∷ [])
 
 abbrev pub maps_text : List ℕ
-maps_text = codes "[[map]]\nname = 'bus'\nbytes = 2\nendian = 'big'\nadapter = 'plain'\n[[map]]\nname = 'per'\nbytes = 4\nendian = 'little'\nadapter = 'apb'\n"
+maps_text =
+    codes "[[map]]\nname = 'bus'\nbytes = 2\nendian = 'big'\nadapter = 'plain'\n[[map]]\nname = 'per'\nbytes = 4\nendian = 'little'\nadapter = 'apb'\n"
 
 -- even registers stand on one bus, odd ones on the other
 abbrev pub map_of : ℕ → List ℕ

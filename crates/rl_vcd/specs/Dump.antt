@@ -31,7 +31,8 @@ label_text label = joined (codes "b0" ∷ flat_map (binary 8) label ∷ codes " 
 -- the first `count` cycles of the access phase of a transfer that begins in cycle `n`
 abbrev pub access_text : Bus → ApbTransfer → ApbResponse → (n count : ℕ) → List ℕ
 access_text b t r n zero = []
-access_text b t r n (suc k) = access_text b t r n k ++ cycle_text (n + k + 1) (changes b (pins_at t r k) (pins_at t r (k + 1)))
+access_text b t r n (suc k) =
+    access_text b t r n k ++ cycle_text (n + k + 1) (changes b (pins_at t r k) (pins_at t r (k + 1)))
 
 -- a transfer: its setup phase, in which its operation appears, its access phase, and an idle cycle
 abbrev pub transfer_text : Bus → (label : List ℕ) → ApbTransfer → ApbResponse → (n : ℕ) → List ℕ
@@ -50,7 +51,8 @@ pub record BusData : Type 0 where
 
 abbrev pub var_text : Bus → (letter digits : ℕ) → (name : List ℕ) → List ℕ
 var_text b letter digits name =
-    joined (codes "$var wire " ∷ decimal digits ∷ codes " " ∷ name_of letter b.number ∷ codes " " ∷ name ∷ codes " $end\n" ∷ [])
+    joined (codes "$var wire " ∷ decimal digits ∷ codes " " ∷ name_of letter b.number ∷ codes " " ∷ name
+    ∷ codes " $end\n" ∷ [])
 
 -- the declarations of the pins of a bus whose data has so many bytes
 abbrev pub vars_text : Bus → (bytes : ℕ) → List ℕ
@@ -68,7 +70,8 @@ vars_text b bytes = joined (
 
 -- the declaration of a bus
 abbrev pub scope_text : (name : List ℕ) → Bus → List ℕ
-scope_text name b = joined (codes "$scope module " ∷ name ∷ codes " $end\n" ∷ vars_text b b.bytes ∷ codes "$upscope $end\n" ∷ [])
+scope_text name b =
+    joined (codes "$scope module " ∷ name ∷ codes " $end\n" ∷ vars_text b b.bytes ∷ codes "$upscope $end\n" ∷ [])
 
 -- the pins of a bus before its first transfer
 abbrev pub idle_text : Bus → List ℕ

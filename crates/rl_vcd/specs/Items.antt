@@ -28,11 +28,13 @@ transfer_of item = record {
 
 -- the response with its answer, without wait cycles
 abbrev pub response_of : TraceItem → ApbResponse
-response_of item = record { prdata = item.answer.word % 2 ^ 32; pslverr = item.answer.failed; waits = 0; serial = item.tag }
+response_of item =
+    record { prdata = item.answer.word % 2 ^ 32; pslverr = item.answer.failed; waits = 0; serial = item.tag }
 
 -- an item that goes on in clock cycle `n`, and the cycle behind it
 abbrev pub item_text : LayoutData → (label : List ℕ) → TraceItem → (n : ℕ) → List ℕ
-item_text l label item n = if is_apb l item.port then transfer_text (bus_of l item.port) label (transfer_of item) (response_of item) n else []
+item_text l label item n =
+    if is_apb l item.port then transfer_text (bus_of l item.port) label (transfer_of item) (response_of item) n else []
 
 abbrev pub cycle_behind : LayoutData → TraceItem → (n : ℕ) → ℕ
 cycle_behind l item n = if is_apb l item.port then n + 3 else n
@@ -53,7 +55,8 @@ abbrev pub buses_from : LayoutData → List PortRow → (k : ℕ) → List BusDa
 buses_from l [] k = []
 buses_from l (port ∷ ports) k =
     if bytes_eq port.kind.name (codes "apb")
-    then record { name = (map_at l port.map).name; bus = record { number = k; bytes = min port.bytes 4 } } ∷ buses_from l ports (k + 1)
+    then record { name = (map_at l port.map).name; bus = record { number = k; bytes = min port.bytes 4 } }
+    ∷ buses_from l ports (k + 1)
     else buses_from l ports (k + 1)
 
 abbrev pub buses_of : LayoutData → List BusData

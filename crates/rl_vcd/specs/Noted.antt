@@ -20,7 +20,8 @@ told_of model event = record { model = model; event = event }
 
 -- ---- one event
 
-pub record Notes {K : Type 0} (sink : Sink K) (old : Dump K) (model : ModelData) (event : Event) (new : Dump K) : Type 0 where
+pub record Notes {K : Type 0} (sink : Sink K) (old : Dump K) (model : ModelData) (event : Event) (new : Dump K)
+    : Type 0 where
   -- As long as nothing went wrong, its transfers are drawn from the next clock cycle on.
   pub drawn : IsNone new.fault
       → Appends (told sink.written old) (told sink.written new) (event_drawn (told_of model event) old.wave.cycle)
@@ -39,19 +40,22 @@ pub record Notes {K : Type 0} (sink : Sink K) (old : Dump K) (model : ModelData)
 -- ---- all events
 
 -- A dump over a layout has these events, and was begun when its sink was so.
-pub record HasEvents {K : Type 0} (sink : Sink K) (before : K) (l : LayoutData) (events : List Told) (d : Dump K) : Type 0 where
+pub record HasEvents {K : Type 0} (sink : Sink K) (before : K) (l : LayoutData) (events : List Told) (d : Dump K)
+    : Type 0 where
   -- As long as nothing went wrong, exactly its text was told, and the next clock cycle is the one behind it.
   pub whole : IsNone d.fault → Appends (sink.written before) (told sink.written d) (dump_text l events)
   pub cycle : IsNone d.fault → d.wave.cycle ≡ cycle_behind_events events 1
   -- Whatever went wrong, a front of the text was written.
   pub front : AppendsFront (sink.written before) (sink.written d.sink) (dump_text l events)
-  -- It ended early by the sink only where this has failed, and by its length only where no further cycle can be counted.
+  -- It ended early by the sink only where this has failed, and by its length only where no further cycle can be
+  -- counted.
   pub cause : d.fault ≡ Some SinkFailed → Rose (sink.faults before) (sink.faults d.sink)
   pub full : d.fault ≡ Some Full → EventsRunOut events 1
   pub later : sink.faults before ≤ sink.faults d.sink
   pub ends_kept : sink.ends d.sink ≡ sink.ends before
 
--- It was ended from where it stood: as long as nothing went wrong, what was kept back was written, and its sink was ended.
+-- It was ended from where it stood: as long as nothing went wrong, what was kept back was written, and its sink was
+-- ended.
 pub record Closes {K : Type 0} (sink : Sink K) (d : Dump K) (fault : Option Fault) (now : K) : Type 0 where
   pub whole : IsNone fault → Keeps (told sink.written d) (sink.written now)
   pub ended : IsNone fault → Rose (sink.ends d.sink) (sink.ends now)
@@ -63,15 +67,16 @@ pub record Closes {K : Type 0} (sink : Sink K) (d : Dump K) (fault : Option Faul
   pub silent : IsSome d.fault → (fault ≡ d.fault) × (now ≡ d.sink)
 
 -- A dump over a layout has these events, from its first byte to its end, or up to a fault.
-pub record IsDumpOf {K : Type 0} (sink : Sink K) (before : K) (l : LayoutData) (events : List Told) (fault : Option Fault)
+pub record IsDumpOf {K : Type 0} (sink : Sink K) (before : K) (l : LayoutData) (events : List Told)
+    (fault : Option Fault)
     (now : K) : Type 0 where
-  -- As long as nothing went wrong, exactly its text was written: the header, and behind it the transfers of these events
-  -- in order. Its sink was ended then.
+  -- As long as nothing went wrong, exactly its text was written: the header, and behind it the transfers of these
+  -- events in order. Its sink was ended then.
   pub whole : IsNone fault → Appends (sink.written before) (sink.written now) (dump_text l events)
   pub ended : IsNone fault → Rose (sink.ends before) (sink.ends now)
   -- Whatever went wrong, a front of the text was written.
   pub front : AppendsFront (sink.written before) (sink.written now) (dump_text l events)
-  -- It ended early by the sink only where this has failed, and by its length only where no further cycle can be counted.
-  -- Else memory ran out.
+  -- It ended early by the sink only where this has failed, and by its length only where no further cycle can be
+  -- counted. Else memory ran out.
   pub cause : fault ≡ Some SinkFailed → Rose (sink.faults before) (sink.faults now)
   pub full : fault ≡ Some Full → EventsRunOut events 1

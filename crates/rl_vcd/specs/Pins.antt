@@ -8,7 +8,18 @@ use Rattle.rl_vcd.specs.Signals.{joined, bit_change, word_change}
 
 -- between transfers each pin is low
 abbrev pub idle : Pins
-idle = record { psel = false; penable = false; pwrite = false; pprot = 0; paddr = 0; pwdata = 0; pstrb = 0; pready = false; prdata = 0; pslverr = false }
+idle = record {
+  psel = false;
+  penable = false;
+  pwrite = false;
+  pprot = 0;
+  paddr = 0;
+  pwdata = 0;
+  pstrb = 0;
+  pready = false;
+  prdata = 0;
+  pslverr = false;
+}
 
 -- in cycle `k` of a transfer: the setup phase is cycle 0, and the last one is `waits + 1`
 abbrev pub pins_at : ApbTransfer → ApbResponse → (k : ℕ) → Pins

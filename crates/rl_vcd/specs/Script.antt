@@ -11,7 +11,8 @@ use Rattle.rl_vcd.specs.declared.dump.Dump.{Dump}
 use Rattle.rl_vcd.specs.Lines.{DrawsInput, DrawsWithRest}
 
 -- The next line was read and run, and its log written, as `play` of `rl_play` does; and exactly its events were drawn.
-pub record DrawsLine {K : Type 0} (sink : Sink K) (number : ℕ) (before : Point) (input : Option (List ℕ)) (after : Point)
+pub record DrawsLine {K : Type 0} (sink : Sink K) (number : ℕ) (before : Point) (input : Option (List ℕ))
+    (after : Point)
     (rest left : Option (List ℕ)) (ended : Bool) (old new : Dump K) (turn : Turn) : Type 0 where
   pub plays : PlaysLine number before input after rest left ended turn
   pub draws_next : turn ≡ Next → DrawsWithRest sink number before input after rest old new

@@ -40,8 +40,8 @@ pub record DrawsFrom {K : Type 0} (sink : Sink K) (desc : DescData) (lines : Lis
     (adapters : List Standing) (before : K) (status : Status) (fault : Option Fault) (now : K) : Type 0 where
   pub errors : ℕ
   pub last : Point
-  -- What was written is the text of events, each of which performs its line's operation from where the one before ended.
-  -- After a log that failed, and where memory ran out, it is a front of that.
+  -- What was written is the text of events, each of which performs its line's operation from where the one before
+  -- ended. After a log that failed, and where memory ran out, it is a front of that.
   pub plays : Plays 1 (first_point desc adapters errors old) lines last status
   pub text_is : last.text ≡ new
   -- The dump is that of exactly these events.
@@ -77,8 +77,8 @@ DrawsRest sink desc input old new adapters before status fault now =
 pub record DrawsSession {K : Type 0} (sink : Sink K) (opening : Result DescData (List ℕ)) (bytes : List ℕ)
     (old new : Option (List ℕ)) (adapters : List Standing) (before : K) (status : Status) (fault : Option Fault)
     (now : K) : Type 0 where
-  -- Where it is refused before its script, exactly the line that says so is written, the status is `Refused`, and nothing
-  -- is drawn. After any fault, and where memory ran out, a front of that line was written.
+  -- Where it is refused before its script, exactly the line that says so is written, the status is `Refused`, and
+  -- nothing is drawn. After any fault, and where memory ran out, a front of that line was written.
   pub refused : (line : List ℕ) → opening ≡ Err line → Tells status Refused old new line × IsUndrawn before fault now
   -- Where it isn't, its script is played and drawn, unless a fault ended it before.
   pub drawn : (desc : DescData) → opening ≡ Ok desc

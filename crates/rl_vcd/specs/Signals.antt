@@ -23,7 +23,8 @@ abbrev pub bit_text : (letter bus : ℕ) (value : Bool) → List ℕ
 bit_text letter bus value = joined (bit_digit value ∷ name_of letter bus ∷ codes "\n" ∷ [])
 
 abbrev pub word_text : (letter bus digits value : ℕ) → List ℕ
-word_text letter bus digits value = joined (codes "b" ∷ binary digits value ∷ codes " " ∷ name_of letter bus ∷ codes "\n" ∷ [])
+word_text letter bus digits value =
+    joined (codes "b" ∷ binary digits value ∷ codes " " ∷ name_of letter bus ∷ codes "\n" ∷ [])
 
 -- only what changes is written
 abbrev pub bit_change : (letter bus : ℕ) (before after : Bool) → List ℕ
