@@ -255,7 +255,15 @@ fn tell_notes<W: Sink>(
 /// Says on standard error what helps, a line each: of a session that was refused the line of the input, the reason, the
 /// word that is wrong and the name that is nearest to it; of one that was run, what may not be meant.
 ///
-/// Where there is no memory, or no more to tell than the log does, nothing is said.
+/// Where there is no memory, or no more to say than the log does, nothing is said.
+///
+/// # Examples
+///
+/// The log ends with `refused line 3: no such name`, and the line in the script is `check uart.ctlr`:
+///
+/// ```text
+/// regrun: line 350: no such name: uart.ctlr (uart.ctrl?)
+/// ```
 pub fn advise<S: Source + Drop, K: Sink + Drop, W: Sink>(
     alloc: Global,
     program: &str,

@@ -389,6 +389,18 @@ fn grade_marked<S: Source, K: Sink, M: Meter>(
 ///
 /// Nothing is written before the whole script was read. The log is finished once, where its last line was written. Where
 /// a bound is asked for and fewer flaws were found, the status is `Found`.
+///
+/// # Examples
+///
+/// A register `ctrl` has an RW field `mode` of 4 bits that resets to 5, and the script is `write ctrl 0x3` and `check ctrl`.
+/// `Tell::Run` writes:
+///
+/// ```text
+/// ctrl: deaf 1 found 0 missed, address 1 found 0 missed
+/// ctrl.mode: stuck 4 found 4 missed, reset 0 found 4 missed, policy 21 found 3 missed; missed: stuck at 0 bit 2-3, ..
+/// session: item 2 found 0 missed
+/// end: 40 flaws, 29 found, 11 missed, 72.5 % found
+/// ```
 pub fn run_grade<S: Source, K: Sink, M: Meter>(
     alloc: Global,
     asked: Asked,

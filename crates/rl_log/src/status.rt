@@ -24,6 +24,13 @@ impl Status {
     ghost use Rattle.std.specs.Prelude.{◌≡◌};
 
     /// The exit status of the program.
+    ///
+    /// # Examples
+    ///
+    /// ```text
+    /// Status::Passed.code() == 0
+    /// Status::Refused.code() == 2
+    /// ```
     pub fn code(&self) -> u8
         ensures { result ≡ code_of self.now }
     {

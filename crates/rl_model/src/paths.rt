@@ -25,6 +25,7 @@ impl Paths {
     ghost use Rattle.std.specs.Prelude.{slice_get, take, IfOk, OnErr, bytes_eq};
     ghost use Rattle.rl_model.specs.Paths.{is_among, with_text, number_in};
 
+    /// No texts.
     pub fn new(alloc: Global) -> Paths
         ensures { result ≡ [] }
     {
@@ -33,6 +34,7 @@ impl Paths {
         }
     }
 
+    /// How many texts there are.
     pub fn len(&self) -> usize
         ensures len { result ≡ length self.now }
         ensures small { result < 2 ^ 63 }
@@ -78,6 +80,7 @@ impl Paths {
         }
     }
 
+    /// Whether a text is one of them.
     pub fn has(&self, text: &[u8]) -> bool
         ensures { result ≡ is_among text.now self.now }
     {

@@ -59,6 +59,20 @@ fn put_plan<K: Sink>(alloc: Global, asked: Asked, desc: Desc, log: &mut K) -> St
 /// show. The adapters are those of which a root map names one; nothing is sent. The script isn't looked at.
 ///
 /// The log is finished once, where its last line was written.
+///
+/// # Examples
+///
+/// The description has a register `ctrl` with an RW field of 4 bits. Of its lines these are the first:
+///
+/// ```text
+/// # ctrl: each bit at 0 and at 1, by bus and backdoor; what a write and a read make of it; its resets
+/// reset HARD
+/// check ctrl @bus
+/// check ctrl @bus
+/// write ctrl 0xff @bus
+/// check ctrl @bus
+/// back-check ctrl
+/// ```
 pub fn run_plan<S: Source, K: Sink>(
     alloc: Global,
     asked: Asked,

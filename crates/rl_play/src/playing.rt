@@ -301,6 +301,19 @@ fn play_through<S: Source, K: Sink, D: Device, E: Earlier>(
 ///
 /// Lines are numbered from the first that is read here, and the last line and the status are by the lines of this
 /// call alone. The counts rise by what happened. The output isn't finished.
+///
+/// # Examples
+///
+/// The lines are `write ctrl 0x3` and `check ctrl`, and the device is as described. The status is `Status::Passed`, and
+/// the sink has:
+///
+/// ```text
+/// write ctrl 0x3 @bus: ok mirror 0x03
+///   bus w 0x0 0x03 1 #0 ok
+/// check ctrl @bus: ok 0x03 mirror 0x03
+///   bus r 0x0 0x03 1 #1 ok
+/// end: 2 events, 0 differences, 0 bus errors
+/// ```
 pub fn play<S: Source, K: Sink, D: Device>(
     alloc: Global,
     model: &mut Model,

@@ -61,6 +61,15 @@ pub fn model_of(alloc: Global, desc: Desc) -> Result<Model, AllocError>
 }
 
 /// The model and the device of a description, after a hard reset.
+///
+/// # Examples
+///
+/// ```text
+/// let desc = described(alloc, head, &adapters)?;
+/// let (mut model, mut bench) = open(alloc, desc)?;
+/// // An operation is then a call of `rl_access` on both, as:
+/// peek(&mut model, &mut bench, 0)
+/// ```
 pub fn open(alloc: Global, desc: Desc) -> Result<(Model, Bench), AllocError>
     requires built_with { IsBuiltWith desc.layout desc.chip }
     requires flaws { AreFlawsOf desc.chip desc.layout desc.flaws }

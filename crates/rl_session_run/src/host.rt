@@ -52,8 +52,19 @@ pub struct Hosted<D> {
 
 /// Runs a session on the device that a host makes for it, and writes its log.
 ///
-/// The description is read and checked before there is a device. Where the device has no backdoor, no item of the
-/// description has one from there on. The log is finished once, where its last line was written.
+/// The description is read and checked before there is a device. The log is finished once, where its last line was
+/// written.
+///
+/// # Examples
+///
+/// `OnTimer` of `example_wishbone` makes a timer, and refuses a session with a flaw.
+///
+/// ```text
+/// let hosted = run_on(alloc, session, log, adapters, OnTimer {});
+/// // How it ended, and the timer where the session came to its script:
+/// hosted.status
+/// hosted.device
+/// ```
 pub fn run_on<P: Source, Q: Sink, H: Host + Drop>(
     alloc: Global,
     session: &mut P,

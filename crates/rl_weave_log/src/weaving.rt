@@ -73,6 +73,20 @@ fn weave_all<S: Source, D: Device, L: Log>(
 /// Runs the lines that are left, group by group, with the words of each group woven by a generator that begins at a
 /// number, and writes their log and the last line to a sink that may keep bytes back. What was written of a group is
 /// out before the source is read again.
+///
+/// # Examples
+///
+/// The lines are `other-write a 0x1234` and `other-read b`, of registers of two bytes over a bus of one, and n is 1:
+///
+/// ```text
+///   bus w 0x0 0x34 1 #0 ok
+///   bus r 0x2 0x00 1 #1 ok
+///   bus w 0x1 0x12 1 #2 ok
+/// other-write a 0x1234 @bus: ok mirror 0x1234
+///   bus r 0x3 0x00 1 #3 ok
+/// other-read b @bus: ok 0x0000 mirror 0x0000
+/// end: 2 events, 0 differences, 0 bus errors
+/// ```
 pub fn weave_lines<S: Source, D: Device, L: Log>(
     alloc: Global,
     n: u64,
