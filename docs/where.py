@@ -1,6 +1,7 @@
 #!/usr/bin/env python3
-"""where.py: checks the tables of "Where to add what" in docs/ARCHITECTURE.md: each file that they name exists, and each file
-that lists all policies, flaws, commands, sequences or keys is named in the table of its kind. The last line has the counts."""
+"""where.py: checks the tables of "Where to find what" and "Where to add what" in docs/ARCHITECTURE.md: each file that they name
+exists, and each file that lists all policies, flaws, commands, sequences or keys, or sets a limit, is named in the table of its
+kind. The last line has the counts."""
 import pathlib
 import re
 import subprocess
@@ -15,18 +16,19 @@ LISTS = {
     'A command of the script': ['mempeek backcheck otherread', 'otherread fieldread memcheck', 'mempeek backcheck hw poke'],
     'A sequence': ['hwreset bitbash access(test)? shared(access)? memwalk'],
     'A key of the description': ['volatile alone adapter predict rights skip'],
+    'A limit': ['const.most(lines|scopes|maps|flaws)'],
 }
 # Examples and tests show what there is; the others are made from lists, or say which of a standard's things there are.
 APART = re.compile(r'(examples/|python/tests/|crates/test_rows/|docs/(index\.html|(PROFILE|ARCHITECTURE|DEFINITIONS)\.md|where\.py)|CHANGELOG)')
 
 
 def tables():
-    """The rows of each table below a heading of the third level: pairs of a crate or folder and a file."""
+    """The rows of the tables below each heading: pairs of a crate or folder and a file."""
     found, heading, crate = {}, '', ''
-    text = open(TOP / 'docs' / 'ARCHITECTURE.md', encoding='utf-8').read().partition('## Where to add what')[2]
-    for line in text.splitlines():
-        if line.startswith('### '):
-            heading = line[4:]
+    text = open(TOP / 'docs' / 'ARCHITECTURE.md', encoding='utf-8').read().partition('## Where to find what')
+    for line in ''.join(text[1:]).splitlines():
+        if line.startswith(('## ', '### ')):
+            heading = line.lstrip('# ')
         cells = [it.strip() for it in line.strip('|').split('|')] if line.startswith('| ') else []
         if len(cells) == 3 and heading and cells[0] != '---':
             crate = (re.findall(r'`([^`]*)`', cells[0]) or [crate])[0] if cells[0] else crate
