@@ -1,4 +1,4 @@
--- One call: from what stands before it to what stands after it.
+-- One call: from what there is before it to what there is after it.
 use Rattle.std.specs.Prelude.{◌≡◌, ◌≤◌, ℕ, Bool, true, false, List, map, Option, Some, option_map, MatchResult}
 use Rattle.rl_bus.specs.Standing.{Standing, standing_at}
 use Rattle.rl_bus.specs.State.{State}

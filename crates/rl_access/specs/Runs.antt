@@ -1,4 +1,4 @@
--- Operations that are done one after another, each told to a recorder,
+-- Operations that are done one after another, each handed to a recorder,
 -- up to and with the first that ends by a bus error.
 use Rattle.std.specs.Prelude.{◌≡◌, ℕ, zero, suc, ◌+◌, ◌^◌, false, nat_lt, List, [], ◌∷◌, length, Option, Result, IfOk, MatchResult}
 use Rattle.std.specs.Bool.{MatchBool}

@@ -1,4 +1,4 @@
--- One operation over a device that tells its state: its event, and what stands after it, by what stood before it.
+-- One operation over a device that reports its state: its event, and what there is after it, by what was before it.
 use Rattle.std.specs.Prelude.{◌≡◌, ℕ, List, Option, Some, Ok, Err}
 use Rattle.rl_bus.specs.Standing.{Standing, standing_at}
 use Rattle.rl_bus.specs.State.{State}

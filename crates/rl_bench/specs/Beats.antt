@@ -1,5 +1,5 @@
 -- A list with a number for each word, or none where no words queue:
--- the beat of an address stands with the first word there.
+-- the beat of an address is kept with the first word there.
 use Rattle.std.specs.Prelude.{◌≡◌, ℕ, ◌<◌, ◌≤◌, ◌&&◌, ◌==◌, true, Bool, if◌then◌else◌, List, [], length, Option, Some, None, unwrap_or, slice_index, slice_index_or, position, filter}
 use Rattle.std.specs.List.{list_any}
 use Rattle.rl_bus.specs.declared.table.WordRow.{WordRow}

@@ -1,4 +1,4 @@
--- Where a row stands.
+-- Where a row is.
 use Rattle.std.specs.Prelude.{ℕ, Some, None}
 use Rattle.rl_model.specs.declared.fault.Spot.{Spot}
 use Rattle.rl_desc.specs.declared.fault.Rows.{Rows}

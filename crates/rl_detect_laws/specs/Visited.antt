@@ -1,4 +1,4 @@
--- What a sequence goes over, and what it told.
+-- What a sequence goes over, and the events that it handed over.
 use Rattle.std.specs.Prelude.{◌≡◌, ◌⊎◌, ℕ, ◌<◌, true, List, [], ◌∷◌, length, Option}
 use Rattle.rl_model.specs.Rows.{ChipData}
 use Rattle.rl_map.specs.Layout.{LayoutData}

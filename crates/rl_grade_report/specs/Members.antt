@@ -1,4 +1,4 @@
--- What the flaws of one sort are told by.
+-- How the flaws of one sort are named.
 use Rattle.std.specs.Prelude.{ℕ, ◌+◌, ◌-◌, ◌==◌, nat_lt, ◌&&◌, not, Bool, if◌then◌else◌, List, [], ◌∷◌, length, map, flat_map, slice_index, codes, decimal, unwrap_or, bit_xor}
 use Rattle.std.specs.Int.Count.{count_trailing_zeros}
 use Rattle.std.specs.List.{range_with_len}

@@ -1,4 +1,4 @@
--- The places of a chip at which flaws are told.
+-- The places of a chip at which flaws are reported.
 use Rattle.std.specs.Prelude.{ℕ, List, [], ◌∷◌, ◌++◌, length, map, flat_map, slice_get, Option, Some, None}
 use Rattle.std.specs.List.{range_with_len}
 use Rattle.rl_model.specs.declared.rows.Item.TheVariants.{Reg, Mem}

@@ -1,4 +1,4 @@
--- That a grading without waivers is told, byte for byte, as one that knows of none.
+-- That a grading without waivers is written, byte for byte, as one that knows of none.
 use Rattle.std.specs.Prelude.{◌≡◌, ℕ, ◌-◌, ◌==◌, false, if◌then◌else◌, List, [], ◌∷◌, ◌++◌, All, codes, decimal}
 use Rattle.rl_model.specs.Rows.{ChipData}
 use Rattle.rl_map.specs.Layout.{LayoutData}

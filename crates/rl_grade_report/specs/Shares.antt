@@ -1,4 +1,4 @@
--- The shares of a text, one behind the other.
+-- The shares of a text, one after the other.
 use Rattle.std.specs.Prelude.{ℕ, ◌+◌, List, [], ◌∷◌, ◌++◌, Option, Some, None, Result, Ok, Err}
 use Rattle.rl_report.specs.Lines.{lines_of}
 use Rattle.rl_grade_report.specs.declared.said.Head.{Head}

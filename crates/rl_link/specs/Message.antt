@@ -1,4 +1,4 @@
--- What a user is told of a peer: what it chatters, an unknown value, what it didn't do, and how the link broke.
+-- What is reported of a peer to a user: what it chatters, an unknown value, what it didn't do, and how the link broke.
 use Rattle.std.specs.Prelude.{ℕ, List, [], ◌∷◌, ◌++◌, codes, decimal, take, Bool, true, false, if◌then◌else◌}
 use Rattle.rl_report.specs.Lines.{first_line}
 use Rattle.rl_report.specs.Pieces.{joined}

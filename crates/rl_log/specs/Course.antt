@@ -1,4 +1,4 @@
--- Operations that are done one after another: what is told of them, and what stands after them.
+-- Operations that are done one after another: what is handed on of them, and what there is after them.
 use Rattle.std.specs.Prelude.{List, [], ◌∷◌, if◌then◌else◌, Ok, Err}
 use Rattle.rl_access.specs.declared.event.Op.{Op}
 use Rattle.rl_access.specs.HandsOver.{Told}

@@ -1,4 +1,4 @@
--- The judged log: what a session writes, how it ends, and what stands afterwards.
+-- The judged log: what a session writes, how it ends, and what there is afterwards.
 use Rattle.std.specs.Prelude.{ℕ, ◌+◌, nat_lt, if◌then◌else◌, List, [], ◌∷◌, ◌++◌, length, Option, Some, None, Result, Ok, Err}
 use Rattle.std.specs.Io.BufRead.{strip_last}
 use Rattle.rl_script.specs.declared.fault.LineFault.{LineFault}

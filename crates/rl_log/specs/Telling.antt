@@ -1,4 +1,4 @@
--- How a run ends, and what it told until then.
+-- How a run ends, and what it wrote until then.
 use Rattle.std.specs.Prelude.{◌≡◌, ℕ, List, true, Option}
 use Rattle.std.specs.Io.KnownBytes.{Appends}
 use Rattle.rl_report.specs.Pieces.{AppendsFront}

@@ -1,4 +1,4 @@
--- Where each byte of an item stands on the bus.
+-- Where each byte of an item is on the bus.
 use Rattle.std.specs.Prelude.{◌≡◌, ℕ, ◌+◌, ◌*◌, ◌^◌, ◌<◌, List, [], ◌∷◌, true, false}
 use Rattle.std.specs.Int.{div_ceil}
 use Rattle.rl_map.specs.declared.path.Level.{Level}

@@ -1,4 +1,4 @@
--- What a burst or a sequence hands over to a recorder, also where the recorder fails, is a front of
+-- What a burst or a sequence hands over to a recorder, also where the recorder fails, is a prefix of
 -- the plain machine's events.
 use Rattle.std.specs.Prelude.{◌≡◌, ℕ, List, length, map, take, All, Option, Result, OnOk, OnErr}
 use Rattle.rl_bus.specs.declared.device.Failed.{Failed}

@@ -1,4 +1,4 @@
--- The registers and memories of which a script needs the lines: put behind the script, these find a flaw of it first.
+-- The registers and memories of which a script needs the lines: put after the script, these find a flaw of it first.
 use Rattle.std.specs.Prelude.{ℕ, ◌==◌, Bool, false, List, [], ◌∷◌, ◌++◌, map, filter, slice_get, Option, Some, None}
 use Rattle.std.specs.List.{list_any, range_with_len}
 use Rattle.std.specs.Option.{option_map_or}

@@ -1,4 +1,4 @@
--- What a script does over any device, one that tells its state or one that tells nothing:
+-- What a script does over any device, one that reports its state or one that reports nothing:
 -- events, each of which performs its operation from where the one before ended.
 use Rattle.std.specs.Prelude.{◌≡◌, ◌⊎◌, ℕ, ◌+◌, List, [], ◌∷◌, ◌++◌, true, false, Option, Some, None, IfSome, Result, Ok, Err, OnOk, OnErr, IfOk, MatchResult}
 use Rattle.std.specs.Io.KnownBytes.{Appends}

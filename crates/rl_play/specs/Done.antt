@@ -1,4 +1,4 @@
--- How far a script was done: its first events, what they count, and what stands after them.
+-- How far a script was done: its first events, what they count, and what there is after them.
 use Rattle.std.specs.Prelude.{◌≡◌, ℕ, List, [], ◌∷◌, ◌++◌, ◌+◌, length, Option, IfSome, Result, Ok, Err}
 use Rattle.rl_access.specs.Model.{ModelData}
 use Rattle.rl_bus.specs.Standing.{Standing}

@@ -1,4 +1,4 @@
--- What a buffered sink keeps back, and what it tells.
+-- What a buffered sink keeps back, and what was given to it.
 use Rattle.std.specs.Prelude.{ℕ, List, slice_range, Option}
 use Rattle.std.specs.Io.KnownBytes.{append_known}
 use Rattle.rl_play.specs.declared.buffered.Buffered.{Buffered}

@@ -1,4 +1,4 @@
--- What a line says that was read where it stands.
+-- What a line says that was read in place.
 use Rattle.rl_script.specs.declared.line.Line.{Line}
 use Rattle.rl_script.specs.declared.line.Line.TheVariants as line
 use Rattle.rl_script.specs.declared.line_ref.ItemLine.{ItemLine}

@@ -1,4 +1,4 @@
--- The five sequences, each as the operations that it stands for. Each goes over the registers or the memories
+-- The five sequences, each as its operations. Each goes over the registers or the memories
 -- that it chooses, and over the places of each that have the rights it needs. It follows the description alone,
 -- and what is mirrored at each moment.
 use Rattle.std.specs.Prelude.{ℕ, zero, suc, ◌+◌, ◌*◌, ◌^◌, ◌==◌, bit_xor, not, ◌&&◌, Bool, length, Option, Some}

@@ -1,4 +1,4 @@
--- The judged log of a session, and what `map` and `soak` write: the text, the status, and how the adapters stand
+-- The judged log of a session, and what `map` and `soak` write: the text, the status, and the adapters' standings
 -- afterwards.
 use Rattle.std.specs.Prelude.{ℕ, List, [], Result, Ok, Err, length, replicate}
 use Rattle.rl_bus.specs.Standing.{Standing, kinds_of}

@@ -1,4 +1,4 @@
--- What a sink was told of a session and how the adapters stand afterwards, against what is judged of it.
+-- What a sink was given of a session and the adapters' standings afterwards, against what is judged of it.
 use Rattle.std.specs.Prelude.{◌≡◌, ℕ, List, map, true, Option}
 use Rattle.rl_bus.specs.Standing.{Standing}
 use Rattle.rl_desc.specs.Data.{DescData}

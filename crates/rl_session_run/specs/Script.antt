@@ -1,4 +1,4 @@
--- A script that is played on a device which tells nothing, and the session that it belongs to.
+-- A script that is played on a device which reports nothing, and the session that it belongs to.
 use Rattle.std.specs.Prelude.{◌≡◌, ℕ, List, false, Option, None, IfSome, unwrap_or, Result, Ok, Err}
 use Rattle.std.specs.Io.KnownBytes.{Keeps}
 use Rattle.rl_access.specs.Call.{scene}

@@ -1,4 +1,4 @@
--- What a session tells that ended before its script.
+-- What a session writes that ended before its script.
 use Rattle.std.specs.Prelude.{◌≡◌, ℕ, List, false, Option, Result, Ok, Err, OnOk, IfErr}
 use Rattle.std.specs.Io.KnownBytes.{Keeps}
 use Rattle.rl_desc.specs.Data.{DescData}

@@ -1,4 +1,4 @@
--- What was drawn of lines, against what their log tells.
+-- What was drawn of lines, against what their log has.
 use Rattle.std.specs.Prelude.{◌≡◌, ℕ, ◌+◌, List, Option, Some, None, IfSome, Result, Ok, Err}
 use Rattle.rl_access.specs.declared.event.Tally.{Tally}
 use Rattle.rl_access.specs.HandsOver.{TakesAll}

@@ -1,4 +1,4 @@
--- What a dump has told.
+-- What a dump has written, and what it keeps back.
 use Rattle.std.specs.Prelude.{ℕ, List, Option}
 use Rattle.std.specs.Io.KnownBytes.{append_known}
 use Rattle.rl_vcd.specs.declared.wave.DrawFault.{DrawFault as Undrawn}

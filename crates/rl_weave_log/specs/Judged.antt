@@ -1,4 +1,4 @@
--- What `weave` writes of a session, how it ends, and how the adapters stand afterwards.
+-- What `weave` writes of a session, how it ends, and the adapters' standings afterwards.
 use Rattle.std.specs.Prelude.{ℕ, List, [], Result, Ok, Err}
 use Rattle.rl_bus.specs.Standing.{Standing, kinds_of}
 use Rattle.rl_desc.specs.Data.{DescData}

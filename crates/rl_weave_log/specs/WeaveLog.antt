@@ -1,4 +1,4 @@
--- The log of a woven script: what it writes, how it ends, and what stands afterwards.
+-- The log of a woven script: what it writes, how it ends, and what there is afterwards.
 use Rattle.std.specs.Prelude.{ℕ, zero, suc, ◌+◌, ◌==◌, if◌then◌else◌, Bool, true, false, List, [], ◌∷◌, ◌++◌, length, get_or, Option, Some, None, Result, Ok, Err}
 use Rattle.rl_bus.specs.declared.op.BusOp.{BusOp}
 use Rattle.rl_bus.specs.Standing.{standing_at, moved_on}
