@@ -15,7 +15,9 @@ use rl_bus::{
 /// 1, 2 and 4 bytes, addresses of 32 bits, and aligned addresses alone, and the serials and the trail.
 #[derive(Clone, Copy, Debug, PartialEq, Eq, Drop)]
 pub struct ApbAdapter {
+    /// The serial that the next transfer gets.
     pub next_serial: u64,
+    /// The trail of all operations and answers so far.
     pub trail: u64,
 }
 

@@ -17,15 +17,25 @@ use rl_bus::{ApbResponse, ApbTransfer};
 /// `pready`, `prdata` and `pslverr`; all others are the requester's.
 #[derive(Clone, Copy, Debug, PartialEq, Eq)]
 pub struct Pins {
+    /// PSEL: the completer is selected.
     pub psel: bool,
+    /// PENABLE: the cycle is of the access phase.
     pub penable: bool,
+    /// PWRITE: a write, and otherwise a read.
     pub pwrite: bool,
+    /// PPROT, which is always 0.
     pub pprot: u8,
+    /// PADDR: the address.
     pub paddr: u32,
+    /// PWDATA: the word that is written.
     pub pwdata: u32,
+    /// PSTRB: bit `l` enables byte `l` of PWDATA.
     pub pstrb: u8,
+    /// PREADY: the cycle is the last one of the transfer.
     pub pready: bool,
+    /// PRDATA: the word that is read.
     pub prdata: u32,
+    /// PSLVERR: the transfer failed.
     pub pslverr: bool,
 }
 

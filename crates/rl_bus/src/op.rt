@@ -9,10 +9,15 @@ use crate::ShortName;
 /// from the lowest.
 #[derive(Clone, Copy, Debug, PartialEq, Eq)]
 pub struct BusOp {
+    /// A write, and otherwise a read.
     pub write: bool,
+    /// The address, as the bus counts.
     pub address: u64,
+    /// The word that is written, and 0 in a read.
     pub word: u64,
+    /// Which bytes of the word are enabled.
     pub lanes: u8,
+    /// The width of the bus in bytes.
     pub bytes: u8,
 }
 
@@ -20,7 +25,9 @@ pub struct BusOp {
 /// `uvm_reg_bus_op` (IEEE 1800.2-2017, 19.1).
 #[derive(Clone, Copy, Debug, PartialEq, Eq)]
 pub struct Answer {
+    /// The word that was read.
     pub word: u64,
+    /// Whether the operation failed.
     pub failed: bool,
 }
 
@@ -34,9 +41,14 @@ pub struct Answer {
 pub struct AdapterKind {
     /// By this name a root map chooses its adapter.
     pub name: ShortName,
+    /// The widest word, in bytes.
     pub most_bytes: u8,
+    /// The last address.
     pub most_address: u64,
+    /// Whether an address is a multiple of the word's bytes.
     pub aligned: bool,
+    /// Whether a write carries byte enables.
     pub write_lanes: bool,
+    /// Whether a read carries byte enables.
     pub read_lanes: bool,
 }

@@ -12,7 +12,9 @@ use crate::{
 /// The bus is this project's own.
 #[derive(Clone, Copy, Debug, PartialEq, Eq, Drop)]
 pub struct PlainAdapter {
+    /// The tag that the next transfer gets.
     pub next_tag: u64,
+    /// The trail of all operations and answers so far.
     pub trail: u64,
 }
 

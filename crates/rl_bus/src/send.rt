@@ -16,7 +16,9 @@ use crate::{Adapter, AdapterKind, Adapters, Answer, BusOp, Device};
 /// The tag that an operation went out with, and what was answered.
 #[derive(Clone, Copy, Debug, PartialEq, Eq)]
 pub struct Exchanged {
+    /// The tag of the transfer.
     pub tag: u64,
+    /// What was answered.
     pub answer: Answer,
 }
 

@@ -14,6 +14,7 @@ use crate::{Answer, BusOp};
 /// An operation as it is, and its tag.
 #[derive(Clone, Copy, Debug, PartialEq, Eq)]
 pub struct PlainTransfer {
+    /// The operation.
     pub op: BusOp,
     /// The number that its adapter gave it. The response carries the same.
     pub tag: u64,
@@ -22,8 +23,11 @@ pub struct PlainTransfer {
 /// An answer as it is, and the tag of the transfer that it belongs to.
 #[derive(Clone, Copy, Debug, PartialEq, Eq)]
 pub struct PlainResponse {
+    /// The word that was read.
     pub word: u64,
+    /// Whether the transfer failed.
     pub failed: bool,
+    /// The tag of the transfer.
     pub tag: u64,
 }
 
@@ -65,14 +69,18 @@ pub struct ApbResponse {
 /// What an adapter sends to a device.
 #[derive(Clone, Copy, Debug, PartialEq, Eq)]
 pub enum Transfer {
+    /// Of any bus but APB.
     Plain(PlainTransfer),
+    /// Of an APB bus.
     Apb(ApbTransfer),
 }
 
 /// What a device sends back, in the form of the transfer.
 #[derive(Clone, Copy, Debug, PartialEq, Eq)]
 pub enum Response {
+    /// To a plain transfer.
     Plain(PlainResponse),
+    /// To an APB transfer.
     Apb(ApbResponse),
 }
 

@@ -22,8 +22,11 @@ use std::marker::Model;
 /// the flaws that the device is to have, in description order.
 #[derive(Drop)]
 pub struct Desc {
+    /// Its registers, fields and memories.
     pub chip: Chip,
+    /// Where they are on the buses.
     pub layout: Layout,
+    /// The flaws of the device, in the order of the description.
     pub flaws: Vec<Flaw>,
 }
 

@@ -14,6 +14,7 @@ pub struct Ways {
     pub written: bool,
     /// Some word of it lets reads through.
     pub read: bool,
+    /// It has a backdoor.
     pub backdoor: bool,
 }
 

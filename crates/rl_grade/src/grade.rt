@@ -17,6 +17,7 @@ use std::alloc::{AllocError, Global};
 /// A flaw that was tried.
 #[derive(Clone, Copy, Debug, PartialEq, Eq)]
 pub struct Graded {
+    /// The flaw.
     pub flaw: Flaw,
     /// The first event that shows more with it than without it.
     pub found: Option<Find>,
@@ -25,6 +26,7 @@ pub struct Graded {
 /// Which flaws are tried: each `every`-th from the `first`-th on. They count from 1.
 #[derive(Clone, Copy, Debug, PartialEq, Eq)]
 pub struct Share {
+    /// The number of the first one, from 1 to `every`.
     pub first: u64,
     /// Not 0.
     pub every: u64,
@@ -44,13 +46,16 @@ pub struct PlaceGrade {
 /// Flaws that were tried, each with its answer, and the description again.
 #[derive(Drop)]
 pub struct Tries {
+    /// The description again.
     pub desc: Desc,
+    /// The flaws with their answers, in order.
     pub graded: Vec<Graded>,
 }
 
 /// Answers that were found before, in the order in which they are asked for.
 #[derive(Drop)]
 pub struct Known {
+    /// The flaws with their answers.
     pub graded: Vec<Graded>,
     /// Which of them is asked for next, counted from 0.
     pub next: usize,

@@ -33,6 +33,8 @@ pub enum Job {
 /// A line of a script that asks for something, by its number, which counts from 1.
 #[derive(Drop)]
 pub struct Task {
+    /// The number of the line.
     pub line: u64,
+    /// What it asks for.
     pub job: Job,
 }

@@ -32,6 +32,7 @@ pub enum Tell {
 /// What is asked for.
 #[derive(Clone, Copy, Debug, PartialEq, Eq)]
 pub struct Asked {
+    /// What is written.
     pub tell: Tell,
     /// Which flaws are tried.
     pub share: Share,

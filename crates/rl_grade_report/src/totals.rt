@@ -14,10 +14,15 @@ use std::alloc::AllocError;
 /// many are waived; and how many are found though they are waived. A count that has come to its end stays there.
 #[derive(Clone, Copy, Debug, PartialEq, Eq)]
 pub struct Totals {
+    /// How many were tried.
     pub flaws: u64,
+    /// How many were found.
     pub found: u64,
+    /// How many weren't found, aren't waived, and no script finds.
     pub hidden: u64,
+    /// How many weren't found and are waived.
     pub waived: u64,
+    /// How many were found though they are waived.
     pub needless: u64,
 }
 

@@ -23,6 +23,7 @@ pub(crate) const VERDICTS: [Verdict; 3] = [Verdict::Missed, Verdict::Hidden, Ver
 /// A flaw that was tried.
 #[derive(Clone, Copy, Debug, PartialEq, Eq)]
 pub struct Judged {
+    /// The flaw.
     pub flaw: Flaw,
     /// The first event that shows more with it than without it, or what is said where there is none.
     pub found: Result<Find, Verdict>,

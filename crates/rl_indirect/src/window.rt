@@ -14,7 +14,9 @@ use std::alloc::AllocError;
 /// holds the selected entry. Both are named by their numbers in the chip.
 #[derive(Clone, Copy, Debug, PartialEq, Eq)]
 pub struct Window {
+    /// The register that selects an entry.
     pub index_reg: u32,
+    /// The register that holds the selected entry.
     pub data_reg: u32,
 }
 

@@ -37,6 +37,7 @@ pub struct Streams<S, K, N, M> {
 /// How a link broke.
 #[derive(Clone, Copy, Debug, PartialEq, Eq)]
 pub struct Break {
+    /// Why it broke.
     pub cause: Cause,
     /// The number of the line that the peer wrote, or owed, counted from 1 through all its lines.
     pub line: u64,
@@ -54,9 +55,13 @@ pub struct Break {
 /// how the link broke. Where one of them fails, the link goes on.
 #[derive(Drop)]
 pub struct Link<S: Source, K: Sink, N: Sink, M: Sink> {
+    /// The two streams to the peer.
     pub talk: Talk<S, K>,
+    /// The names of ports, reset kinds and fields.
     pub names: Names,
+    /// Where the lines for the log go.
     pub notes: N,
+    /// Where the lines for the user go.
     pub messages: M,
     /// The last request.
     pub request: Vec<u8>,

@@ -22,7 +22,9 @@ fn counted_in(status: Status, undone: u64) -> Status
 /// How a session over a link ended, and the link where it came to its script.
 #[derive(Drop)]
 pub struct Ran<S: Source, K: Sink, N: Sink, M: Sink> {
+    /// How the session ended.
     pub status: Status,
+    /// The link, where the session came to its script.
     pub link: Option<Link<S, K, N, M>>,
 }
 

@@ -23,7 +23,9 @@ const MOST_CHATTER: u64 = 10_000;
 /// Two streams to a peer: requests go to the sink, and answers come from the source.
 #[derive(Drop)]
 pub struct Talk<S: Source, K: Sink> {
+    /// Where answers come from.
     pub source: S,
+    /// Where requests go.
     pub sink: K,
     /// What was read and isn't used yet.
     pub held: Held,

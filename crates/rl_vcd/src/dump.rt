@@ -53,6 +53,7 @@ impl From<DrawFault> for Fault {
 /// A dump behind a sink. Once something went wrong, nothing is written any more.
 #[derive(Drop)]
 pub struct Dump<K: Sink> {
+    /// Where the dump goes.
     pub sink: K,
     /// The text that is kept back, and the number of the next clock cycle.
     pub wave: Wave,

@@ -10,7 +10,9 @@ use std::marker::Model;
 /// A bus of the dump and its name, which is a word of letters, digits and `_`.
 #[derive(Drop)]
 pub struct NamedBus<'a> {
+    /// Its name.
     pub name: &'a [u8],
+    /// Its number and width.
     pub bus: Bus,
 }
 

@@ -182,7 +182,9 @@ impl<'a> Drawn<'a> {
 /// Cycles are counted from 1. What a rising edge samples stands since the edge before.
 #[derive(Drop)]
 pub struct Wave {
+    /// The text that isn't written elsewhere yet.
     pub text: Vec<u8>,
+    /// The number of the next clock cycle.
     pub cycle: u64,
 }
 

@@ -4,8 +4,11 @@
 /// map of the place to use, or none for the register's first place.
 #[derive(Clone, Copy, Debug, PartialEq, Eq)]
 pub struct Access {
+    /// The register.
     pub reg: u32,
+    /// The map of the place to use, if one is named.
     pub map: Option<u32>,
+    /// The value of a write.
     pub value: Option<u64>,
 }
 

@@ -43,7 +43,9 @@ impl std::marker::Model for Weave {
 /// What one step did: the item of the word, and the event of the access where the word was its last one.
 #[derive(Drop)]
 pub struct Step {
+    /// The bus item of the word.
     pub item: TraceItem,
+    /// The event of the access, where the word was its last one.
     pub end: Option<Event>,
 }
 
