@@ -62,9 +62,9 @@ pub record Weaves (n : ℕ) (status : Status) (input left : Option (List ℕ)) (
   -- `weave` and a number writes the log of the session with its words drawn from the number on, and answers its status.
   -- After any fault, and where memory ran out, it wrote a front of that.
   pub weave : IfSome input (λ bytes. WritesJudged (woven_judged n bytes) status before after)
-  -- The other half. Where the description declares no flaw and no volatile field, what `weave` wrote as a whole is,
-  -- without its item lines, the plain machine's log with the lines of each group in some order, up to its last line or
-  -- the line at which the weave stops. Wherever the session is refused before its script, it is that log.
+  -- The other half. Let the description declare no flaw and no volatile field. Then what `weave` wrote as a whole is,
+  -- without its item lines, the plain machine's log with the lines of each group in some order. It goes up to its last
+  -- line or the line at which the weave stops. Wherever the session is refused before its script, it is that log.
   pub plain : is_complete status ≡ true
       → IfSome input (λ bytes. WritesWovenPlain n bytes before.adapters before.text after.text)
   -- After a source that failed, the sink has exactly the log of the groups whose blank line was taken whole.

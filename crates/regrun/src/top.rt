@@ -12,11 +12,11 @@ use std::marker::Brand;
 
 /// Does all that the program does, by its words.
 ///
-/// `run` reads a session from the source and writes its log to the sink; `map` reads a description and writes where
-/// its items stand; `soak` and a number makes a session from the number, runs it and writes one line; `weave` and a
-/// number runs a session of other masters' accesses group by group, with the words of each group drawn by a generator
-/// that begins at the number. The device is made from the session, with the flaws that it declares. The adapter of each
-/// root map is the first of its name. A source that fails ends the call with `SourceFault`, and a sink that fails with
+/// `run` reads a session from the source and writes its log to the sink; `map` reads a description and writes where its
+/// items are. `soak` and a number makes a session from the number, runs it and writes one line. `weave` and a number
+/// runs a session of other masters' accesses group by group. The words of each group are drawn by a generator that
+/// begins at the number. The device is made from the session, with the flaws that it declares. The adapter of each root
+/// map is the first of its name. A source that fails ends the call with `SourceFault`, and a sink that fails with
 /// `SinkFault`. The output is finished once, where the last line was written.
 ///
 /// # Examples

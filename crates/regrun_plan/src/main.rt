@@ -1,5 +1,6 @@
-//! A script that finds each single flaw of a device which a check can show: reads a session from standard input, and
-//! writes to standard output the script for its description, or those of its lines that the session's own script needs.
+//! A script that finds each single flaw of a device which a check can show. The program reads a session from standard
+//! input, and writes to standard output the script for its description, or those of its lines that the session's own
+//! script needs.
 #![tactic(auto)]
 
 use rl_apb::fresh_adapters;

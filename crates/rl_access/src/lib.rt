@@ -5,9 +5,9 @@
 //! bus. Each call answers an event: the operation, how it ended, the bus items that it sent, and what is then
 //! believed of the register.
 //!
-//! This project's own are the order in which an access sends its words, when an access to a field is narrow,
-//! the value after `set`, the word of an update and when one is sent, the neutral word beside a field that is
-//! written, how a predictor gathers words, the exact effects of a backdoor read or write, another master's
+//! This project's own are the order in which an access sends its words, when an access to a field is narrow, and the
+//! value after `set`. So are the word of an update and when one is sent, the neutral word beside a field that is
+//! written, and how a predictor gathers words. So are the exact effects of a backdoor read or write, another master's
 //! accesses, and every refusal, as that of an access whose place lacks the right.
 #![tactic(auto)]
 

@@ -42,10 +42,10 @@ pub struct Pins {
 /// The pins in cycle `k` of a transfer with its response, counted from 0. A transfer takes
 /// `waits + 2` cycles: the setup phase, and an access phase that ends where the completer is ready.
 ///
-/// The phases, PENABLE, the steady values of the requester through all cycles, the wait cycles with
-/// PREADY low, and PSTRB of 0 in a read are those of the standard. Where it leaves a value open, the one
-/// here is this project's own: PPROT is always 0, PWDATA is 0 in a read, PREADY is low in the setup
-/// phase, PRDATA and PSLVERR are 0 before the last cycle, and PRDATA of a write is the response's.
+/// The phases, PENABLE, the steady values of the requester through all cycles, the wait cycles with PREADY low, and
+/// PSTRB of 0 in a read are those of the standard. Where it leaves a value open, the one here is this project's own.
+/// PPROT is always 0, PWDATA is 0 in a read, and PREADY is low in the setup phase. PRDATA and PSLVERR are 0 before the
+/// last cycle, and PRDATA of a write is the response's.
 ///
 /// # Examples
 ///

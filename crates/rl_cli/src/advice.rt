@@ -252,8 +252,8 @@ fn tell_notes<W: Sink>(
     }
 }
 
-/// Says on standard error what helps, a line each: of a session that was refused the line of the input, the reason, the
-/// word that is wrong and the name that is nearest to it; of one that was run, what may not be meant.
+/// Says on standard error what helps, a line each. Of a session that was refused it gives the line of the input, the
+/// reason, the word that is wrong and the name that is nearest to it; of one that was run, what may not be meant.
 ///
 /// Where there is no memory, or no more to say than the log does, nothing is said.
 ///

@@ -81,7 +81,7 @@ pub record IsReadAt (l : LayoutData) (reg place : ℕ) : Type 0 where
 abbrev pub IsOnlyOne : (ℕ → Type 0) → Type 0
 IsOnlyOne IsSo = (n k : ℕ) → IsSo n → IsSo k → n ≡ k
 
--- The sequence never reads the register twice without a write between: `bit_bash` and `access_test` don't, `hw_reset`
+-- The sequence never reads the register twice without a write between. `bit_bash` and `access_test` don't. `hw_reset`
 -- doesn't where the register may be read at one place at most, and `shared_access` where beside each place it may be
 -- read at one other place at most. Of `mem_walk`, which reads no register, nothing is said.
 abbrev pub WritesBetween : Sequence → LayoutData → (reg : ℕ) → Type 0

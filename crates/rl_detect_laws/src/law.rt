@@ -76,9 +76,9 @@ pub fn stuck_reset_is_named()
     ensures { StuckResetIsNamed }
 {}
 
-/// `access_test` finds a deaf register: where a register that it visits takes no write over the bus, and a bit of a
-/// compared field of it is believed as it is held, some check names the field, if it is RW, W1 before its first write,
-/// or has another policy that turns the bit.
+/// `access_test` finds a deaf register. Let a register that it visits take no write over the bus, and a bit of a
+/// compared field of it be believed as it is held. Then some check names the field, if it is RW, W1 before its first
+/// write, or has another policy that turns the bit.
 pub fn deaf_register_is_named()
     ensures named { DeafRegisterIsNamed }
     ensures policies { PoliciesTurn }
@@ -87,8 +87,8 @@ pub fn deaf_register_is_named()
 {}
 
 /// No sequence finds another policy of a field that takes each write as the described one does and answers the same, as
-/// RW that a read clears or sets, where it never reads the field's register twice without a write between: what it tells
-/// is what the device as it is described tells.
+/// RW that a read clears or sets. That is where it never reads the field's register twice without a write between: its
+/// events are then those of the device as it is described.
 pub fn other_policy_is_never_named()
     ensures alike { OtherPolicyTellsNothing }
     ensures never { OtherPolicyIsNeverNamed }
@@ -97,7 +97,7 @@ pub fn other_policy_is_never_named()
 {}
 
 /// `bit_bash`, `access_test` and `shared_access` find a bit of a compared field that is held otherwise than it is
-/// believed, as after a wrong reset value: where by its policy a write leaves two different bits different, the first
+/// believed, as after a wrong reset value. Where by its policy a write leaves two different bits different, the first
 /// check of its register after a write names the field.
 pub fn held_otherwise_is_named()
     ensures named { HeldOtherwiseIsNamed }

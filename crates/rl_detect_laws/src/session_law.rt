@@ -56,8 +56,9 @@ pub fn session_finds_deaf_memory()
     ensures { SessionFindsDeafMemory }
 {}
 
-/// A session whose one flaw is a stuck bit, a deaf register or another policy of a field finds it by a first line
-/// `seq bit-bash`, `seq access` or `seq shared`, where no field is volatile and the steps over the bit show the flaw.
+/// Let the one flaw of a session be a stuck bit, a deaf register or another policy of a field. The session finds it by
+/// a first line `seq bit-bash`, `seq access` or `seq shared`, where no field is volatile and the steps over the bit
+/// show the flaw.
 pub fn session_finds_bit_flaw()
     ensures { SessionFindsBitFlaw }
 {}

@@ -221,8 +221,9 @@ pub fn grade_place_known(
     })
 }
 
-/// Tries the flaws of a place that are of a share: each by these tasks, from the first state of the description with
-/// this flaw alone and over adapters that have sent nothing, beside what the same tasks showed without it.
+/// Tries the flaws of a place that are of a share. Each is tried by these tasks, from the first state of the
+/// description with this flaw only and over adapters that have sent nothing, beside what the same tasks showed without
+/// it.
 ///
 /// Before this place stand `number` flaws.
 ///

@@ -8,9 +8,9 @@ ghost use Rattle.rl_grade.specs.Run.{HeardAreEvents, RunDoesTasks, RunStopsThere
 ghost use Rattle.rl_grade.specs.Single.{NoneIsLeftOut, NoneIsMadeUp, NoneStandsTwice, PlacesAreApart};
 ghost use Rattle.rl_grade.specs.Together.{FoundAsAlone, OwnFlawsAlone};
 
-/// Each single flaw of a field, a register, a memory or a session is in its list: each bit stuck at 0 and at 1, each
-/// value of a reset that is wrong in one bit, each policy of another name, that it is deaf, each address of its own,
-/// and the first and the last item.
+/// Each single flaw of a field, a register, a memory or a session is in its list. Of a field these are each bit stuck
+/// at 0 and at 1, each value of a reset that is wrong in one bit, and each policy of another name. Of a register or
+/// memory they are that it is deaf, and each address of its own; of a session the first and the last item.
 pub fn none_is_left_out()
     ensures { NoneIsLeftOut }
 {}
@@ -45,8 +45,8 @@ pub fn a_find_is_the_first_event_that_shows_more()
     ensures { FindIsFirst }
 {}
 
-/// The tasks that `read_script` reads are what a run of the script does: from each first state whose model has the same
-/// chip and layout, whatever its flaws, their events are those of the lines, each with the number of its line, and the
+/// The tasks that `read_script` reads are what a run of the script does, from each first state whose model has the same
+/// chip and layout, whatever its flaws. Their events are those of the lines, each with the number of its line, and the
 /// run comes to its end.
 pub fn a_run_does_the_tasks()
     ensures { RunDoesTasks }
@@ -62,8 +62,8 @@ pub fn what_is_heard_are_the_events()
     ensures { HeardAreEvents }
 {}
 
-/// A silent flaw changes nothing that a script does: from the first state on, each event, each bus item and what is
-/// believed after it are those of the device without the flaw, and so is the log of each script, byte for byte. So no
+/// A silent flaw changes nothing that a script does. From the first state on, each event, each bus item and what is
+/// believed after it are those of the device without the flaw. So is the log of each script, byte for byte. So no
 /// script finds it.
 pub fn a_silent_flaw_changes_no_event()
     ensures events { SilentChangesNoEvent }

@@ -92,8 +92,8 @@ pub struct Tried {
     pub found: Option<Find>,
 }
 
-/// Tries one flaw: runs tasks from the first state of a description with this flaw and no other, up to the first event
-/// that shows more than the one of its number in `base`, which a run without the flaw showed.
+/// Tries one flaw. It runs tasks from the first state of a description with this flaw and no other, up to the first
+/// event that shows more than the one of its number in `base`, which a run without the flaw showed.
 ///
 /// # Errors
 ///

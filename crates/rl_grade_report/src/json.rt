@@ -400,9 +400,9 @@ fn push_lists(
     text.extend_from_slice(b"]}\n")
 }
 
-/// Appends one object in JSON: the session, which share of its flaws was tried, how many were found, missed, hidden and,
-/// where there are some, waived, in all and by kind, whether they are enough, and those that are missed, each with the keys of its row in a
-/// description.
+/// Appends one object in JSON. It has the session, which share of its flaws was tried, and how many were found, missed,
+/// hidden and, where there are some, waived, in all and by kind. It says whether they are enough, and has those that
+/// are missed, each with the keys of its row in a description.
 ///
 /// # Errors
 ///

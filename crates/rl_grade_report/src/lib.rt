@@ -1,6 +1,7 @@
-//! The text of a grading: a line for each register, field, memory and the session, which counts the flaws found, missed,
-//! hidden and waived and tells those that aren't found; each that is missed, hidden, waived or found as a row of a
-//! description; how many flaws each line of the script finds first; or all of it as one object in JSON.
+//! The text of a grading. It has a line for each register, field, memory and the session, which counts the flaws found,
+//! missed, hidden and waived and names those that aren't found. Or it has each flaw that is missed, hidden, waived or
+//! found as a row of a description, or how many flaws each line of the script finds first. Or it is all of it as one
+//! object in JSON.
 //!
 //! The grading of a session: refuses what can't be graded, tries the flaws place by place, and writes what was found.
 //! A file of waivers names flaws that are known and accepted.

@@ -49,9 +49,9 @@ MisanswersBy s answer old new cause =
     IfSome (coming old.held (s.left old.source)) (λ bytes.
     Misanswers answer bytes cause (coming new.held (s.left new.source)))
 
--- Why a link broke that asked: the sink failed; an answer was held that nothing was asked for; the source failed;
--- it ended; a line is too long; too many lines are no answer; or the answer is none that the request can have.
--- Want of memory alone is free.
+-- Why a link broke that asked: the sink failed; an answer was held that nothing was asked for; the source failed; or it
+-- ended. Or a line is too long; too many lines are no answer; or the answer is none that the request can have. Want of
+-- memory alone is free.
 abbrev pub IsCauseOfBreak : {S K A : Type 0} → Source S → Sink K → (answer : Said → Result A Cause)
     → (old new : Talk S K) → Cause → Type 0
 IsCauseOfBreak s k answer old new Unsent = Rose (k.faults old.sink) (k.faults new.sink)

@@ -52,8 +52,9 @@ fn two_named(first: &str, second: &str) -> Option<Wanted>
     }
 }
 
-/// What the words ask for: nothing for a plan by all ways, `bus` for one by the bus alone; `add` for the lines that the
-/// script needs, by all ways, and `add bus` for those by the bus alone; none where they ask for nothing known.
+/// What the words ask for: nothing for a plan by all ways, and `bus` for one by the bus alone. `add` is for the lines
+/// that the script needs, by all ways, and `add bus` for those by the bus alone. There is none where they ask for
+/// nothing known.
 pub fn asked_by(words: &[String]) -> Option<Wanted>
     ensures { result ≡ asked_by words.now }
 {

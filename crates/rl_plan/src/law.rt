@@ -37,8 +37,8 @@ pub fn lines_read_back()
     ensures { LinesReadBack }
 {}
 
-/// A register has at most 30 lines and one more for each place with the reset HARD, and 8 for each kind of reset; with
-/// the kinds HARD and SOFT alone and at most 8 places it has at most 40.
+/// A register has at most 30 lines and one more for each place with the reset HARD, and 8 for each kind of reset. With
+/// the kinds HARD and SOFT only and at most 8 places it has at most 40.
 pub fn lines_are_few()
     ensures { LinesAreFew }
 {}

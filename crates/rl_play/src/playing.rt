@@ -329,8 +329,8 @@ pub fn play<S: Source, K: Sink, D: Device>(
     requires going { lines.old.refused ≡ false }
     ensures ready { IsReady model.new (map standing adapters.new.items) (D.state device.new) }
     ensures parts { IsSameChip model.old model.new }
-    // Where the device tells its state and the source its bytes: what is written is the log of the lines that are
-    // left, from the device and the model as they are, with its status, and the counts rise by what it counts.
+    // Where the device reports its state and the source its bytes, what is written is the log of the lines that are
+    // left, from the device and the model as they are. The status is its status, and the counts rise by what it counts.
     // After any fault, and where memory ran out, it is a front of that log.
     ensures log { PlaysScript
         (moment_of standing D.state K.written model.old adapters.old.items device.old sink.old counts.old)

@@ -16,12 +16,12 @@ pub fn built_ones_have_names()
     ensures { BuiltOnesHaveNames }
 {}
 
-/// An operation line of a log reads back as the operation that it reports, so a log can be run again: what stands
-/// before its first colon is a line of a script with the same command, item, numbers and map.
+/// An operation line of a log reads back as the operation that it reports, so a log can be run again. What comes before
+/// its first colon is a line of a script with the same command, item, numbers and map.
 ///
-/// So it is of every event but that of a burst, which stands in a log only where it was refused and doesn't tell its
-/// values: also of a refused operation, and of each step of a sequence and each location of a burst. Reset kinds and
-/// maps have names, as `built_ones_have_names` says, and numbers fit 64 bits, as those of an `Op` do.
+/// This holds for every event but that of a burst, which is in a log only where it was refused and doesn't have its
+/// values. It holds for a refused operation too, and for each step of a sequence and each location of a burst. Reset
+/// kinds and maps have names, as `built_ones_have_names` says, and numbers fit 64 bits, as those of an `Op` do.
 pub fn operations_read_back()
     ensures { OperationsReadBack }
 {}

@@ -47,8 +47,8 @@ pub record IsUnreached (status : Status) (old new : Option (List ℕ)) (adapters
   pub unwritten : Keeps old new
   pub untouched : now ≡ adapters
 
--- From what a session opens with and its bytes to its status, from what its log had before to what it has after,
--- from the adapters as they stood to how they stand; and how often the device failed that is handed out, where one is.
+-- From what a session opens with and its bytes to its status, from what its log had before to what it has after, and
+-- from the adapters' standings before to those after. And how often the device failed that is handed out, where one is.
 pub record RunsSession (opening : Result DescData (List ℕ)) (bytes : List ℕ) (status : Status)
     (old new : Option (List ℕ)) (adapters now : List Standing) (errors : Option ℕ) : Type 0 where
   -- Where it is refused before its script, exactly the line that says so is written, and the status is `Refused`.

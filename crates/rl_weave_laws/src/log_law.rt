@@ -16,8 +16,8 @@ pub fn group_is_plain()
     ensures { GroupIsPlain }
 {}
 
-/// And so does a whole script: without its item lines its log has, group by group, the lines that the plain log has for
-/// the group's lines, in some order, and then the plain log's last line, or the one that says where the weave stops.
+/// And so does a whole script. Without its item lines its log has, group by group, the lines that the plain log has for
+/// the group's lines, in some order. Then comes the plain log's last line, or the one that says where the weave stops.
 pub fn script_is_plain()
     ensures { ScriptIsPlain }
 {}

@@ -33,9 +33,9 @@ pub fn none_open_agrees()
     ensures { NoneOpenAgrees }
 {}
 
-/// A weave whose words went over the bus in any order is a course of the plain machine, which takes its accesses
-/// one after another in the order in which they ended: the device and the model agree again, and are the
-/// machine's, and so are the events without their items.
+/// A weave whose words went over the bus in any order is a course of the plain machine, which takes its accesses one
+/// after another in the order in which they ended. The device and the model agree again, and are the machine's, and so
+/// are the events without their items.
 pub fn weave_is_plain()
     ensures { WeaveIsPlain }
 {}

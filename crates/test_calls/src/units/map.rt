@@ -12,10 +12,10 @@ use std::process::Abort;
 use std::str::SplitWhitespace;
 use std::test::Fail;
 
-// Maps and places are written as text, one after another with `;` between: `map NAME BYTES KIND UNIT BASE
-// ADAPTER` for a root, `sub NAME BYTES KIND UNIT PARENT OFFSET` for another map, and `at MAP ITEM OFFSET
-// RIGHTS` for a place. Numbers are decimal. Registers `r1` to `r8` have as many bytes as their name says, and
-// so have the memories `m2`, of 3 locations, and `m8`, of 65,536.
+// Maps and places are written as text, one after another with `;` between. A root is `map NAME BYTES KIND UNIT BASE
+// ADAPTER`, another map `sub NAME BYTES KIND UNIT PARENT OFFSET`, and a place `at MAP ITEM OFFSET RIGHTS`. Numbers are
+// decimal. Registers `r1` to `r8` have as many bytes as their name says, and so have the memories `m2`, of 3 locations,
+// and `m8`, of 65,536.
 
 fn reg(alloc: Global, own: &str, bytes: u64) -> Result<RegPart, AllocError> {
     Ok(RegPart {

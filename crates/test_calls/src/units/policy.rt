@@ -1,9 +1,9 @@
 //! The policy table, and numbers at their edges.
 use rl_policy::*;
 
-/// For each policy its name and, for the stored bits 1100 and the written bits 1010: the bits after a
-/// write, after a write of a spent field, after a read, and those that a read answers; and for the desired
-/// bits 1100 and the mirrored bits 1010 the update word and the neutral word.
+/// For each policy its name and six words. The first four are for the stored bits 1100 and the written bits 1010: the
+/// bits after a write, after a write of a spent field, after a read, and those that a read answers. The other two are
+/// for the desired bits 1100 and the mirrored bits 1010: the update word and the neutral word.
 const TABLE: [(&str, [u64; 6]); 25] = [
     ("RO", [0b1100, 0b1100, 0b1100, 0b1100, 0b1100, 0b0000]),
     ("RW", [0b1010, 0b1010, 0b1100, 0b1100, 0b1100, 0b1010]),
