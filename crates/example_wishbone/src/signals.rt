@@ -87,7 +87,7 @@ impl Ended {
         }
     }
 
-    /// What the register layer is told of it.
+    /// What is reported of it to the register layer.
     pub(crate) fn answer(&self) -> Answer
         ensures { result ≡ record { word = self.now.dat; failed = self.now.err } }
     {

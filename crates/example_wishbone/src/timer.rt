@@ -146,7 +146,7 @@ impl Registers {
     }
 }
 
-/// A timer that doesn't tell its state: to its callers it may answer anything, and the log tells what it did.
+/// A timer that doesn't report its state: to its callers it may answer anything, and the log shows what it did.
 #[derive(Clone, Copy, Debug, PartialEq, Eq, Drop)]
 pub(crate) struct Timer {
     registers: Registers,

@@ -1,4 +1,4 @@
-//! Runs a session on a device that stands behind standard output and input, as the bench of an RTL simulator.
+//! Runs a session on a device that is behind standard output and input, as the bench of an RTL simulator.
 #![tactic(auto)]
 
 use rl_apb::fresh_adapters;
@@ -14,7 +14,8 @@ use std::process::ExitCode;
 
 const PROGRAM: &str = "regrun-link";
 
-// A file that is written at its end, whoever else writes it. Where it can't be opened, one line on standard error says why.
+// A file that is written at its end, whoever else writes it. Where it can't be opened, one line on standard error says
+// why.
 fn file_at_end<R: Files + Eprint>(rt: &R, path: &str) -> Option<R::File> {
     match OpenOptions::new().append(true).open(rt, path) {
         Ok(file) => Some(file),

@@ -82,7 +82,7 @@ fn reset_device<D: Device>(model: &Model, device: &mut D, kind: u32)
     device.reset(kind);
 }
 
-/// Does what [`crate::back_write`] says, and tells it in the event.
+/// Does what [`crate::back_write`] says, and records it in the event.
 pub(crate) fn back_write_into<D: Device>(
     model: &mut Model,
     device: &mut D,
@@ -133,7 +133,7 @@ fn sample<D: Device>(model: &mut Model, device: &mut D, reg: u32, check: bool) -
     (value, differ)
 }
 
-/// Does what [`crate::back_read`] says, and tells it in the event.
+/// Does what [`crate::back_read`] says, and records it in the event.
 pub(crate) fn back_read_into<D: Device>(
     model: &mut Model,
     device: &mut D,
@@ -168,7 +168,7 @@ fn back_reading(reg: u32, check: bool) -> Op
     }
 }
 
-/// Does what [`crate::peek`] says, and tells it in the event.
+/// Does what [`crate::peek`] says, and records it in the event.
 pub(crate) fn peek_into<D: Device>(model: &mut Model, device: &mut D, reg: u32, event: &mut Event)
     requires device { IsDeviceOf model.old (D.state device.old) }
     requires reg { reg < length model.old.chip.regs }
@@ -188,7 +188,7 @@ pub(crate) fn peek_into<D: Device>(model: &mut Model, device: &mut D, reg: u32, 
     }
 }
 
-/// Does what [`crate::poke`] says, and tells it in the event.
+/// Does what [`crate::poke`] says, and records it in the event.
 pub(crate) fn poke_into<D: Device>(
     model: &mut Model,
     device: &mut D,
@@ -215,7 +215,7 @@ pub(crate) fn poke_into<D: Device>(
     }
 }
 
-/// Does what [`crate::mem_peek`] says, and tells it in the event.
+/// Does what [`crate::mem_peek`] says, and records it in the event.
 pub(crate) fn mem_peek_into<D: Device>(
     model: &mut Model,
     device: &mut D,
@@ -240,7 +240,7 @@ pub(crate) fn mem_peek_into<D: Device>(
     }
 }
 
-/// Does what [`crate::mem_poke`] says, and tells it in the event.
+/// Does what [`crate::mem_poke`] says, and records it in the event.
 pub(crate) fn mem_poke_into<D: Device>(
     model: &mut Model,
     device: &mut D,
@@ -268,7 +268,7 @@ pub(crate) fn mem_poke_into<D: Device>(
     }
 }
 
-/// Does what [`crate::hw`] says, and tells it in the event.
+/// Does what [`crate::hw`] says, and records it in the event.
 pub(crate) fn hw_into<D: Device>(
     model: &mut Model,
     device: &mut D,
@@ -295,7 +295,7 @@ pub(crate) fn hw_into<D: Device>(
     }
 }
 
-/// Does what [`crate::reset`] says, and tells it in the event.
+/// Does what [`crate::reset`] says, and records it in the event.
 pub(crate) fn reset_into<D: Device>(model: &mut Model, device: &mut D, kind: u32, event: &mut Event)
     requires device { IsDeviceOf model.old (D.state device.old) }
     requires kind { kind < length model.old.chip.kinds }

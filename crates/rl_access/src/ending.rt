@@ -26,7 +26,7 @@ impl Model {
         self.conclude(reg, end, differ, event);
     }
 
-    /// Ends the event of an operation on a register, whose items it has: it tells how the operation ended and what is
+    /// Ends the event of an operation on a register, whose items it has: it says how the operation ended and what is
     /// believed of the register, with the fields that a check found to differ.
     pub fn conclude(&self, reg: u32, end: End, differ: u64, event: &mut Event)
         requires reg { reg < length self.now.chip.regs }

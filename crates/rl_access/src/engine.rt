@@ -56,7 +56,7 @@ fn conclude_write(model: &mut Model, access: &Access, good: End, trace: &Trace) 
     }
 }
 
-/// A write of a register, told in the event of an operation that has sent nothing yet and ends so where no
+/// A write of a register, recorded in the event of an operation that has sent nothing yet and ends so where no
 /// item failed.
 pub(crate) fn write_as<D: Device>(
     model: &mut Model,
@@ -155,7 +155,7 @@ pub(crate) fn read<D: Device>(
     conclude_read(model, access, check, value, trace)
 }
 
-/// A read of a register, told in the event of an operation that has sent nothing yet.
+/// A read of a register, recorded in the event of an operation that has sent nothing yet.
 pub(crate) fn read_as<D: Device>(
     model: &mut Model,
     device: &mut D,

@@ -26,7 +26,7 @@ pub enum Refused {
 /// How an operation ended.
 #[derive(Clone, Copy, Debug, PartialEq, Eq)]
 pub enum End {
-    /// It was done, and there is nothing to tell.
+    /// It was done, and there is nothing more to say.
     Done,
     /// The value that was read: of a field access the field's.
     Value { value: u64 },
@@ -193,9 +193,8 @@ pub enum Op {
 /// An operation with its end, the items that it sent, and the mirrored and the desired value of its
 /// register afterwards, which are 0 for a memory operation or a reset.
 ///
-/// Bit `i` of `differ` stands for the `i`-th field of the register, and is set where a check read other
-/// bits than were mirrored. For the check of a memory's location `differ` is 1 where it read another
-/// value than the given one.
+/// Bit `i` of `differ` is for the `i`-th field of the register, and is set where a check read other bits than were
+/// mirrored. For the check of a memory's location `differ` is 1 where it read another value than the given one.
 #[derive(Drop)]
 pub struct Event {
     /// The operation, with the map that was used.
@@ -216,7 +215,7 @@ impl Event {
     ghost use Rattle.std.specs.Prelude.{◌≡◌, []};
     ghost use Rattle.rl_access.specs.declared.event.End.TheVariants as end;
 
-    /// An event that a call may fill. It has no items, and tells of nothing that was done.
+    /// An event that a call may fill. It has no items, and reports nothing that was done.
     pub fn blank() -> Event
         ensures no_items { result.trace ≡ [] }
     {

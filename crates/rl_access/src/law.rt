@@ -26,8 +26,8 @@ pub fn nothing_else_differs()
     ensures { NothingElseDiffers }
 {}
 
-/// Over a device that tells its state an operation has one event, and one state of things after it: those of the
-/// step, which is a function of what stood before.
+/// Over a device that reports its state an operation has one event, and one state of things after it: those of the
+/// step, which is a function of what was before.
 pub fn call_does_its_step()
     ensures exact { CallDoesStep }
     ensures some { StepIsCall }

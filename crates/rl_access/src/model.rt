@@ -102,7 +102,7 @@ impl Model {
         &self.mirror
     }
 
-    /// Its chip and its layout. What is believed and what was gathered is let go.
+    /// Its chip and its layout. What is believed and what was gathered is dropped.
     pub fn into_parts(self) -> (Chip, Layout)
         ensures chip { result.0 ≡ self.chip }
         ensures layout { result.1 ≡ self.layout }

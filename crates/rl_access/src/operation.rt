@@ -53,8 +53,8 @@ pub fn perform<D: Device>(
     event
 }
 
-/// Performs an operation that is no burst, and tells it in an event that the caller has. What the event told before
-/// is let go.
+/// Performs an operation that is no burst, and records it in an event that the caller has. What the event said before
+/// is dropped.
 ///
 /// It is the one door to all accesses: an operation that was read from a script, or drawn, goes through here.
 pub fn perform_into<D: Device>(

@@ -1,4 +1,4 @@
-//! Who is told of each event.
+//! Who receives each event.
 ghost use Rattle.std.specs.Prelude.{◌≡◌, ℕ, List, [], OnOk, OnErr};
 ghost use Rattle.rl_bus.specs.Causes.{HasCause};
 ghost use Rattle.rl_access.specs.Event.{EventFits};
@@ -9,7 +9,7 @@ use crate::event::Event;
 use crate::model::Model;
 use rl_bus::Failed;
 
-/// Who is told of the events of a burst or a sequence, each right after it.
+/// Who receives the events of a burst or a sequence, each right after it.
 pub trait Recorder {
     /// How often it has failed. It never falls.
     ghost faults: { Self → ℕ };

@@ -6,7 +6,7 @@ ghost use Rattle.rl_access.specs.declared.event.Op.TheVariants as op;
 use crate::event::{End, Event, Op};
 use crate::model::Model;
 
-/// Does what [`crate::set`] says, and tells it in the event.
+/// Does what [`crate::set`] says, and records it in the event.
 pub(crate) fn set_into(model: &mut Model, field: u32, value: u64, event: &mut Event)
     requires field { field < length model.old.chip.fields }
     ensures fits { EventFits model.new event.new }
@@ -24,7 +24,7 @@ pub(crate) fn set_into(model: &mut Model, field: u32, value: u64, event: &mut Ev
     }
 }
 
-/// Does what [`crate::show`] says, and tells it in the event.
+/// Does what [`crate::show`] says, and records it in the event.
 pub(crate) fn show_into(model: &Model, reg: u32, event: &mut Event)
     requires reg { reg < length model.now.chip.regs }
     ensures fits { EventFits model.now event.new }

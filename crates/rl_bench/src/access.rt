@@ -14,7 +14,7 @@ use crate::cells::Cells;
 use rl_bus::{BusOp, Cell, Lanes, WordRow};
 use rl_policy::word::replaced;
 
-/// Where a location stands among those of all memories.
+/// Where a location is among those of all memories.
 pub fn location(board: &Board, cells: &Cells, mem: u32, index: u32) -> usize
     requires fit { FitCells (setup_held board.now.tables) cells.now }
     requires mem { mem < length (setup_held board.now.tables).mems }

@@ -21,7 +21,7 @@ pub struct Queue {
     pub place: u32,
 }
 
-/// The beat of the address where these words stand.
+/// The beat of the address where these words are.
 pub fn beat_at(beats: &[u32], at: Stretch) -> u32
     ensures { result ≡ (if nat_lt at.first at.end then slice_index beats.now at.first else 0) }
 {
@@ -41,7 +41,7 @@ fn set_at(beats: &mut [u32], row: usize, value: u32)
     }
 }
 
-/// Sets the beat of the address where these words stand.
+/// Sets the beat of the address where these words are.
 pub fn set_beat(beats: &mut [u32], at: Stretch, value: u32)
     ensures { beats.new ≡ (if nat_lt at.first at.end then slice_set beats.old at.first value else beats.old) }
 {

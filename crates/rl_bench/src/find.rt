@@ -14,11 +14,11 @@ use rl_bus::{FieldRow, ResetRow, WordRow};
 pub struct Stretch {
     /// The number of the first row.
     pub first: usize,
-    /// The number behind the last row.
+    /// The number after the last row.
     pub end: usize,
 }
 
-/// A word at an address, and how many words of its direction stand there.
+/// A word at an address, and how many words of its direction are there.
 #[derive(Clone, Copy)]
 pub struct Here<'a> {
     /// The word, where there is one.
@@ -40,7 +40,7 @@ fn is_before(word: &WordRow, port: u32, address: u64) -> bool
     key(word.port, word.address) < key(port, address)
 }
 
-/// Whether a word stands at an address of a port.
+/// Whether a word is at an address of a port.
 pub fn stands_at(word: &WordRow, port: u32, address: u64) -> bool
     ensures test { result ≡ stands_at port address word.now }
     ensures key { stands_at port address word.now ≡ false → key_of word.now ≢ port * 2 ^ 64 + address }
@@ -113,8 +113,8 @@ fn first_from(words: &[WordRow], near: Stretch, port: u32, address: u64) -> usiz
     }
 }
 
-/// The words at an address of a port. They are found at once where they stand near, at these words or
-/// behind them.
+/// The words at an address of a port. They are found at once where they are near, at these words or
+/// after them.
 pub fn words_at(words: &[WordRow], near: Stretch, port: u32, address: u64) -> Stretch
     requires { AreOrdered words.now }
     ensures { IsStretch (stands_at port address) words.now result.first result.end }
@@ -131,7 +131,7 @@ pub fn words_at(words: &[WordRow], near: Stretch, port: u32, address: u64) -> St
     }
 }
 
-/// Whether the word at `j` stands at the address of the word at `k`.
+/// Whether the word at `j` is at the address of the word at `k`.
 fn same_address(words: &[WordRow], j: usize, k: usize) -> bool
     requires j { j < length words.now }
     requires k { k < length words.now }

@@ -69,7 +69,7 @@ pub(crate) fn reset_rows(alloc: Global, chip: &Chip) -> Result<Vec<ResetRow>, Al
     Ok(rows)
 }
 
-/// The memories, each behind the locations of those before.
+/// The memories, each after the locations of those before.
 pub(crate) fn mem_rows(alloc: Global, chip: &Chip) -> Result<Vec<MemRow>, AllocError>
     ensures { IfOk result (λ v. v.items ≡ mem_rows 0 chip.now.mems) }
 {

@@ -13,11 +13,11 @@ pub struct Failed;
 
 /// The device at the other end of the bus: its bus ports, and a backdoor.
 ///
-/// A device may tell its state. Then each call is the step of the device model, which is this
-/// project's own. A device that tells nothing may answer anything, but a failed answer still comes
+/// A device may report its state. Then each call is the step of the device model, which is this
+/// project's own. A device that reports nothing may answer anything, but a failed answer still comes
 /// only where its count of errors rose.
 pub trait Device {
-    /// The state, where the device tells it.
+    /// The state, where the device reports it.
     ghost state: { Self → Option State };
 
     /// How often it has failed. It never falls.

@@ -36,7 +36,7 @@ pub struct ResetRow {
     pub value: u64,
 }
 
-/// A memory: its locations stand from `first` on among those of all memories.
+/// A memory: its locations are from `first` on among those of all memories.
 #[derive(Clone, Copy, Debug)]
 pub struct MemRow {
     /// The number of its first location among those of all memories.
@@ -115,7 +115,7 @@ impl Lanes {
     }
 }
 
-/// A word of a cell, where it stands, and the directions in which its place lets items through.
+/// A word of a cell, where it is, and the directions in which its place lets items through.
 #[derive(Clone, Copy, Debug)]
 pub struct WordRow {
     /// Its address at the port.

@@ -33,7 +33,7 @@ pub struct PlainResponse {
 
 /// The requester's side of one APB transfer: PWRITE, PADDR, PWDATA and PSTRB of ARM IHI 0024.
 ///
-/// The width of the data bus and the serial stand beside the signals; the serial is this project's
+/// The width of the data bus and the serial are beside the signals; the serial is this project's
 /// own.
 #[derive(Clone, Copy, Debug, PartialEq, Eq)]
 pub struct ApbTransfer {

@@ -243,7 +243,7 @@ fn refusal_of(told: &str) -> Option<Refusal<'_>> {
     })
 }
 
-/// The wrong word of a row, and the key that it stands under, which is empty where it is a key itself.
+/// The wrong word of a row, and the key that it is under, which is empty where it is a key itself.
 #[derive(Drop)]
 struct Wrong {
     key: String,
@@ -362,7 +362,7 @@ fn put_top(message: &mut Message, text: &str, table: &Table, reason: &str) -> Op
     message.put_wrong(key, &nearest)
 }
 
-/// Puts what there is to tell of a description that was read and refused, from what the log says behind `refused
+/// Puts what there is to say of a description that was read and refused, from what the log says after `refused
 /// description`.
 pub(crate) fn put_refused(
     alloc: Global,

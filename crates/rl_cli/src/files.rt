@@ -18,12 +18,12 @@ fn had<F>(rt: &impl Eprint, program: &str, path: &str, file: io::Result<F>) -> O
     }
 }
 
-/// A file to read. Where it can't be opened, one line on standard error says so, behind the program's name.
+/// A file to read. Where it can't be opened, one line on standard error says so, after the program's name.
 pub fn open_file<R: Files + Eprint>(rt: &R, program: &str, path: &str) -> Option<R::File> {
     had(rt, program, path, fs::open(rt, path))
 }
 
-/// A file to write; one that is there is emptied. Where it can't be made, one line on standard error says so, behind the
+/// A file to write; one that is there is emptied. Where it can't be made, one line on standard error says so, after the
 /// program's name.
 pub fn create_file<R: Files + Eprint>(rt: &R, program: &str, path: &str) -> Option<R::File> {
     had(rt, program, path, fs::create(rt, path))

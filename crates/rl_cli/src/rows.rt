@@ -62,7 +62,8 @@ fn field_line(text: &str, from: usize, to: usize, field: usize, name: Option<&st
     }
 }
 
-/// The line, from 1, of a row; of its field, whose name is given; and of the first in it with both marks, or the second.
+/// The line, from 1, of a row; of its field, whose name is given; and of the first in it with both marks, or the
+/// second.
 pub(crate) fn line_of(
     text: &str,
     spot: Spot<'_>,

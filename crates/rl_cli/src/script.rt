@@ -195,7 +195,7 @@ fn put_byte(message: &mut Message, line: &[u8]) -> Option<()> {
     message.put_hex(u64::from(*line.get(place)?))
 }
 
-/// What there is to tell of a line.
+/// What there is to say of a line.
 fn put_line(alloc: Global, message: &mut Message, table: &Table, line: &[u8]) -> Option<()> {
     let fault = read_line_ref(alloc, line).err();
     if matches!(fault, Some(LineFault::NotAscii)) {
@@ -253,7 +253,7 @@ impl<'a> Lines<'a> {
     }
 }
 
-/// Puts what there is to tell of the line that was refused.
+/// Puts what there is to say of the line that was refused.
 pub(crate) fn put_refused_line(
     alloc: Global,
     message: &mut Message,

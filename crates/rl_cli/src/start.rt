@@ -8,11 +8,11 @@ use std::process::ExitCode;
 use std::rt::Env;
 use std::{env, io};
 
-/// The words behind the program's name.
+/// The words after the program's name.
 ///
 /// # Errors
 ///
-/// A word that isn't UTF-8, and want of memory.
+/// A word that isn't UTF-8, and running out of memory.
 pub fn words(rt: &(impl Env + AllocGlobal)) -> io::Result<Vec<String>> {
     let mut words = Vec::new(rt.alloc());
     for word in env::args(rt)?.skip(1) {

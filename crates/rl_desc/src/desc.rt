@@ -18,7 +18,7 @@ use rl_model::Chip;
 use std::alloc::Global;
 use std::marker::Model;
 
-/// What a description describes: the chip, where its registers and memories stand on the buses, and
+/// What a description describes: the chip, where its registers and memories are on the buses, and
 /// the flaws that the device is to have, in description order.
 #[derive(Drop)]
 pub struct Desc {
@@ -44,7 +44,7 @@ impl Model for Desc {
 ///
 /// # Errors
 ///
-/// The first condition that fails, with its place. Or want of memory.
+/// The first condition that fails, with its place. Or running out of memory.
 ///
 /// # Examples
 ///

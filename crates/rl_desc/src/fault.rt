@@ -17,7 +17,7 @@ pub(crate) enum Rows {
 }
 
 impl Rows {
-    /// Where row `i` stands.
+    /// Where row `i` is.
     pub(crate) fn spot(self, i: u32) -> Spot
         ensures { result ≡ spot_in self i }
     {
@@ -52,7 +52,7 @@ pub enum DescCause {
     BadValue { key: Key },
 }
 
-/// Why a description is refused: the first condition that fails, or want of memory, which may come at
+/// Why a description is refused: the first condition that fails, or running out of memory, which may come at
 /// any point.
 ///
 /// The conditions are tested in the order of these variants: the form of the whole text, then blocks,

@@ -18,7 +18,7 @@ use rl_policy::{NumberText, read_number};
 use std::alloc::Global;
 use toml::{Table, Value};
 
-/// Where a value stands.
+/// Where a value is.
 #[derive(Clone, Copy)]
 pub(crate) struct At {
     pub(crate) alloc: Global,

@@ -25,7 +25,7 @@ pub fn no_location_differs()
 {}
 
 /// Each sequence finds an address that answers errors, by a flaw of a range: where a word of a register or a location
-/// stands there, in a place that the sequence visits, some event ends by a bus error.
+/// is there, in a place that the sequence visits, some event ends by a bus error.
 pub fn visited_error_is_found()
     ensures { VisitedErrorIsFound }
 {}
@@ -105,8 +105,8 @@ pub fn held_otherwise_is_named()
     ensures first { NewOneIsHeldOtherwise }
 {}
 
-/// `bit_bash`, `access_test` and `shared_access` find a bit of a compared field that is stuck, whose register is deaf, or
-/// whose field has another policy, wherever their steps over this one bit show it: a computation over the table of
+/// `bit_bash`, `access_test` and `shared_access` find a bit of a compared field that is stuck, whose register is deaf,
+/// or whose field has another policy, wherever their steps over this one bit show it: a computation over the table of
 /// policies.
 pub fn bit_flaw_is_named()
     ensures named { BitFlawIsNamed }

@@ -23,8 +23,8 @@ pub fn lone_line_is_played()
     ensures { LoneLineIsPlayed }
 {}
 
-/// A session whose description declares one flaw, a wrong value at a HARD reset of a compared field, finds it by any line
-/// `seq hw-reset` that visits the field's register. It finds it by a first line `seq bit-bash`, `seq access` or
+/// A session whose description declares one flaw, a wrong value at a HARD reset of a compared field, finds it by any
+/// line `seq hw-reset` that visits the field's register. It finds it by a first line `seq bit-bash`, `seq access` or
 /// `seq shared` too, where by the field's policy a write leaves two different bits different.
 pub fn session_finds_wrong_reset()
     ensures any { SessionFindsWrongReset }

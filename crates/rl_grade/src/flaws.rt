@@ -172,7 +172,7 @@ fn push_addresses(
 }
 
 /// The single flaws of a register or memory as a whole: it is deaf, and each address of its words fails, of a memory
-/// those of its first and its last location. An address of several such words is the one's that stands first in the
+/// those of its first and its last location. An address of several such words is the one's that is first in the
 /// layout.
 pub fn item_flaws(
     alloc: Global,

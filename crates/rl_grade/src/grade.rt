@@ -173,7 +173,7 @@ fn grade_flaws(
 /// The flaws of a place that are of a share, each with the answer of `grade_place`: the next of those that are known,
 /// where it is this flaw's, or that of a run with it alone.
 ///
-/// Before this place stand `number` flaws.
+/// Before this place there are `number` flaws.
 ///
 /// # Errors
 ///
@@ -225,7 +225,7 @@ pub fn grade_place_known(
 /// description with this flaw only and over adapters that have sent nothing, beside what the same tasks showed without
 /// it.
 ///
-/// Before this place stand `number` flaws.
+/// Before this place there are `number` flaws.
 ///
 /// # Errors
 ///

@@ -20,12 +20,12 @@ pub fn none_is_made_up()
     ensures { NoneIsMadeUp }
 {}
 
-/// No flaw stands twice in the list of a place.
+/// No flaw is twice in the list of a place.
 pub fn none_stands_twice()
     ensures { NoneStandsTwice }
 {}
 
-/// No flaw stands in the lists of two places.
+/// No flaw is in the lists of two places.
 pub fn places_are_apart()
     ensures { PlacesAreApart }
 {}

@@ -1,6 +1,6 @@
 //! Which single flaws of a device a script finds.
 //!
-//! The single flaws of a description stand in lists by what they are of: a field, a register or memory, the items of a
+//! The single flaws of a description are in lists by what they are of: a field, a register or memory, the items of a
 //! session. A script is read as tasks, whose names are resolved once. A run without flaws keeps what each event showed;
 //! a run with one flaw, begun afresh, then goes up to the first event that shows more. No text is made.
 #![tactic(auto)]

@@ -9,7 +9,7 @@ use rl_desc::Desc;
 use rl_model::Item;
 use std::alloc::{AllocError, Global};
 
-/// Where a flaw is told.
+/// Where a flaw is reported.
 #[derive(Clone, Copy, Debug, PartialEq, Eq)]
 pub enum Place {
     /// At a register or memory: it is deaf, or one of its addresses fails.

@@ -34,7 +34,7 @@ pub(crate) fn front(base: &[Seen]) -> Seen
     }
 }
 
-/// Those behind the first.
+/// Those after the first.
 pub(crate) fn behind(base: &[Seen]) -> &[Seen]
     ensures { result.now ≡ drop 1 base.now }
 {

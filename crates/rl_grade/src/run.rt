@@ -23,7 +23,7 @@ pub struct Shown {
     pub items: u64,
 }
 
-/// Runs tasks from where a model and its device stand, and keeps what each event shows.
+/// Runs tasks from the state of a model and its device, and keeps what each event shows.
 ///
 /// # Errors
 ///

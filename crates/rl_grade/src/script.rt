@@ -231,12 +231,12 @@ fn push_job(tasks: &mut Vec<Task>, number: u64, job: Option<Job>) -> Result<(), 
     }
 }
 
-/// The tasks of the lines behind the head of a session: what a run would do, line by line. A blank line and a comment
+/// The tasks of the lines after the head of a session: what a run would do, line by line. A blank line and a comment
 /// give none. The names are those of the model's chip and layout.
 ///
 /// # Errors
 ///
-/// The first line that a run refuses, and why; a fault of the source; want of memory.
+/// The first line that a run refuses, and why; a fault of the source; running out of memory.
 pub fn read_script<S: Source>(
     alloc: Global,
     model: &Model,

@@ -5,7 +5,7 @@ ghost use Rattle.rl_grade.specs.Find.{seen_of, beside, shows};
 
 use rl_access::{End, Event, Op};
 
-/// What an event shows that is wrong, as its line in the log tells it.
+/// What an event shows that is wrong, as its line in the log says it.
 #[derive(Clone, Copy, Debug, PartialEq, Eq)]
 pub struct Seen {
     /// Bit `i` stands for the `i`-th field of its register; of a memory's location it is 1.

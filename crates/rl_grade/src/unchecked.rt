@@ -16,7 +16,8 @@ fn keeps_all(policy: Policy) -> bool
     matches!(policy, Policy::Ro | Policy::Rc | Policy::Rs)
 }
 
-// Whether the flaw could change a field of its register. A deaf register's field isn't changed where no write changes it.
+// Whether the flaw could change a field of its register. A deaf register's field isn't changed where no write changes
+// it.
 fn is_changed(chip: &Chip, flaw: Flaw, field: u32) -> bool
     requires { field < length chip.now.fields }
     ensures { result ≡ is_changed chip.now flaw field }

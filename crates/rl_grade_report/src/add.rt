@@ -157,7 +157,7 @@ fn put_added<K: Sink>(
     }
 }
 
-/// Adds the shares of a grading: the source has their texts, one behind the other and in any order, as `run` or `lines`
+/// Adds the shares of a grading: the source has their texts, one after the other and in any order, as `run` or `lines`
 /// wrote them. What is written is the last line of the whole grading, or why there is none.
 ///
 /// Where a bound is asked for and fewer flaws were found in all, the status is `Found`. Nothing is written before all

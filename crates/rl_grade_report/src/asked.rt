@@ -10,7 +10,7 @@ use rl_grade::Share;
 use rl_log::Status;
 use rl_policy::{NumberText, read_number};
 
-/// What a grading tells.
+/// What a grading reports.
 #[derive(Clone, Copy, Debug, PartialEq, Eq)]
 pub enum Tell {
     /// A line for each place, and the totals.
@@ -19,7 +19,7 @@ pub enum Tell {
     Missed,
     /// Each flaw that is hidden, as a row of a description.
     Hidden,
-    /// Each flaw that is found, as a row behind the number of the line that finds it first.
+    /// Each flaw that is found, as a row after the number of the line that finds it first.
     Found,
     /// Each flaw that is waived and isn't found, as a row of a description.
     Waived,

@@ -1,9 +1,9 @@
 // What a grading tells of its session.
 
-/// What a grading tells of its session.
+/// What a grading reports of its session.
 #[derive(Clone, Copy, Debug, PartialEq, Eq)]
 pub struct Facts {
-    /// Its mark, where it is told.
+    /// Its mark, where it is reported.
     pub mark: Option<u64>,
     /// How many lines of its script ask for something.
     pub lines: u64,

@@ -151,8 +151,8 @@ fn facts_of(mark: Option<u64>, tasks: &[Task], shown: &Shown) -> Facts
     }
 }
 
-// Tries the flaws of a description without flaws of its own, where this is what the tasks show, and where the waivers name
-// flaws that are there.
+// Tries the flaws of a description without flaws of its own, where this is what the tasks show, and where the waivers
+// name flaws that are there.
 fn grade_waived<K: Sink, M: Meter>(
     alloc: Global,
     asked: Asked,
@@ -380,20 +380,20 @@ fn grade_marked<S: Source, K: Sink, M: Meter>(
     )
 }
 
-/// Grades a session: tries which single flaws of its device its script finds, and writes what is asked for. The adapters
-/// are a plain and an APB adapter that have sent nothing.
+/// Grades a session: tries which single flaws of its device its script finds, and writes what is asked for. The
+/// adapters are a plain and an APB adapter that have sent nothing.
 ///
-/// `waivers` is the text of a file of flaws that are known and accepted, each as the row that `Tell::Missed` writes, and
-/// empty where there are none. A flaw that is waived and not found counts as such, and isn't among those that can be
-/// found. Where a row comes twice, or is that of no flaw of the session, one line says so in place of the grading.
+/// `waivers` is the text of a file of flaws that are known and accepted, each as the row that `Tell::Missed` writes,
+/// and empty where there are none. A flaw that is waived and not found counts as such, and isn't among those that can
+/// be found. Where a row comes twice, or is that of no flaw of the session, one line says so in place of the grading.
 ///
-/// Nothing is written before the whole script was read. The log is finished once, where its last line was written. Where
-/// a bound is asked for and fewer flaws were found, the status is `Found`.
+/// Nothing is written before the whole script was read. The log is finished once, where its last line was written.
+/// Where a bound is asked for and fewer flaws were found, the status is `Found`.
 ///
 /// # Examples
 ///
-/// A register `ctrl` has an RW field `mode` of 4 bits that resets to 5, and the script is `write ctrl 0x3` and `check ctrl`.
-/// `Tell::Run` writes:
+/// A register `ctrl` has an RW field `mode` of 4 bits that resets to 5, and the script is `write ctrl 0x3` and `check
+/// ctrl`. `Tell::Run` writes:
 ///
 /// ```text
 /// ctrl: deaf 1 found 0 missed, address 1 found 0 missed

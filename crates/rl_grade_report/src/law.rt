@@ -1,5 +1,5 @@
-//! What holds of the flaws that a grading goes over, place by place, of its shares, and of waivers. Each function does nothing; its
-//! contract is the law.
+//! What holds of the flaws that a grading goes over, place by place, of its shares, and of waivers. Each function does
+//! nothing; its contract is the law.
 ghost use Rattle.rl_grade_report.specs.Plain.{NoWaiverWaivesNone, NoneWaivedIsPlain};
 ghost use Rattle.rl_grade_report.specs.Together.{SumsAreOfAll};
 ghost use Rattle.rl_grade_report.specs.Whole.{EachIsGraded, NoOtherIsGraded, NoneIsGradedTwice};
@@ -17,13 +17,13 @@ pub fn no_other_flaw_is_graded()
     ensures { NoOtherIsGraded }
 {}
 
-/// No flaw stands twice among those of all places.
+/// No flaw is twice among those of all places.
 pub fn no_flaw_is_graded_twice()
     ensures { NoneIsGradedTwice }
 {}
 
-/// Where shares of one grading are added, in any order and each with what the grading counts of it, the sums are what it
-/// counts of all flaws.
+/// Where shares of one grading are added, in any order and each with what the grading counts of it, the sums are what
+/// it counts of all flaws.
 pub fn shares_add_up_to_the_whole()
     ensures { SumsAreOfAll }
 {

@@ -48,7 +48,7 @@ fn push_mems(places: &mut Vec<Place>, mems: u32) -> Result<(), AllocError>
     Ok(())
 }
 
-/// The registers, each with its fields behind it, the memories, and the session.
+/// The registers, each with its fields after it, the memories, and the session.
 pub(crate) fn places_of(alloc: Global, chip: &Chip) -> Result<Vec<Place>, AllocError>
     ensures places { IfOk result (λ places. places.items ≡ places_of chip.now) }
     ensures each { IfOk result (λ places. All (IsPlaceIn chip.now) places.items) }

@@ -210,7 +210,7 @@ fn push_found(
     push_row(text, chip, layout, it.flaw)
 }
 
-/// Appends each flaw that is found as a row of a description, behind a comment with the number of the line of the
+/// Appends each flaw that is found as a row of a description, after a comment with the number of the line of the
 /// script that finds it first.
 ///
 /// # Errors

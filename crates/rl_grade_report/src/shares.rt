@@ -157,7 +157,7 @@ fn closed(shares: Shares) -> Result<Vec<Part>, SharesFault>
 ///
 /// # Errors
 ///
-/// The first line where no share begins and one should, or the first share without its end; and want of memory.
+/// The first line where no share begins and one should, or the first share without its end; and running out of memory.
 pub(crate) fn shares_of(alloc: Global, text: &[u8]) -> Result<Vec<Part>, SharesFault>
     ensures parts { IfOk result (λ parts. shares_of text.now ≡ Ok parts.items) }
     ensures refused { IfErr result (λ fault. IfSome (refused_by fault) (λ why. shares_of text.now ≡ Err why)) }

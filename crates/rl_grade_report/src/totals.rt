@@ -162,8 +162,8 @@ fn push_left_out(text: &mut Vec<u8>, totals: Totals) -> Result<(), AllocError>
     push_count_if(text, b", ", totals.needless, b" needless waivers")
 }
 
-/// Appends the last line of a grading: how many flaws were tried, found, missed, hidden and waived, how many waivers are
-/// needless, the share that was found, and that of those that can be found.
+/// Appends the last line of a grading: how many flaws were tried, found, missed, hidden and waived, how many waivers
+/// are needless, the share that was found, and that of those that can be found.
 ///
 /// # Errors
 ///

@@ -11,7 +11,7 @@ use std::alloc::{AllocError, Global};
 pub enum Verdict {
     /// Another script may find it.
     Missed,
-    /// No script finds it, as `is_hidden` tells.
+    /// No script finds it, as `is_hidden` says.
     Hidden,
     /// It is known and accepted: a row of the waivers is the flaw's.
     Waived,

@@ -107,7 +107,7 @@ fn with_line(
     Ok(rows)
 }
 
-/// The rows of a file of waivers, in order. A row begins with a line `[[flaw]]`, or with another line behind one that is
+/// The rows of a file of waivers, in order. A row begins with a line `[[flaw]]`, or with another line after one that is
 /// of no row, and ends before the next row, an empty line or a comment.
 ///
 /// # Errors

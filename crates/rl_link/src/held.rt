@@ -69,7 +69,7 @@ impl Held {
         self.start += count;
     }
 
-    /// Reads once, behind what is held. Answers how many bytes came: none at the source's end.
+    /// Reads once, after what is held. Answers how many bytes came: none at the source's end.
     pub fn take_more<S: Source>(&mut self, source: &mut S) -> Result<usize, Failed>
         requires short { length self.old ≤ 4096 }
         ensures coming { Keeps (coming self.old (S.left source.old)) (coming self.new (S.left source.new)) }

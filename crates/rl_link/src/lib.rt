@@ -1,6 +1,6 @@
 //! A device behind two streams: each transfer goes out as a line, and the line that comes back answers it.
 //!
-//! What stands at the other end, as the bench of an RTL simulator, is the peer. The lines of both directions are this
+//! What is at the other end, as the bench of an RTL simulator, is the peer. The lines of both directions are this
 //! project's own.
 //!
 //! Runs a session on a device over a link: refuses a flaw, plays the script as if nothing had a backdoor, and says how

@@ -21,16 +21,16 @@ use rl_bus::{Answer, BusOp, Cell, Device, Response, Transfer, carried, response_
 use rl_report::{Sink, Source};
 use std::alloc::{AllocError, Global};
 
-/// What a link goes over, and what it tells.
+/// What a link goes over, and what it reports.
 #[derive(Drop)]
 pub struct Streams<S, K, N, M> {
     /// Where answers come from.
     pub source: S,
     /// Where requests go.
     pub sink: K,
-    /// Lines for the log, behind `# `.
+    /// Lines for the log, after `# `.
     pub notes: N,
-    /// What the user is told.
+    /// What is reported to the user.
     pub messages: M,
 }
 
@@ -43,14 +43,14 @@ pub struct Break {
     pub line: u64,
 }
 
-/// A device behind two streams, which doesn't tell its state.
+/// A device behind two streams, which doesn't report its state.
 ///
 /// A transfer goes out as one line, and the peer's next line that is an answer answers it. A reset and a change
 /// by the hardware go the same way. There is no backdoor: a deposit breaks the link, and a peek, which can't fail,
 /// gives 0, so a caller's model has none either. Once something went wrong, the link is broken: nothing is sent
 /// or read any more, and each transfer fails.
 ///
-/// Two more sinks are told what a log can't say of its items. The notes are lines for the log itself, behind `# `: how the
+/// Two more sinks get what a log can't say of its items. The notes are lines for the log itself, after `# `: how the
 /// link broke, and what the peer didn't do. The messages are for the user: what the peer chatters, unknown values, and
 /// how the link broke. Where one of them fails, the link goes on.
 #[derive(Drop)]

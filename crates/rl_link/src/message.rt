@@ -149,7 +149,7 @@ fn put_told<Q: Sink>(sink: &mut Q, broken: Break, held: &[u8], request: &[u8]) -
     put_talk(sink, broken.cause, held, request)
 }
 
-/// Says behind a mark where and why a link broke, the line that came where it is what broke it, and the last request.
+/// Says after a mark where and why a link broke, the line that came where it is what broke it, and the last request.
 pub(crate) fn put_break<Q: Sink>(
     sink: &mut Q,
     mark: &[u8],

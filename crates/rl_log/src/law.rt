@@ -26,7 +26,7 @@ pub fn each_log_tells_its_events()
     ensures { EveryLogTellsItsEvents }
 {}
 
-/// A script passed where nothing differed and nothing failed on the bus; the exit statuses tell the endings apart.
+/// A script passed where nothing differed and nothing failed on the bus; the exit statuses distinguish the endings.
 pub fn statuses_tell_endings()
     ensures passed { PassesWhereClean }
     ensures codes { CodesTell }
@@ -37,7 +37,7 @@ pub fn bursts_stop_at_an_error()
     ensures { EveryBurstStops }
 {}
 
-/// What is told of a line is its steps, and a line that says something is within the limits.
+/// What is recorded of a line is its steps, and a line that says something is within the limits.
 pub fn lines_tell_their_steps()
     ensures told { EntriesTellSteps }
     ensures limits { LinesAreLimited }

@@ -1,4 +1,4 @@
-//! What a log says: the definitions of the judged log of a script, and the counts, statuses and refusals that it tells.
+//! What a log says: the definitions of the judged log of a script, and the counts, statuses and refusals that it has.
 #![tactic(auto)]
 
 mod counts;

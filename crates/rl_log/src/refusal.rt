@@ -1,6 +1,6 @@
 // Why a line is refused.
 
-/// Why a line of a script is refused: this project's own, as its last line tells it.
+/// Why a line of a script is refused: this project's own, as its last line says it.
 #[derive(Clone, Copy, Debug, PartialEq, Eq)]
 pub enum LineRefusal {
     /// More than 4,096 bytes.

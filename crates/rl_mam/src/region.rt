@@ -16,7 +16,7 @@ pub struct Region {
 }
 
 impl Region {
-    /// Whether it ends behind a location.
+    /// Whether it ends after a location.
     pub(crate) fn ends_after(&self, x: u64) -> bool
         ensures { result ≡ nat_lt x (self.now.first + self.now.len) }
     {

@@ -23,7 +23,7 @@ pub(crate) fn region_at(regions: &[Region], first: u64) -> Option<Region>
     regions.iter().copied().find(|region| region.first == first)
 }
 
-/// How many regions stand before one that begins at `first`.
+/// How many regions are before one that begins at `first`.
 pub(crate) fn place_of(regions: &[Region], first: u64) -> usize
     ensures { result ≡ place_of regions.now first }
 {
@@ -39,7 +39,7 @@ fn first_later(regions: &[Region], first: u64) -> Option<usize>
     regions.iter().position(|region| first < region.first)
 }
 
-/// Where the lowest free run of a length begins. The free runs are in front of the regions, and behind the last one.
+/// Where the lowest free run of a length begins. The free runs are in front of the regions, and after the last one.
 pub(crate) fn lowest_free(regions: &[Region], size: u64, len: u64) -> Result<u64, MamFault>
     requires apart { AreApart 0 size regions.now }
     requires some { 0 < len }

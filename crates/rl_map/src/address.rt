@@ -34,7 +34,7 @@ fn is_off(row: &PlaceRow, path: &[Level], port: &PortRow, index: u32, byte: u64)
     address % u128::from(port.bytes) != 0
 }
 
-/// Whether a byte stands at an address that isn't aligned, at the root or on the way.
+/// Whether a byte is at an address that isn't aligned, at the root or on the way.
 fn is_unaligned(row: &PlaceRow, path: &[Level], port: &PortRow, index: u32, byte: u64) -> bool
     requires path { IsPath path.now }
     requires size { row.now.bytes ≤ 8 }
@@ -61,7 +61,7 @@ fn is_location_above(row: &PlaceRow, path: &[Level], port: &PortRow, index: u32)
 }
 
 /// Whether the first two locations of an item are straight on the way of each byte, so that all of them
-/// stand evenly.
+/// are evenly spaced.
 fn is_even(row: &PlaceRow, path: &[Level]) -> bool
     requires path { IsPath path.now }
     requires size { row.now.bytes ≤ 8 }
@@ -75,7 +75,7 @@ fn is_even(row: &PlaceRow, path: &[Level]) -> bool
     true
 }
 
-/// The first location that has to be tested for an address above: the last one, where all stand evenly.
+/// The first location that has to be tested for an address above: the last one, where all are evenly spaced.
 fn first_to_test(row: &PlaceRow, path: &[Level]) -> u32
     requires path { IsPath path.now }
     requires size { row.now.bytes ≤ 8 }
@@ -90,7 +90,7 @@ fn first_to_test(row: &PlaceRow, path: &[Level]) -> u32
     }
 }
 
-/// Whether a word of a place stands above the adapter's last address.
+/// Whether a word of a place is above the adapter's last address.
 pub(crate) fn is_place_above(row: &PlaceRow, path: &[Level], port: &PortRow) -> bool
     requires path { IsPath path.now }
     requires size { row.now.bytes ≤ 8 }
@@ -121,8 +121,8 @@ fn is_location_unaligned(row: &PlaceRow, path: &[Level], port: &PortRow, index: 
     false
 }
 
-/// Whether a word of a place stands at an address that isn't aligned. Where the first two locations stand
-/// aligned, all do.
+/// Whether a word of a place is at an address that isn't aligned. Where those of the first two locations are aligned,
+/// all are.
 pub(crate) fn is_place_unaligned(row: &PlaceRow, path: &[Level], port: &PortRow) -> bool
     requires path { IsPath path.now }
     requires size { row.now.bytes ≤ 8 }

@@ -35,7 +35,7 @@ fn first_fault(shared: Option<Shared>, refused: Option<MapFault>) -> Option<MapF
     }
 }
 
-/// Adds all places with their rows in order, or tells the first that is refused.
+/// Adds all places with their rows in order, or names the first that is refused.
 fn place_all(
     chip: &Chip,
     maps: &[MapRow],

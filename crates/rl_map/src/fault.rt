@@ -28,12 +28,12 @@ pub enum MapCause {
     PlacedTwice,
     /// A memory is placed where a map on the path up to the root is of a FIFO kind.
     MemInFifo,
-    /// A byte of the item would stand above the last address that the adapter takes.
+    /// A byte of the item would be above the last address that the adapter takes.
     AddressOverflow,
-    /// A word stands at no multiple of the bus width under an adapter that takes aligned addresses alone, or
+    /// A word is at no multiple of the bus width under an adapter that takes aligned addresses alone, or
     /// a byte-addressed map has it at no multiple of its width where its parent counts words.
     Unaligned,
-    /// A word stands at an address of a word of an earlier place of the port, and the two places have a right
+    /// A word is at an address of a word of an earlier place of the port, and the two places have a right
     /// in common or one of them has a FIFO kind on its path.
     SharedAddress {
         /// The least such address.
@@ -43,7 +43,7 @@ pub enum MapCause {
     },
 }
 
-/// Why a layout is not built: the first condition that fails with its row, or want of memory.
+/// Why a layout is not built: the first condition that fails with its row, or running out of memory.
 #[derive(Clone, Copy, Debug, PartialEq, Eq)]
 pub enum MapFault {
     /// The first condition that fails, and where.

@@ -32,7 +32,7 @@ fn count_in_front(rows: &[WordRow], sought: u128) -> usize
         .unwrap_or(rows.len())
 }
 
-/// The rows at an address of a port: the first by halves, and the few behind it one by one.
+/// The rows at an address of a port: the first by halves, and the few after it one by one.
 pub(crate) fn rows_at(rows: &[WordRow], port: u32, address: u64) -> &[WordRow]
     requires ascending { IsAscending rows.now }
     requires low { All (λ r. r.address < 2 ^ 64) rows.now }

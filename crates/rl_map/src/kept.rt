@@ -9,14 +9,14 @@ use crate::path::Level;
 use crate::seat::Location;
 use crate::word::{Word, Words};
 
-/// The words of a place's first location, and how far apart two neighbouring locations stand.
+/// The words of a place's first location, and how far apart two neighbouring locations are.
 #[derive(Drop)]
 pub(crate) struct PlaceWords {
     pub(crate) words: Words,
     pub(crate) step: u64,
 }
 
-/// How far location 1 stands behind location 0.
+/// How far location 1 is after location 0.
 fn step_of(item: &Location, path: &[Level], base: u64) -> u64
     requires path { IsPath path.now }
     requires some { 0 < item.now.bytes }

@@ -18,7 +18,7 @@ use std::alloc::AllocError;
 use std::marker::Model;
 use std::rc::Rc;
 
-/// The address maps of a chip (`uvm_reg_map`, IEEE 1800.2-2017, 18.2), and where its registers and memories stand in
+/// The address maps of a chip (`uvm_reg_map`, IEEE 1800.2-2017, 18.2), and where its registers and memories are in
 /// them.
 ///
 /// Maps, places and ports are numbered in description order. A port is a root map. A layout keeps the
@@ -77,7 +77,7 @@ impl Model for Layout {
 }
 
 impl Layout {
-    /// Where byte `byte` of location `index` of a place's item stands; `index` is 0 for a register.
+    /// Where byte `byte` of location `index` of a place's item is; `index` is 0 for a register.
     pub fn seat(&self, place: u32, index: u32, byte: u32) -> Seat
         requires location { IsLocation self.now place index }
         requires byte { byte < (place_at self.now place).bytes }
@@ -113,7 +113,7 @@ impl Layout {
         kept.word(index, k)
     }
 
-    /// What stands at an address of a port for writes, or for reads; none where no place with the right of
+    /// What is at an address of a port for writes, or for reads; none where no place with the right of
     /// that direction has a word there.
     ///
     /// A read-only and a write-only place may share an address: a bus item is then of the place that has the
@@ -134,7 +134,7 @@ impl Layout {
         }
     }
 
-    /// The word that a beat of an address names: of those of one direction that stand there, the one with
+    /// The word that a beat of an address names: of those of one direction that are there, the one with
     /// this number in the order in which they are sent. There are several only where a map on the path is a FIFO.
     pub fn word_at(&self, port: u32, address: u64, beat: u32, write: bool) -> Word
         requires port { port < length self.now.ports }
@@ -172,7 +172,7 @@ impl Layout {
         self.links.last(item)
     }
 
-    /// The register or memory that stands at a place.
+    /// The register or memory that is at a place.
     pub fn item(&self, place: u32) -> Item
         requires { place < length self.now.places }
         ensures { result ≡ (place_at self.now place).item }
@@ -190,7 +190,7 @@ impl Layout {
         self.places[place as usize].bytes as u32
     }
 
-    /// The map that a place stands in.
+    /// The map that a place is in.
     pub fn map_of(&self, place: u32) -> u32
         requires { place < length self.now.places }
         ensures map { result ≡ (place_at self.now place).map }

@@ -1,4 +1,4 @@
-//! Address maps: where each byte of each register and memory stands on the bus.
+//! Address maps: where each byte of each register and memory is on the bus.
 //!
 //! A layout is a tree of maps with the places of registers and memories in them. The endian kinds,
 //! submaps with an offset and rights per map follow IEEE 1800.2. This project's own are the time order of

@@ -18,7 +18,7 @@ pub(crate) struct ItemLinks {
     pub(crate) before: Vec<u32>,
 }
 
-/// Where an item stands among all items.
+/// Where an item is among all items.
 fn number_of_item(item: Item) -> usize
     ensures number { result ≡ number_of_item item }
     ensures small { result < 2 ^ 34 }

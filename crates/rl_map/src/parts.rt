@@ -13,11 +13,11 @@ pub struct MapNode {
     pub base: u64,
     /// The width in bytes: 1, 2, 4 or 8.
     pub bytes: u64,
-    /// Where the words of a wider item stand.
+    /// Where the words of a wider item are.
     pub kind: Kind,
     /// Whether addresses count words of the map's own width, and not bytes.
     pub word: bool,
-    /// The name of an earlier map in which this one stands (`uvm_reg_map::add_submap`), or none for a root.
+    /// The name of an earlier map in which this one is (`uvm_reg_map::add_submap`), or none for a root.
     pub parent: Option<Name>,
     /// Where the map starts in its parent, in the parent's unit of addresses.
     pub offset: u64,

@@ -6,7 +6,7 @@ ghost use Rattle.std.specs.Prelude.{◌≡◌, ℕ, ◌+◌, ◌*◌, ◌<◌, �
 
 use std::marker::Model;
 
-/// Where the words of an item that is wider than the map stand: the endian kinds of `uvm_reg_map` (IEEE 1800.2-2017,
+/// Where the words of an item that is wider than the map are: the endian kinds of `uvm_reg_map` (IEEE 1800.2-2017,
 /// 18.2).
 ///
 /// The order of the words in time, which is that of ascending addresses without a FIFO, and the same rule at
@@ -28,7 +28,7 @@ pub enum Kind {
 pub struct Level {
     /// The width in bytes: 1, 2, 4 or 8.
     pub bytes: u64,
-    /// Where the words of a wider item stand.
+    /// Where the words of a wider item are.
     pub kind: Kind,
     /// Addresses count words of the map's own width, and not bytes.
     pub word: bool,

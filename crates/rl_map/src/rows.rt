@@ -28,7 +28,7 @@ pub(crate) struct PortRow {
     pub(crate) explicit: bool,
 }
 
-/// A place: where an item stands, its bytes and, for a memory, its number of locations.
+/// A place: where an item is, its bytes and, for a memory, its number of locations.
 #[derive(Clone, Copy)]
 pub(crate) struct PlaceRow {
     pub(crate) map: u32,
@@ -41,14 +41,14 @@ pub(crate) struct PlaceRow {
     pub(crate) fifo: bool,
 }
 
-/// What stands at an address of a port for one direction.
+/// What is at an address of a port for one direction.
 #[derive(Clone, Copy, Debug, PartialEq, Eq)]
 pub struct Here {
     /// The number of the place.
     pub place: u32,
     /// The location of the place's item; 0 for a register.
     pub index: u32,
-    /// How many of its words stand at the address: more than one only where a map on the path is a FIFO.
+    /// How many of its words are at the address: more than one only where a map on the path is a FIFO.
     pub count: u32,
 }
 

@@ -9,13 +9,13 @@ use crate::path::Level;
 pub(crate) struct Location {
     /// The size in bytes, from 1 to 8.
     pub(crate) bytes: u64,
-    /// Where location 0 stands in the item's own map.
+    /// Where location 0 is in the item's own map.
     pub(crate) offset: u64,
     /// The location; 0 for a register.
     pub(crate) index: u32,
 }
 
-/// Where one byte of a register or of a location of a memory stands on the bus.
+/// Where one byte of a register or of a location of a memory is on the bus.
 ///
 /// The order of words in time and the lanes of narrower maps are this project's own.
 #[derive(Clone, Copy, Debug, PartialEq, Eq)]
@@ -153,7 +153,7 @@ impl Location {
         access
     }
 
-    /// Whether a byte-addressed map on the way stands in a word-addressed one off a multiple of its width.
+    /// Whether a byte-addressed map on the way is in a word-addressed one off a multiple of its width.
     pub(crate) fn is_askew(&self, path: &[Level], byte: u64) -> bool
         requires path { IsPath path.now }
         requires byte_in { byte < self.now.bytes }
@@ -180,7 +180,7 @@ impl Location {
         false
     }
 
-    /// Where a byte of the item stands on the bus, by a path whose root begins at `base`.
+    /// Where a byte of the item is on the bus, by a path whose root begins at `base`.
     pub(crate) fn seat(&self, path: &[Level], base: u64, byte: u64) -> Seat
         requires path { IsPath path.now }
         requires byte_in { byte < self.now.bytes }

@@ -20,7 +20,7 @@ pub(crate) struct Shared {
     pub(crate) other: u32,
 }
 
-/// Whether two rows of one address may not stand there together.
+/// Whether two rows of one address may not be there together.
 fn rows_clash(places: &[PlaceRow], a: &WordRow, b: &WordRow) -> bool
     requires first { a.now.place < length places.now }
     requires second { b.now.place < length places.now }
@@ -141,7 +141,7 @@ pub(crate) fn first_shared(places: &[PlaceRow], rows: &[WordRow]) -> Option<Shar
     best
 }
 
-/// Whether rows stand in order by port and address.
+/// Whether rows are in order by port and address.
 fn is_ascending(rows: &[WordRow]) -> bool
     ensures { result ≡ true → IsAscending rows.now }
 {

@@ -151,7 +151,7 @@ impl Words {
         self.as_slice()[k]
     }
 
-    /// The `beat`-th of the words that stand at an address.
+    /// The `beat`-th of the words that are at an address.
     pub(crate) fn nth_at(&self, address: u64, beat: u32) -> Word
         requires { beat < length (words_with address self.now) }
         ensures { slice_get (words_with address self.now) beat ≡ Some result }
@@ -189,7 +189,7 @@ impl Words {
     }
 }
 
-/// The words of the bytes that stand at these seats, whose orders are below `slots`.
+/// The words of the bytes that are at these seats, whose orders are below `slots`.
 fn collect(seats: &[Seat], slots: u32) -> Words
     requires { length seats.now ≤ 8 }
     ensures { result ≡ words_below seats.now slots }

@@ -128,7 +128,7 @@ pub(crate) fn chosen(chip: &Chip, reg: u32, fields: u64) -> u64
     }
 }
 
-/// The bits of the fields of a set of which a read tells.
+/// The bits of the fields of a set which a read shows.
 pub(crate) fn told(chip: &Chip, reg: u32, fields: u64) -> u64
     requires { reg < length chip.now.regs }
     ensures sound { IsSound chip.now }

@@ -104,7 +104,7 @@ impl Mirror {
     /// Takes a read of the fields of the set as done, which answered `value`: `uvm_reg_field::predict` with
     /// `UVM_PREDICT_READ` (IEEE 1800.2-2017, 18.5).
     ///
-    /// What it leaves becomes the mirrored and the desired bits. That it tells nothing of a write-only field is this
+    /// What it leaves becomes the mirrored and the desired bits. That it shows nothing of a write-only field is this
     /// project's own.
     pub fn predict_read(&mut self, chip: &Chip, reg: u32, value: u64, fields: u64)
         requires reg { reg < length chip.now.regs }

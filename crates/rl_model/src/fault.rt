@@ -68,7 +68,7 @@ pub enum ModelCause {
     ResetTooWide,
 }
 
-/// Why a chip is not built: the first condition that fails, with its place, or want of memory.
+/// Why a chip is not built: the first condition that fails, with its place, or running out of memory.
 #[derive(Clone, Copy, Debug, PartialEq, Eq)]
 pub enum ModelFault {
     /// The first condition that fails, and where.

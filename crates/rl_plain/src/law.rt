@@ -141,7 +141,7 @@ pub fn broken_plan_is_plain()
     ensures { BrokenPlanIsPlain }
 {}
 
-/// What a burst hands over to a recorder, also where it is refused or the recorder fails, is a front of the machine's
+/// What a burst hands over to a recorder, also where it is refused or the recorder fails, is a prefix of the machine's
 /// events, and device and model are the machine's after the last of them. It is said of the clause `hands_over` of
 /// `rl_access::burst_write` and `rl_access::burst_read`.
 pub fn burst_hands_over_front<R: Recorder>()
@@ -170,7 +170,7 @@ pub fn new_ones_agree_with_memories()
     ensures { NewOnesAgreeWithMemories }
 {}
 
-/// What is believed after a reset, and what its event tells, is the plain machine's, whatever the kind is and whether
+/// What is believed after a reset, and what its event says, is the plain machine's, whatever the kind is and whether
 /// or not the model is sound.
 pub fn reset_is_plain()
     ensures { ResetIsPlain }

@@ -7,8 +7,8 @@ pub fn each_chip_is_sound()
     ensures { EveryChipSound }
 {}
 
-/// The maps and places that no condition refuses make a layout of the chip, in which each byte stands in one word,
-/// and what stands at an address is one item's.
+/// The maps and places that no condition refuses make a layout of the chip, in which each byte is in one word,
+/// and what is at an address is one item's.
 pub fn each_layout_is_sound()
     ensures { EveryLayoutSound }
 {}

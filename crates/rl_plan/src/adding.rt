@@ -115,7 +115,7 @@ fn put_script<S: Source, K: Sink>(
 }
 
 /// Writes those lines of the plan that a session's script needs: the lines of each register and memory that find a flaw
-/// of it first, where they stand behind the script. Where there is none, one comment line says so. The adapters are a
+/// of it first, where they are after the script. Where there is none, one comment line says so. The adapters are a
 /// plain and an APB adapter that have sent nothing; nothing is sent over them.
 ///
 /// The log is finished once, where its last line was written.

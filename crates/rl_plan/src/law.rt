@@ -4,7 +4,7 @@ ghost use Rattle.rl_plan.specs.Bits.{ForgetsAtReset, ShowsDeafOnes, ShowsStuckBi
 ghost use Rattle.rl_plan.specs.Bits.{TellsPoliciesApart};
 ghost use Rattle.rl_plan.specs.Laws.{LinesAreFew, LinesReadBack};
 
-/// The steps tell any two of the 25 policies apart, from each reset value on and where there is none: some check
+/// The steps distinguish any two of the 25 policies, from each reset value on and where there is none: some check
 /// differs where the device has another policy. So it is of each policy that a read shows, whatever the bit held before
 /// in the model and in the device, and whether its first write was done.
 pub fn policies_are_told_apart()
@@ -26,7 +26,7 @@ pub fn wrong_resets_show()
     ensures { ShowsWrongResets }
 {}
 
-/// Where a HARD reset gives a bit a value, what steps behind it show is the same whatever the bit held before.
+/// Where a HARD reset gives a bit a value, what steps after it show is the same whatever the bit held before.
 pub fn a_reset_forgets()
     ensures { ForgetsAtReset }
 {}

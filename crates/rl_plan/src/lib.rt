@@ -4,7 +4,7 @@
 //! apart any two access policies, bit by bit. Which words and which texts these are is this project's own.
 //!
 //! Of a session with a script those lines are found that the script needs: of each register and memory, where its lines
-//! behind the script find a flaw first.
+//! after the script find a flaw first.
 #![tactic(auto)]
 
 mod adding;

@@ -19,7 +19,7 @@ pub trait Earlier {
     ghost use Rattle.std.specs.Prelude.{ℕ, List};
     ghost use Rattle.std.specs.declared.option.Option.{Option};
 
-    /// The bytes, where the sink tells them.
+    /// The bytes, where the sink reports them.
     ghost bytes: { Option (List ℕ) };
 }
 
@@ -30,7 +30,7 @@ impl Earlier for Brand {
     ghost bytes = { None };
 }
 
-/// A sink before another one, which keeps bytes back until it is told to write them or has no more room. Whatever is
+/// A sink before another one, which keeps bytes back until it is asked to write them or has no more room. Whatever is
 /// written through it, the sink behind it keeps its earlier bytes.
 #[derive(Drop)]
 pub struct Buffered<'a, K: Sink, E: Earlier> {

@@ -42,7 +42,7 @@ pub fn hex_text(buf: &mut [u8; 16], value: u64, digits: u32)
 
 /// Writes the lower-case hexadecimal digits of a number, with no zero in front, and answers how many there are.
 ///
-/// What stands in the places after them is left open.
+/// What is in the places after them is left open.
 pub fn spell(buf: &mut [u8; 16], value: u64) -> usize
     ensures most { result ≤ 16 }
     ensures digits { take result buf.new ≡ hex_digits value }

@@ -19,7 +19,7 @@ use crate::word::{mask, repeated, replaced};
 /// a hard reset takes effect, and `WO1` is write only, once. Where no effect of a read is named, a read
 /// changes nothing.
 ///
-/// What a read of a write-only field answers, 0, is this project's own choice. The variants stand in the
+/// What a read of a write-only field answers, 0, is this project's own choice. The variants are in the
 /// order in which the policies are numbered, from 0.
 #[derive(Debug, Clone, Copy, PartialEq, Eq)]
 pub enum Policy {

@@ -27,7 +27,7 @@ pub fn replaced(word: u64, by: u64, places: u64) -> u64
     (word & !places) | (by & places)
 }
 
-/// The value of the field of `width` bits that stands at `lsb` in a word.
+/// The value of the field of `width` bits that is at `lsb` in a word.
 pub fn take(word: u64, lsb: u32, width: u32) -> u64
     requires some { 1 ≤ width }
     requires most { lsb + width ≤ 64 }

@@ -1,6 +1,6 @@
-//! Texts that stand beside the variants of an enum.
+//! Texts that are beside the variants of an enum.
 
-/// The text that stands beside the variant of a value:
+/// The text that is beside the variant of a value:
 /// `text_beside! { cause: Cause; Closed b"it ended", Memory b"no memory" }`.
 #[macro_export]
 macro_rules! text_beside {

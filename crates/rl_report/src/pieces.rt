@@ -8,7 +8,7 @@ use crate::{Failed, Sink};
 // A text with no more than this has room for what is pushed without a further look.
 const FULL: usize = 384;
 
-/// Writes the whole piece. After a fault a front of it was written. An empty piece makes no call.
+/// Writes the whole piece. After a fault a prefix of it was written. An empty piece makes no call.
 pub fn put_all<K: Sink>(sink: &mut K, piece: &[u8]) -> Result<(), Failed>
     ensures { PutsText K.Sink sink.old sink.new piece.now result }
 {
@@ -20,7 +20,7 @@ pub fn put_all<K: Sink>(sink: &mut K, piece: &[u8]) -> Result<(), Failed>
     Ok(())
 }
 
-/// Writes these pieces, one after another. After a fault a front of them was written.
+/// Writes these pieces, one after another. After a fault a prefix of them was written.
 pub fn put_pieces<K: Sink>(sink: &mut K, pieces: &[&[u8]]) -> Result<(), Failed>
     ensures { PutsText K.Sink sink.old sink.new (joined (map (λ piece. piece.now) pieces.now)) result }
 {

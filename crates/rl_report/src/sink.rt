@@ -9,7 +9,7 @@ use crate::Failed;
 
 /// Where a log goes.
 pub trait Sink {
-    /// The bytes that were written, where the sink tells them.
+    /// The bytes that were written, where the sink reports them.
     ghost written: { Self → Option (List ℕ) };
 
     /// How often the sink has failed. It stays at the end of `u64`.

@@ -9,7 +9,7 @@ use crate::Failed;
 
 /// Where a session comes from.
 pub trait Source {
-    /// The bytes that are left, where the source tells them.
+    /// The bytes that are left, where the source reports them.
     ghost left: { Self → Option (List ℕ) };
 
     /// How often the source has failed. It stays at the end of `u64`.

@@ -5,8 +5,8 @@ ghost use Rattle.rl_bus.specs.Causes.{HasCause};
 
 use crate::{Failed, Source};
 
-/// Reads once, behind the part of a buffer that stands between the two places. That moves to the front where there is
-/// no room behind it. Answers how many bytes came: none at the source's end.
+/// Reads once, after the part of a buffer that is between the two places. That moves to the front where there is
+/// no room after it. Answers how many bytes came: none at the source's end.
 pub fn refill<S: Source>(
     buffer: &mut [u8],
     start: &mut usize,

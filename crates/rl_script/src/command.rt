@@ -194,7 +194,7 @@ fn field_item(word: &[u8]) -> Option<Item>
     }
 }
 
-/// What goes by no bus, on a register.
+/// What uses no bus, on a register.
 fn backdoor_item(word: &[u8]) -> Option<Item>
     ensures { result ≡ find (λ item. bytes_eq (item_name item) word.now) backdoor_items }
 {
@@ -285,7 +285,7 @@ impl Item {
         }
     }
 
-    /// The command's operands behind the path.
+    /// The command's operands after the path.
     pub fn row(self) -> Row
         ensures { result ≡ row_of self }
     {

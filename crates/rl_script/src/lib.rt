@@ -1,7 +1,7 @@
 //! The lines of a register script: read into what they say, and written in their canonical spelling.
 //!
 //! A line is a command and its operands, separated by spaces or tabs; a word that begins with `#`
-//! and all behind it is a comment. The commands are those of a register model (IEEE 1800.2), their
+//! and all after it is a comment. The commands are those of a register model (IEEE 1800.2), their
 //! spelling is this project's own.
 #![tactic(auto)]
 

@@ -1,4 +1,4 @@
-//! What a line says, with its paths and names where they stand in it.
+//! What a line says, with its paths and names where they are in it.
 ghost use Rattle.std.specs.Prelude.{◌≡◌, IfOk};
 ghost use Rattle.rl_script.specs.Said.{item_said, line_said};
 

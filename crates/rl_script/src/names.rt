@@ -91,7 +91,7 @@ impl Ident {
     }
 }
 
-/// A path that stands in the text of a line.
+/// A path that is in the text of a line.
 #[derive(Debug, Drop)]
 pub struct PathRef<'a> {
     text: &'a [u8],
@@ -135,7 +135,7 @@ impl<'a> PathRef<'a> {
     }
 }
 
-/// A name that stands in the text of a line.
+/// A name that is in the text of a line.
 #[derive(Debug, Drop)]
 pub struct IdentRef<'a> {
     text: &'a [u8],
@@ -179,7 +179,7 @@ impl<'a> IdentRef<'a> {
     }
 }
 
-/// The name where it stands, if there is one.
+/// The name where it is, if there is one.
 pub(crate) fn name_ref(name: &Option<Ident>) -> Option<IdentRef<'_>>
     ensures { result ≡ name.now }
 {
@@ -229,7 +229,7 @@ fn are_in_name(text: &[u8]) -> bool
     text.iter().all(|byte| is_in_name(*byte))
 }
 
-/// How many bytes in front may stand in a name.
+/// How many bytes in front may be in a name.
 fn count_in_name(text: &[u8]) -> usize
     ensures count { result ≡ position_or_len (λ byte. not (spec.is_in_name byte)) text.now }
     ensures within { result ≤ length text.now }
@@ -239,7 +239,7 @@ fn count_in_name(text: &[u8]) -> usize
         .unwrap_or(text.len())
 }
 
-/// Goes name by name: the first byte, those behind it, and the dot.
+/// Goes name by name: the first byte, those after it, and the dot.
 // Not inlined, since its loops stay tighter by themselves.
 #[inline(never)]
 pub(crate) fn is_path(text: &[u8]) -> bool

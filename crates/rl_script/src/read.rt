@@ -47,7 +47,7 @@ pub fn read_line(alloc: Global, bytes: &[u8]) -> Result<Line, LineFault>
     Ok(line.into_line(alloc)?)
 }
 
-/// Reads a line as `read_line` does, and leaves its paths and names where they stand.
+/// Reads a line as `read_line` does, and leaves its paths and names where they are.
 ///
 /// Memory is taken for the values of a burst alone.
 #[tactic(auto, unfolding(crate::specs::Reading::read_of, crate::specs::Reading::by_words))]

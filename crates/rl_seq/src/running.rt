@@ -3,7 +3,7 @@
 use rl_access::{Model, Tally};
 use rl_bus::Adapters;
 
-/// What a sequence works on, the recorder that it tells, and what it has counted.
+/// What a sequence works on, the recorder that it hands events to, and what it has counted.
 #[derive(Drop)]
 pub(crate) struct Running<'a, D, R> {
     pub(crate) model: &'a mut Model,

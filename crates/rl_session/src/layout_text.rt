@@ -145,7 +145,7 @@ fn put_places<K: Sink>(sink: &mut K, chip: &Chip, layout: &Layout) -> Result<(),
     Ok(())
 }
 
-/// Writes where the items of a layout stand: the places in order, each with the words of its first location.
+/// Writes where the items of a layout are: the places in order, each with the words of its first location.
 pub fn put_layout<K: Sink>(sink: &mut K, chip: &Chip, layout: &Layout) -> Result<(), Failed>
     requires { IsBuiltWith layout.now chip.now }
     ensures { PutsText K.Sink sink.old sink.new (layout_text chip.now layout.now) result }

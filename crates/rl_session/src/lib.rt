@@ -1,4 +1,4 @@
-//! A session before it runs: its description, how that is refused, where its items stand, and the session of a number.
+//! A session before it runs: its description, how that is refused, where its items are, and the session of a number.
 #![tactic(auto)]
 
 mod digits;

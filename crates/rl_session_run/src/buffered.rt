@@ -7,8 +7,8 @@ use rl_log::Status;
 use rl_play::{Buffered, Earlier};
 use rl_report::{Failed, Sink};
 
-/// Writes what is kept back of a log, and ends it, once, where its last line was written. After a source or a sink that failed
-/// nothing more is written.
+/// Writes what is kept back of a log, and ends it, once, where its last line was written. After a source or a sink that
+/// failed nothing more is written.
 pub fn end_buffered<K: Sink, E: Earlier>(status: Status, log: &mut Buffered<'_, K, E>) -> Status
     requires { status ≢ Status.Words }
     ensures sink_later { K.faults log.old.sink.now ≤ K.faults log.new.sink.now }

@@ -12,7 +12,7 @@ use rl_log::Status;
 use rl_report::{Sink, Source};
 use std::alloc::{AllocError, Global};
 
-/// What a session runs on: a device that tells nothing, and what of a description it can't have.
+/// What a session runs on: a device that reports nothing, and what of a description it can't have.
 pub trait Host: Check {
     ghost use Rattle.std.specs.Prelude.{Bool};
 
@@ -74,8 +74,8 @@ pub fn run_on<P: Source, Q: Sink, H: Host + Drop>(
 ) -> Hosted<H::Made>
     requires few { length (map standing adapters.old.items) < 2 ^ 32 }
 
-    // Which sessions are refused and in what words, what is written of the others, the statuses, and where the device is
-    // handed out, which has failed as often as the log's events say, one fact a field.
+    // Which sessions are refused and in what words, what is written of the others, the statuses, and where the device
+    // is handed out, which has failed as often as the log's events say, one fact a field.
     ensures does { IfSome (P.left session.old) (λ bytes.
         RunsSession (opening_on H.backdoor (H.over (opening_of bytes (kinds_of (map standing adapters.old.items)))))
         bytes result.status

@@ -1,7 +1,7 @@
 //! A session up to its script, and its end: its head and its description are read, or it is refused and says why; its
 //! log is ended.
 //!
-//! The script of a session that was opened: it is played on the device model or on a device that tells nothing, and
+//! The script of a session that was opened: it is played on the device model or on a device that reports nothing, and
 //! what is kept back of its log is written. A whole session on such a device is one call.
 //!
 //! The session that a number makes, run with nothing written but one line.

@@ -102,8 +102,8 @@ fn read_desc<K: Sink>(
 /// # Errors
 ///
 /// The status of a session that ended here: `Refused` once the line that says so was written, a fault of the source or
-/// of the log, or want of memory. Where the source fails, no whole separator was taken, and nothing was written. Else,
-/// but for want of memory, the script is unread but for what was taken with the separator.
+/// of the log, or out of memory. Where the source fails, no whole separator was taken, and nothing was written. Else,
+/// unless memory ran out, the script is unread but for what was taken with the separator.
 pub fn open_session<S: Source, K: Sink>(
     alloc: Global,
     source: &mut S,

@@ -10,7 +10,7 @@ use rl_report::{LineReader, Sink, Source};
 use rl_session::model_of;
 use std::alloc::Global;
 
-/// Runs the script of a session on a device that doesn't tell its state, and writes its log. The log isn't ended.
+/// Runs the script of a session on a device that doesn't report its state, and writes its log. The log isn't ended.
 pub fn play_described<S: Source, K: Sink, D: Device>(
     alloc: Global,
     desc: Desc,

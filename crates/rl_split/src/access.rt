@@ -12,7 +12,7 @@ use crate::words::Words;
 use rl_bus::{AdapterKind, BusOp, Lanes};
 use rl_map::{Layout, Word};
 
-/// The operation for a word of an access, whose chosen bytes stand in these lanes.
+/// The operation for a word of an access, whose chosen bytes are in these lanes.
 fn operation(
     kind: &AdapterKind,
     bus_bytes: u8,
@@ -116,7 +116,7 @@ impl Outgoing {
 
 /// The operations of an access to a location of a place, in the order in which they are sent.
 ///
-/// Each is that of a word which [`Outgoing::word`] tells of, in a list.
+/// Each is that of a word which [`Outgoing::word`] gives, in a list.
 ///
 /// # Examples
 ///

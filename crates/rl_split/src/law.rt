@@ -49,7 +49,7 @@ pub fn memory_read_is_load()
     ensures { MemoryReadIsLoad }
 {}
 
-/// An access of which no word was sent is under way from the device as it stands.
+/// An access of which no word was sent is under way from the device as it is.
 pub fn none_sent_is_under_way()
     ensures { NoneSentIsUnderWay }
 {}

@@ -6,7 +6,7 @@
 //! allow it.
 //!
 //! That a wide item goes over a narrow bus in several operations, by the endian kinds, follows IEEE 1800.2.
-//! This project's own are the order of the words in time, what stands in lanes that aren't chosen, the
+//! This project's own are the order of the words in time, what is in lanes that aren't chosen, the
 //! conditions of a narrow access, and the laws.
 #![tactic(auto)]
 

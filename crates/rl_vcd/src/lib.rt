@@ -1,7 +1,7 @@
 //! The pins of APB transfers by clock as a Value Change Dump (IEEE 1364).
 //!
-//! A transfer and an event as text in memory; a dump behind a sink of its own; and a whole session, with its log and the
-//! dump of its APB items.
+//! A transfer and an event as text in memory; a dump behind a sink of its own; and a whole session, with its log and
+//! the dump of its APB items.
 #![tactic(auto)]
 
 mod dump;

@@ -179,7 +179,7 @@ impl<'a> Drawn<'a> {
 /// The text of a dump as far as it isn't written elsewhere, and the number of the next clock cycle.
 ///
 /// A clock cycle `n` is 10 ns long: PCLK rises at 10 n ns, the pins change 1 ns later, and PCLK falls at 10 n + 5 ns.
-/// Cycles are counted from 1. What a rising edge samples stands since the edge before.
+/// Cycles are counted from 1. What a rising edge samples holds since the edge before.
 #[derive(Drop)]
 pub struct Wave {
     /// The text that isn't written elsewhere yet.
@@ -200,7 +200,7 @@ impl Wave {
         Ok(Wave { text, cycle: 1 })
     }
 
-    /// Draws a transfer and an idle cycle behind it. The label stands in the signal `op` from the setup phase to the
+    /// Draws a transfer and an idle cycle after it. The label is in the signal `op` from the setup phase to the
     /// end of the transfer.
     ///
     /// # Examples

@@ -16,7 +16,7 @@ use rl_access::{End, Event, Model, Op, Trace, TraceItem};
 use rl_split::{Answers, join_whole};
 
 impl Woven {
-    /// Ends the access with its last item, and tells it in the event.
+    /// Ends the access with its last item, and records it in the event.
     pub(crate) fn close(&mut self, model: &Model, item: TraceItem, event: &mut Event)
         requires on { IsWovenOn model.now self.old }
         requires item { ItemFits model.now.layout item }

@@ -159,7 +159,7 @@ impl Weave {
     }
 
     /// Sends the next word of an open access. Where the word failed or was the last one the access is closed, and the
-    /// event is told in one that the caller has.
+    /// event is recorded in one that the caller has.
     pub fn step_into<D: Device>(
         &mut self,
         model: &mut Model,
@@ -237,7 +237,7 @@ impl Weave {
         number
     }
 
-    /// Keeps the item of an access or, where it is the last one, closes the access. It tells which.
+    /// Keeps the item of an access or, where it is the last one, closes the access. It answers which.
     fn take_in(&mut self, model: &Model, which: u32, item: TraceItem, event: &mut Event) -> bool
         requires open { Contains self.old.still_open which }
         requires on { IsWeaveOn model.now self.old }
@@ -262,7 +262,7 @@ impl Weave {
     }
 }
 
-/// Where the access that has a register stands.
+/// Where the access that has a register is.
 fn place_of(accesses: &[Woven], reg: u32) -> Option<usize>
     ensures { result ≡ position (λ v. v.access.reg == reg) accesses.now }
 {

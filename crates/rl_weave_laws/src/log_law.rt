@@ -4,14 +4,14 @@ ghost use Rattle.rl_weave_laws.specs.Endings.{EveryWovenLogEnds};
 ghost use Rattle.rl_weave_laws.specs.Groups.{GroupIsPlain, NoneIsOpen};
 ghost use Rattle.rl_weave_laws.specs.Scripts.{EveryWovenLogPlain, ScriptIsPlain, WovenLogIsPlain};
 
-/// The words that a group sends, at most 512, are all that its accesses have: none is open behind them.
+/// The words that a group sends, at most 512, are all that its accesses have: none is open after them.
 pub fn none_is_open()
     ensures { NoneIsOpen }
 {}
 
 /// On a device without flaws, and where no field is volatile, what a group writes is, without its item lines, the event
 /// lines of the plain machine that takes its accesses one after another, in some order. Device and model agree again
-/// behind the group, and are the machine's, and the counts rise as the machine's.
+/// after the group, and are the machine's, and the counts rise as the machine's.
 pub fn group_is_plain()
     ensures { GroupIsPlain }
 {}
@@ -29,14 +29,14 @@ pub fn woven_log_is_plain()
     ensures every { EveryWovenLogPlain }
 {}
 
-/// The log of a woven script, whatever the device, is that of the groups that are run, and one last line: of the counts,
-/// or of the line that is refused.
+/// The log of a woven script, whatever the device, is that of the groups that are run, and one last line: of the
+/// counts, or of the line that is refused.
 pub fn each_woven_log_has_one_last_line()
     ensures { EveryWovenLogEnds }
 {}
 
-/// On the device model, with whatever flaws, the words of a group are steps of its weave, to which the laws of words over
-/// any device apply. The group writes their lines and counts their events, and the next group may begin behind it.
+/// On the device model, with whatever flaws, the words of a group are steps of its weave, to which the laws of words
+/// over any device apply. The group writes their lines and counts their events, and the next group may begin after it.
 pub fn each_group_runs()
     ensures { EachGroupRuns }
 {}

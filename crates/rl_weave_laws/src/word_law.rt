@@ -1,5 +1,5 @@
-//! What holds of weaves, first on a device without flaws, and then on any device. Each function does nothing; its contract
-//! is the law.
+//! What holds of weaves, first on a device without flaws, and then on any device. Each function does nothing; its
+//! contract is the law.
 ghost use Rattle.rl_weave_laws.specs.AnyDevice.{BusErrorKeepsRegister, EachWordIsTaken, NoneOpenGathersNothing};
 ghost use Rattle.rl_weave_laws.specs.AnyDevice.{UnsentAreBegun};
 ghost use Rattle.rl_weave_laws.specs.Half.{FreshIsHalf, FreshIsUnsent, StepKeepsHalf, StepKeepsModel, NoneOpenAgrees};
@@ -51,7 +51,7 @@ pub fn ended_are_all()
 {}
 
 /// The register of each access that is over took one step, of all its fields, and a read answered what that
-/// answers; every other register stands as it stood.
+/// answers; every other register is as it was.
 pub fn each_steps_once()
     ensures { EachStepsOnce }
 {}
@@ -62,16 +62,17 @@ pub fn order_does_not_matter()
     ensures { OrderDoesNotMatter }
 {}
 
-/// On any device: where the predictor has gathered nothing, the accesses of which nothing was sent are begun: their items
-/// are their first words, and the predictor has gathered these. Once no access is open, it has gathered nothing again.
+/// On any device: where the predictor has gathered nothing, the accesses of which nothing was sent are begun: their
+/// items are their first words, and the predictor has gathered these. Once no access is open, it has gathered nothing
+/// again.
 pub fn unsent_are_begun()
     ensures begun { UnsentAreBegun }
     ensures nothing { NoneOpenGathersNothing }
 {}
 
-/// On any device: a word leaves each open access begun. The items of an event are the access's words in order, up to and
-/// with the first that failed. What is believed changes at the last word alone, and once, by what the whole access implies;
-/// not so where the access ends by a bus error.
+/// On any device: a word leaves each open access begun. The items of an event are the access's words in order, up to
+/// and with the first that failed. What is believed changes at the last word alone, and once, by what the whole access
+/// implies; not so where the access ends by a bus error.
 pub fn each_word_is_taken()
     ensures { EachWordIsTaken }
 {}

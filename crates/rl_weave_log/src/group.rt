@@ -13,7 +13,7 @@ use rl_play::Log;
 use rl_report::{Failed, write_event_line, write_item};
 use rl_weave::Sent;
 
-/// 64 accesses of 8 words have so many: no access is open behind them.
+/// 64 accesses of 8 words have so many: no access is open after them.
 const MOST_WORDS: u32 = 512;
 
 /// Writes the item that was sent and, where it ended its access, the line of the event.

@@ -1,4 +1,5 @@
-// Runs each row of data/rows.txt through the command, and compares its status and its log with those that stand beside it.
+// Runs each row of data/rows.txt through the command, and compares its status and its log with those that stand beside
+// it.
 //
 // A row that fails is told by its name and by what differs first. The last line is 'N passed, M failed'.
 #![tactic(auto)]

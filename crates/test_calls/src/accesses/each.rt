@@ -202,7 +202,7 @@ fn made<D: Device>(on: &mut Stand<'_, D>, call: Call) -> Result<Seen, Fail>
     made_alone(on.model, call)
 }
 
-/// Makes the calls one after another, each of which is to come to what stands beside it.
+/// Makes the calls one after another, each of which is to come to what is beside it.
 pub(crate) fn all_made<D: Device>(rt: &impl Abort, on: &mut Stand<'_, D>) -> Result<(), Fail>
     requires ready { IsReady on.old.model.now (map standing on.old.adapters.now.items) (D.state on.old.device.now) }
 {

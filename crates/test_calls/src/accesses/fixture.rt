@@ -50,7 +50,7 @@ pub(crate) enum Task {
     Call,
     /// Accesses by index.
     Index(&'static Case),
-    /// Accesses by index over a device that doesn't tell its state, and fails the item of this number.
+    /// Accesses by index over a device that doesn't report its state, and fails the item of this number.
     IndexQuietly(u64, &'static Case),
     /// An access by index, item by item.
     IndexItems,
@@ -58,7 +58,7 @@ pub(crate) enum Task {
     Banks,
     /// Words are sent alone.
     Send(&'static [Row]),
-    /// Words are sent alone over a device that doesn't tell its state, and fails each third item.
+    /// Words are sent alone over a device that doesn't report its state, and fails each third item.
     SendQuietly(&'static [Row]),
     /// A value is adopted.
     Adopt,

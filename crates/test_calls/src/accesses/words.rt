@@ -140,7 +140,7 @@ fn sent<D: Device>(on: &mut Stand<'_, D>, k: u32, value: Option<u64>) -> Result<
     Ok((item.answer.word, on.model.mirror().mirrored(reg)))
 }
 
-/// Sends words alone, each of which is to come to what stands beside it.
+/// Sends words alone, each of which is to come to what is beside it.
 pub(crate) fn all_sent<D: Device>(
     rt: &impl Abort,
     on: &mut Stand<'_, D>,

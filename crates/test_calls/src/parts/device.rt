@@ -3,7 +3,7 @@ ghost use Rattle.std.specs.Prelude.{None};
 
 use rl_bus::{Answer, Cell, Device, Response, Transfer, response_to};
 
-/// A device that doesn't tell its state, answers each third transfer as failed, and reads as 0.
+/// A device that doesn't report its state, answers each third transfer as failed, and reads as 0.
 #[derive(Drop)]
 pub(crate) struct Wavering {
     transfers: u64,

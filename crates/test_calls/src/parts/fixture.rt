@@ -34,7 +34,7 @@ pub(crate) fn adapters(alloc: Global) -> Result<Adapters, Fail>
     Ok(adapters)
 }
 
-/// The model of a description, for a device that doesn't tell its state.
+/// The model of a description, for a device that doesn't report its state.
 pub(crate) fn opened(alloc: Global, adapters: &Adapters, text: &str) -> Result<Model, Fail>
     requires { length (map standing adapters.now.items) < 2 ^ 32 }
     ensures { IfOk result (λ model. IsReady model (map standing adapters.now.items) None) }

@@ -98,7 +98,7 @@ fn played_with<S: Source, K: Sink>(
     end
 }
 
-/// Plays the lines behind the separator on a device that fails each third transfer, as `play_lines` does.
+/// Plays the lines after the separator on a device that fails each third transfer, as `play_lines` does.
 pub(crate) fn played<S: Source, K: Sink>(
     alloc: Global,
     source: &mut S,

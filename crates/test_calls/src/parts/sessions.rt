@@ -120,8 +120,8 @@ fn source_fails_at_each_call(rt: HostRuntime) -> Result<(), Fail> {
     Ok(())
 }
 
-// How much is out before a call of the sink. What one line logs is written before the next one is read, three bytes at a
-// call: 73 bytes, 79 bytes, and the 43 bytes of the counts.
+// How much is out before a call of the sink. What one line logs is written before the next one is read, three bytes at
+// a call: 73 bytes, 79 bytes, and the 43 bytes of the counts.
 fn out_before(call: u64) -> u64 {
     match call {
         0..25 => 3 * call,

@@ -9,7 +9,7 @@ pub(crate) fn name(alloc: Global, text: &str) -> Result<Name, AllocError> {
     Ok(Name::of(Vec::from_slice(alloc, text.as_bytes())?))
 }
 
-/// The next word, which is empty behind the last one.
+/// The next word, which is empty after the last one.
 pub(crate) fn word<'a>(words: &mut SplitWhitespace<'a>) -> &'a str {
     words.next().unwrap_or("")
 }

@@ -91,7 +91,7 @@ fn fault<D: Device>(
     }
 }
 
-/// Builds banks, each of which is built or has the fault that stands beside it.
+/// Builds banks, each of which is built or has the fault that is beside it.
 pub(crate) fn banks_built<D: Device>(
     rt: &(impl Abort + AllocGlobal),
     model: &Model,
