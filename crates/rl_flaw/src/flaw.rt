@@ -4,6 +4,14 @@ use rl_policy::Policy;
 
 /// A flaw of a device: this project's own. Where two flaws of one sort name the same field, bit or kind, the first
 /// counts.
+///
+/// # Examples
+///
+/// The row with `kind = "stuck"`, `field = "ctrl.mode"`, `bit = 2` and `value = 1`, where that field is number 0:
+///
+/// ```text
+/// Flaw::Stuck { field: 0, bit: 2, value: true }
+/// ```
 #[derive(Clone, Copy, Debug, PartialEq, Eq)]
 pub enum Flaw {
     /// The field has this access policy.
