@@ -53,8 +53,7 @@ policy_json c field policy =
 abbrev pub range_json : LayoutData → (port from to : ℕ) → List ℕ
 range_json l port from to =
     joined (codes "\n{\"kind\": \"error-range\", \"map\": \"" ∷ root_name l port ∷ codes "\", \"from\": \"0x"
-    ∷ hex_digits from
-    ∷ codes "\", \"to\": \"0x" ∷ hex_digits to ∷ codes "\"}" ∷ [])
+    ∷ hex_digits from ∷ codes "\", \"to\": \"0x" ∷ hex_digits to ∷ codes "\"}" ∷ [])
 
 abbrev pub nth_json : ℕ → List ℕ
 nth_json nth = joined (codes "\n{\"kind\": \"error-nth\", \"nth\": " ∷ decimal nth ∷ codes "}" ∷ [])
@@ -128,9 +127,8 @@ bound_json bound t =
 abbrev pub count_json : Kind → Counts → List ℕ
 count_json kind counts =
     joined (codes "\"" ∷ kind_name kind ∷ codes "\": {\"found\": " ∷ decimal counts.found ∷ codes ", \"missed\": "
-    ∷ decimal counts.missed
-    ∷ codes ", \"hidden\": " ∷ decimal counts.hidden ∷ count_if (codes ", \"waived\": ") counts.waived [] ∷ codes "}"
-    ∷ [])
+    ∷ decimal counts.missed ∷ codes ", \"hidden\": " ∷ decimal counts.hidden
+    ∷ count_if (codes ", \"waived\": ") counts.waived [] ∷ codes "}" ∷ [])
 
 -- of the kinds that are there
 abbrev pub kinds_parts : List Judged → List Kind → List (List ℕ)

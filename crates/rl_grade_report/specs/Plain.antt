@@ -44,8 +44,7 @@ plain_counted_json t =
 abbrev pub plain_count_json : Kind → Counts → List ℕ
 plain_count_json kind counts =
     joined (codes "\"" ∷ kind_name kind ∷ codes "\": {\"found\": " ∷ decimal counts.found ∷ codes ", \"missed\": "
-    ∷ decimal counts.missed
-    ∷ codes ", \"hidden\": " ∷ decimal counts.hidden ∷ codes "}" ∷ [])
+    ∷ decimal counts.missed ∷ codes ", \"hidden\": " ∷ decimal counts.hidden ∷ codes "}" ∷ [])
 
 -- ---- where nothing is waived
 

@@ -45,8 +45,7 @@ policy_row c field policy =
 abbrev pub range_row : LayoutData → (port from to : ℕ) → List ℕ
 range_row l port from to =
     joined (codes "[[flaw]]\nkind = \"error-range\"\nmap = \"" ∷ root_name l port ∷ codes "\"\nfrom = \"0x"
-    ∷ hex_digits from
-    ∷ codes "\"\nto = \"0x" ∷ hex_digits to ∷ codes "\"\n" ∷ [])
+    ∷ hex_digits from ∷ codes "\"\nto = \"0x" ∷ hex_digits to ∷ codes "\"\n" ∷ [])
 
 abbrev pub nth_row : ℕ → List ℕ
 nth_row nth = joined (codes "[[flaw]]\nkind = \"error-nth\"\nnth = " ∷ decimal nth ∷ codes "\n" ∷ [])
