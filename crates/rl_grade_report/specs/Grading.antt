@@ -92,8 +92,7 @@ places_text asked d base before (place ∷ places) =
 abbrev pub share_line : Share → (mark : ℕ) → List ℕ
 share_line share mark =
     joined (codes "# share " ∷ decimal share.first ∷ codes "/" ∷ decimal share.every ∷ codes " of session 0x"
-    ∷ hex_digits mark
-    ∷ codes "\n" ∷ [])
+    ∷ hex_digits mark ∷ codes "\n" ∷ [])
 
 abbrev pub head_of : (json : Bool) → Share → (mark : Option ℕ) → List ℕ
 head_of json share None = []
