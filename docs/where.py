@@ -19,7 +19,10 @@ LISTS = {
     'A limit': ['const.most(lines|scopes|maps|flaws)'],
 }
 # Examples and tests show what there is; the others are made from lists, or say which of a standard's things there are.
-APART = re.compile(r'(examples/|python/tests/|crates/test_rows/|docs/(index\.html|(PROFILE|ARCHITECTURE|DEFINITIONS)\.md|where\.py)|CHANGELOG)')
+APART = re.compile(
+    r'examples/|python/tests/|crates/test_rows/|CHANGELOG'
+    r'|docs/(index\.html|PROFILE\.md|ARCHITECTURE\.md|DEFINITIONS\.md|where\.py)'
+)
 
 
 def tables():
