@@ -1,5 +1,6 @@
 -- What a session on the timer does.
-use Rattle.std.specs.Prelude.{ℕ, List, [], ◌∷◌, Bool, true, false, codes, Option, Result, Ok, Err}
+use Rattle.std.specs.Prelude.{ℕ, List, [], ◌∷◌, Bool, true, false, codes, Option, option_map, Result, Ok, Err}
+use Rattle.rl_bus.specs.Account.{without_peer}
 use Rattle.rl_bus.specs.Standing.{Standing, kinds_of}
 use Rattle.rl_desc.specs.Data.{DescData}
 use Rattle.rl_log.specs.declared.status.Status.{Status}
@@ -20,9 +21,10 @@ abbrev pub on_timer : Result DescData (List ℕ) → Result DescData (List ℕ)
 on_timer (Ok desc) = unless_flawed desc (has_flaws desc.flaws)
 on_timer (Err line) = Err line
 
--- It is refused by what it describes and for the timer, or its script is played.
--- `errors` is how often the timer failed, where there is one.
+-- It is refused by what it describes and for the timer, or its script is played on a timer that hasn't failed yet.
+-- `errors` is how often it failed then, where there is one.
 abbrev pub RunsOnTimer : (bytes : List ℕ) → Status → (old new : Option (List ℕ)) → (adapters now : List Standing)
     → (errors : Option ℕ) → Type 0
 RunsOnTimer bytes status old new adapters now errors =
-    RunsSession (on_timer (opening_of bytes (kinds_of adapters))) bytes status old new adapters now errors
+    RunsSession (on_timer (opening_of bytes (kinds_of adapters))) bytes status old new adapters now (λ desc. without_peer 0)
+    (option_map without_peer errors)

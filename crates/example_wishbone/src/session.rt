@@ -39,9 +39,16 @@ impl Check for OnTimer {
 }
 
 impl Host for OnTimer {
+    ghost use Rattle.std.specs.Prelude.{true, refl};
+    ghost use Rattle.rl_bus.specs.Account.{without_peer};
+
     type Made = Timer;
 
     ghost backdoor = { true };
+
+    ghost first = { λ host desc. without_peer 0 };
+
+    ghost unfailed = { λ host desc. refl };
 
     fn has_backdoor(&self) -> bool {
         true

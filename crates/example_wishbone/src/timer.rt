@@ -1,4 +1,5 @@
 // The device: a timer that counts accesses.
+ghost use Rattle.rl_bus.specs.Account.{without_peer};
 ghost use Rattle.std.specs.Prelude.{◌≡◌, None, IfSome};
 
 use rl_bus::{Answer, BusOp, Cell, Device, Response, Transfer, carried, response_to};
@@ -169,7 +170,7 @@ impl Timer {
 impl Device for Timer {
     ghost state = { λ _. None };
 
-    ghost errors = { λ timer. timer.errors };
+    ghost account = { λ timer. without_peer timer.errors };
 
     fn transfer(&mut self, _port: u32, transfer: &Transfer) -> Response {
         let answer = match self.registers.access(&carried(transfer)) {

@@ -29,7 +29,7 @@ pub record IsBursting {R : Type 0} (r : Recorder R) (s now : Scene) (old rec : R
 abbrev pub IsBurstingBy : {A D R : Type 0} → (A → Standing) → Device D → Recorder R → (first now : ModelData) → (before after : List A) → (d e : D) → (old rec : R) →
     (ops left : List Op) → Tally → Type 0
 IsBurstingBy f device r first now before after d e old rec ops left tally =
-    IsBursting r (scene_of f device.errors device.state first before d) (scene_of f device.errors device.state now after e) old rec ops left tally
+    IsBursting r (scene_of f device.account device.state first before d) (scene_of f device.account device.state now after e) old rec ops left tally
 
 module _ {R : Type 0} (r : Recorder R) where
   pub bursting_first : (rec : R) (s : Scene) (ops left : List Op) (tally : Tally) → IsReady s.model s.adapters s.device → left ≡ ops → tally ≡ no_tally → IsBursting r s s rec rec ops left tally

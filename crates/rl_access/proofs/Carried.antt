@@ -1,5 +1,6 @@
 -- From the access that was carried out to what the operation performs.
 use Rattle.std.proofs.Common.{◌≡◌, ◌⊎◌, ℕ, Bool, true, false, List, Option, None, Some, Ok, Err, MatchResult, if◌then◌else◌, refl, sym, ap, ◌∙◌, subst, inl, inr}
+use Rattle.rl_bus.specs.Account.{Account}
 use Rattle.rl_bus.specs.Standing.{Standing}
 use Rattle.rl_bus.specs.State.{State}
 use Rattle.rl_mirror.specs.Prediction.{needs_update, update_word_of}
@@ -31,12 +32,12 @@ use Rattle.rl_access.proofs.Performed.{IsAccessOf, IsReadOf, IsWriteOf, access_d
 use Rattle.rl_access.proofs.Wished.{brings_wishes, nothing_brought}
 
 -- an access that was begun from an equal model, and is equal to that of the operation
-pub carried : {before now : List Standing} {errors later : ℕ} {state after : Option State} (o : ModelData → Access → List TraceItem → Outcome) (write : Bool)
+pub carried : {before now : List Standing} {account later : Account} {state after : Option State} (o : ModelData → Access → List TraceItem → Outcome) (write : Bool)
     (m first entry new : ModelData) (asked : Op) (place : ℕ) (it a : Access) (old event : Event) →
     IsBegun m asked place old → IsAccessOf m asked place first it write (o first it) → first.chip ≡ m.chip → entry ≡ first → a ≡ it →
-    IsAccessed (scene entry before errors state) (scene new now later after) old.op a write (o entry a) event →
+    IsAccessed (scene entry before account state) (scene new now later after) old.op a write (o entry a) event →
     IsReady new now after → IsSameChip entry new → EventFits new event →
-    Does (scene m before errors state) (scene new now later after) asked event
+    Does (scene m before account state) (scene new now later after) asked event
 carried o write m first entry new asked place it a old event begun is chip from same done ready parts fits =
     access_does m first new asked old.op place it write (o first it) event begun.granted begun.named is
     (accessed_so o entry first new old.op a it write event from same done) ready (record {

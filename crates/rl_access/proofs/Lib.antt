@@ -1,3 +1,4 @@
+pub mod AskedLemmas
 pub mod Alone
 pub mod BackPerforms
 pub mod Begun

@@ -2,6 +2,7 @@
 use Rattle.std.proofs.Common.{◌≡◌, ℕ, ◌*◌, ◌^◌, ◌<◌, ◌≤◌, Bool, false, List, Option, Some, sym, ap, ◌∙◌, subst}
 use Rattle.rl_policy.specs.Bits.{from_bits}
 use Rattle.rl_policy.proofs.BitLemmas.{from_bits-lt}
+use Rattle.rl_bus.specs.Account.{Account}
 use Rattle.rl_bus.specs.Standing.{Standing}
 use Rattle.rl_bus.specs.State.{State}
 use Rattle.rl_model.specs.Rows.{ChipData}
@@ -46,26 +47,26 @@ pub taken_low : (c : ChipData) (mem bytes value word : ℕ) → bytes_of c (item
 taken_low c mem bytes value word e is = is ∙ ap (λ n. low_bytes n word) (sym (size_is c (item.Mem mem) bytes e))
 
 -- what went out, by an equal access
-pub same_sent : {items : List TraceItem} {before now : List Standing} {errors later : ℕ} {state after : Option State} (l : LayoutData) (o it : Outgoing) → o ≡ it →
-    AreSent (adapter_for l o.place) (port_for l o.place) (outgoing_ops l o) items before now errors later state after →
-    AreSent (adapter_for l it.place) (port_for l it.place) (outgoing_ops l it) items before now errors later state after
-same_sent {items} {before} {now} {errors} {later} {state} {after} l o it same sent =
-    subst (λ (x : Outgoing). AreSent (adapter_for l x.place) (port_for l x.place) (outgoing_ops l x) items before now errors later state after) same sent
+pub same_sent : {items : List TraceItem} {before now : List Standing} {account later : Account} {state after : Option State} (l : LayoutData) (o it : Outgoing) → o ≡ it →
+    AreSent (adapter_for l o.place) (port_for l o.place) (outgoing_ops l o) items before now account later state after →
+    AreSent (adapter_for l it.place) (port_for l it.place) (outgoing_ops l it) items before now account later state after
+same_sent {items} {before} {now} {account} {later} {state} {after} l o it same sent =
+    subst (λ (x : Outgoing). AreSent (adapter_for l x.place) (port_for l x.place) (outgoing_ops l x) items before now account later state after) same sent
 
 -- and told by equal items
-pub told_sent : {items told : List TraceItem} {before now : List Standing} {errors later : ℕ} {state after : Option State} (l : LayoutData) (o it : Outgoing) → o ≡ it → told ≡ items →
-    AreSent (adapter_for l o.place) (port_for l o.place) (outgoing_ops l o) items before now errors later state after →
-    AreSent (adapter_for l it.place) (port_for l it.place) (outgoing_ops l it) told before now errors later state after
-told_sent {items} {told} {before} {now} {errors} {later} {state} {after} l o it same all sent =
-    subst (λ (t : List TraceItem). AreSent (adapter_for l it.place) (port_for l it.place) (outgoing_ops l it) t before now errors later state after) (sym all) (same_sent l o it same sent)
+pub told_sent : {items told : List TraceItem} {before now : List Standing} {account later : Account} {state after : Option State} (l : LayoutData) (o it : Outgoing) → o ≡ it → told ≡ items →
+    AreSent (adapter_for l o.place) (port_for l o.place) (outgoing_ops l o) items before now account later state after →
+    AreSent (adapter_for l it.place) (port_for l it.place) (outgoing_ops l it) told before now account later state after
+told_sent {items} {told} {before} {now} {account} {later} {state} {after} l o it same all sent =
+    subst (λ (t : List TraceItem). AreSent (adapter_for l it.place) (port_for l it.place) (outgoing_ops l it) t before now account later state after) (sym all) (same_sent l o it same sent)
 
 -- a read of a location by an equal number
-pub read_at : (m : ModelData) (mem place index it : ℕ) (items : List TraceItem) (e : End) (before now : List Standing) (errors later : ℕ) (state after : Option State) → index ≡ it →
-    AreSent (adapter_for m.layout place) (port_for m.layout place) (ops_of m.layout place index (location_bytes m mem) 0 false) items before now errors later state after →
+pub read_at : (m : ModelData) (mem place index it : ℕ) (items : List TraceItem) (e : End) (before now : List Standing) (account later : Account) (state after : Option State) → index ≡ it →
+    AreSent (adapter_for m.layout place) (port_for m.layout place) (ops_of m.layout place index (location_bytes m mem) 0 false) items before now account later state after →
     e ≡ (or_error (failed_at items) m (quiet (end.Value (location_value m mem place index items)) m)).end →
-    AreSent (adapter_for m.layout place) (port_for m.layout place) (ops_of m.layout place it (location_bytes m mem) 0 false) items before now errors later state after
+    AreSent (adapter_for m.layout place) (port_for m.layout place) (ops_of m.layout place it (location_bytes m mem) 0 false) items before now account later state after
     × (e ≡ (or_error (failed_at items) m (quiet (end.Value (location_value m mem place it items)) m)).end)
-read_at m mem place index it items e before now errors later state after same sent ends = (
-  subst (λ i. AreSent (adapter_for m.layout place) (port_for m.layout place) (ops_of m.layout place i (location_bytes m mem) 0 false) items before now errors later state after) same sent,
+read_at m mem place index it items e before now account later state after same sent ends = (
+  subst (λ i. AreSent (adapter_for m.layout place) (port_for m.layout place) (ops_of m.layout place i (location_bytes m mem) 0 false) items before now account later state after) same sent,
   subst (λ i. e ≡ (or_error (failed_at items) m (quiet (end.Value (location_value m mem place i items)) m)).end) same ends,
 )

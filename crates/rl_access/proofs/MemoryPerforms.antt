@@ -1,5 +1,8 @@
 -- A call on a location of a memory performed its operation.
-use Rattle.std.proofs.Common.{◌≡◌, ◌⊎◌, ℕ, ◌≤◌, ◌==◌, true, false, if◌then◌else◌, List, [], Option, None, Some, option_map, Ok, refl, sym, ap, ◌∙◌, subst, inl, inr}
+use Rattle.std.proofs.Common.{◌≡◌, ◌⊎◌, ℕ, ◌==◌, map, true, false, if◌then◌else◌, List, [], Option, None, Some, option_map, Ok, refl, sym, ap, ◌∙◌, subst, inl, inr}
+use Rattle.rl_bus.specs.Account.{Account, Asks, AsksAll}
+use Rattle.rl_bus.specs.Account as ask
+use Rattle.rl_bus.proofs.Asking.{asks_one}
 use Rattle.rl_bus.specs.Standing.{Standing}
 use Rattle.rl_bus.specs.State.{State, poked}
 use Rattle.rl_bus.specs.declared.op.BusOp.{BusOp}
@@ -12,10 +15,10 @@ use Rattle.rl_access.specs.declared.event.Event.{Event}
 use Rattle.rl_access.specs.declared.event.Op.{Op}
 use Rattle.rl_access.specs.declared.event.Op.TheVariants as op
 use Rattle.rl_access.specs.declared.trace.TraceItem.{TraceItem}
-use Rattle.rl_access.specs.Items.{AreSent, failed_at, state_after_all, port_for, adapter_for}
+use Rattle.rl_access.specs.Items.{AreSent, asked_by, failed_at, state_after_all, port_for, adapter_for}
 use Rattle.rl_access.specs.Model.{ModelData}
 use Rattle.rl_access.specs.Rules.{marked, Outcome, quiet, or_error, grant, named, sends, outcome, memory_event, event_of, map_used, location_bytes, location_value, value_differs}
-use Rattle.rl_access.specs.Rules.{found_by, device_after}
+use Rattle.rl_access.specs.Rules.{found_by, device_after, deposited, asks_of}
 use Rattle.rl_access.specs.Call.{scene, Performs}
 use Rattle.rl_access.proofs.BackPerforms.{quiet_performs, told_memory_event}
 use Rattle.rl_access.proofs.Performed.{performs_done}
@@ -26,17 +29,18 @@ mapped_same : (f g : State → State) (told : Option State) → ((d : State) →
 mapped_same f g None same = refl
 mapped_same f g (Some d) same = ap Some (sym (same d))
 
-pub sent_performs : (m new : ModelData) (before now : List Standing) (errors later : ℕ) (told after : Option State) (op : Op) (place : ℕ) (event : Event) → grant m op ≡ Ok place
-    → AreSent (adapter_for m.layout place) (port_for m.layout place) (sends m op place) event.trace before now errors later told after
+pub sent_performs : (m new : ModelData) (before now : List Standing) (account later : Account) (told after : Option State) (op : Op) (place : ℕ) (event : Event) → grant m op ≡ Ok place
+    → AreSent (adapter_for m.layout place) (port_for m.layout place) (sends m op place) event.trace before now account later told after
     → event ≡ event_of m (named m op) event.trace (outcome m op place 0 event.trace) → new ≡ (outcome m op place 0 event.trace).model
     → ((d : State) → 0 ≡ found_by d op) → ((items : List TraceItem) (d : State) → device_after m op 0 items d ≡ state_after_all d items)
-    → Performs (scene m before errors told) (scene new now later after) op event
-sent_performs m new before now errors later told after op place event granted sent is_event is_model found steps =
-    performs_done (scene m before errors told) (scene new now later after) op place event granted (record {
+    → ((items : List TraceItem) → asks_of op (deposited m op 0) items ≡ map asked_by items)
+    → Performs (scene m before account told) (scene new now later after) op event
+sent_performs m new before now account later told after op place event granted sent is_event is_model found steps asks =
+    performs_done (scene m before account told) (scene new now later after) op place event granted (record {
       sampled = 0;
       items = sent.items_are;
       adapters = sent.adapters;
-      cause = sent.cause;
+      asked = subst (λ xs. AsksAll account xs later) (sym (asks event.trace)) sent.asked;
       event_is = is_event;
       model = is_model;
       found = λ d at. found d;
@@ -71,13 +75,13 @@ told_as o good op named items event e same is =
 abbrev pub IsLocationRead : Op → (mem index : ℕ) → Type 0
 IsLocationRead o mem index = ((map : Option ℕ) × (o ≡ op.MemRead mem map index)) ⊎ ((map : Option ℕ) × (value : ℕ) × (o ≡ op.MemCheck mem map index value))
 
-module _ (m : ModelData) (before now : List Standing) (errors later : ℕ) (told after : Option State) where
+module _ (m : ModelData) (before now : List Standing) (account later : Account) (told after : Option State) where
   -- the items of the operations through the adapter of a place
   abbrev WereSent : (place : ℕ) → List BusOp → List TraceItem → Type 0
-  WereSent place ops items = AreSent (adapter_for m.layout place) (port_for m.layout place) ops items before now errors later told after
+  WereSent place ops items = AreSent (adapter_for m.layout place) (port_for m.layout place) ops items before now account later told after
 
   abbrev Done : Op → Event → Type 0
-  Done op event = Performs (scene m before errors told) (scene m now later after) op event
+  Done op event = Performs (scene m before account told) (scene m now later after) op event
 
   -- the event by the name of an operation
   told_of : (o asked told_op : Op) (items : List TraceItem) (e : End) (event : Event) → o ≡ asked → told_op ≡ named m o →
@@ -95,10 +99,10 @@ module _ (m : ModelData) (before now : List Standing) (errors later : ℕ) (told
       let good = λ (x : List TraceItem). or_error (failed_at x) m (quiet end.Done m) in
       let t = told_as (quiet e m) (good items) (op.MemWrite mem used index value) (op.MemWrite mem (map_used m (item.Mem mem) map) index value) items event is_event (ap (λ u. op.MemWrite mem u index
       value) is_map) (ended_as (failed_at items) m end.Done e is_end) in
-      sent_performs m m before now errors later told after (op.MemWrite mem map index value) place event granted
+      sent_performs m m before now account later told after (op.MemWrite mem map index value) place event granted
       (subst (WereSent place (ops_of m.layout place index (location_bytes m mem) value true)) (sym t.0) sent)
       (subst (λ x. event ≡ memory_event (op.MemWrite mem (map_used m (item.Mem mem) map) index value) event.trace (good x)) (sym t.0) t.1)
-      (stays (failed_at event.trace) m (quiet end.Done m) refl) (λ d. refl) (λ x d. refl)
+      (stays (failed_at event.trace) m (quiet end.Done m) refl) (λ d. refl) (λ x d. refl) (λ x. refl)
 
   pub mem_read_performs : (mem index place : ℕ) (map used : Option ℕ) (e : End) (items : List TraceItem) (event : Event) → grant m (op.MemRead mem map index) ≡ Ok place →
       used ≡ map_used m (item.Mem mem) map
@@ -108,10 +112,10 @@ module _ (m : ModelData) (before now : List Standing) (errors later : ℕ) (told
       let good = λ (x : List TraceItem). or_error (failed_at x) m (quiet (end.Value (location_value m mem place index x)) m) in
       let t = told_as (quiet e m) (good items) (op.MemRead mem used index) (op.MemRead mem (map_used m (item.Mem mem) map) index) items event is_event (ap (λ u. op.MemRead mem u index) is_map)
       (ended_as (failed_at items) m (end.Value (location_value m mem place index items)) e is_end) in
-      sent_performs m m before now errors later told after (op.MemRead mem map index) place event granted
+      sent_performs m m before now account later told after (op.MemRead mem map index) place event granted
       (subst (WereSent place (ops_of m.layout place index (location_bytes m mem) 0 false)) (sym t.0) sent)
       (subst (λ x. event ≡ memory_event (op.MemRead mem (map_used m (item.Mem mem) map) index) event.trace (good x)) (sym t.0) t.1)
-      (stays (failed_at event.trace) m (quiet (end.Value (location_value m mem place index event.trace)) m) refl) (λ d. refl) (λ x d. refl)
+      (stays (failed_at event.trace) m (quiet (end.Value (location_value m mem place index event.trace)) m) refl) (λ d. refl) (λ x d. refl) (λ x. refl)
 
   pub mem_check_performs : (mem index value place : ℕ) (map used : Option ℕ) (e : End) (differ : ℕ) (items : List TraceItem) (event : Event) → grant m (op.MemCheck mem map index value) ≡ Ok place →
       used ≡ map_used m (item.Mem mem) map
@@ -128,7 +132,7 @@ module _ (m : ModelData) (before now : List Standing) (errors later : ℕ) (told
       let t = told_as (record { end = e; model = m; differ = differ }) (good items) (op.MemCheck mem used index value) (op.MemCheck mem (map_used m (item.Mem mem) map) index value) items event
       is_event (ap (λ u. op.MemCheck mem u index value) is_map) (ap (λ x. record { end = e; model = m; differ = x }) is_mark ∙ checked_as (failed_at items) m (location_value m mem place index
       items) value e is_end) in
-      sent_performs m m before now errors later told after (op.MemCheck mem map index value) place event granted
+      sent_performs m m before now account later told after (op.MemCheck mem map index value) place event granted
       (subst (WereSent place (ops_of m.layout place index (location_bytes m mem) 0 false)) (sym t.0) sent)
       (subst (λ x. event ≡ memory_event (op.MemCheck mem (map_used m (item.Mem mem) map) index value) event.trace (good x)) (sym t.0) t.1)
       (stays (failed_at event.trace) m (record {
@@ -136,7 +140,7 @@ module _ (m : ModelData) (before now : List Standing) (errors later : ℕ) (told
         model = m;
         differ = if location_value m mem place index event.trace == value then 0
             else 1;
-      }) refl) (λ d. refl) (λ x d. refl)
+      }) refl) (λ d. refl) (λ x d. refl) (λ x. refl)
 
   -- a read of a location, or a check of it
   pub location_read_performs : (o told_op : Op) (mem index place : ℕ) (e : End) (items : List TraceItem) (event : Event) → IsLocationRead o mem index → grant m o ≡ Ok place → told_op ≡ named m o
@@ -153,11 +157,11 @@ module _ (m : ModelData) (before now : List Standing) (errors later : ℕ) (told
 
 -- ---- the backdoor of a memory
 
-pub mem_poke_performs : (m : ModelData) (errors later : ℕ) (told after : Option State) (mem index value place : ℕ) (items : List TraceItem) (event : Event) → grant m (op.MemPoke mem index value) ≡ Ok
+pub mem_poke_performs : (m : ModelData) (account later : Account) (told after : Option State) (mem index value place : ℕ) (items : List TraceItem) (event : Event) → grant m (op.MemPoke mem index value) ≡ Ok
     place
-    → after ≡ option_map (λ d. poked d (cell.Loc mem index) value) told → items ≡ [] → event ≡ memory_event (op.MemPoke mem index value) items (quiet end.Done m) → errors ≤ later
-    → (adapters : List Standing) → Performs (scene m adapters errors told) (scene m adapters later after) (op.MemPoke mem index value) event
-mem_poke_performs m errors later told after mem index value place items event granted goes empty is_event causes =
-    quiet_performs m m errors later told after (op.MemPoke mem index value) place 0 event granted refl
+    → after ≡ option_map (λ d. poked d (cell.Loc mem index) value) told → items ≡ [] → event ≡ memory_event (op.MemPoke mem index value) items (quiet end.Done m) → Asks account later (ask.poke (cell.Loc mem index) value)
+    → (adapters : List Standing) → Performs (scene m adapters account told) (scene m adapters later after) (op.MemPoke mem index value) event
+mem_poke_performs m account later told after mem index value place items event granted goes empty is_event asked =
+    quiet_performs m m account later told after (op.MemPoke mem index value) place 0 event granted refl
     (told_memory_event (op.MemPoke mem index value) items (quiet end.Done m) (quiet end.Done m) event is_event empty refl)
-    refl causes (λ d at. refl) goes
+    refl (asks_one account later (ask.poke (cell.Loc mem index) value) asked) (λ d at. refl) goes

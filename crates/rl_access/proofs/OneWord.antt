@@ -1,7 +1,8 @@
 -- One operation that is sent alone.
 use Rattle.std.proofs.Common.{◌≡◌, ℕ, ◌<◌, List, [], ◌∷◌, length, slice_get, Bool, true, false, All, Option, Some, refl, sym, ap, ◌∙◌, subst, arith}
 use Rattle.std.proofs.lemmas.List.Elements.{All-head, All-cons}
-use Rattle.rl_bus.specs.Causes.{AnswerHasCause}
+use Rattle.rl_bus.specs.Account.{Account, Asks}
+use Rattle.rl_bus.specs.Account as ask
 use Rattle.rl_bus.specs.Device.{IsStep}
 use Rattle.rl_bus.specs.Standing.{Standing, standing_at, moved_on, kind_at, kinds_of}
 use Rattle.rl_bus.specs.State.{State}
@@ -27,17 +28,17 @@ pub alone : {A : Type 0} (P : A → Type 0) (x : A) → P x → All P (x ∷ [])
 alone P x h = All-cons P x [] h (none_past P)
 
 -- it is a run of one operation
-pub one_sent : {first new : List Standing} {which port errors later : ℕ} {op : BusOp} {item : TraceItem} {state after : Option State} →
+pub one_sent : {first new : List Standing} {which port : ℕ} {account later : Account} {op : BusOp} {item : TraceItem} {state after : Option State} →
     which < length first → item ≡ item_of (standing_at first which) port op item.answer → IsAnswerSmall item → new ≡ moved_on first which item.op item.answer → kinds_of new ≡ kinds_of first →
-    AnswerHasCause errors later item.answer → IsStep state after port op item.answer →
-    IsSentInOrder first new which port (op ∷ []) (item ∷ []) errors later state after
-one_sent {first} {new} {which} {port} {errors} {later} {op} {item} {state} {after} within sent tiny moves keeps cause step =
-    by item.answer.failed refl (next_of within refl sent tiny moves keeps cause step)
+    Asks account later (ask.transfer item.port item.op item.tag item.answer) → IsStep state after port op item.answer →
+    IsSentInOrder first new which port (op ∷ []) (item ∷ []) account later state after
+one_sent {first} {new} {which} {port} {account} {later} {op} {item} {state} {after} within sent tiny moves keeps asked step =
+    by item.answer.failed refl (next_of within refl sent tiny moves keeps asked step)
   where
-    by : (b : Bool) → item.answer.failed ≡ b → IsNext first first new which port (op ∷ []) 0 item errors later state after → IsSentInOrder first new which port (op ∷ []) (item ∷ []) errors later
+    by : (b : Bool) → item.answer.failed ≡ b → IsNext first first new which port (op ∷ []) 0 item account later state after → IsSentInOrder first new which port (op ∷ []) (item ∷ []) account later
         state after
-    by true e n = under_way_failed (under_way_first first which port (op ∷ []) errors state) n e
-    by false e n = under_way_done (under_way_next (under_way_first first which port (op ∷ []) errors state) n e) (omega arith)
+    by true e n = under_way_failed (under_way_first first which port (op ∷ []) account state) n e
+    by false e n = under_way_done (under_way_next (under_way_first first which port (op ∷ []) account state) n e) (omega arith)
 
 -- the adapter of the place's port carries it
 pub op_fits_there : (m : ModelData) (standings : List Standing) (which place : ℕ) (op : BusOp) → IsSound m.layout → (place_at m.layout place).port < length m.layout.ports →
@@ -52,18 +53,18 @@ item_fits_there l port place s op item items inside bytes fits small =
     All-head (ItemFits l) item [] (items_fit l port (kind_of l place) s (op ∷ []) (item ∷ []) items inside (alone (λ o. o.bytes ≡ (port_at l port).bytes) op bytes) (alone (Fits (kind_of l place)) op
     fits) (alone IsAnswerSmall item small))
 
-pub item_fits_sent : {first new : List Standing} {which port errors later : ℕ} {op : BusOp} {item : TraceItem} {state after : Option State} (l : LayoutData) (place : ℕ) →
-    IsSentInOrder first new which port (op ∷ []) (item ∷ []) errors later state after →
+pub item_fits_sent : {first new : List Standing} {which port : ℕ} {account later : Account} {op : BusOp} {item : TraceItem} {state after : Option State} (l : LayoutData) (place : ℕ) →
+    IsSentInOrder first new which port (op ∷ []) (item ∷ []) account later state after →
     port < length l.ports → op.bytes ≡ (port_at l port).bytes → Fits (kind_of l place) op → IsAnswerSmall item → ItemFits l item
-item_fits_sent {first} {new} {which} {port} {errors} {later} {op} {item} {state} {after} l place sent inside bytes fits small = item_fits_there l port place (standing_at first which) op item
+item_fits_sent {first} {new} {which} {port} {account} {later} {op} {item} {state} {after} l place sent inside bytes fits small = item_fits_there l port place (standing_at first which) op item
     sent.sent.items_are inside bytes fits small
 
 -- the word of an access went to the port of its place, through that port's adapter
-pub word_sent : {first new : List Standing} {errors later : ℕ} {state after : Option State} (m left : ModelData) (place k : ℕ) (value : Option ℕ) (which port : ℕ) (op : BusOp) (item : TraceItem) →
+pub word_sent : {first new : List Standing} {account later : Account} {state after : Option State} (m left : ModelData) (place k : ℕ) (value : Option ℕ) (which port : ℕ) (op : BusOp) (item : TraceItem) →
     slice_get (word_ops m.layout place value) k ≡ Some op → port ≡ port_for m.layout place → which ≡ adapter_for m.layout place →
-    item ≡ item_of (standing_at first which) port op item.answer → new ≡ moved_on first which item.op item.answer → AnswerHasCause errors later item.answer →
-    IsStep state after port op item.answer → left ≡ observing m item → IsWordSent (scene m first errors state) (scene left new later after) place k value item
-word_sent {first} {new} {errors} {later} {state} {after} m left place k value which port op item word there through sent moves cause step seen =
+    item ≡ item_of (standing_at first which) port op item.answer → new ≡ moved_on first which item.op item.answer → Asks account later (ask.transfer item.port item.op item.tag item.answer) →
+    IsStep state after port op item.answer → left ≡ observing m item → IsWordSent (scene m first account state) (scene left new later after) place k value item
+word_sent {first} {new} {account} {later} {state} {after} m left place k value which port op item word there through sent moves asked step seen =
     let same : op ≡ item.op = sym (ap (λ (i : TraceItem). i.op) sent) in
     record {
       op = word ∙ ap Some same;
@@ -73,7 +74,7 @@ word_sent {first} {new} {errors} {later} {state} {after} m left place k value wh
           ∙ ap (λ p. item_of (standing_at first (adapter_for m.layout place)) p op item.answer) there
           ∙ ap (λ o. item_of (standing_at first (adapter_for m.layout place)) (port_for m.layout place) o item.answer) same;
       adapters = moves ∙ ap (λ w. moved_on first w item.op item.answer) through;
-      cause = cause;
+      asked = asked;
       step = subst (λ o. IsStep state after (port_for m.layout place) o item.answer) same (subst (λ p. IsStep state after p op item.answer) there step);
       model = seen;
     }

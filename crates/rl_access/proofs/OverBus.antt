@@ -1,5 +1,6 @@
 -- The operations that are one write or one read of a register over the bus.
 use Rattle.std.proofs.Common.{◌≡◌, ℕ, List, [], Bool, true, false, if◌then◌else◌, Option, None, Some, Ok, refl, sym, ap, ◌∙◌, subst}
+use Rattle.rl_bus.specs.Account.{Account}
 use Rattle.rl_bus.specs.Standing.{Standing}
 use Rattle.rl_bus.specs.State.{State}
 use Rattle.rl_model.specs.declared.rows.Field.{Field}
@@ -35,24 +36,24 @@ begun is = record { over_bus = is; layout_is = refl; place_is = refl }
 -- ---- writes
 
 pub whole_write : (m : ModelData) (reg : ℕ) (map : Option ℕ) (value place : ℕ) → IsWriteOf m (op.Write reg map value) place (forgetting m place) (whole m reg place value) end.Done
-whole_write m reg map value place = begun (record { sends_are = refl; outcome_is = λ items. refl; register = refl; sampled = λ d. refl; device = λ items d. refl })
+whole_write m reg map value place = begun (record { sends_are = refl; outcome_is = λ items. refl; register = refl; sampled = λ d. refl; device = λ items d. refl; asks = λ items. refl })
 
 pub other_whole_write : (m : ModelData) (reg : ℕ) (map : Option ℕ) (value place : ℕ) → IsWriteOf m (op.OtherWrite reg map value) place (forgetting m place) (whole m reg place value) end.Done
-other_whole_write m reg map value place = begun (record { sends_are = refl; outcome_is = λ items. refl; register = refl; sampled = λ d. refl; device = λ items d. refl })
+other_whole_write m reg map value place = begun (record { sends_are = refl; outcome_is = λ items. refl; register = refl; sampled = λ d. refl; device = λ items d. refl; asks = λ items. refl })
 
 -- ---- reads
 
 pub whole_read : (m : ModelData) (reg : ℕ) (map : Option ℕ) (place : ℕ) → IsReadOf m (op.Read reg map) place (forgetting m place) (whole m reg place 0) false
-whole_read m reg map place = begun (record { sends_are = refl; outcome_is = λ items. refl; register = refl; sampled = λ d. refl; device = λ items d. refl })
+whole_read m reg map place = begun (record { sends_are = refl; outcome_is = λ items. refl; register = refl; sampled = λ d. refl; device = λ items d. refl; asks = λ items. refl })
 
 whole_mirror : (m : ModelData) (reg : ℕ) (map : Option ℕ) (place : ℕ) → IsReadOf m (op.Mirror reg map) place (forgetting m place) (whole m reg place 0) false
-whole_mirror m reg map place = begun (record { sends_are = refl; outcome_is = λ items. refl; register = refl; sampled = λ d. refl; device = λ items d. refl })
+whole_mirror m reg map place = begun (record { sends_are = refl; outcome_is = λ items. refl; register = refl; sampled = λ d. refl; device = λ items d. refl; asks = λ items. refl })
 
 whole_check : (m : ModelData) (reg : ℕ) (map : Option ℕ) (place : ℕ) → IsReadOf m (op.Check reg map) place (forgetting m place) (whole m reg place 0) true
-whole_check m reg map place = begun (record { sends_are = refl; outcome_is = λ items. refl; register = refl; sampled = λ d. refl; device = λ items d. refl })
+whole_check m reg map place = begun (record { sends_are = refl; outcome_is = λ items. refl; register = refl; sampled = λ d. refl; device = λ items d. refl; asks = λ items. refl })
 
 pub other_whole_read : (m : ModelData) (reg : ℕ) (map : Option ℕ) (place : ℕ) → IsReadOf m (op.OtherRead reg map) place (forgetting m place) (whole m reg place 0) false
-other_whole_read m reg map place = begun (record { sends_are = refl; outcome_is = λ items. refl; register = refl; sampled = λ d. refl; device = λ items d. refl })
+other_whole_read m reg map place = begun (record { sends_are = refl; outcome_is = λ items. refl; register = refl; sampled = λ d. refl; device = λ items d. refl; asks = λ items. refl })
 
 -- a read to learn the value, or a check
 abbrev pub mirroring : Bool → (reg : ℕ) → Option ℕ → Op
@@ -76,6 +77,7 @@ update_write m reg map place needed =
         register = refl;
         sampled = λ d. refl;
         device = λ items d. refl;
+        asks = λ items. refl;
       };
       layout_is = refl;
       place_is = refl;
@@ -97,6 +99,7 @@ is_no_update m reg map place nothing =
       register = refl;
       sampled = λ d. refl;
       device = λ d. refl;
+      asks = refl;
     }
 
 -- ---- desired values
@@ -108,10 +111,11 @@ is_set m new field value place is = record {
   register = refl;
   sampled = λ d. refl;
   device = λ d. refl;
+  asks = refl;
 }
 
 pub is_show : (m : ModelData) (reg : ℕ) → IsQuiet m (op.Show reg) 0 reg end.Done m
-is_show m reg = record { sends_are = refl; outcome_is = refl; register = refl; sampled = λ d. refl; device = λ d. refl }
+is_show m reg = record { sends_are = refl; outcome_is = refl; register = refl; sampled = λ d. refl; device = λ d. refl; asks = refl }
 
 -- ---- one field
 
@@ -136,6 +140,7 @@ field_write_done m field map value place =
         register = ap Some (sym (written_reg m field place value word (is_alone m field place true)));
         sampled = λ d. refl;
         device = λ items d. refl;
+        asks = λ items. refl;
       };
       layout_is = refl;
       place_is = written_place m field place value word (is_alone m field place true);
@@ -162,57 +167,57 @@ field_read_outcome m new field a items e end_is model =
 field_read_over_bus : (m : ModelData) (field : ℕ) (map : Option ℕ) (place : ℕ) →
     IsOverBus m (op.FieldRead field map) place (reg_of m.chip field) (access_ops (forgetting_field m field place false) (field_read m field place) false) (λ items. in_field m.chip field (read_outcome
     (forgetting_field m field place false) false (field_read m field place) items))
-field_read_over_bus m field map place = record { sends_are = refl; outcome_is = λ items. refl; register = refl; sampled = λ d. refl; device = λ items d. refl }
+field_read_over_bus m field map place = record { sends_are = refl; outcome_is = λ items. refl; register = refl; sampled = λ d. refl; device = λ items d. refl; asks = λ items. refl }
 
-first_read : (m new : ModelData) (field : ℕ) (map : Option ℕ) (told : Op) (place : ℕ) (items : List TraceItem) (e : End) (event : Event) (before now : List Standing) (errors later : ℕ)
+first_read : (m new : ModelData) (field : ℕ) (map : Option ℕ) (told : Op) (place : ℕ) (items : List TraceItem) (e : End) (event : Event) (before now : List Standing) (account later : Account)
     (state after : Option State) →
     grant m (op.FieldRead field map) ≡ Ok place → told ≡ named m (op.FieldRead field map) →
-    AreSent (adapter_for m.layout (field_read m field place).place) (port_for m.layout (field_read m field place).place) (access_ops m (field_read m field place) false) items before now errors later
+    AreSent (adapter_for m.layout (field_read m field place).place) (port_for m.layout (field_read m field place).place) (access_ops m (field_read m field place) false) items before now account later
     state after →
     e ≡ end_in_field (field_of m.chip field).shape (read_outcome (forgetting_field m field place false) false (field_read m field place) items).end →
     new ≡ (read_outcome (forgetting_field m field place false) false (field_read m field place) items).model →
     event ≡ register_event told (reg_of m.chip field) items (record { end = e; model = new; differ = 0 }) →
-    Performs (scene m before errors state) (scene new now later after) (op.FieldRead field map) event
-first_read m new field map told place items e event before now errors later state after granted names sent end_is model event_is =
+    Performs (scene m before account state) (scene new now later after) (op.FieldRead field map) event
+first_read m new field map told place items e event before now account later state after granted names sent end_is model event_is =
     let entry = forgetting_field m field place false in
     let a = field_read m field place in
     let out = in_field m.chip field (read_outcome entry false a items) in
     let all : event ≡ register_event told (reg_of m.chip field) items out = event_is ∙ ap (register_event told (reg_of m.chip field) items) (field_read_outcome entry new field a items e end_is model)
     in
-    subst (λ ev. Performs (scene m before errors state) (scene new now later after) (op.FieldRead field map) ev) (sym all)
+    subst (λ ev. Performs (scene m before account state) (scene new now later after) (op.FieldRead field map) ev) (sym all)
     (sent_over_bus m new (op.FieldRead field map) told place (reg_of m.chip field) (access_ops entry a false) (λ all. in_field m.chip field (read_outcome entry false a all)) (register_event told
-    (reg_of m.chip field) items out) before now errors later state after granted names
+    (reg_of m.chip field) items out) before now account later state after granted names
     (field_read_over_bus m field map place)
-    (subst (λ p. AreSent (adapter_for m.layout p) (port_for m.layout p) (access_ops entry a false) items before now errors later state after) (written_place m field place 0 0 (is_alone m field place
+    (subst (λ p. AreSent (adapter_for m.layout p) (port_for m.layout p) (access_ops entry a false) items before now account later state after) (written_place m field place 0 0 (is_alone m field place
     false)) sent)
     refl model)
 
 -- what a read of a field's access did, as its parts promise it
-record IsFieldRead (m new : ModelData) (told : Op) (field : ℕ) (a : Access) (items : List TraceItem) (e : End) (event : Event) (before now : List Standing) (errors later : ℕ) (state after : Option
+record IsFieldRead (m new : ModelData) (told : Op) (field : ℕ) (a : Access) (items : List TraceItem) (e : End) (event : Event) (before now : List Standing) (account later : Account) (state after : Option
     State) : Type 0 where
-  sent : AreSent (adapter_for m.layout a.place) (port_for m.layout a.place) (access_ops m a false) items before now errors later state after
+  sent : AreSent (adapter_for m.layout a.place) (port_for m.layout a.place) (access_ops m a false) items before now account later state after
   end_is : e ≡ end_in_field (field_of m.chip field).shape (read_outcome m false a items).end
   model : new ≡ (read_outcome m false a items).model
 
-pub field_read_performs : {before now : List Standing} {errors later : ℕ} {state after : Option State} (m entry new : ModelData) (field : ℕ) (shape : Field) (map : Option ℕ) (told : Op) (place : ℕ)
+pub field_read_performs : {before now : List Standing} {account later : Account} {state after : Option State} (m entry new : ModelData) (field : ℕ) (shape : Field) (map : Option ℕ) (told : Op) (place : ℕ)
     (a : Access) (items : List TraceItem) (read e : End) (event : Event) →
     grant m (op.FieldRead field map) ≡ Ok place → told ≡ named m (op.FieldRead field map) → shape ≡ (field_of m.chip field).shape → entry ≡ forgetting_field m field place false →
     a ≡ field_read m field place →
-    AreSent (adapter_for entry.layout a.place) (port_for entry.layout a.place) (access_ops entry a false) items before now errors later state after →
+    AreSent (adapter_for entry.layout a.place) (port_for entry.layout a.place) (access_ops entry a false) items before now account later state after →
     read ≡ (read_outcome entry false a items).end → new ≡ (read_outcome entry false a items).model → e ≡ end_in_field shape read → event ≡ register_event told shape.reg items
     (record { end = e; model = new; differ = 0 }) →
-    Performs (scene m before errors state) (scene new now later after) (op.FieldRead field map) event
-field_read_performs {before} {now} {errors} {later} {state} {after} m entry new field shape map told place a items read e event granted names shape_is from same sent read_is model end_is event_is =
+    Performs (scene m before account state) (scene new now later after) (op.FieldRead field map) event
+field_read_performs {before} {now} {account} {later} {state} {after} m entry new field shape map told place a items read e event granted names shape_is from same sent read_is model end_is event_is =
     let first = forgetting_field m field place false in
     let chip : entry.chip ≡ m.chip = ap (λ (x : ModelData). x.chip) from in
-    let here : IsFieldRead entry new told field a items e event before now errors later state after = record {
+    let here : IsFieldRead entry new told field a items e event before now account later state after = record {
       sent = sent;
       end_is = end_is ∙ ap (λ (s : Field). end_in_field s read) (shape_is ∙ ap (λ c. (field_of c field).shape) (sym chip)) ∙ ap (end_in_field (field_of entry.chip field).shape) read_is;
       model = model;
     } in
-    let there : IsFieldRead first new told field (field_read m field place) items e event before now errors later state after =
-    subst (λ (x : Access). IsFieldRead first new told field x items e event before now errors later state after) same
-    (subst (λ (x : ModelData). IsFieldRead x new told field a items e event before now errors later state after) from here)
+    let there : IsFieldRead first new told field (field_read m field place) items e event before now account later state after =
+    subst (λ (x : Access). IsFieldRead first new told field x items e event before now account later state after) same
+    (subst (λ (x : ModelData). IsFieldRead x new told field a items e event before now account later state after) from here)
     in
-    first_read m new field map told place items e event before now errors later state after granted names there.sent there.end_is there.model
+    first_read m new field map told place items e event before now account later state after granted names there.sent there.end_is there.model
     (event_is ∙ ap (λ (s : Field). let o : Outcome = record { end = e; model = new; differ = 0 } in register_event told s.reg items o) shape_is)

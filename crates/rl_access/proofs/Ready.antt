@@ -2,6 +2,7 @@
 use Rattle.std.proofs.Common.{◌≡◌, ℕ, ◌<◌, List, length, All, Option, None, Some, option_map, refl, sym, ap, ◌∙◌, subst}
 use Rattle.std.proofs.lemmas.List.{length-map}
 use Rattle.std.proofs.lemmas.Option.{get_or_from_slice_get}
+use Rattle.rl_bus.specs.Account.{Account}
 use Rattle.rl_bus.specs.declared.op.BusOp.{BusOp}
 use Rattle.rl_bus.specs.Device.{IsPortOf}
 use Rattle.rl_bus.specs.Standing.{Standing, kind_in, kinds_of, kind_at, no_kind}
@@ -52,9 +53,9 @@ device_later m (Some d) items device s e =
     let t = device d refl in
     record { flaws = t.flaws; setup = ap (λ (s : State). s.setup) (sym same) ∙ setup-state_after_all d items ∙ t.setup }
 
-pub ready_later : (m : ModelData) (which port : ℕ) (ops : List BusOp) (items : List TraceItem) (before now : List Standing) (errors later : ℕ) (told after : Option State) →
-    AreSent which port ops items before now errors later told after → kinds_of now ≡ kinds_of before → IsReady m before told → IsReady m now after
-ready_later m which port ops items before now errors later told after sent kinds ready = record {
+pub ready_later : (m : ModelData) (which port : ℕ) (ops : List BusOp) (items : List TraceItem) (before now : List Standing) (account later : Account) (told after : Option State) →
+    AreSent which port ops items before now account later told after → kinds_of now ≡ kinds_of before → IsReady m before told → IsReady m now after
+ready_later m which port ops items before now account later told after sent kinds ready = record {
   kinds = kinds ∙ ready.kinds;
   device = subst (IsDeviceOf m) (sym sent.run.goes) (device_later m told items ready.device);
 }
@@ -68,10 +69,10 @@ fits_there m standings which place ops sound inside same is fits =
     subst (λ k. All (Fits k) ops) (sym kind) fits
 
 -- what went out by the place's port and adapter, and by an equal layout
-pub sent_at : {items : List TraceItem} {before now : List Standing} {errors later : ℕ} {told after : Option State} (l here : LayoutData) (o : Outgoing) (which port : ℕ) → here ≡ l →
-    port ≡ port_for l o.place → which ≡ adapter_for l o.place → AreSent which port (outgoing_ops here o) items before now errors later told after →
-    AreSent (adapter_for l o.place) (port_for l o.place) (outgoing_ops l o) items before now errors later told after
-sent_at {items} {before} {now} {errors} {later} {told} {after} l here o which port same there through sent =
-    subst (λ w. AreSent w (port_for l o.place) (outgoing_ops l o) items before now errors later told after) through
-    (subst (λ p. AreSent which p (outgoing_ops l o) items before now errors later told after) there
-    (subst (λ x. AreSent which port (outgoing_ops x o) items before now errors later told after) same sent))
+pub sent_at : {items : List TraceItem} {before now : List Standing} {account later : Account} {told after : Option State} (l here : LayoutData) (o : Outgoing) (which port : ℕ) → here ≡ l →
+    port ≡ port_for l o.place → which ≡ adapter_for l o.place → AreSent which port (outgoing_ops here o) items before now account later told after →
+    AreSent (adapter_for l o.place) (port_for l o.place) (outgoing_ops l o) items before now account later told after
+sent_at {items} {before} {now} {account} {later} {told} {after} l here o which port same there through sent =
+    subst (λ w. AreSent w (port_for l o.place) (outgoing_ops l o) items before now account later told after) through
+    (subst (λ p. AreSent which p (outgoing_ops l o) items before now account later told after) there
+    (subst (λ x. AreSent which port (outgoing_ops x o) items before now account later told after) same sent))

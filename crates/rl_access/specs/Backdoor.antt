@@ -1,5 +1,7 @@
 -- What the backdoor finds in the device.
 use Rattle.std.specs.Prelude.{◌≡◌, ℕ, Bool, Option, Some, option_map}
+use Rattle.rl_bus.specs.Account.{Account, Asks}
+use Rattle.rl_bus.specs.Account as ask
 use Rattle.rl_bus.specs.State.{State, peeked, poked}
 use Rattle.rl_bus.specs.declared.table.Cell.TheVariants as cell
 use Rattle.rl_access.specs.declared.event.End.TheVariants as end
@@ -20,9 +22,10 @@ pub record IsFoundAt (m : ModelData) (told : Option State) (mem index value : �
   pub value_is : value ≡ low_bytes (location_size m.chip mem) sampled
 
 -- a read that leaves its effects in the device and in the model
-pub record IsReadBehind (m new : ModelData) (told after : Option State) (check : Bool)
+pub record IsReadBehind (m new : ModelData) (account later : Account) (told after : Option State) (check : Bool)
     (reg value differ : ℕ) : Type 0 where
   pub sampled : ℕ
   pub found : (d : State) → told ≡ Some d → sampled ≡ peeked d (cell.Reg reg)
   pub outcome : record { end = end.Value value; model = new; differ = differ } ≡ back_outcome m check reg sampled
   pub goes : after ≡ option_map (λ d. poked d (cell.Reg reg) (back_left m reg sampled)) told
+  pub asked : Asks account later (ask.poke (cell.Reg reg) (back_left m reg sampled))

@@ -1,5 +1,6 @@
 -- One call: from what there is before it to what there is after it.
 use Rattle.std.specs.Prelude.{◌≡◌, ◌≤◌, ℕ, Bool, true, false, List, map, Option, Some, option_map, MatchResult}
+use Rattle.rl_bus.specs.Account.{Account, AsksAll}
 use Rattle.rl_bus.specs.Standing.{Standing, standing_at}
 use Rattle.rl_bus.specs.State.{State}
 use Rattle.rl_access.specs.declared.access.Access.{Access}
@@ -8,25 +9,26 @@ use Rattle.rl_access.specs.declared.event.Event.{Event}
 use Rattle.rl_access.specs.declared.event.Op.{Op}
 use Rattle.rl_access.specs.declared.event.Refused.{Refused}
 use Rattle.rl_access.specs.declared.trace.TraceItem.{TraceItem}
-use Rattle.rl_access.specs.Items.{AreItemsOf, AreSent, HasCauses, items_of, moved_on_by_all, port_for, adapter_for}
+use Rattle.rl_access.specs.Items.{AreItemsOf, AreSent, items_of, moved_on_by_all, port_for, adapter_for}
 use Rattle.rl_access.specs.Event.{EventFits}
 use Rattle.rl_access.specs.Model.{ModelData, IsDeviceOf, IsReady, IsSameChip}
-use Rattle.rl_access.specs.Rules.{grant, named, sends, Outcome, outcome, event_of, refused_event, found_by, device_after, access_ops, register_event, write_outcome, read_outcome}
+use Rattle.rl_access.specs.Rules.{grant, named, sends, Outcome, outcome, event_of, refused_event, found_by, device_after, deposited, asks_of, access_ops, register_event, write_outcome, read_outcome}
 
 -- what a call meets and leaves
 pub record Scene : Type 0 where
   pub model : ModelData
   pub adapters : List Standing
-  pub errors : ℕ
+  pub account : Account
   pub device : Option State
 
-abbrev pub scene : ModelData → List Standing → ℕ → Option State → Scene
-scene model adapters errors device = record { model = model; adapters = adapters; errors = errors; device = device }
+abbrev pub scene : ModelData → List Standing → Account → Option State → Scene
+scene model adapters account device =
+    record { model = model; adapters = adapters; account = account; device = device }
 
--- a model, adapters as their callers see them, and a device with its count of errors and the state that it tells
-abbrev pub scene_of : {A D : Type 0} → (A → Standing) → (D → ℕ) → (D → Option State) → ModelData → List A → D → Scene
-scene_of standing errors state model adapters device =
-    scene model (map standing adapters) (errors device) (state device)
+-- a model, adapters as their callers see them, and a device with its account and the state that it tells
+abbrev pub scene_of : {A D : Type 0} → (A → Standing) → (D → Account) → (D → Option State) → ModelData → List A → D → Scene
+scene_of standing account state model adapters device =
+    scene model (map standing adapters) (account device) (state device)
 
 -- a refused operation changes nothing
 pub record IsRefused (s new : Scene) (op : Op) (why : Refused) (event : Event) : Type 0 where
@@ -42,7 +44,8 @@ pub record IsDone (s new : Scene) (op : Op) (place : ℕ) (event : Event) : Type
       AreItemsOf (standing_at s.adapters (adapter_for s.model.layout place)) (port_for s.model.layout place)
       (sends s.model op place) event.trace
   pub adapters : new.adapters ≡ moved_on_by_all s.adapters (adapter_for s.model.layout place) event.trace
-  pub cause : HasCauses s.errors new.errors event.trace
+  -- the device was asked exactly this; an item failed only where its count of errors rose
+  pub asked : AsksAll s.account (asks_of op (deposited s.model op sampled) event.trace) new.account
   -- the event and the model are what the rules make of these
   pub event_is : event ≡ event_of s.model (named s.model op) event.trace (outcome s.model op place sampled event.trace)
   pub model : new.model ≡ (outcome s.model op place sampled event.trace).model
@@ -61,7 +64,7 @@ pub record IsDone (s new : Scene) (op : Op) (place : ℕ) (event : Event) : Type
 abbrev pub WereSent : Scene → Scene → Access → Bool → List TraceItem → Type 0
 WereSent s new a write items =
     AreSent (adapter_for s.model.layout a.place) (port_for s.model.layout a.place) (access_ops s.model a write) items
-    s.adapters new.adapters s.errors new.errors s.device new.device
+    s.adapters new.adapters s.account new.account s.device new.device
 
 -- it was written, or read, and this was made of its items
 pub record IsAccessed (s new : Scene) (op : Op) (a : Access) (write : Bool) (o : List TraceItem → Outcome)
@@ -96,22 +99,22 @@ pub record Does (s new : Scene) (op : Op) (event : Event) : Type 0 where
 -- an operation that meets no adapter and no device, beside any of them
 abbrev pub PerformsAlone : ModelData → ModelData → Op → Event → Type 0
 PerformsAlone m new op event =
-    (adapters : List Standing) (errors : ℕ) (device : Option State)
-    → Performs (scene m adapters errors device) (scene new adapters errors device) op event
+    (adapters : List Standing) (account : Account) (device : Option State)
+    → Performs (scene m adapters account device) (scene new adapters account device) op event
 
 -- an operation that goes round the bus, beside any adapters
 abbrev pub PerformsOffBus :
-    {D : Type 0} → (D → ℕ) → (D → Option State) → (m new : ModelData) → (before after : D) → Op → Event → Type 0
-PerformsOffBus errors state m new before after op event =
+    {D : Type 0} → (D → Account) → (D → Option State) → (m new : ModelData) → (before after : D) → Op → Event → Type 0
+PerformsOffBus account state m new before after op event =
     (adapters : List Standing)
-    → Performs (scene m adapters (errors before) (state before))
-    (scene new adapters (errors after) (state after)) op event
+    → Performs (scene m adapters (account before) (state before))
+    (scene new adapters (account after) (state after)) op event
 
 -- what such an operation leaves for the next call: the device goes with the model,
 -- the chip and the layout are the same, and the event can be told of the model
-pub record StaysOffBus {D : Type 0} (errors : D → ℕ) (state : D → Option State) (m new : ModelData) (before after : D)
-    (event : Event) : Type 0 where
+pub record StaysOffBus {D : Type 0} (account : D → Account) (state : D → Option State) (m new : ModelData)
+    (before after : D) (event : Event) : Type 0 where
   pub device : IsDeviceOf new (state after)
   pub parts : IsSameChip m new
   pub fits : EventFits new event
-  pub later : errors before ≤ errors after
+  pub later : (account before).errors ≤ (account after).errors

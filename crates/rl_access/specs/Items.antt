@@ -1,8 +1,9 @@
 -- Items that are sent one after another, until one fails.
-use Rattle.std.specs.Prelude.{◌≡◌, ℕ, ◌^◌, ◌<◌, ◌≤◌, List, [], ◌∷◌, map, Bool, false, ◌||◌, Option, Some, option_map, IsTrue, slice_set, if◌then◌else◌}
+use Rattle.std.specs.Prelude.{◌≡◌, ℕ, ◌^◌, ◌<◌, List, [], ◌∷◌, map, Bool, false, ◌||◌, Option, Some, option_map, slice_set, if◌then◌else◌}
 use Rattle.std.specs.Bool.{MatchBool}
 use Rattle.std.specs.List.{position}
-use Rattle.rl_bus.specs.Causes.{Rose}
+use Rattle.rl_bus.specs.Account.{Account, Request, AsksAll}
+use Rattle.rl_bus.specs.Account as ask
 use Rattle.rl_bus.specs.declared.op.Answer.{Answer}
 use Rattle.rl_bus.specs.declared.op.BusOp.{BusOp}
 use Rattle.rl_bus.specs.Standing.{Standing, took, standing_at}
@@ -56,10 +57,9 @@ word_answered item = item.answer.word
 abbrev pub words_answered : List TraceItem → List ℕ
 words_answered items = map word_answered items
 
--- the count of errors doesn't fall, and an item failed only where it rose
-pub record HasCauses (before now : ℕ) (items : List TraceItem) : Type 0 where
-  pub later : before ≤ now
-  pub failed : IsTrue (has_failed items) → Rose before now
+-- what an item asked of the device
+abbrev pub asked_by : TraceItem → Request
+asked_by item = ask.transfer item.port item.op item.tag item.answer
 
 -- ---- over a device that tells its state
 
@@ -85,10 +85,11 @@ pub record IsRun (before after : Option State) (s : Standing) (port : ℕ) (ops 
 
 -- the operations were sent in order through one adapter, and nothing else moved
 pub record AreSent (which port : ℕ) (ops : List BusOp) (items : List TraceItem) (before now : List Standing)
-    (errors errors_after : ℕ) (told told_after : Option State) : Type 0 where
+    (account account_after : Account) (told told_after : Option State) : Type 0 where
   pub items_are : AreItemsOf (standing_at before which) port ops items
   pub adapters : now ≡ moved_on_by_all before which items
-  pub cause : HasCauses errors errors_after items
+  -- the device was asked exactly these; an item failed only where its count of errors rose
+  pub asked : AsksAll account (map asked_by items) account_after
   pub run : IsRun told told_after (standing_at before which) port ops items
 
 abbrev pub port_for : LayoutData → (place : ℕ) → ℕ

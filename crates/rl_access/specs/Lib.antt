@@ -8,6 +8,7 @@ pub mod Items
 pub mod Access
 pub mod Asked
 pub mod Rules
+pub mod Asking
 pub mod Call
 pub mod World
 pub mod Word

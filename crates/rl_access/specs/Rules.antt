@@ -1,7 +1,9 @@
 -- The rules of events: which operation is refused and why, what any other one sends, and what it makes of the items.
-use Rattle.std.specs.Prelude.{ℕ, ◌-◌, ◌*◌, ◌^◌, nat_lt, nat_le, ◌+◌, ◌==◌, Bool, true, false, if◌then◌else◌, List, [], slice_get, slice_set, Option, None, Some, unwrap_or, Result, Ok, Err}
+use Rattle.std.specs.Prelude.{ℕ, ◌-◌, ◌*◌, ◌^◌, nat_lt, nat_le, ◌+◌, ◌==◌, Bool, true, false, if◌then◌else◌, List, [], ◌∷◌, map, slice_get, slice_set, Option, None, Some, unwrap_or, Result, Ok, Err}
 use Rattle.std.specs.Option.{option_map_or}
 use Rattle.rl_policy.specs.Bits.{bit, from_bits, put_bit}
+use Rattle.rl_bus.specs.Account.{Request}
+use Rattle.rl_bus.specs.Account as ask
 use Rattle.rl_bus.specs.declared.op.BusOp.{BusOp}
 use Rattle.rl_bus.specs.declared.table.Cell.TheVariants as cell
 use Rattle.rl_bus.specs.State.{State, peeked, poked, hw_set, reset_by}
@@ -29,7 +31,7 @@ use Rattle.rl_access.specs.declared.event.Refused.TheVariants.{NotPlaced, NotObs
 use Rattle.rl_access.specs.declared.trace.TraceItem.{TraceItem}
 use Rattle.rl_access.specs.declared.access.Access.{Access}
 use Rattle.rl_access.specs.declared.predictor.Gathered.{Gathered}
-use Rattle.rl_access.specs.Items.{failed_at, words_answered, state_after_all}
+use Rattle.rl_access.specs.Items.{asked_by, failed_at, words_answered, state_after_all}
 use Rattle.rl_access.specs.Gathering.{no_words}
 use Rattle.rl_access.specs.Model.{ModelData}
 use Rattle.rl_access.specs.Operation.{reg_of, register_of, location_size}
@@ -460,6 +462,26 @@ found_by d (op.BackCheck reg) = peeked d (cell.Reg reg)
 found_by d (op.Peek reg) = peeked d (cell.Reg reg)
 found_by d (op.MemPeek mem index) = peeked d (cell.Loc mem index)
 found_by d _ = 0
+
+-- the bits that it deposits, where it uses the backdoor
+abbrev pub deposited : ModelData → Op → (sampled : ℕ) → ℕ
+deposited m (op.BackWrite reg value) sampled = back_written m reg value sampled
+deposited m (op.BackRead reg) sampled = back_left m reg sampled
+deposited m (op.BackCheck reg) sampled = back_left m reg sampled
+deposited m (op.Poke reg value) sampled = value
+deposited m (op.MemPoke mem index value) sampled = value
+deposited m _ sampled = 0
+
+-- What is asked of the device: a deposit of these bits, a change, a reset, or these items.
+abbrev pub asks_of : Op → (deposit : ℕ) → List TraceItem → List Request
+asks_of (op.BackWrite reg value) deposit items = ask.poke (cell.Reg reg) deposit ∷ []
+asks_of (op.BackRead reg) deposit items = ask.poke (cell.Reg reg) deposit ∷ []
+asks_of (op.BackCheck reg) deposit items = ask.poke (cell.Reg reg) deposit ∷ []
+asks_of (op.Poke reg value) deposit items = ask.poke (cell.Reg reg) deposit ∷ []
+asks_of (op.MemPoke mem index value) deposit items = ask.poke (cell.Loc mem index) deposit ∷ []
+asks_of (op.Hw field value) deposit items = ask.hw field value ∷ []
+asks_of (op.Reset kind) deposit items = ask.reset kind ∷ []
+asks_of _ deposit items = map asked_by items
 
 -- The device after an operation, where it tells its state. The device's steps are this project's own.
 abbrev pub device_after : ModelData → Op → (sampled : ℕ) → List TraceItem → State → State

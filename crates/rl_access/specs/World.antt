@@ -1,5 +1,6 @@
 -- One operation over a device that reports its state: its event, and what there is after it, by what was before it.
 use Rattle.std.specs.Prelude.{◌≡◌, ℕ, List, Option, Some, Ok, Err}
+use Rattle.rl_bus.specs.Account.{Account, without_peer}
 use Rattle.rl_bus.specs.Standing.{Standing, standing_at}
 use Rattle.rl_bus.specs.State.{State}
 use Rattle.rl_access.specs.declared.event.Event.{Event}
@@ -68,9 +69,9 @@ step_of w op = step_by w op (grant w.model op)
 
 -- ---- what a call performs, over a device that tells its state, is the step
 
--- a scene of this world, with this count of errors
-abbrev pub scene_at : World → ℕ → Scene
-scene_at w errors = scene w.model w.adapters errors (Some w.device)
+-- a scene of this world, with this account of its device
+abbrev pub scene_at : World → Account → Scene
+scene_at w account = scene w.model w.adapters account (Some w.device)
 
 -- the operation was done, with this event, and led to this model, these adapters and this device
 pub record IsStepOf (w : World) (op : Op) (event : Event) (model : ModelData) (adapters : List Standing)
@@ -81,13 +82,14 @@ pub record IsStepOf (w : World) (op : Op) (event : Event) (model : ModelData) (a
 -- a call that performs an operation does its step
 abbrev pub CallDoesStep : Type 0
 CallDoesStep =
-    (w : World) (errors : ℕ) (new : Scene) (op : Op) (event : Event) → Performs (scene_at w errors) new op event
+    (w : World) (account : Account) (new : Scene) (op : Op) (event : Event) → Performs (scene_at w account) new op event
     → IsStepOf w op event new.model new.adapters new.device
 
--- some count of errors later
+-- by a device that has no peer, some count of errors later
 pub record IsPerformed (w : World) (op : Op) (errors : ℕ) : Type 0 where
   pub later : ℕ
-  pub performs : Performs (scene_at w errors) (scene_at (step_of w op).world later) op (step_of w op).event
+  pub performs :
+      Performs (scene_at w (without_peer errors)) (scene_at (step_of w op).world (without_peer later)) op (step_of w op).event
 
 -- and the step is what such a call performs
 abbrev pub StepIsCall : Type 0

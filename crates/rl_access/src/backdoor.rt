@@ -1,8 +1,10 @@
 //! Accesses that bypass the bus.
-ghost use Rattle.std.specs.Prelude.{◌≡◌, ◌*◌, ◌<◌, ◌≤◌, ◌^◌, length, option_map, if◌then◌else◌, OnErr};
+ghost use Rattle.std.specs.Prelude.{◌≡◌, ◌*◌, ◌<◌, ◌^◌, length, option_map, if◌then◌else◌, OnErr};
 ghost use Rattle.rl_access.specs.Prelude.{IsDeviceOf, IsFound, IsReadBehind, IsSameChip, PerformsOffBus, StaysOffBus};
 ghost use Rattle.rl_access.specs.Prelude.{count_of, fields_of, grant, hw_set, left_by_read, marks_in, poked, reset_by};
 ghost use Rattle.rl_access.specs.Prelude.{shown, size_of, taking_raw, written};
+ghost use Rattle.rl_bus.specs.Account.{Asks};
+ghost use Rattle.rl_bus.specs.Account as ask;
 ghost use Rattle.rl_bus.specs.declared.table.Cell.TheVariants as cell;
 
 use crate::event::{End, Event, Op, Refused};
@@ -56,7 +58,7 @@ fn deposit<D: Device>(model: &Model, device: &mut D, reg: u32, value: u64)
     requires reg { reg < length model.now.chip.regs }
     ensures step { D.state device.new ≡ option_map (λ s. poked s (cell.Reg reg) value) (D.state device.old) }
     ensures device { IsDeviceOf model.now (D.state device.new) }
-    ensures later { D.errors device.old ≤ D.errors device.new }
+    ensures asked { Asks (D.account device.old) (D.account device.new) (ask.poke (cell.Reg reg) value) }
 {
     device.poke(Cell::Reg { reg }, value);
 }
@@ -67,7 +69,7 @@ fn set_by_hardware<D: Device>(model: &Model, device: &mut D, field: u32, value: 
     requires field { field < length model.now.chip.fields }
     ensures step { D.state device.new ≡ option_map (λ s. hw_set s field value) (D.state device.old) }
     ensures device { IsDeviceOf model.now (D.state device.new) }
-    ensures later { D.errors device.old ≤ D.errors device.new }
+    ensures asked { Asks (D.account device.old) (D.account device.new) (ask.hw field value) }
 {
     device.hw(field, value);
 }
@@ -77,7 +79,7 @@ fn reset_device<D: Device>(model: &Model, device: &mut D, kind: u32)
     requires device { IsDeviceOf model.now (D.state device.old) }
     ensures step { D.state device.new ≡ option_map (λ s. reset_by s kind) (D.state device.old) }
     ensures device { IsDeviceOf model.now (D.state device.new) }
-    ensures later { D.errors device.old ≤ D.errors device.new }
+    ensures asked { Asks (D.account device.old) (D.account device.new) (ask.reset kind) }
 {
     device.reset(kind);
 }
@@ -92,8 +94,8 @@ pub(crate) fn back_write_into<D: Device>(
 )
     requires device { IsDeviceOf model.old (D.state device.old) }
     requires reg { reg < length model.old.chip.regs }
-    ensures stays { StaysOffBus D.errors D.state model.old model.new device.old device.new event.new }
-    ensures performs { PerformsOffBus D.errors D.state model.old model.new device.old device.new
+    ensures stays { StaysOffBus D.account D.state model.old model.new device.old device.new event.new }
+    ensures performs { PerformsOffBus D.account D.state model.old model.new device.old device.new
         (Op.BackWrite reg value) event.new }
     ensures refused { OnErr (grant model.old (Op.BackWrite reg value)) (device.new ≡ device.old) }
 {
@@ -118,11 +120,10 @@ fn sample<D: Device>(model: &mut Model, device: &mut D, reg: u32, check: bool) -
     requires reg { reg < length model.old.chip.regs }
     ensures device { IsDeviceOf model.new (D.state device.new) }
     ensures parts { IsSameChip model.old model.new }
-    ensures behind { IsReadBehind model.old model.new (D.state device.old) (D.state device.new)
-        check reg result.0 result.1 }
+    ensures behind { IsReadBehind model.old model.new (D.account device.old) (D.account device.new)
+        (D.state device.old) (D.state device.new) check reg result.0 result.1 }
     ensures value { result.0 < 16 ^ (2 * size_of model.old.chip reg) }
     ensures differ { result.1 < 2 ^ count_of model.old.chip reg }
-    ensures later { D.errors device.old ≤ D.errors device.new }
 {
     let sampled = sampled(model, device, reg);
     let value = value_shown(model, reg, sampled);
@@ -143,8 +144,8 @@ pub(crate) fn back_read_into<D: Device>(
 )
     requires device { IsDeviceOf model.old (D.state device.old) }
     requires reg { reg < length model.old.chip.regs }
-    ensures stays { StaysOffBus D.errors D.state model.old model.new device.old device.new event.new }
-    ensures performs { PerformsOffBus D.errors D.state model.old model.new device.old device.new
+    ensures stays { StaysOffBus D.account D.state model.old model.new device.old device.new event.new }
+    ensures performs { PerformsOffBus D.account D.state model.old model.new device.old device.new
         (if check then Op.BackCheck reg else Op.BackRead reg) event.new }
     ensures refused { OnErr (grant model.old (Op.BackRead reg)) (device.new ≡ device.old) }
 {
@@ -172,8 +173,8 @@ fn back_reading(reg: u32, check: bool) -> Op
 pub(crate) fn peek_into<D: Device>(model: &mut Model, device: &mut D, reg: u32, event: &mut Event)
     requires device { IsDeviceOf model.old (D.state device.old) }
     requires reg { reg < length model.old.chip.regs }
-    ensures stays { StaysOffBus D.errors D.state model.old model.new device.old device.new event.new }
-    ensures performs { PerformsOffBus D.errors D.state model.old model.new device.old device.new
+    ensures stays { StaysOffBus D.account D.state model.old model.new device.old device.new event.new }
+    ensures performs { PerformsOffBus D.account D.state model.old model.new device.old device.new
         (Op.Peek reg) event.new }
     ensures unchanged { device.new ≡ device.old }
 {
@@ -198,8 +199,8 @@ pub(crate) fn poke_into<D: Device>(
 )
     requires device { IsDeviceOf model.old (D.state device.old) }
     requires reg { reg < length model.old.chip.regs }
-    ensures stays { StaysOffBus D.errors D.state model.old model.new device.old device.new event.new }
-    ensures performs { PerformsOffBus D.errors D.state model.old model.new device.old device.new
+    ensures stays { StaysOffBus D.account D.state model.old model.new device.old device.new event.new }
+    ensures performs { PerformsOffBus D.account D.state model.old model.new device.old device.new
         (Op.Poke reg value) event.new }
     ensures refused { OnErr (grant model.old (Op.Poke reg value)) (device.new ≡ device.old) }
 {
@@ -225,8 +226,8 @@ pub(crate) fn mem_peek_into<D: Device>(
 )
     requires device { IsDeviceOf model.old (D.state device.old) }
     requires mem { mem < length model.old.chip.mems }
-    ensures stays { StaysOffBus D.errors D.state model.old model.new device.old device.new event.new }
-    ensures performs { PerformsOffBus D.errors D.state model.old model.new device.old device.new
+    ensures stays { StaysOffBus D.account D.state model.old model.new device.old device.new event.new }
+    ensures performs { PerformsOffBus D.account D.state model.old model.new device.old device.new
         (Op.MemPeek mem index) event.new }
     ensures unchanged { device.new ≡ device.old }
 {
@@ -251,8 +252,8 @@ pub(crate) fn mem_poke_into<D: Device>(
 )
     requires device { IsDeviceOf model.old (D.state device.old) }
     requires mem { mem < length model.old.chip.mems }
-    ensures stays { StaysOffBus D.errors D.state model.old model.new device.old device.new event.new }
-    ensures performs { PerformsOffBus D.errors D.state model.old model.new device.old device.new
+    ensures stays { StaysOffBus D.account D.state model.old model.new device.old device.new event.new }
+    ensures performs { PerformsOffBus D.account D.state model.old model.new device.old device.new
         (Op.MemPoke mem index value) event.new }
     ensures refused { OnErr (grant model.old (Op.MemPoke mem index value)) (device.new ≡ device.old) }
 {
@@ -278,8 +279,8 @@ pub(crate) fn hw_into<D: Device>(
 )
     requires device { IsDeviceOf model.old (D.state device.old) }
     requires field { field < length model.old.chip.fields }
-    ensures stays { StaysOffBus D.errors D.state model.old model.new device.old device.new event.new }
-    ensures performs { PerformsOffBus D.errors D.state model.old model.new device.old device.new
+    ensures stays { StaysOffBus D.account D.state model.old model.new device.old device.new event.new }
+    ensures performs { PerformsOffBus D.account D.state model.old model.new device.old device.new
         (Op.Hw field value) event.new }
     ensures refused { OnErr (grant model.old (Op.Hw field value)) (device.new ≡ device.old) }
 {
@@ -299,8 +300,8 @@ pub(crate) fn hw_into<D: Device>(
 pub(crate) fn reset_into<D: Device>(model: &mut Model, device: &mut D, kind: u32, event: &mut Event)
     requires device { IsDeviceOf model.old (D.state device.old) }
     requires kind { kind < length model.old.chip.kinds }
-    ensures stays { StaysOffBus D.errors D.state model.old model.new device.old device.new event.new }
-    ensures performs { PerformsOffBus D.errors D.state model.old model.new device.old device.new
+    ensures stays { StaysOffBus D.account D.state model.old model.new device.old device.new event.new }
+    ensures performs { PerformsOffBus D.account D.state model.old model.new device.old device.new
         (Op.Reset kind) event.new }
 {
     reset_device(model, device, kind);

@@ -87,8 +87,8 @@ pub fn burst_write<D: Device, R: Recorder>(
     ensures model { model.new ≡ model.old }
     ensures ready { IsReady model.new (each standing adapters.new.items) (D.state device.new) }
     ensures hands_over { IsBurst R.takes R.breaks rec.old rec.new
-        (scene_of standing D.errors D.state model.old adapters.old.items device.old)
-        (scene_of standing D.errors D.state model.new adapters.new.items device.new)
+        (scene_of standing D.account D.state model.old adapters.old.items device.old)
+        (scene_of standing D.account D.state model.new adapters.new.items device.new)
         (write_grant model.old mem map first values.now) (Op.BurstWrite mem map first (length values.now))
         (writes_of mem map first values.now) result }
     ensures cause { HasCause (R.faults rec.old) (R.faults rec.new) result }
@@ -142,8 +142,8 @@ fn write_locations<D: Device, R: Recorder>(
     ensures model { model.new ≡ model.old }
     ensures ready { IsReady model.new (each standing adapters.new.items) (D.state device.new) }
     ensures run { IsRun R.takes R.breaks rec.old rec.new
-        (scene_of standing D.errors D.state model.old adapters.old.items device.old)
-        (scene_of standing D.errors D.state model.new adapters.new.items device.new)
+        (scene_of standing D.account D.state model.old adapters.old.items device.old)
+        (scene_of standing D.account D.state model.new adapters.new.items device.new)
         (writes_of mem map first values.now) result }
     ensures cause { HasCause (R.faults rec.old) (R.faults rec.new) result }
     ensures steady { R.steady rec.new ≡ R.steady rec.old }
@@ -184,8 +184,8 @@ pub fn burst_read<D: Device, R: Recorder>(
     ensures model { model.new ≡ model.old }
     ensures ready { IsReady model.new (each standing adapters.new.items) (D.state device.new) }
     ensures hands_over { IsBurst R.takes R.breaks rec.old rec.new
-        (scene_of standing D.errors D.state model.old adapters.old.items device.old)
-        (scene_of standing D.errors D.state model.new adapters.new.items device.new)
+        (scene_of standing D.account D.state model.old adapters.old.items device.old)
+        (scene_of standing D.account D.state model.new adapters.new.items device.new)
         (grant model.old (Op.BurstRead mem map first count)) (Op.BurstRead mem map first count)
         (reads_of mem map first count) result }
     ensures cause { HasCause (R.faults rec.old) (R.faults rec.new) result }
@@ -222,8 +222,8 @@ fn read_locations<D: Device, R: Recorder>(
     ensures model { model.new ≡ model.old }
     ensures ready { IsReady model.new (each standing adapters.new.items) (D.state device.new) }
     ensures run { IsRun R.takes R.breaks rec.old rec.new
-        (scene_of standing D.errors D.state model.old adapters.old.items device.old)
-        (scene_of standing D.errors D.state model.new adapters.new.items device.new)
+        (scene_of standing D.account D.state model.old adapters.old.items device.old)
+        (scene_of standing D.account D.state model.new adapters.new.items device.new)
         (reads_of mem map first count) result }
     ensures cause { HasCause (R.faults rec.old) (R.faults rec.new) result }
     ensures steady { R.steady rec.new ≡ R.steady rec.old }

@@ -26,8 +26,8 @@ pub fn front_write<D: Device>(
     requires ready { IsReady model.old (each standing adapters.old.items) (D.state device.old) }
     requires reg { reg < length model.old.chip.regs }
     requires map { IsMapIn (length model.old.layout.maps) map }
-    ensures does { Does (scene_of standing D.errors D.state model.old adapters.old.items device.old)
-        (scene_of standing D.errors D.state model.new adapters.new.items device.new) (op.Write reg map value) result }
+    ensures does { Does (scene_of standing D.account D.state model.old adapters.old.items device.old)
+        (scene_of standing D.account D.state model.new adapters.new.items device.new) (op.Write reg map value) result }
     ensures refused { OnErr (grant model.old (op.Write reg map value)) (device.new ≡ device.old) }
 {
     perform(model, device, adapters, Op::Write { reg, map, value })
@@ -44,8 +44,8 @@ pub fn front_read<D: Device>(
     requires ready { IsReady model.old (each standing adapters.old.items) (D.state device.old) }
     requires reg { reg < length model.old.chip.regs }
     requires map { IsMapIn (length model.old.layout.maps) map }
-    ensures does { Does (scene_of standing D.errors D.state model.old adapters.old.items device.old)
-        (scene_of standing D.errors D.state model.new adapters.new.items device.new) (op.Read reg map) result }
+    ensures does { Does (scene_of standing D.account D.state model.old adapters.old.items device.old)
+        (scene_of standing D.account D.state model.new adapters.new.items device.new) (op.Read reg map) result }
     ensures refused { OnErr (grant model.old (op.Read reg map)) (device.new ≡ device.old) }
 {
     perform(model, device, adapters, Op::Read { reg, map })
@@ -66,8 +66,8 @@ pub fn mirror<D: Device>(
     requires ready { IsReady model.old (each standing adapters.old.items) (D.state device.old) }
     requires reg { reg < length model.old.chip.regs }
     requires map { IsMapIn (length model.old.layout.maps) map }
-    ensures does { Does (scene_of standing D.errors D.state model.old adapters.old.items device.old)
-        (scene_of standing D.errors D.state model.new adapters.new.items device.new)
+    ensures does { Does (scene_of standing D.account D.state model.old adapters.old.items device.old)
+        (scene_of standing D.account D.state model.new adapters.new.items device.new)
         (if check then op.Check reg map else op.Mirror reg map) result }
     ensures refused { OnErr (grant model.old (op.Mirror reg map)) (device.new ≡ device.old) }
 {
@@ -94,8 +94,8 @@ pub fn field_write<D: Device>(
     requires ready { IsReady model.old (each standing adapters.old.items) (D.state device.old) }
     requires field { field < length model.old.chip.fields }
     requires map { IsMapIn (length model.old.layout.maps) map }
-    ensures does { Does (scene_of standing D.errors D.state model.old adapters.old.items device.old)
-        (scene_of standing D.errors D.state model.new adapters.new.items device.new)
+    ensures does { Does (scene_of standing D.account D.state model.old adapters.old.items device.old)
+        (scene_of standing D.account D.state model.new adapters.new.items device.new)
         (op.FieldWrite field map value) result }
     ensures refused { OnErr (grant model.old (op.FieldWrite field map value)) (device.new ≡ device.old) }
 {
@@ -120,8 +120,8 @@ pub fn field_read<D: Device>(
     requires ready { IsReady model.old (each standing adapters.old.items) (D.state device.old) }
     requires field { field < length model.old.chip.fields }
     requires map { IsMapIn (length model.old.layout.maps) map }
-    ensures does { Does (scene_of standing D.errors D.state model.old adapters.old.items device.old)
-        (scene_of standing D.errors D.state model.new adapters.new.items device.new) (op.FieldRead field map) result }
+    ensures does { Does (scene_of standing D.account D.state model.old adapters.old.items device.old)
+        (scene_of standing D.account D.state model.new adapters.new.items device.new) (op.FieldRead field map) result }
     ensures refused { OnErr (grant model.old (op.FieldRead field map)) (device.new ≡ device.old) }
 {
     perform(model, device, adapters, Op::FieldRead { field, map })
@@ -167,8 +167,8 @@ pub fn update<D: Device>(
     requires ready { IsReady model.old (each standing adapters.old.items) (D.state device.old) }
     requires reg { reg < length model.old.chip.regs }
     requires map { IsMapIn (length model.old.layout.maps) map }
-    ensures does { Does (scene_of standing D.errors D.state model.old adapters.old.items device.old)
-        (scene_of standing D.errors D.state model.new adapters.new.items device.new) (op.Update reg map) result }
+    ensures does { Does (scene_of standing D.account D.state model.old adapters.old.items device.old)
+        (scene_of standing D.account D.state model.new adapters.new.items device.new) (op.Update reg map) result }
     ensures wishes { BringsWishes model.old model.new reg result.end }
     ensures refused { OnErr (grant model.old (op.Update reg map)) (device.new ≡ device.old) }
 {
@@ -200,8 +200,8 @@ pub fn mem_write<D: Device>(
     requires mem { mem < length model.old.chip.mems }
     requires map { IsMapIn (length model.old.layout.maps) map }
     ensures model { model.new ≡ model.old }
-    ensures does { Does (scene_of standing D.errors D.state model.old adapters.old.items device.old)
-        (scene_of standing D.errors D.state model.new adapters.new.items device.new)
+    ensures does { Does (scene_of standing D.account D.state model.old adapters.old.items device.old)
+        (scene_of standing D.account D.state model.new adapters.new.items device.new)
         (op.MemWrite mem map index value) result }
     ensures refused { OnErr (grant model.old (op.MemWrite mem map index value)) (device.new ≡ device.old) }
 {
@@ -231,8 +231,8 @@ pub fn mem_read<D: Device>(
     requires mem { mem < length model.old.chip.mems }
     requires map { IsMapIn (length model.old.layout.maps) map }
     ensures model { model.new ≡ model.old }
-    ensures does { Does (scene_of standing D.errors D.state model.old adapters.old.items device.old)
-        (scene_of standing D.errors D.state model.new adapters.new.items device.new) (op.MemRead mem map index) result }
+    ensures does { Does (scene_of standing D.account D.state model.old adapters.old.items device.old)
+        (scene_of standing D.account D.state model.new adapters.new.items device.new) (op.MemRead mem map index) result }
     ensures refused { OnErr (grant model.old (op.MemRead mem map index)) (device.new ≡ device.old) }
 {
     perform_on_memory(model, device, adapters, Op::MemRead { mem, map, index })
@@ -252,8 +252,8 @@ pub fn mem_check<D: Device>(
     requires mem { mem < length model.old.chip.mems }
     requires map { IsMapIn (length model.old.layout.maps) map }
     ensures model { model.new ≡ model.old }
-    ensures does { Does (scene_of standing D.errors D.state model.old adapters.old.items device.old)
-        (scene_of standing D.errors D.state model.new adapters.new.items device.new)
+    ensures does { Does (scene_of standing D.account D.state model.old adapters.old.items device.old)
+        (scene_of standing D.account D.state model.new adapters.new.items device.new)
         (op.MemCheck mem map index value) result }
     ensures refused { OnErr (grant model.old (op.MemCheck mem map index value)) (device.new ≡ device.old) }
 {
@@ -277,7 +277,7 @@ pub fn mem_peek<D: Device>(model: &mut Model, device: &mut D, mem: u32, index: u
     ensures model { model.new ≡ model.old }
     ensures device { device.new ≡ device.old }
     ensures fits { EventFits model.new result }
-    ensures performs { PerformsOffBus D.errors D.state model.old model.new device.old device.new
+    ensures performs { PerformsOffBus D.account D.state model.old model.new device.old device.new
         (op.MemPeek mem index) result }
 {
     let mut event = Event::blank();
@@ -298,8 +298,8 @@ pub fn mem_poke<D: Device>(
     ensures model { model.new ≡ model.old }
     ensures device { IsDeviceOf model.new (D.state device.new) }
     ensures fits { EventFits model.new result }
-    ensures later { D.errors device.old ≤ D.errors device.new }
-    ensures performs { PerformsOffBus D.errors D.state model.old model.new device.old device.new
+    ensures later { (D.account device.old).errors ≤ (D.account device.new).errors }
+    ensures performs { PerformsOffBus D.account D.state model.old model.new device.old device.new
         (op.MemPoke mem index value) result }
     ensures refused { OnErr (grant model.old (op.MemPoke mem index value)) (device.new ≡ device.old) }
 {
@@ -321,8 +321,8 @@ pub fn other_write<D: Device>(
     requires ready { IsReady model.old (each standing adapters.old.items) (D.state device.old) }
     requires reg { reg < length model.old.chip.regs }
     requires map { IsMapIn (length model.old.layout.maps) map }
-    ensures does { Does (scene_of standing D.errors D.state model.old adapters.old.items device.old)
-        (scene_of standing D.errors D.state model.new adapters.new.items device.new)
+    ensures does { Does (scene_of standing D.account D.state model.old adapters.old.items device.old)
+        (scene_of standing D.account D.state model.new adapters.new.items device.new)
         (op.OtherWrite reg map value) result }
     ensures refused { OnErr (grant model.old (op.OtherWrite reg map value)) (device.new ≡ device.old) }
 {
@@ -341,8 +341,8 @@ pub fn other_read<D: Device>(
     requires ready { IsReady model.old (each standing adapters.old.items) (D.state device.old) }
     requires reg { reg < length model.old.chip.regs }
     requires map { IsMapIn (length model.old.layout.maps) map }
-    ensures does { Does (scene_of standing D.errors D.state model.old adapters.old.items device.old)
-        (scene_of standing D.errors D.state model.new adapters.new.items device.new) (op.OtherRead reg map) result }
+    ensures does { Does (scene_of standing D.account D.state model.old adapters.old.items device.old)
+        (scene_of standing D.account D.state model.new adapters.new.items device.new) (op.OtherRead reg map) result }
     ensures refused { OnErr (grant model.old (op.OtherRead reg map)) (device.new ≡ device.old) }
 {
     perform(model, device, adapters, Op::OtherRead { reg, map })
@@ -355,8 +355,8 @@ pub fn other_read<D: Device>(
 pub fn back_write<D: Device>(model: &mut Model, device: &mut D, reg: u32, value: u64) -> Event
     requires device { IsDeviceOf model.old (D.state device.old) }
     requires reg { reg < length model.old.chip.regs }
-    ensures stays { StaysOffBus D.errors D.state model.old model.new device.old device.new result }
-    ensures performs { PerformsOffBus D.errors D.state model.old model.new device.old device.new
+    ensures stays { StaysOffBus D.account D.state model.old model.new device.old device.new result }
+    ensures performs { PerformsOffBus D.account D.state model.old model.new device.old device.new
         (op.BackWrite reg value) result }
     ensures refused { OnErr (grant model.old (op.BackWrite reg value)) (device.new ≡ device.old) }
 {
@@ -370,8 +370,8 @@ pub fn back_write<D: Device>(model: &mut Model, device: &mut D, reg: u32, value:
 pub fn back_read<D: Device>(model: &mut Model, device: &mut D, reg: u32, check: bool) -> Event
     requires device { IsDeviceOf model.old (D.state device.old) }
     requires reg { reg < length model.old.chip.regs }
-    ensures stays { StaysOffBus D.errors D.state model.old model.new device.old device.new result }
-    ensures performs { PerformsOffBus D.errors D.state model.old model.new device.old device.new
+    ensures stays { StaysOffBus D.account D.state model.old model.new device.old device.new result }
+    ensures performs { PerformsOffBus D.account D.state model.old model.new device.old device.new
         (if check then op.BackCheck reg else op.BackRead reg) result }
     ensures refused { OnErr (grant model.old (op.BackRead reg)) (device.new ≡ device.old) }
 {
@@ -387,8 +387,8 @@ pub fn back_read<D: Device>(model: &mut Model, device: &mut D, reg: u32, check: 
 pub fn peek<D: Device>(model: &mut Model, device: &mut D, reg: u32) -> Event
     requires device { IsDeviceOf model.old (D.state device.old) }
     requires reg { reg < length model.old.chip.regs }
-    ensures stays { StaysOffBus D.errors D.state model.old model.new device.old device.new result }
-    ensures performs { PerformsOffBus D.errors D.state model.old model.new device.old device.new (op.Peek reg) result }
+    ensures stays { StaysOffBus D.account D.state model.old model.new device.old device.new result }
+    ensures performs { PerformsOffBus D.account D.state model.old model.new device.old device.new (op.Peek reg) result }
     ensures unchanged { device.new ≡ device.old }
 {
     let mut event = Event::blank();
@@ -400,8 +400,8 @@ pub fn peek<D: Device>(model: &mut Model, device: &mut D, reg: u32) -> Event
 pub fn poke<D: Device>(model: &mut Model, device: &mut D, reg: u32, value: u64) -> Event
     requires device { IsDeviceOf model.old (D.state device.old) }
     requires reg { reg < length model.old.chip.regs }
-    ensures stays { StaysOffBus D.errors D.state model.old model.new device.old device.new result }
-    ensures performs { PerformsOffBus D.errors D.state model.old model.new device.old device.new
+    ensures stays { StaysOffBus D.account D.state model.old model.new device.old device.new result }
+    ensures performs { PerformsOffBus D.account D.state model.old model.new device.old device.new
         (op.Poke reg value) result }
     ensures refused { OnErr (grant model.old (op.Poke reg value)) (device.new ≡ device.old) }
 {
@@ -412,8 +412,8 @@ pub fn poke<D: Device>(model: &mut Model, device: &mut D, reg: u32, value: u64) 
 pub fn hw<D: Device>(model: &mut Model, device: &mut D, field: u32, value: u64) -> Event
     requires device { IsDeviceOf model.old (D.state device.old) }
     requires field { field < length model.old.chip.fields }
-    ensures stays { StaysOffBus D.errors D.state model.old model.new device.old device.new result }
-    ensures performs { PerformsOffBus D.errors D.state model.old model.new device.old device.new
+    ensures stays { StaysOffBus D.account D.state model.old model.new device.old device.new result }
+    ensures performs { PerformsOffBus D.account D.state model.old model.new device.old device.new
         (op.Hw field value) result }
     ensures refused { OnErr (grant model.old (op.Hw field value)) (device.new ≡ device.old) }
 {
@@ -425,8 +425,8 @@ pub fn hw<D: Device>(model: &mut Model, device: &mut D, field: u32, value: u64) 
 pub fn reset<D: Device>(model: &mut Model, device: &mut D, kind: u32) -> Event
     requires device { IsDeviceOf model.old (D.state device.old) }
     requires kind { kind < length model.old.chip.kinds }
-    ensures stays { StaysOffBus D.errors D.state model.old model.new device.old device.new result }
-    ensures performs { PerformsOffBus D.errors D.state model.old model.new device.old device.new
+    ensures stays { StaysOffBus D.account D.state model.old model.new device.old device.new result }
+    ensures performs { PerformsOffBus D.account D.state model.old model.new device.old device.new
         (op.Reset kind) result }
 {
     perform_off_bus(model, device, Op::Reset { kind })

@@ -30,7 +30,7 @@ pub(crate) fn send<D: Device>(
     ensures sent { AreSent (adapter_for model.now.layout outgoing.now.place)
         (port_for model.now.layout outgoing.now.place) (outgoing_ops model.now.layout outgoing.now) trace.new
         (map standing adapters.old.items) (map standing adapters.new.items)
-        (D.errors device.old) (D.errors device.new) (D.state device.old) (D.state device.new) }
+        (D.account device.old) (D.account device.new) (D.state device.old) (D.state device.new) }
     ensures ready { IsReady model.now (map standing adapters.new.items) (D.state device.new) }
     ensures fit { All (ItemFits model.now.layout) trace.new }
     ensures value { outgoing.now.write ≡ false → IsBrought model.now.layout outgoing.now trace.new result }
@@ -76,7 +76,7 @@ pub(crate) fn write_as<D: Device>(
     ensures sent { AreSent (adapter_for model.old.layout access.now.place) (port_for model.old.layout access.now.place)
         (access_ops model.old access.now true) event.new.trace
         (map standing adapters.old.items) (map standing adapters.new.items)
-        (D.errors device.old) (D.errors device.new) (D.state device.old) (D.state device.new) }
+        (D.account device.old) (D.account device.new) (D.state device.old) (D.state device.new) }
     ensures event { event.new ≡
         register_event event.old.op access.now.reg event.new.trace
         (write_outcome model.old good access.now event.new.trace) }
@@ -141,7 +141,7 @@ pub(crate) fn read<D: Device>(
     ensures sent { AreSent (adapter_for model.old.layout access.now.place) (port_for model.old.layout access.now.place)
         (access_ops model.old access.now false) trace.new
         (map standing adapters.old.items) (map standing adapters.new.items)
-        (D.errors device.old) (D.errors device.new) (D.state device.old) (D.state device.new) }
+        (D.account device.old) (D.account device.new) (D.state device.old) (D.state device.new) }
     ensures end { result.0 ≡ (read_outcome model.old check access.now trace.new).end }
     ensures differ { result.1 ≡ (read_outcome model.old check access.now trace.new).differ }
     ensures model { model.new ≡ (read_outcome model.old check access.now trace.new).model }
@@ -175,7 +175,7 @@ pub(crate) fn read_as<D: Device>(
     ensures sent { AreSent (adapter_for model.old.layout access.now.place) (port_for model.old.layout access.now.place)
         (access_ops model.old access.now false) event.new.trace
         (map standing adapters.old.items) (map standing adapters.new.items)
-        (D.errors device.old) (D.errors device.new) (D.state device.old) (D.state device.new) }
+        (D.account device.old) (D.account device.new) (D.state device.old) (D.state device.new) }
     ensures event { event.new ≡
         register_event event.old.op access.now.reg event.new.trace
         (read_outcome model.old check access.now event.new.trace) }

@@ -5,6 +5,8 @@ ghost use Rattle.rl_access.specs.Prelude.{IsPlaceFor, IsReady, ItemFits, ModelDa
 ghost use Rattle.rl_access.specs.Prelude.{ends_with_value, failed_at, location_bytes, location_size, location_value};
 ghost use Rattle.rl_access.specs.Prelude.{memory_size, ops_of, or_error, outgoing_at, poked, port_for, quiet};
 ghost use Rattle.rl_access.specs.Rules.{marked};
+ghost use Rattle.rl_bus.specs.Account.{Asks};
+ghost use Rattle.rl_bus.specs.Account as ask;
 ghost use Rattle.rl_bus.specs.declared.table.Cell.TheVariants as cell;
 ghost use Rattle.rl_access.specs.declared.event.End.TheVariants as end;
 ghost use Rattle.rl_model.specs.declared.rows.Item.TheVariants as item;
@@ -93,7 +95,7 @@ pub(crate) fn read_location<D: Device>(
     ensures sent { AreSent (adapter_for model.now.layout place) (port_for model.now.layout place)
         (ops_of model.now.layout place index (location_bytes model.now mem) 0 false) trace.new
         (each standing adapters.old.items) (each standing adapters.new.items)
-        (D.errors device.old) (D.errors device.new) (D.state device.old) (D.state device.new) }
+        (D.account device.old) (D.account device.new) (D.state device.old) (D.state device.new) }
     ensures end { result ≡
         (or_error (failed_at trace.new) model.now
         (quiet (end.Value (location_value model.now mem place index trace.new)) model.now)).end }
@@ -142,7 +144,7 @@ pub(crate) fn deposit_location<D: Device>(
     requires index { index < memory_size model.now.chip mem }
     ensures step { D.state device.new ≡ option_map (λ s. poked s (cell.Loc mem index) value) (D.state device.old) }
     ensures device { IsDeviceOf model.now (D.state device.new) }
-    ensures later { D.errors device.old ≤ D.errors device.new }
+    ensures asked { Asks (D.account device.old) (D.account device.new) (ask.poke (cell.Loc mem index) value) }
 {
     device.poke(Cell::Loc { mem, index }, value);
 }

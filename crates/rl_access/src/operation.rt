@@ -44,8 +44,8 @@ pub fn perform<D: Device>(
     requires ready { IsReady model.old (each standing adapters.old.items) (D.state device.old) }
     requires numbers { HasNumbers model.old.chip (length model.old.layout.maps) op }
     requires single { is_single op ≡ true }
-    ensures does { Does (scene_of standing D.errors D.state model.old adapters.old.items device.old)
-        (scene_of standing D.errors D.state model.new adapters.new.items device.new) op result }
+    ensures does { Does (scene_of standing D.account D.state model.old adapters.old.items device.old)
+        (scene_of standing D.account D.state model.new adapters.new.items device.new) op result }
     ensures refused { OnErr (grant model.old op) (device.new ≡ device.old) }
 {
     let mut event = Event::blank();
@@ -67,8 +67,8 @@ pub fn perform_into<D: Device>(
     requires ready { IsReady model.old (each standing adapters.old.items) (D.state device.old) }
     requires numbers { HasNumbers model.old.chip (length model.old.layout.maps) op }
     requires single { is_single op ≡ true }
-    ensures does { Does (scene_of standing D.errors D.state model.old adapters.old.items device.old)
-        (scene_of standing D.errors D.state model.new adapters.new.items device.new) op event.new }
+    ensures does { Does (scene_of standing D.account D.state model.old adapters.old.items device.old)
+        (scene_of standing D.account D.state model.new adapters.new.items device.new) op event.new }
     ensures refused { OnErr (grant model.old op) (device.new ≡ device.old) }
 {
     match op {
@@ -98,8 +98,8 @@ fn perform_over_bus<D: Device>(
     requires ready { IsReady model.old (each standing adapters.old.items) (D.state device.old) }
     requires numbers { HasNumbers model.old.chip (length model.old.layout.maps) op }
     requires over_bus { is_over_bus op ≡ true }
-    ensures does { Does (scene_of standing D.errors D.state model.old adapters.old.items device.old)
-        (scene_of standing D.errors D.state model.new adapters.new.items device.new) op event.new }
+    ensures does { Does (scene_of standing D.account D.state model.old adapters.old.items device.old)
+        (scene_of standing D.account D.state model.new adapters.new.items device.new) op event.new }
     ensures refused { OnErr (grant model.old op) (device.new ≡ device.old) }
 {
     let asked = model.ask(op);
@@ -130,8 +130,8 @@ fn write_register<D: Device>(
     requires ready { IsReady model.old (each standing adapters.old.items) (D.state device.old) }
     requires begun { IsBegun model.old op place event.old }
     requires writes { writes_register op ≡ true }
-    ensures { Does (scene_of standing D.errors D.state model.old adapters.old.items device.old)
-        (scene_of standing D.errors D.state model.new adapters.new.items device.new) op event.new }
+    ensures { Does (scene_of standing D.account D.state model.old adapters.old.items device.old)
+        (scene_of standing D.account D.state model.new adapters.new.items device.new) op event.new }
 {
     match op {
         Op::Write { reg, value, .. } | Op::OtherWrite { reg, value, .. } => {
@@ -168,8 +168,8 @@ fn read_register<D: Device>(
     requires ready { IsReady model.old (each standing adapters.old.items) (D.state device.old) }
     requires begun { IsBegun model.old op place event.old }
     requires reads { reads_register op ≡ true }
-    ensures { Does (scene_of standing D.errors D.state model.old adapters.old.items device.old)
-        (scene_of standing D.errors D.state model.new adapters.new.items device.new) op event.new }
+    ensures { Does (scene_of standing D.account D.state model.old adapters.old.items device.old)
+        (scene_of standing D.account D.state model.new adapters.new.items device.new) op event.new }
 {
     match op {
         Op::Read { reg, .. } | Op::Mirror { reg, .. } | Op::OtherRead { reg, .. } => {
@@ -222,8 +222,8 @@ fn reach_location<D: Device>(
     requires ready { IsReady model.old (each standing adapters.old.items) (D.state device.old) }
     requires begun { IsBegun model.old op place event.old }
     requires on_memory { is_on_memory op ≡ true }
-    ensures { Does (scene_of standing D.errors D.state model.old adapters.old.items device.old)
-        (scene_of standing D.errors D.state model.new adapters.new.items device.new) op event.new }
+    ensures { Does (scene_of standing D.account D.state model.old adapters.old.items device.old)
+        (scene_of standing D.account D.state model.new adapters.new.items device.new) op event.new }
 {
     match op {
         Op::MemWrite {
@@ -258,8 +258,8 @@ pub(crate) fn perform_on_memory<D: Device>(
     requires numbers { HasNumbers model.old.chip (length model.old.layout.maps) op }
     requires on_memory { is_on_memory op ≡ true }
     ensures model { model.new ≡ model.old }
-    ensures does { Does (scene_of standing D.errors D.state model.old adapters.old.items device.old)
-        (scene_of standing D.errors D.state model.new adapters.new.items device.new) op result }
+    ensures does { Does (scene_of standing D.account D.state model.old adapters.old.items device.old)
+        (scene_of standing D.account D.state model.new adapters.new.items device.new) op result }
     ensures refused { OnErr (grant model.old op) (device.new ≡ device.old) }
 {
     let mut event = Event::blank();
@@ -278,8 +278,8 @@ pub(crate) fn perform_on_memory_into<D: Device>(
     requires numbers { HasNumbers model.old.chip (length model.old.layout.maps) op }
     requires on_memory { is_on_memory op ≡ true }
     ensures model { model.new ≡ model.old }
-    ensures does { Does (scene_of standing D.errors D.state model.old adapters.old.items device.old)
-        (scene_of standing D.errors D.state model.new adapters.new.items device.new) op event.new }
+    ensures does { Does (scene_of standing D.account D.state model.old adapters.old.items device.old)
+        (scene_of standing D.account D.state model.new adapters.new.items device.new) op event.new }
     ensures refused { OnErr (grant model.old op) (device.new ≡ device.old) }
 {
     perform_over_bus(model, device, adapters, op, event)
@@ -290,8 +290,8 @@ pub(crate) fn perform_off_bus<D: Device>(model: &mut Model, device: &mut D, op: 
     requires device { IsDeviceOf model.old (D.state device.old) }
     requires numbers { HasNumbers model.old.chip (length model.old.layout.maps) op }
     requires off_bus { is_off_bus op ≡ true }
-    ensures stays { StaysOffBus D.errors D.state model.old model.new device.old device.new result }
-    ensures performs { PerformsOffBus D.errors D.state model.old model.new device.old device.new op result }
+    ensures stays { StaysOffBus D.account D.state model.old model.new device.old device.new result }
+    ensures performs { PerformsOffBus D.account D.state model.old model.new device.old device.new op result }
     ensures refused { OnErr (grant model.old op) (device.new ≡ device.old) }
 {
     let mut event = Event::blank();
@@ -303,8 +303,8 @@ fn perform_off_bus_into<D: Device>(model: &mut Model, device: &mut D, op: Op, ev
     requires device { IsDeviceOf model.old (D.state device.old) }
     requires numbers { HasNumbers model.old.chip (length model.old.layout.maps) op }
     requires off_bus { is_off_bus op ≡ true }
-    ensures stays { StaysOffBus D.errors D.state model.old model.new device.old device.new event.new }
-    ensures performs { PerformsOffBus D.errors D.state model.old model.new device.old device.new op event.new }
+    ensures stays { StaysOffBus D.account D.state model.old model.new device.old device.new event.new }
+    ensures performs { PerformsOffBus D.account D.state model.old model.new device.old device.new op event.new }
     ensures refused { OnErr (grant model.old op) (device.new ≡ device.old) }
 {
     match op {

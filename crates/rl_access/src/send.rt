@@ -1,14 +1,14 @@
 //! The operations of an access go out in order, until one fails.
-ghost use Rattle.std.specs.Prelude.{◌≡◌, ◌<◌, ◌≤◌, ◌^◌, [], map, length, All, false};
+ghost use Rattle.std.specs.Prelude.{◌≡◌, ◌<◌, ◌^◌, [], map, length, All, false};
 ghost use Rattle.rl_policy.specs.Bits.{bit, from_bits};
-ghost use Rattle.rl_bus.specs.Causes.{AnswerHasCause};
+ghost use Rattle.rl_bus.specs.Account.{Asks};
 ghost use Rattle.rl_bus.specs.Device.{IsStep, IsPortOf};
 ghost use Rattle.rl_bus.specs.Spread.{AreInCell, spread_bit};
 ghost use Rattle.rl_bus.specs.Standing.{standing_at, moved_on, kind_at, kinds_of};
 ghost use Rattle.rl_bus.specs.Wire.{Fits};
 ghost use Rattle.rl_split.specs.Outgoing.{IsOutgoingOn, outgoing_ops};
 ghost use Rattle.rl_access.specs.Access.{IsBrought};
-ghost use Rattle.rl_access.specs.Items.{item_of, AreSent, IsAnswerSmall};
+ghost use Rattle.rl_access.specs.Items.{asked_by, item_of, AreSent, IsAnswerSmall};
 
 use crate::trace::{Trace, TraceItem};
 use rl_bus::{Adapter, Adapters, BusOp, Device, Lanes, exchange};
@@ -31,7 +31,7 @@ pub(crate) fn send_one<D: Device>(
     ensures adapters { map standing adapters.new.items ≡
         moved_on (map standing adapters.old.items) which result.op result.answer }
     ensures kinds { kinds_of (map standing adapters.new.items) ≡ kinds_of (map standing adapters.old.items) }
-    ensures cause { AnswerHasCause (D.errors device.old) (D.errors device.new) result.answer }
+    ensures asked { Asks (D.account device.old) (D.account device.new) (asked_by result) }
     ensures step { IsStep (D.state device.old) (D.state device.new) port op.now result.answer }
 {
     let done = exchange(device, adapters, which, port, op);
@@ -62,7 +62,7 @@ pub(crate) fn send_all<D: Device>(
         (outgoing_ops layout.now outgoing.now) }
     ensures sent { AreSent which port (outgoing_ops layout.now outgoing.now) trace.new
         (map standing adapters.old.items) (map standing adapters.new.items)
-        (D.errors device.old) (D.errors device.new) (D.state device.old) (D.state device.new) }
+        (D.account device.old) (D.account device.new) (D.state device.old) (D.state device.new) }
     ensures kinds { kinds_of (map standing adapters.new.items) ≡ kinds_of (map standing adapters.old.items) }
     ensures small { All IsAnswerSmall trace.new }
     ensures value { outgoing.now.write ≡ false → IsBrought layout.now outgoing.now trace.new result }

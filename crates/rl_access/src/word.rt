@@ -33,8 +33,8 @@ pub fn send_word<D: Device>(
     ensures ready { IsReady model.new (map standing adapters.new.items) (D.state device.new) }
     ensures parts { IsSameChip model.old model.new }
     ensures fits { ItemFits model.new.layout result }
-    ensures sent { IsWordSent (scene_of standing D.errors D.state model.old adapters.old.items device.old)
-        (scene_of standing D.errors D.state model.new adapters.new.items device.new) place k value result }
+    ensures sent { IsWordSent (scene_of standing D.account D.state model.old adapters.old.items device.old)
+        (scene_of standing D.account D.state model.new adapters.new.items device.new) place k value result }
 {
     let op = word_of(model, place, k, value);
     let port = model.layout().port_of(place);

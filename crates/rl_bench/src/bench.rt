@@ -7,7 +7,8 @@ ghost use Rattle.rl_bench.specs.Prelude.{state_after, answer_of, first_state, po
 ghost use Rattle.rl_bench.specs.Prelude.{carried_by, IsWellFormed, IsReplyTo, IsAtOnce, answered_by, IsBuiltWith};
 ghost use Rattle.rl_bench.specs.Prelude.{IsQuiet, HasBeats, BeatsAreWords, IsStretch, IsHint, AreOrdered, FitCells};
 ghost use Rattle.rl_bench.specs.Prelude.{IsSetup, HasRoom, AreFlawsOf, first_of, words_on, words_for, beat_for};
-ghost use Rattle.rl_bench.specs.Prelude.{item_is_faulty, setup_held};
+ghost use Rattle.rl_bench.specs.Prelude.{item_is_faulty, setup_held, without_peer, Asks, tag_of};
+ghost use Rattle.rl_bus.specs.Account as ask;
 
 use crate::access::touch;
 use crate::backdoor::{peek_cell, poke_cell, set_field};
@@ -259,14 +260,15 @@ impl Device for Bench {
 
     ghost state = { λ b. Some (bench_state b) };
 
-    ghost errors = { failures_of };
+    ghost account = { λ b. without_peer (failures_of b) };
 
     fn transfer(&mut self, port: u32, transfer: &Transfer) -> Response
         requires well_formed { IsWellFormed transfer.now }
         requires port { IsPortOf (Some (bench_state self.old)) port }
         ensures reply { IsReplyTo transfer.now result }
         ensures small { (answered_by result).word < 256 ^ (carried_by transfer.now).bytes }
-        ensures cause { AnswerHasCause (failures_of self.old) (failures_of self.new) (answered_by result) }
+        ensures asked { Asks (without_peer (failures_of self.old)) (without_peer (failures_of self.new))
+            (ask.transfer port (carried_by transfer.now) (tag_of transfer.now) (answered_by result)) }
         ensures step { IsStep (state_told self.old) (state_told self.new)
             port (carried_by transfer.now) (answered_by result) }
         ensures failures { failures_of self.new ≡ failures_after (failures_of self.old) (answered_by result) }
@@ -286,7 +288,7 @@ impl Device for Bench {
         requires cell { IsCellOf (Some (bench_state self.old)) cell }
         ensures step { Some (bench_state self.new) ≡ option_map (λ s. poked s cell value)
             (Some (bench_state self.old)) }
-        ensures later { failures_of self.old ≤ failures_of self.new }
+        ensures asked { Asks (without_peer (failures_of self.old)) (without_peer (failures_of self.new)) (ask.poke cell value) }
         ensures failures { failures_of self.new ≡ failures_of self.old }
     {
         poke_cell(&self.board, &mut self.cells, cell, value);
@@ -294,7 +296,7 @@ impl Device for Bench {
 
     fn reset(&mut self, kind: u32)
         ensures step { Some (bench_state self.new) ≡ option_map (λ s. reset_by s kind) (Some (bench_state self.old)) }
-        ensures later { failures_of self.old ≤ failures_of self.new }
+        ensures asked { Asks (without_peer (failures_of self.old)) (without_peer (failures_of self.new)) (ask.reset kind) }
         ensures failures { failures_of self.new ≡ failures_of self.old }
     {
         reset_cells(&self.board, &mut self.cells, kind);
@@ -305,7 +307,7 @@ impl Device for Bench {
         requires field { IsFieldOf (Some (bench_state self.old)) field }
         ensures step { Some (bench_state self.new) ≡ option_map (λ s. hw_set s field value)
             (Some (bench_state self.old)) }
-        ensures later { failures_of self.old ≤ failures_of self.new }
+        ensures asked { Asks (without_peer (failures_of self.old)) (without_peer (failures_of self.new)) (ask.hw field value) }
         ensures failures { failures_of self.new ≡ failures_of self.old }
     {
         set_field(&self.board, &mut self.cells, field, value);

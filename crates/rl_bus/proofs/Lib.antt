@@ -1,3 +1,4 @@
+pub mod Asking
 mod Moves
 pub mod Reached
 pub mod LaneLemmas

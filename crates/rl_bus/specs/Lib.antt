@@ -1,3 +1,4 @@
+pub mod Account
 pub mod Causes
 pub mod Device
 pub mod Kinds

@@ -1,6 +1,7 @@
 // One operation through one of the adapters.
 ghost use Rattle.std.specs.Prelude.{◌≡◌, ◌<◌, ◌^◌, map, length};
-ghost use Rattle.rl_bus.specs.Causes.{AnswerHasCause};
+ghost use Rattle.rl_bus.specs.Account.{Asks};
+ghost use Rattle.rl_bus.specs.Account as ask;
 ghost use Rattle.rl_bus.specs.Device.{IsStep, IsPortOf};
 ghost use Rattle.rl_bus.specs.Standing.{
   took,
@@ -51,7 +52,7 @@ pub fn exchange<D: Device>(
     ensures adapters { map standing adapters.new.items
         ≡ moved_on (map standing adapters.old.items) which op.now result.answer }
     ensures kinds { kinds_of (map standing adapters.new.items) ≡ kinds_of (map standing adapters.old.items) }
-    ensures cause { AnswerHasCause (D.errors device.old) (D.errors device.new) result.answer }
+    ensures asked { Asks (D.account device.old) (D.account device.new) (ask.transfer port op.now result.tag result.answer) }
     ensures step { IsStep (D.state device.old) (D.state device.new) port op.now result.answer }
 {
     through(device, &mut adapters[which as usize], port, op)
@@ -77,7 +78,7 @@ fn through<D: Device>(
     ensures tag { result.tag ≡ (standing adapter.old).tag }
     ensures small { result.answer.word < 256 ^ op.now.bytes }
     ensures adapter { standing adapter.new ≡ took (standing adapter.old) op.now result.answer }
-    ensures cause { AnswerHasCause (D.errors device.old) (D.errors device.new) result.answer }
+    ensures asked { Asks (D.account device.old) (D.account device.new) (ask.transfer port op.now result.tag result.answer) }
     ensures step { IsStep (D.state device.old) (D.state device.new) port op.now result.answer }
 {
     let transfer = adapter.reg2bus(op);

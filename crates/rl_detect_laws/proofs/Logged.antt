@@ -4,6 +4,7 @@ use Rattle.std.proofs.Common.{option_map, refl, sym, ap, subst, ◌∙◌, inl, 
 use Rattle.std.specs.Prelude.{count_ones}
 use Rattle.std.proofs.lemmas.Bool.{and_parts, cases_lt, false_from_ne_true}
 use Rattle.std.proofs.lemmas.Nat.{zero_from_ones}
+use Rattle.rl_bus.specs.Account.{without_peer}
 use Rattle.rl_access.specs.declared.event.Event.{Event}
 use Rattle.rl_access.specs.Model.{ModelData}
 use Rattle.rl_access.specs.Tally.{is_bus_error, more}
@@ -33,7 +34,7 @@ use Rattle.rl_detect_laws.specs.Visited.{RunsAll}
 
 record IsRun (p : Plan) (w : World) (errors : ℕ) : Type 0 where
   later : ℕ
-  runs : Runs p (scene_at w errors) (along w p).told (scene_at (along w p).world later)
+  runs : Runs p (scene_at w (without_peer errors)) (along w p).told (scene_at (along w p).world (without_peer later))
 
 run_along : (p : Plan) (w : World) (errors : ℕ) → IsRun p w errors
 unfolding along
@@ -43,7 +44,7 @@ run_along (step o p) w errors =
     let rest = run_along p (step_of w o).world one.later in
     record {
       later = rest.later;
-      runs = (scene_at (step_of w o).world one.later, record { performs = one.performs; model = refl }, rest.runs);
+      runs = (scene_at (step_of w o).world (without_peer one.later), record { performs = one.performs; model = refl }, rest.runs);
     }
 run_along (look f) w errors = let rest = run_along (f w.model) w errors in record { later = rest.later; runs = rest.runs }
 
@@ -104,7 +105,7 @@ sequence_is_logged number w v before after line which block s =
     let parts = split_at before after number w v line (framed s.word s.over course) s.leads
     (ap (comes_of v) s.says ∙ line_comes v s.word s.over block s.block_is) in
     let run = run_along p v 0 in
-    let new = scene_at (along v p).world run.later in
+    let new = scene_at (along v p).world (without_peer run.later) in
     let told : (along v p).told ≡ map told_at (happened_in v course) =
     along_tells v p ∙ sym (told_in v.model (along v p).steps) in
     record {
@@ -113,8 +114,8 @@ sequence_is_logged number w v before after line which block s =
       later = parts.later;
       all = parts.all;
       new = new;
-      runs = subst (λ (q : Sequence). RunsAll q block (scene_at v 0) (map told_at (happened_in v course)) new) s.sequence_is
-          (subst (λ ts. Runs p (scene_at v 0) ts new) told run.runs);
+      runs = subst (λ (q : Sequence). RunsAll q block (scene_at v (without_peer 0)) (map told_at (happened_in v course)) new) s.sequence_is
+          (subst (λ ts. Runs p (scene_at v (without_peer 0)) ts new) told run.runs);
     }
 
 -- ---- what is counted

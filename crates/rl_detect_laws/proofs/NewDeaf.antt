@@ -2,6 +2,7 @@
 use Rattle.std.proofs.Common.{◌≡◌, ℕ, zero, suc, false, List, [], length, get_or, replicate, Some, refl, sym, ap, ◌∙◌}
 use Rattle.std.specs.Prelude.{slice_index}
 use Rattle.std.proofs.lemmas.List.Elements.{All-nil}
+use Rattle.rl_bus.specs.Account.{without_peer}
 use Rattle.rl_bus.specs.declared.table.ItemRow.{ItemRow}
 use Rattle.rl_bus.specs.Setup.{held}
 use Rattle.rl_bus.specs.State.{State, reset_by, first_state}
@@ -38,7 +39,7 @@ pub new_ones_agree_on_bits : NewOnesAgreeOnBits
 new_ones_agree_on_bits c l deaf count reg sound steady inside =
     let d = first_state (setup_of c l no_flaws) count in
     let m : ModelData = record { chip = c; layout = l; mirror = fresh c; gathered = [] } in
-    let s : Scene = scene m [] 0 (Some d) in
+    let s : Scene = scene m [] (without_peer 0) (Some d) in
     let a = new_ones_agree s count sound steady refl (All-nil (λ (g : Gathered). g ≡ no_words)) refl in
     sym (a.believed_is.holds reg inside).bits
     ∙ ap (λ (x : State). slice_index x.bits reg) (sym (some_is a.told))

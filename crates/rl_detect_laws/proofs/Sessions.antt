@@ -4,6 +4,7 @@ use Rattle.std.proofs.Common.{Option, Some, None, option_map, Result, Ok, Err, r
 use Rattle.std.specs.Prelude.{unwrap_or}
 use Rattle.std.proofs.lemmas.List.Elements.{All-head}
 use Rattle.std.proofs.lemmas.Option.{slice_get-get_or}
+use Rattle.rl_bus.specs.Account.{without_peer}
 use Rattle.rl_policy.proofs.BitLemmas.{bit-zero}
 use Rattle.rl_policy.specs.Bits.{bit}
 use Rattle.rl_bus.specs.declared.op.AdapterKind.{AdapterKind}
@@ -110,7 +111,7 @@ marked_shows e h = inl (λ none. let no = sym h ∙ none in absurd (cc))
 -- what each run of the sequence has, the judged log has
 found : (bytes : List ℕ) (adapters : List Standing) (desc : DescData) (before : List (List ℕ)) (which : Sequence) (block : Option ℕ) (IsSo : Event → Type 0)
     → IsPlayed bytes adapters desc → (has : HasSequence bytes adapters desc before which block) → ((e : Event) → IsSo e → Shows e)
-    → ((told : List Told) (new : Scene) → RunsAll which block (scene_at has.world 0) told new → HasEvent IsSo told)
+    → ((told : List Told) (new : Scene) → RunsAll which block (scene_at has.world (without_peer 0)) told new → HasEvent IsSo told)
     → IsFound bytes adapters IsSo
 found bytes adapters desc before which block IsSo played has shows finds =
     let w = first_world desc adapters in
@@ -128,11 +129,11 @@ found bytes adapters desc before which block IsSo played has shows finds =
 -- and so where it is the first line, and starts in the first world
 found_first : (bytes : List ℕ) (adapters : List Standing) (desc : DescData) (which : Sequence) (block : Option ℕ) (IsSo : Event → Type 0)
     → IsPlayed bytes adapters desc → HasSequence bytes adapters desc [] which block → ((e : Event) → IsSo e → Shows e)
-    → ((told : List Told) (new : Scene) → RunsAll which block (scene_at (first_world desc adapters) 0) told new → HasEvent IsSo told)
+    → ((told : List Told) (new : Scene) → RunsAll which block (scene_at (first_world desc adapters) (without_peer 0)) told new → HasEvent IsSo told)
     → IsFound bytes adapters IsSo
 found_first bytes adapters desc which block IsSo played has shows finds =
     found bytes adapters desc [] which block IsSo played has shows
-    (subst (λ v. (told : List Told) (new : Scene) → RunsAll which block (scene_at v 0) told new → HasEvent IsSo told)
+    (subst (λ v. (told : List Told) (new : Scene) → RunsAll which block (scene_at v (without_peer 0)) told new → HasEvent IsSo told)
     (sym has.says.leads) finds)
 
 -- ---- a script of one line
@@ -225,13 +226,13 @@ width_is c field inside =
 reset_at : (c : ChipData) (l : LayoutData) (v : World) (resets : List ResetRow) (block : Option ℕ) (field place : ℕ) (told : List Told) (new : Scene)
     → IsWorldOf c l (setup_of c l (wrong_resets resets)) v → field < length c.fields → IsComparedField (field_of c field).shape
     → IsResetOtherwise c (setup_of c l (wrong_resets resets)) field → IsVisited HwResetOf c l block (reg_of c field) place
-    → RunsAll HwResetOf block (scene_at v 0) told new → HasEvent (IsNamedBy c field) told
+    → RunsAll HwResetOf block (scene_at v (without_peer 0)) told new → HasEvent (IsNamedBy c field) told
 reset_at c l v resets block field place told new h inside compared other at run =
     from_own c l v.model
     (λ x y. HasWrongResets x y v.device → field < length x.fields → IsComparedField (field_of x field).shape → IsResetOtherwise x v.device.setup field
     → IsVisited HwResetOf x y block (reg_of x field) place → HasEvent (IsNamedBy x field) told) h.chip h.layout
     (λ is inside compared other at.
-    wrong_reset_is_named (scene_at v 0) new v.device block told field place h.model refl is inside compared other at run)
+    wrong_reset_is_named (scene_at v (without_peer 0)) new v.device block told field place h.model refl is inside compared other at run)
     (record { resets = resets; setup = h.setup; bits = h.bits; marks = h.marks }) inside compared
     (subst (λ u. IsResetOtherwise c u field) (sym h.setup) other) at
 
@@ -266,18 +267,18 @@ session_finds_kept_reset bytes adapters desc which block field place played has 
     (subst (λ n. wrong.taken < 2 ^ n) (width_is c field there.0) there.2) wrong.other in
     let is = subst (λ fs. IsNewOtherwise c l field (first_of c l fs)) (sym wrong.flaw) new_one in
     found_first bytes adapters desc which block (IsNamedBy c field) played has (named_shows c field)
-    (λ told new run. held_otherwise_is_named (scene_at w 0) new w.device which block told field is.i place sound refl is.alike is.otherwise kept at checks run)
+    (λ told new run. held_otherwise_is_named (scene_at w (without_peer 0)) new w.device which block told field is.i place sound refl is.alike is.otherwise kept at checks run)
 
 -- ---- an address that answers errors
 
 error_at : (c : ChipData) (l : LayoutData) (t : Setup) (v : World) (which : Sequence) (block : Option ℕ) (number place index : ℕ) (told : List Told) (new : Scene)
     → IsWorldOf c l t v → IsVisited which c l block number place → SendsSome which c number → HasError l t place index
-    → RunsAll which block (scene_at v 0) told new → HasEvent EndsByError told
+    → RunsAll which block (scene_at v (without_peer 0)) told new → HasEvent EndsByError told
 error_at c l t v which block number place index told new h at sends error run =
     from_own c l v.model
     (λ x y. IsVisited which x y block number place → SendsSome which x number → HasError y v.device.setup place index → HasEvent EndsByError told)
     h.chip h.layout
-    (λ at sends error. visited_error_is_found (scene_at v 0) new v.device which block told number place index h.model refl at sends error run)
+    (λ at sends error. visited_error_is_found (scene_at v (without_peer 0)) new v.device which block told number place index h.model refl at sends error run)
     at sends (subst (λ u. HasError l u place index) (sym h.setup) error)
 
 pub session_finds_error : SessionFindsError
@@ -304,7 +305,7 @@ session_finds_stuck_bit bytes adapters desc block stuck place played has only is
     let sound = model_of bytes adapters desc played in
     found_first bytes adapters desc BitBashOf block (IsNamedBy desc.chip stuck.field) played has (named_shows desc.chip stuck.field)
     (λ told new run.
-    stuck_bit_is_named (scene_at w 0) new w.device block told stuck place sound refl (stuck_first desc adapters stuck sound only is) is shown at run)
+    stuck_bit_is_named (scene_at w (without_peer 0)) new w.device block told stuck place sound refl (stuck_first desc adapters stuck sound only is) is shown at run)
 
 pub session_finds_stuck_bit_beside : SessionFindsStuckBitBeside
 session_finds_stuck_bit_beside bytes adapters desc block stuck beside place played has only is shown other at =
@@ -312,7 +313,7 @@ session_finds_stuck_bit_beside bytes adapters desc block stuck beside place play
     let sound = model_of bytes adapters desc played in
     found_first bytes adapters desc BitBashOf block (IsNamedBy desc.chip stuck.field) played has (named_shows desc.chip stuck.field)
     (λ told new run.
-    stuck_bit_beside_is_named (scene_at w 0) new w.device block told stuck beside place sound refl
+    stuck_bit_beside_is_named (scene_at w (without_peer 0)) new w.device block told stuck beside place sound refl
     (stuck_first desc adapters stuck sound only is) is shown other at run)
 
 pub session_finds_stuck_reset : SessionFindsStuckReset
@@ -321,7 +322,7 @@ session_finds_stuck_reset bytes adapters desc block stuck place played has only 
     let sound = model_of bytes adapters desc played in
     found_first bytes adapters desc HwResetOf block (IsNamedBy desc.chip stuck.field) played has (named_shows desc.chip stuck.field)
     (λ told new run.
-    stuck_reset_is_named (scene_at w 0) new w.device block told stuck place sound refl (stuck_first desc adapters stuck sound only is) is other at run)
+    stuck_reset_is_named (scene_at w (without_peer 0)) new w.device block told stuck place sound refl (stuck_first desc adapters stuck sound only is) is other at run)
 
 -- ---- a deaf item
 
@@ -355,7 +356,7 @@ session_finds_deaf_register bytes adapters desc block field i place played has o
     } in
     found_first bytes adapters desc AccessOf block (IsNamedBy c field) played has (named_shows c field)
     (λ told new run.
-    deaf_register_is_named (scene_at w 0) new w.device block told field i place sound refl
+    deaf_register_is_named (scene_at w (without_peer 0)) new w.device block told field i place sound refl
     (subst (λ fs. HasDeafItems c l (first_of c l fs)) (sym only) (new_deaf c l deaf))
     (subst (λ fs. IsDeafBit c (first_of c l fs) (fresh c) field i) (sym only) deaf_bit) at run)
 
@@ -368,7 +369,7 @@ session_finds_deaf_memory bytes adapters desc block mem place played has only at
     let new_one = new_one_has_deaf_memory c l (row.Mem mem ∷ []) mem sound.chip at.number_in (deaf_mem c l mem) in
     let both = subst (λ fs. HasDeafItems c l (first_of c l fs) × IsDeafTo c (first_of c l fs) mem) (sym only) new_one in
     found_first bytes adapters desc MemWalkOf block (λ e. e.differ ≡ 1) played has marked_shows
-    (λ told new run. deaf_memory_is_found (scene_at w 0) new w.device block told mem place sound refl both.0 both.1 at run)
+    (λ told new run. deaf_memory_is_found (scene_at w (without_peer 0)) new w.device block told mem place sound refl both.0 both.1 at run)
 
 -- ---- a flaw of a bit
 
@@ -398,5 +399,5 @@ session_finds_bit_flaw bytes adapters desc which block field i place flaw played
     let sound = model_of bytes adapters desc played in
     found_first bytes adapters desc which block (IsNamedBy c field) played has (named_shows c field)
     (λ told new run.
-    bit_flaw_is_named (scene_at w 0) new w.device which block told field i place flaw (first_sides flaw (first_believed c field i)) sound refl
+    bit_flaw_is_named (scene_at w (without_peer 0)) new w.device which block told field i place flaw (first_sides flaw (first_believed c field i)) sound refl
     (flaw_first desc adapters field i flaw sound steady is only) at shown run)

@@ -1,6 +1,7 @@
 -- What the log of a script says of a sequence: the events of its line are those of a run from the world reached there,
 -- and an event that shows something keeps the script from passing.
 use Rattle.std.specs.Prelude.{◌≡◌, ◌≢◌, ◌⊎◌, ℕ, ◌+◌, true, List, [], ◌∷◌, ◌++◌, length, map, Option, Some, Ok}
+use Rattle.rl_bus.specs.Account.{without_peer}
 use Rattle.rl_access.specs.declared.event.Event.{Event}
 use Rattle.rl_access.specs.Call.{Scene}
 use Rattle.rl_access.specs.Tally.{is_bus_error}
@@ -48,7 +49,7 @@ pub record HasRun (which : Sequence) (block : Option ℕ) (v : World) (events : 
   pub later : List Happened
   pub all : events ≡ earlier ++ (own ++ later)
   pub new : Scene
-  pub runs : RunsAll which block (scene_at v 0) (map told_at own) new
+  pub runs : RunsAll which block (scene_at v (without_peer 0)) (map told_at own) new
 
 -- The events of such a line are a run of its sequence, whatever the device, the lines before and those behind.
 abbrev pub SequenceIsLogged : Type 0

@@ -26,7 +26,7 @@ pub record Selects (b new : BankData) (s t : Scene) (map : Option ℕ) (k : ℕ)
   pub performs : Performs s written (op.Write b.window.index_reg map k) index
   pub device : SettlesDevice b half written.device t.device
   pub adapters : t.adapters ≡ written.adapters
-  pub errors : written.errors ≤ t.errors
+  pub errors : written.account.errors ≤ t.account.errors
   pub model : t.model ≡ (if is_done index.end then model_believed half written.model k else written.model)
   pub bank : new ≡ (if is_done index.end then bank_believed half written.model k else half)
 

@@ -31,11 +31,11 @@ fn select<D: Device>(
     ensures same { IsSameBank bank.old bank.new }
     ensures fits { EventFits model.new result }
     ensures selects { Selects bank.old bank.new
-        (scene_of standing D.errors D.state model.old adapters.old.items device.old)
-        (scene_of standing D.errors D.state model.new adapters.new.items device.new) map k result }
-    ensures agree { BankAgree (scene_of standing D.errors D.state model.old adapters.old.items device.old) bank.old
-        → KeepsEntries (scene_of standing D.errors D.state model.old adapters.old.items device.old)
-        (scene_of standing D.errors D.state model.new adapters.new.items device.new) bank.old bank.new k result }
+        (scene_of standing D.account D.state model.old adapters.old.items device.old)
+        (scene_of standing D.account D.state model.new adapters.new.items device.new) map k result }
+    ensures agree { BankAgree (scene_of standing D.account D.state model.old adapters.old.items device.old) bank.old
+        → KeepsEntries (scene_of standing D.account D.state model.old adapters.old.items device.old)
+        (scene_of standing D.account D.state model.new adapters.new.items device.new) bank.old bank.new k result }
 {
     let _met = model.chip(); // a model that is looked at is known to be sound
     let index_reg = bank.window().index_reg;
@@ -81,14 +81,14 @@ pub fn indexed_write<D: Device>(
     ensures same { IsSameBank bank.old bank.new }
     ensures fits { IndexedFits model.new result }
     ensures indexed { IsIndexed bank.old bank.new
-        (scene_of standing D.errors D.state model.old adapters.old.items device.old)
-        (scene_of standing D.errors D.state model.new adapters.new.items device.new) map k
+        (scene_of standing D.account D.state model.old adapters.old.items device.old)
+        (scene_of standing D.account D.state model.new adapters.new.items device.new) map k
         (op.Write bank.old.window.data_reg map value) result }
     // Past the size any device is as it was, also one that tells nothing.
     ensures refused { bank.old.size ≤ k → device.new ≡ device.old }
-    ensures agree { BankAgree (scene_of standing D.errors D.state model.old adapters.old.items device.old) bank.old
-        → IsEntryStep (scene_of standing D.errors D.state model.old adapters.old.items device.old)
-        (scene_of standing D.errors D.state model.new adapters.new.items device.new) bank.old bank.new k
+    ensures agree { BankAgree (scene_of standing D.account D.state model.old adapters.old.items device.old) bank.old
+        → IsEntryStep (scene_of standing D.account D.state model.old adapters.old.items device.old)
+        (scene_of standing D.account D.state model.new adapters.new.items device.new) bank.old bank.new k
         (write_step every value) result }
 {
     if k >= bank.size() {
@@ -125,15 +125,15 @@ pub fn indexed_read<D: Device>(
     ensures same { IsSameBank bank.old bank.new }
     ensures fits { IndexedFits model.new result }
     ensures indexed { IsIndexed bank.old bank.new
-        (scene_of standing D.errors D.state model.old adapters.old.items device.old)
-        (scene_of standing D.errors D.state model.new adapters.new.items device.new) map k
+        (scene_of standing D.account D.state model.old adapters.old.items device.old)
+        (scene_of standing D.account D.state model.new adapters.new.items device.new) map k
         (if check then op.Check bank.old.window.data_reg map else op.Mirror bank.old.window.data_reg map) result }
     // Past the size any device is as it was, also one that tells nothing.
     ensures refused { bank.old.size ≤ k → device.new ≡ device.old }
     ensures found { IsTrue check → NamesDiffering bank.old model.old k result }
-    ensures agree { BankAgree (scene_of standing D.errors D.state model.old adapters.old.items device.old) bank.old
-        → IsEntryStep (scene_of standing D.errors D.state model.old adapters.old.items device.old)
-        (scene_of standing D.errors D.state model.new adapters.new.items device.new) bank.old bank.new k
+    ensures agree { BankAgree (scene_of standing D.account D.state model.old adapters.old.items device.old) bank.old
+        → IsEntryStep (scene_of standing D.account D.state model.old adapters.old.items device.old)
+        (scene_of standing D.account D.state model.new adapters.new.items device.new) bank.old bank.new k
         (read_step every) result }
 {
     let _sound = model.chip(); // a model that is looked at is known to be sound

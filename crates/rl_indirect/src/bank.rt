@@ -7,6 +7,7 @@ ghost use Rattle.rl_indirect.specs.Prelude.{Agree, BankAgree, IsBank, IsBankOf, 
 ghost use Rattle.rl_indirect.specs.Prelude.{IsOverData, IsSameChip, SettlesDevice, Standing, State, bank_believed};
 ghost use Rattle.rl_indirect.specs.Prelude.{entries_believed, entries_there, is_done, model_believed, outside_fault};
 ghost use Rattle.rl_indirect.specs.Prelude.{poked, scene, taking_raw};
+ghost use Rattle.rl_bus.specs.Account.{Account};
 
 use crate::entries::Entries;
 use crate::indexed::is_done;
@@ -68,9 +69,9 @@ impl Bank {
         ensures data { IfOk result (IsOverData (D.state device.now)) }
         ensures window { IfOk result (λ bank. bank.window ≡ window) }
         ensures size { IfOk result (λ bank. bank.size ≡ size) }
-        ensures agree { (adapters : List Standing) (errors : ℕ)
-            → Agree (scene model.now adapters errors (D.state device.now))
-            → IfOk result (BankAgree (scene model.now adapters errors (D.state device.now))) }
+        ensures agree { (adapters : List Standing) (account : Account)
+            → Agree (scene model.now adapters account (D.state device.now))
+            → IfOk result (BankAgree (scene model.now adapters account (D.state device.now))) }
     {
         if let Some(fault) = window.fault(model.chip(), size) {
             return Err(fault);
@@ -143,7 +144,7 @@ impl Bank {
         ensures settles { SettlesDevice self.old self.new (D.state device.old) (D.state device.new) }
         ensures bank { IsBankOf model.now.chip self.new }
         ensures device { IsDeviceOf model.now (D.state device.new) }
-        ensures later { D.errors device.old ≤ D.errors device.new }
+        ensures later { (D.account device.old).errors ≤ (D.account device.new).errors }
     {
         let index = bits_of(model, device, self.window.index_reg);
         let held = bits_of(model, device, self.window.data_reg);
@@ -209,7 +210,7 @@ fn deposit<D: Device>(model: &Model, device: &mut D, reg: u32, value: Option<u64
     ensures step { D.state device.new ≡ option_map (λ s. option_map_or (λ v. poked s (cell.Reg reg) v) value s)
         (D.state device.old) }
     ensures device { IsDeviceOf model.now (D.state device.new) }
-    ensures later { D.errors device.old ≤ D.errors device.new }
+    ensures later { (D.account device.old).errors ≤ (D.account device.new).errors }
 {
     match value {
         Some(value) => device.poke(Cell::Reg { reg }, value),

@@ -1,3 +1,5 @@
+mod RequestLemmas
+mod SpeakLemmas
 mod BreakLemmas
 mod ComingLemmas
 mod NameLemmas

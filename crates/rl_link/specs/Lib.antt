@@ -1,3 +1,4 @@
+pub mod Account
 pub mod Answers
 pub mod Causes
 pub mod Coming

@@ -1,6 +1,6 @@
 -- The words of the crates below that the contracts here use.
 pub use Rattle.std.specs.Io.KnownBytes.{Appends}
-pub use Rattle.rl_bus.specs.Causes.{AnswerHasCause}
+pub use Rattle.rl_bus.specs.Account.{Asks}
 pub use Rattle.rl_bus.specs.Device.{IsStep, IsPortOf, IsCellOf, IsFieldOf}
 pub use Rattle.rl_bus.specs.Lanes.{IsWidth}
 pub use Rattle.rl_bus.specs.State.{poked, reset_by, hw_set}

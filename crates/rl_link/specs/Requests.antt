@@ -1,6 +1,8 @@
 -- The lines that ask.
 use Rattle.std.specs.Prelude.{ℕ, List, [], ◌∷◌, codes, decimal, Bool, true, false, map, get_or}
 use Rattle.rl_policy.specs.Numbers.{hex_digits}
+use Rattle.rl_bus.specs.Account.{Request}
+use Rattle.rl_bus.specs.Account as ask
 use Rattle.rl_bus.specs.declared.op.BusOp.{BusOp}
 use Rattle.rl_model.specs.Rows.{ChipData}
 use Rattle.rl_model.specs.Chip.{field_path}
@@ -42,3 +44,12 @@ port_name l port = (map_at l port.map).name
 
 abbrev pub names_of : ChipData → LayoutData → NameData
 names_of c l = record { ports = map (port_name l) l.ports; kinds = c.kinds; fields = map (field_path c) c.fields }
+
+-- ---- what a device is asked
+
+-- the line that asks for it; a deposit has none
+abbrev pub request_of : NameData → Request → List ℕ
+request_of names (ask.transfer port op tag answer) = transfer_line (name_at names.ports port) op tag
+request_of names (ask.poke cell value) = []
+request_of names (ask.reset kind) = reset_line (name_at names.kinds kind)
+request_of names (ask.hw field value) = hw_line (name_at names.fields field) value

@@ -34,9 +34,16 @@ impl<S: Source + Drop, K: Sink + Drop, N: Sink + Drop, M: Sink + Drop> Check
 
 impl<S: Source + Drop, K: Sink + Drop, N: Sink + Drop, M: Sink + Drop> Host
     for Streams<S, K, N, M> {
+    ghost use Rattle.std.specs.Prelude.{false, refl};
+    ghost use Rattle.rl_link.specs.Session.{first_account};
+
     type Made = Link<S, K, N, M>;
 
     ghost backdoor = { false };
+
+    ghost first = { λ streams desc. first_account S.left K.written streams desc };
+
+    ghost unfailed = { λ streams desc. refl };
 
     fn has_backdoor(&self) -> bool {
         false

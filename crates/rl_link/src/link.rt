@@ -1,13 +1,15 @@
 // The device.
 ghost use Rattle.std.specs.Prelude.{◌≡◌, ◌+◌, ◌-◌, ◌^◌, ◌<◌, ◌≤◌, ◌↔◌, min, [], None, Some, Err, IsSome, codes, true, false};
 ghost use Rattle.std.specs.Prelude.{IsNone, is_some, IsOk, IfOk, OnOk, IfErr, OnErr, IfSome, if◌then◌else◌, option_map};
+ghost use Rattle.rl_bus.specs.Account as ask;
+ghost use Rattle.rl_link.specs.Account.{account_of};
 ghost use Rattle.rl_link.specs.Answers.{failure, answer_to, done_by, is_unknown};
 ghost use Rattle.rl_link.specs.Causes.{IsCauseOfBreak};
 ghost use Rattle.rl_link.specs.Coming.{HoldsAnswer};
 ghost use Rattle.rl_link.specs.Message.{break_text, unknown_text};
 ghost use Rattle.rl_link.specs.Peer.{CountsLines, TakesAnswer, TakesDone, BrokeBehind, KeepsOn, OnlyTalks};
 ghost use Rattle.rl_link.specs.Peer.{Tells, TellsBreak, TellsDone, counted};
-ghost use Rattle.rl_link.specs.Prelude.{Appends, AnswerHasCause, IsStep, IsPortOf, IsCellOf, IsFieldOf, IsWidth, poked};
+ghost use Rattle.rl_link.specs.Prelude.{Appends, Asks, IsStep, IsPortOf, IsCellOf, IsFieldOf, IsWidth, poked};
 ghost use Rattle.rl_link.specs.Prelude.{reset_by, hw_set, carried_by, tag_of, IsWellFormed, IsReplyTo, answered_by};
 ghost use Rattle.rl_link.specs.Prelude.{AppendsFront, Puts};
 ghost use Rattle.rl_link.specs.Requests.{name_at, transfer_line, reset_line, hw_line};
@@ -356,7 +358,7 @@ impl<S: Source, K: Sink, N: Sink, M: Sink> Device for Link<S, K, N, M> {
 
     ghost state = { λ _. None };
 
-    ghost errors = { λ link. link.errors };
+    ghost account = { λ link. account_of S.left K.written link };
 
     #[tactic(auto, using(crate::proofs::SentLemmas::front_whole))]
     fn transfer(&mut self, port: u32, transfer: &Transfer) -> Response
@@ -364,7 +366,8 @@ impl<S: Source, K: Sink, N: Sink, M: Sink> Device for Link<S, K, N, M> {
         requires port { IsPortOf None port }
         ensures reply { IsReplyTo transfer.now result }
         ensures small { (answered_by result).word < 256 ^ (carried_by transfer.now).bytes }
-        ensures cause { AnswerHasCause self.old.errors self.new.errors (answered_by result) }
+        ensures asked { Asks (account_of S.left K.written self.old) (account_of S.left K.written self.new)
+            (ask.transfer port (carried_by transfer.now) (tag_of transfer.now) (answered_by result)) }
         ensures step { IsStep None None port (carried_by transfer.now) (answered_by result) }
 
         // Unless the link is broken, the whole request goes out, and the line that comes for it tells the answer: no
@@ -414,7 +417,8 @@ impl<S: Source, K: Sink, N: Sink, M: Sink> Device for Link<S, K, N, M> {
     fn poke(&mut self, cell: Cell, value: u64)
         requires cell { IsCellOf None cell }
         ensures step { option_map (λ s. poked s cell value) None ≡ None }
-        ensures later { self.old.errors ≤ self.new.errors }
+        ensures asked { Asks (account_of S.left K.written self.old) (account_of S.left K.written self.new)
+            (ask.poke cell value) }
         ensures broken { IsSome self.new.broken }
         ensures silent { self.new.talk ≡ self.old.talk }
         ensures first { IsSome self.old.broken → self.new.broken ≡ self.old.broken }
@@ -424,7 +428,8 @@ impl<S: Source, K: Sink, N: Sink, M: Sink> Device for Link<S, K, N, M> {
 
     fn reset(&mut self, kind: u32)
         ensures step { option_map (λ s. reset_by s kind) None ≡ None }
-        ensures later { self.old.errors ≤ self.new.errors }
+        ensures asked { Asks (account_of S.left K.written self.old) (account_of S.left K.written self.new)
+            (ask.reset kind) }
         ensures sent { IsNone self.new.broken → Appends (K.written self.old.talk.sink) (K.written self.new.talk.sink)
             (reset_line (name_at self.old.names.kinds kind)) }
         ensures done { IsNone self.new.broken → TellsDone S.left self.old self.new }
@@ -440,7 +445,8 @@ impl<S: Source, K: Sink, N: Sink, M: Sink> Device for Link<S, K, N, M> {
     fn hw(&mut self, field: u32, value: u64)
         requires field { IsFieldOf None field }
         ensures step { option_map (λ s. hw_set s field value) None ≡ None }
-        ensures later { self.old.errors ≤ self.new.errors }
+        ensures asked { Asks (account_of S.left K.written self.old) (account_of S.left K.written self.new)
+            (ask.hw field value) }
         ensures sent { IsNone self.new.broken → Appends (K.written self.old.talk.sink) (K.written self.new.talk.sink)
             (hw_line (name_at self.old.names.fields field) value) }
         ensures done { IsNone self.new.broken → TellsDone S.left self.old self.new }

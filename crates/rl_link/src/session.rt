@@ -2,7 +2,8 @@
 ghost use Rattle.std.specs.Prelude.{◌≡◌, ◌<◌, ◌^◌, List, ℕ, Err, map, length, option_map, IfSome, IsNone};
 ghost use Rattle.rl_link.specs.Prelude.{LeavesEnded, kinds_of};
 ghost use Rattle.rl_link.specs.Opening.{linked_opening};
-ghost use Rattle.rl_link.specs.Session.{RunsLinked};
+ghost use Rattle.rl_link.specs.Account.{account_of};
+ghost use Rattle.rl_link.specs.Session.{AreClosed, RunsLinked};
 
 use crate::link::{Link, Streams};
 use crate::ran::Ran;
@@ -16,7 +17,7 @@ fn closed<S: Source, K: Sink, N: Sink, M: Sink>(
     link: Option<Link<S, K, N, M>>,
 ) -> Option<Link<S, K, N, M>>
     ensures none { IsNone link → IsNone result }
-    ensures errors { option_map (λ link. link.errors) result ≡ option_map (λ link. link.errors) link }
+    ensures closed { AreClosed K.written (option_map (account_of S.left K.written) link) result }
 {
     let mut link = link?;
     link.close();
@@ -59,10 +60,11 @@ pub fn run_linked<
     requires few { length (map standing adapters.old.items) < 2 ^ 32 }
 
     // Which sessions are refused and in what words, what is written of the others, the statuses, and where the link is
-    // handed out, which has failed as often as the log's events say, one fact a field.
-    ensures does { IfSome (P.left session.old) (λ bytes. RunsLinked bytes result.status
+    // handed out. It was asked exactly what the log's events say, each answer is the peer's to that request, and unless
+    // it broke, what was sent is the request of each, in order; one fact a field.
+    ensures does { IfSome (P.left session.old) (λ bytes. RunsLinked S.left K.written streams bytes result.status
         (Q.written log.old) (Q.written log.new) (map standing adapters.old.items) (map standing adapters.new.items)
-        (option_map (λ link. link.errors) result.link)) }
+        result.link) }
 
     // Of a session that is refused before its script, nothing is sent: there is no link.
     ensures unsent { IfSome (P.left session.old) (λ bytes. (line : List ℕ)

@@ -33,6 +33,7 @@ use Rattle.std.proofs.Common.{
 use Rattle.std.specs.List.{AllByRecursion}
 use Rattle.std.specs.Prelude.{All}
 use Rattle.std.proofs.lemmas.List.Elements.{All-from_recursion}
+use Rattle.rl_bus.specs.Account.{without_peer}
 use Rattle.rl_access.specs.declared.event.End.TheVariants as end
 use Rattle.rl_access.specs.declared.event.Op.{Op}
 use Rattle.rl_access.specs.declared.event.Op.TheVariants as op
@@ -101,8 +102,8 @@ by_step w s = record { before = w.model; event = s.event; after = s.world.model 
 done_lawful : (w : World) (o : Op) → IsLawful (by_step w (step_of w o))
 done_lawful w o =
     let p = step_is_call w o 0 in
-    let old = scene_at w 0 in
-    let new = scene_at (step_of w o).world p.later in
+    let old = scene_at w (without_peer 0) in
+    let new = scene_at (step_of w o).world (without_peer p.later) in
     let e = (step_of w o).event in
     let names = event_names w o in
     record {

@@ -29,8 +29,8 @@ impl Mam {
         ensures fits { IfOk result (EventFits model.new) }
         ensures cause { IfErr (location_in self.now.regions first k 1) (λ why. result ≡ Err why) }
         ensures performs { OnOk (location_in self.now.regions first k 1) (IsOkAnd result (Performs
-            (scene_of standing D.errors D.state model.old adapters.old.items device.old)
-            (scene_of standing D.errors D.state model.new adapters.new.items device.new)
+            (scene_of standing D.account D.state model.old adapters.old.items device.old)
+            (scene_of standing D.account D.state model.new adapters.new.items device.new)
             (op.MemWrite self.now.mem map (first + k) value))) }
         ensures refused { OnErr result (device.new ≡ device.old) }
         ensures not_sent { OnErr result (adapters.new ≡ adapters.old) }
@@ -64,8 +64,8 @@ impl Mam {
         ensures fits { IfOk result (EventFits model.new) }
         ensures cause { IfErr (location_in self.now.regions first k 1) (λ why. result ≡ Err why) }
         ensures performs { OnOk (location_in self.now.regions first k 1) (IsOkAnd result (Performs
-            (scene_of standing D.errors D.state model.old adapters.old.items device.old)
-            (scene_of standing D.errors D.state model.new adapters.new.items device.new)
+            (scene_of standing D.account D.state model.old adapters.old.items device.old)
+            (scene_of standing D.account D.state model.new adapters.new.items device.new)
             (op.MemRead self.now.mem map (first + k)))) }
         ensures refused { OnErr result (device.new ≡ device.old) }
         ensures not_sent { OnErr result (adapters.new ≡ adapters.old) }
@@ -101,8 +101,8 @@ impl Mam {
         ensures ready { IsReady model.new (each standing adapters.new.items) (D.state device.new) }
         ensures cause { IfErr (location_in self.now.regions first k (length values.now)) (λ why. result ≡ Err why) }
         ensures hands_over { OnOk (location_in self.now.regions first k (length values.now)) (IsBurst R.takes R.breaks
-            rec.old rec.new (scene_of standing D.errors D.state model.old adapters.old.items device.old)
-            (scene_of standing D.errors D.state model.new adapters.new.items device.new)
+            rec.old rec.new (scene_of standing D.account D.state model.old adapters.old.items device.old)
+            (scene_of standing D.account D.state model.new adapters.new.items device.new)
             (write_grant model.old self.now.mem map (first + k) values.now)
             (op.BurstWrite self.now.mem map (first + k) (length values.now))
             (writes_of self.now.mem map (first + k) values.now) result) }
@@ -143,8 +143,8 @@ fn burst_at<D: Device, R: Recorder>(
     ensures same { model.new ≡ model.old }
     ensures ready { IsReady model.new (each standing adapters.new.items) (D.state device.new) }
     ensures hands_over { IsBurst R.takes R.breaks rec.old rec.new
-        (scene_of standing D.errors D.state model.old adapters.old.items device.old)
-        (scene_of standing D.errors D.state model.new adapters.new.items device.new)
+        (scene_of standing D.account D.state model.old adapters.old.items device.old)
+        (scene_of standing D.account D.state model.new adapters.new.items device.new)
         (write_grant model.old mem map at values.now) (op.BurstWrite mem map at (length values.now))
         (writes_of mem map at values.now) result }
     ensures recorder { IfErr result (λ why. why ≡ RegionFault.Recorder) }

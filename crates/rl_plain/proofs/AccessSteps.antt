@@ -1,6 +1,7 @@
 -- An access to a register over the bus is the plain machine's.
 use Rattle.std.proofs.Common.{◌≡◌, ℕ, ◌<◌, true, false, length, Option, Some, Ok, refl, ap, ◌∙◌, subst}
 use Rattle.std.proofs.lemmas.List.{length-replicate}
+use Rattle.rl_bus.specs.Account.{Account}
 use Rattle.rl_bus.specs.Standing.{Standing}
 use Rattle.std.specs.Prelude.{List}
 use Rattle.rl_bus.specs.State.{State}
@@ -93,13 +94,13 @@ locations_after c d reg no_step r count = refl
 
 -- ---- each access
 
-access_by : {which : ℕ → ℕ → Type 0} (c : ChipData) (l : LayoutData) (p : Machine) (adapters : List Standing) (errors : ℕ) (told : Option State) (new : Scene) (op : Op) (event : Event)
+access_by : {which : ℕ → ℕ → Type 0} (c : ChipData) (l : LayoutData) (p : Machine) (adapters : List Standing) (account : Account) (told : Option State) (new : Scene) (op : Op) (event : Event)
     (place reg : ℕ) →
-    let s = scene (seen c l p) adapters errors told in
+    let s = scene (seen c l p) adapters account told in
     IsAccess op → IsModel s.model → (a : Agree s) → HasContents which c a.device p → register_of c op ≡ Some reg → reg < length c.regs → IsStepped s new op event place reg a.device (register_at c p
     reg) → IsMachineStep which c l p new op place event
-access_by {which} c l p adapters errors told new op event place reg is ok a has register inside st =
-    let s = scene (seen c l p) adapters errors told in
+access_by {which} c l p adapters account told new op event place reg is ok a has register inside st =
+    let s = scene (seen c l p) adapters account told in
     let m = s.model in
     let r = register_at c p reg in
     let step = step_of m op place in
@@ -123,14 +124,14 @@ access_by {which} c l p adapters errors told new op event place reg is ok a has 
       finds = st.finds ∙ finds_as c op reg p is ok.chip inside;
     }
 
-pub access_step : {which : ℕ → ℕ → Type 0} (c : ChipData) (l : LayoutData) (p : Machine) (adapters : List Standing) (errors : ℕ) (told : Option State) (new : Scene) (op : Op) (event : Event)
+pub access_step : {which : ℕ → ℕ → Type 0} (c : ChipData) (l : LayoutData) (p : Machine) (adapters : List Standing) (account : Account) (told : Option State) (new : Scene) (op : Op) (event : Event)
     (place : ℕ) →
-    let s = scene (seen c l p) adapters errors told in
+    let s = scene (seen c l p) adapters account told in
     IsAccess op → HasNumbers c (length l.maps) op → IsModel s.model → (a : Agree s) → HasContents which c a.device p → grant s.model op ≡ Ok place → IsDone s new op place event →
     IsMachineStep which c l p new op place event
-access_step c l p adapters errors told new op event place is numbers ok a has granted done =
-    let s = scene (seen c l p) adapters errors told in
+access_step c l p adapters account told new op event place is numbers ok a has granted done =
+    let s = scene (seen c l p) adapters account told in
     let n = register_in c (length l.maps) op ok.chip is numbers in
-    access_by c l p adapters errors told new op event place n.reg is ok a has n.register n.inside
+    access_by c l p adapters account told new op event place n.reg is ok a has n.register n.inside
     (one_step s new op event place n.reg a.device (register_at c p n.reg) is numbers n.register
     (record { model = ok; told = a.told; ready = a.believed_is.ready; holds = a.believed_is.holds n.reg n.inside }) granted done)

@@ -1,6 +1,7 @@
 -- Each call leaves agreement that speaks of memories too, and a reset is the machine's.
 use Rattle.std.proofs.Common.{◌≡◌, ℕ, List, length, Option, refl, ap, ◌∙◌, subst, sym}
 use Rattle.std.specs.Prelude.{slice_index}
+use Rattle.rl_bus.specs.Account.{Account}
 use Rattle.rl_bus.specs.Setup.{location}
 use Rattle.rl_bus.specs.Standing.{Standing}
 use Rattle.rl_bus.specs.State.{State}
@@ -55,7 +56,7 @@ IsResetAfter c l p new kind event =
     let done = machine_step c l p (op.Reset kind) in
     (new.model ≡ seen c l done.machine) × (without_items event ≡ done.event)
 
-reset_from : (c : ChipData) (l : LayoutData) (p : Machine) (ad : List Standing) (er : ℕ) (t : Option State) (new : Scene) (kind : ℕ) (event : Event) →
+reset_from : (c : ChipData) (l : LayoutData) (p : Machine) (ad : List Standing) (er : Account) (t : Option State) (new : Scene) (kind : ℕ) (event : Event) →
     let s = scene (seen c l p) ad er t in
     Agree s → Performs s new (op.Reset kind) event → IsResetAfter c l p new kind event
 unfolding machine_step
@@ -67,11 +68,11 @@ reset_from c l p ad er t new kind event a done =
     let model : new.model ≡ seen c l q = by.model ∙ ap (λ (x : MirrorData). let m : ModelData = record (seen c l p) { mirror = x } in m) (reset_is c kind p) in
     (model, done_told s new (op.Reset kind) 0 event end.Done 0 q done (ap (λ (e : Event). e.end) tells.event_is) (ap (λ (e : Event). e.differ) tells.event_is) (ap (λ (m : ModelData). m.mirror) model))
 
-abbrev IsResetFrom : (p : Machine) (ad : List Standing) (er : ℕ) (t : Option State) (new : Scene) (kind : ℕ) (event : Event) → ModelData → Type 0
+abbrev IsResetFrom : (p : Machine) (ad : List Standing) (er : Account) (t : Option State) (new : Scene) (kind : ℕ) (event : Event) → ModelData → Type 0
 IsResetFrom p ad er t new kind event m =
     let s = scene m ad er t in
     Agree s → Performs s new (op.Reset kind) event → IsResetAfter m.chip m.layout p new kind event
 
 pub reset_is_plain : ResetIsPlain
 reset_is_plain s new kind event p a is performs =
-    subst (IsResetFrom p s.adapters s.errors s.device new kind event) (sym is) (reset_from s.model.chip s.model.layout p s.adapters s.errors s.device new kind event) a performs
+    subst (IsResetFrom p s.adapters s.account s.device new kind event) (sym is) (reset_from s.model.chip s.model.layout p s.adapters s.account s.device new kind event) a performs

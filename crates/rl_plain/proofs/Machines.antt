@@ -3,6 +3,7 @@ use Rattle.std.proofs.Common.{◌≡◌, ℕ, ◌<◌, true, false, ◌==◌, Li
 use Rattle.std.specs.Prelude.{slice_index, if◌then◌else◌}
 use Rattle.std.proofs.lemmas.List.{same_lists, get_or-replicate, length-replicate}
 use Rattle.std.proofs.lemmas.List.Elements.{All-get_or}
+use Rattle.rl_bus.specs.Account.{Account}
 use Rattle.rl_bus.specs.Setup.{location}
 use Rattle.rl_bus.specs.Standing.{Standing}
 use Rattle.rl_bus.specs.State.{State}
@@ -36,24 +37,24 @@ use Rattle.rl_plain.proofs.Told.{done_told, refused_told}
 
 -- ---- accesses to a memory over the bus
 
-loads : (c : ChipData) (l : LayoutData) (p : Machine) (adapters : List Standing) (errors : ℕ) (told : Option State) (new : Scene) (op : Op) (event : Event) (place count : ℕ) (e : End) (found : ℕ) →
-    let s = scene (seen c l p) adapters errors told in
+loads : (c : ChipData) (l : LayoutData) (p : Machine) (adapters : List Standing) (account : Account) (told : Option State) (new : Scene) (op : Op) (event : Event) (place count : ℕ) (e : End) (found : ℕ) →
+    let s = scene (seen c l p) adapters account told in
     IsModel s.model → (a : Agree s) → HasContents everywhere c a.device p → IsMemoryStep s new event (loaded a.device count) e found → machine_after c l op place p ≡ p →
     e ≡ machine_end c l op place p → found ≡ machine_differ op p →
     IsMachineStep everywhere c l p new op place event
-loads c l p adapters errors told new op event place count e found ok a has st same ended differs =
-    let s = scene (seen c l p) adapters errors told in
+loads c l p adapters account told new op event place count e found ok a has st same ended differs =
+    let s = scene (seen c l p) adapters account told in
     let after = loaded a.device count in
     quiet_step c l p new op place event after (mirror_of p) e found (memory_agrees s new event after e found a st refl refl) st.model st.told st.ends st.finds (model_kept s.model ok)
     (ap mirror_of (sym same)) ended differs
     (subst (HasContents everywhere c after) (sym same) (contents_stay c a.device after p p has refl refl refl))
 
-memory_access_step : (c : ChipData) (l : LayoutData) (p : Machine) (adapters : List Standing) (errors : ℕ) (told : Option State) (new : Scene) (op : Op) (event : Event) (place : ℕ) →
-    let s = scene (seen c l p) adapters errors told in
+memory_access_step : (c : ChipData) (l : LayoutData) (p : Machine) (adapters : List Standing) (account : Account) (told : Option State) (new : Scene) (op : Op) (event : Event) (place : ℕ) →
+    let s = scene (seen c l p) adapters account told in
     IsMemoryAccess op → HasNumbers c (length l.maps) op → IsModel s.model → (a : Agree s) → HasContents everywhere c a.device p → grant s.model op ≡ Ok place → IsDone s new op place event →
     IsMachineStep everywhere c l p new op place event
-memory_access_step c l p adapters errors told new (op.MemWrite mem map index value) event place is numbers ok a has granted done =
-    let s = scene (seen c l p) adapters errors told in
+memory_access_step c l p adapters account told new (op.MemWrite mem map index value) event place is numbers ok a has granted done =
+    let s = scene (seen c l p) adapters account told in
     let d = a.device in
     let at = write_place s.model mem index value map place granted in
     let count = length (ops_of l place index (location_bytes s.model mem) value true) in
@@ -62,20 +63,20 @@ memory_access_step c l p adapters errors told new (op.MemWrite mem map index val
     quiet_step c l p new (op.MemWrite mem map index value) place event after (mirror_of p) end.Done 0 (memory_agrees s new event after end.Done 0 a st refl refl) st.model st.told st.ends st.finds
     (model_kept (seen c l p) ok) refl refl refl
     (contents_stored c l d after p mem index value has a.believed_is.ready.setup numbers.0 at.0 at.1 refl refl)
-memory_access_step c l p adapters errors told new (op.MemRead mem map index) event place is numbers ok a has granted done =
-    let s = scene (seen c l p) adapters errors told in
+memory_access_step c l p adapters account told new (op.MemRead mem map index) event place is numbers ok a has granted done =
+    let s = scene (seen c l p) adapters account told in
     let h = has.at mem index tt numbers.0 (read_place s.model mem index map place granted) in
     let count = length (ops_of l place index (location_bytes s.model mem) 0 false) in
-    loads c l p adapters errors told new (op.MemRead mem map index) event place count (end.Value (slice_index a.device.locations (location a.device.setup mem index))) 0 ok a has
+    loads c l p adapters account told new (op.MemRead mem map index) event place count (end.Value (slice_index a.device.locations (location a.device.setup mem index))) 0 ok a has
     (read_step_is s new mem index map event place ok a h.has granted done) refl (ap end.Value h.holds) refl
-memory_access_step c l p adapters errors told new (op.MemCheck mem map index value) event place is numbers ok a has granted done =
-    let s = scene (seen c l p) adapters errors told in
+memory_access_step c l p adapters account told new (op.MemCheck mem map index value) event place is numbers ok a has granted done =
+    let s = scene (seen c l p) adapters account told in
     let h = has.at mem index tt numbers.0 (check_place s.model mem index value map place granted) in
     let count = length (ops_of l place index (location_bytes s.model mem) 0 false) in
     let held = slice_index a.device.locations (location a.device.setup mem index) in
-    loads c l p adapters errors told new (op.MemCheck mem map index value) event place count (end.Value held) (if held == value then 0 else 1) ok a has
+    loads c l p adapters account told new (op.MemCheck mem map index value) event place count (end.Value held) (if held == value then 0 else 1) ok a has
     (check_step_is s new mem index value map event place ok a h.has granted done) refl (ap end.Value h.holds) (ap (λ x. if x == value then 0 else 1) h.holds)
-memory_access_step c l p adapters errors told new _ event place is numbers ok a has granted done = absurd is
+memory_access_step c l p adapters account told new _ event place is numbers ok a has granted done = absurd is
 
 -- ---- each operation
 
@@ -94,8 +95,8 @@ IsPlainSort sort.backdoor = Unit {0}
 IsPlainSort sort.burst = Unit {0}
 IsPlainSort _ = ⊥
 
-sort_step : {which : ℕ → ℕ → Type 0} (c : ChipData) (l : LayoutData) (p : Machine) (adapters : List Standing) (errors : ℕ) (told : Option State) (new : Scene) (op : Op) (event : Event) (place : ℕ) →
-    let s = scene (seen c l p) adapters errors told in
+sort_step : {which : ℕ → ℕ → Type 0} (c : ChipData) (l : LayoutData) (p : Machine) (adapters : List Standing) (account : Account) (told : Option State) (new : Scene) (op : Op) (event : Event) (place : ℕ) →
+    let s = scene (seen c l p) adapters account told in
     (k : Sort) → sort_of op ≡ k → IsPlainSort k → HasNumbers c (length l.maps) op → IsModel s.model → (a : Agree s) → HasContents which c a.device p → grant s.model op ≡ Ok place
     → IsDone s new op place event → IsMachineStep which c l p new op place event
 sort_step c l p ad er t new op event place sort.access e plain numbers ok a has granted done = access_step c l p ad er t new op event place (is_of sort.access op e) numbers ok a has granted done
@@ -104,8 +105,8 @@ sort_step c l p ad er t new op event place sort.backdoor e plain numbers ok a ha
 sort_step c l p ad er t new op event place sort.burst e plain numbers ok a has granted done = burst_step c l p ad er t new op event place (is_of sort.burst op e) ok a has done
 sort_step c l p ad er t new op event place _ e plain numbers ok a has granted done = absurd plain
 
-off_step : {which : ℕ → ℕ → Type 0} (c : ChipData) (l : LayoutData) (p : Machine) (adapters : List Standing) (errors : ℕ) (told : Option State) (new : Scene) (op : Op) (event : Event) (place : ℕ) →
-    let s = scene (seen c l p) adapters errors told in
+off_step : {which : ℕ → ℕ → Type 0} (c : ChipData) (l : LayoutData) (p : Machine) (adapters : List Standing) (account : Account) (told : Option State) (new : Scene) (op : Op) (event : Event) (place : ℕ) →
+    let s = scene (seen c l p) adapters account told in
     IsOffMemory op → HasNumbers c (length l.maps) op → IsModel s.model → (a : Agree s) → HasContents which c a.device p → grant s.model op ≡ Ok place → IsDone s new op place event →
     IsMachineStep which c l p new op place event
 off_step c l p ad er t new (op.Hw field value) event place off numbers ok a has granted done =
@@ -114,8 +115,8 @@ off_step c l p ad er t new (op.Hw field value) event place off numbers ok a has 
 off_step c l p ad er t new (op.Reset kind) event place off numbers ok a has granted done = reset_step c l p ad er t new kind event place ok a has done
 off_step c l p ad er t new op event place off numbers ok a has granted done = sort_step c l p ad er t new op event place (sort_of op) refl off numbers ok a has granted done
 
-any_step : (c : ChipData) (l : LayoutData) (p : Machine) (adapters : List Standing) (errors : ℕ) (told : Option State) (new : Scene) (op : Op) (event : Event) (place : ℕ) →
-    let s = scene (seen c l p) adapters errors told in
+any_step : (c : ChipData) (l : LayoutData) (p : Machine) (adapters : List Standing) (account : Account) (told : Option State) (new : Scene) (op : Op) (event : Event) (place : ℕ) →
+    let s = scene (seen c l p) adapters account told in
     (k : Sort) → sort_of op ≡ k → HasNumbers c (length l.maps) op → IsModel s.model → (a : Agree s) → HasContents everywhere c a.device p → grant s.model op ≡ Ok place
     → IsDone s new op place event → IsMachineStep everywhere c l p new op place event
 any_step c l p ad er t new op event place sort.memory_access e numbers ok a has granted done =
@@ -124,8 +125,8 @@ any_step c l p ad er t new op event place sort.memory_backdoor e numbers ok a ha
     memory_step c l p ad er t new op event place (is_of sort.memory_backdoor op e) numbers ok a has granted done
 any_step c l p ad er t new op event place _ e numbers ok a has granted done = off_step c l p ad er t new op event place (subst LeavesMemories (sym e) tt) numbers ok a has granted done
 
-each_step : (c : ChipData) (l : LayoutData) (p : Machine) (adapters : List Standing) (errors : ℕ) (told : Option State) (new : Scene) (op : Op) (event : Event) (place : ℕ) →
-    let s = scene (seen c l p) adapters errors told in
+each_step : (c : ChipData) (l : LayoutData) (p : Machine) (adapters : List Standing) (account : Account) (told : Option State) (new : Scene) (op : Op) (event : Event) (place : ℕ) →
+    let s = scene (seen c l p) adapters account told in
     HasNumbers c (length l.maps) op → IsModel s.model → (a : Agree s) → HasContents everywhere c a.device p → grant s.model op ≡ Ok place → IsDone s new op place event →
     IsMachineStep everywhere c l p new op place event
 each_step c l p ad er t new op event place numbers ok a has granted done = any_step c l p ad er t new op event place (sort_of op) refl numbers ok a has granted done
@@ -187,7 +188,7 @@ model_again c l p new op place event ok st =
 
 -- ---- the call
 
-by_grant : (c : ChipData) (l : LayoutData) (p : Machine) (ad : List Standing) (er : ℕ) (t : Option State) (new : Scene) (op : Op) (event : Event) (g : Grant) →
+by_grant : (c : ChipData) (l : LayoutData) (p : Machine) (ad : List Standing) (er : Account) (t : Option State) (new : Scene) (op : Op) (event : Event) (g : Grant) →
     let s = scene (seen c l p) ad er t in
     grant s.model op ≡ g → HasNumbers c (length l.maps) op → IsModel s.model → IsMachineOf s p → MatchResult g (λ place. IsDone s new op place event) (λ why. IsRefused s new op why event) →
     IsPlainAfter s.model new event (done_by c l op p g)
@@ -209,14 +210,14 @@ by_grant c l p ad er t new op event (Err why) granted numbers ok is refused =
       event_is = refused_told s new op why event p refused refl;
     }
 
-at_machine : (c : ChipData) (l : LayoutData) (p : Machine) (ad : List Standing) (er : ℕ) (t : Option State) (new : Scene) (op : Op) (event : Event) →
+at_machine : (c : ChipData) (l : LayoutData) (p : Machine) (ad : List Standing) (er : Account) (t : Option State) (new : Scene) (op : Op) (event : Event) →
     let s = scene (seen c l p) ad er t in
     HasNumbers c (length l.maps) op → IsModel s.model → IsMachineOf s p → Performs s new op event → IsPlainAfter s.model new event (machine_step c l p op)
 unfolding machine_step
 at_machine c l p ad er t new op event numbers ok is performs = by_grant c l p ad er t new op event (grant (seen c l p) op) refl numbers ok is performs
 
 -- what is asked of the model, and what then holds
-abbrev IsPlainFrom : (p : Machine) (ad : List Standing) (er : ℕ) (t : Option State) (new : Scene) (op : Op) (event : Event) → ModelData → Type 0
+abbrev IsPlainFrom : (p : Machine) (ad : List Standing) (er : Account) (t : Option State) (new : Scene) (op : Op) (event : Event) → ModelData → Type 0
 IsPlainFrom p ad er t new op event m =
     let s = scene m ad er t in
     HasNumbers m.chip (length m.layout.maps) op → IsModel m → IsMachineOf s p → Performs s new op event → IsPlainAfter m new event (machine_step m.chip m.layout p op)
@@ -224,7 +225,7 @@ IsPlainFrom p ad er t new op event m =
 pub plain_after : (s new : Scene) (op : Op) (event : Event) (p : Machine) → HasNumbers s.model.chip (length s.model.layout.maps) op → IsModel s.model → IsMachineOf s p → Performs s new op event →
     IsPlainAfter s.model new event (machine_step s.model.chip s.model.layout p op)
 plain_after s new op event p numbers ok is performs =
-    subst (IsPlainFrom p s.adapters s.errors s.device new op event) (sym is.model) (at_machine s.model.chip s.model.layout p s.adapters s.errors s.device new op event) numbers ok is performs
+    subst (IsPlainFrom p s.adapters s.account s.device new op event) (sym is.model) (at_machine s.model.chip s.model.layout p s.adapters s.account s.device new op event) numbers ok is performs
 
 pub call_is_plain : CallIsPlain
 call_is_plain s new op event p numbers ok is performs = let after = plain_after s new op event p numbers ok is performs in (after.machine, after.event_is)
@@ -238,7 +239,7 @@ call_keeps_model s new op event p numbers ok is performs = let after = plain_aft
 abbrev IsSeenAfter : (new : Scene) → Event → Done → Type 0
 IsSeenAfter new event done = Agree new × (new.model ≡ seen new.model.chip new.model.layout done.machine) × (without_items event ≡ done.event)
 
-off_grant : (c : ChipData) (l : LayoutData) (p : Machine) (ad : List Standing) (er : ℕ) (t : Option State) (new : Scene) (op : Op) (event : Event) (g : Grant) →
+off_grant : (c : ChipData) (l : LayoutData) (p : Machine) (ad : List Standing) (er : Account) (t : Option State) (new : Scene) (op : Op) (event : Event) (g : Grant) →
     let s = scene (seen c l p) ad er t in
     grant s.model op ≡ g → IsOffMemory op → HasNumbers c (length l.maps) op → IsModel s.model → Agree s → MatchResult g (λ place. IsDone s new op place event) (λ why. IsRefused s new op why event) →
     IsSeenAfter new event (done_by c l op p g)
@@ -251,17 +252,17 @@ off_grant c l p ad er t new op event (Err why) granted off numbers ok a refused 
     let s = scene (seen c l p) ad er t in
     (subst Agree (sym refused.unchanged) a, subst (λ (x : Scene). x.model ≡ seen x.model.chip x.model.layout p) (sym refused.unchanged) refl, refused_told s new op why event p refused refl)
 
-off_machine : (c : ChipData) (l : LayoutData) (p : Machine) (ad : List Standing) (er : ℕ) (t : Option State) (new : Scene) (op : Op) (event : Event) →
+off_machine : (c : ChipData) (l : LayoutData) (p : Machine) (ad : List Standing) (er : Account) (t : Option State) (new : Scene) (op : Op) (event : Event) →
     let s = scene (seen c l p) ad er t in
     IsOffMemory op → HasNumbers c (length l.maps) op → IsModel s.model → Agree s → Performs s new op event → IsSeenAfter new event (machine_step c l p op)
 unfolding machine_step
 off_machine c l p ad er t new op event off numbers ok a performs = off_grant c l p ad er t new op event (grant (seen c l p) op) refl off numbers ok a performs
 
-abbrev IsSeenFrom : (p : Machine) (ad : List Standing) (er : ℕ) (t : Option State) (new : Scene) (op : Op) (event : Event) → ModelData → Type 0
+abbrev IsSeenFrom : (p : Machine) (ad : List Standing) (er : Account) (t : Option State) (new : Scene) (op : Op) (event : Event) → ModelData → Type 0
 IsSeenFrom p ad er t new op event m =
     let s = scene m ad er t in
     IsOffMemory op → HasNumbers m.chip (length m.layout.maps) op → IsModel m → Agree s → Performs s new op event → IsSeenAfter new event (machine_step m.chip m.layout p op)
 
 pub register_call_is_plain : RegisterCallIsPlain
 register_call_is_plain s new op event p off numbers ok a is performs =
-    subst (IsSeenFrom p s.adapters s.errors s.device new op event) (sym is) (off_machine s.model.chip s.model.layout p s.adapters s.errors s.device new op event) off numbers ok a performs
+    subst (IsSeenFrom p s.adapters s.account s.device new op event) (sym is) (off_machine s.model.chip s.model.layout p s.adapters s.account s.device new op event) off numbers ok a performs

@@ -8,6 +8,7 @@ use Rattle.std.proofs.Math.Nat.{mod-eq_of_lt}
 use Rattle.rl_policy.specs.Bits.{bit}
 use Rattle.rl_policy.specs.Table.{value_read}
 use Rattle.rl_policy.proofs.BitLemmas.{from_bits-same, is_from_bits}
+use Rattle.rl_bus.specs.Account.{Account}
 use Rattle.rl_bus.specs.Setup.{Setup, mem_of, location}
 use Rattle.rl_bus.specs.Standing.{Standing}
 use Rattle.rl_bus.specs.State.{State, peeked, poked, reset_by}
@@ -163,9 +164,9 @@ record IsFoundIn (c : ChipData) (l : LayoutData) (p : Machine) (reg sampled : �
   sample : owned (fields_of c reg) sampled ≡ get_or p.bits reg 0
   value : back_value (seen c l p) reg sampled ≡ ranswer (fields_of c reg) every (register_at c p reg)
 
-module _ (c : ChipData) (l : LayoutData) (p : Machine) (adapters : List Standing) (errors : ℕ) (told : Option State) (new : Scene) where
+module _ (c : ChipData) (l : LayoutData) (p : Machine) (adapters : List Standing) (account : Account) (told : Option State) (new : Scene) where
   abbrev s : Scene
-  s = scene (seen c l p) adapters errors told
+  s = scene (seen c l p) adapters account told
 
   found_in : (reg sampled : ℕ) (d : State) → IsHeld s d reg → sampled ≡ slice_index d.bits reg → IsFoundIn c l p reg sampled
   found_in reg sampled d h found =

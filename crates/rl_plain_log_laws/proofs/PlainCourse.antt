@@ -1,5 +1,6 @@
 -- The operations of a session and those of the plain machine, side by side.
 use Rattle.std.proofs.Common.{◌≡◌, ℕ, zero, suc, ◌+◌, ◌<◌, Bool, true, false, if◌then◌else◌, List, [], ◌∷◌, length, Option, Ok, Err, refl, sym, ap, subst, ◌∙◌}
+use Rattle.rl_bus.specs.Account.{without_peer}
 use Rattle.rl_model.specs.Rows.{ChipData}
 use Rattle.rl_map.specs.Layout.{LayoutData}
 use Rattle.rl_mirror.specs.Prediction.{needs_update, update_word_of}
@@ -31,7 +32,7 @@ use Rattle.rl_access.proofs.Worlds.{step_is_call}
 pub record IsPlainWorld (c : ChipData) (l : LayoutData) (w : World) (p : Machine) : Type 0 where
   pub model : w.model ≡ seen c l p
   pub sound : IsModel (seen c l p)
-  pub machine : IsMachineOf (scene_at w 0) p
+  pub machine : IsMachineOf (scene_at w (without_peer 0)) p
 
 -- an event, and the plain one
 pub record IsPlainEvent (c : ChipData) (l : LayoutData) (t : Told) (e : Event) : Type 0 where
@@ -56,7 +57,7 @@ pub record IsPlainCourse (c : ChipData) (l : LayoutData) (done : Course) (other 
 -- ---- one operation
 
 -- whatever the count of errors
-at_start : (w : World) (later : ℕ) (q : Machine) → IsMachineOf (scene_at w later) q → IsMachineOf (scene_at w 0) q
+at_start : (w : World) (later : ℕ) (q : Machine) → IsMachineOf (scene_at w (without_peer later)) q → IsMachineOf (scene_at w (without_peer 0)) q
 at_start w later q h = record {
   agree = record { device = h.agree.device; told = h.agree.told; believed_is = h.agree.believed_is; gathered = h.agree.gathered };
   model = h.model;
@@ -68,15 +69,15 @@ module _ (law : CallIsPlain) (keeps : CallKeepsModel) (c : ChipData) (l : Layout
   Fine op = HasNumbers c (length l.maps) op
 
   -- from a world that is made of the machine
-  step_here : (p : Machine) (a : List Standing) (d : State) (op : Op) → IsModel (seen c l p) → IsMachineOf (scene_at (world (seen c l p) a d) 0) p → Fine op
+  step_here : (p : Machine) (a : List Standing) (d : State) (op : Op) → IsModel (seen c l p) → IsMachineOf (scene_at (world (seen c l p) a d) (without_peer 0)) p → Fine op
       → IsPlainStep c l (step_of (world (seen c l p) a d) op) (machine_step c l p op)
   step_here p a d op ok h numbers =
       let w : World = world (seen c l p) a d in
       let st : Step = step_of w op in
       let run = step_is_call w op 0 in
       let q : Machine = (machine_step c l p op).machine in
-      let both = law (scene_at w 0) (scene_at st.world run.later) op st.event p numbers ok h run.performs in
-      let kept = keeps (scene_at w 0) (scene_at st.world run.later) op st.event p numbers ok h run.performs in
+      let both = law (scene_at w (without_peer 0)) (scene_at st.world (without_peer run.later)) op st.event p numbers ok h run.performs in
+      let kept = keeps (scene_at w (without_peer 0)) (scene_at st.world (without_peer run.later)) op st.event p numbers ok h run.performs in
       let model : st.world.model ≡ seen c l q = both.0.model ∙ ap (λ x. seen x st.world.model.layout q) kept.1.chip ∙ ap (λ y. seen c y q) kept.1.layout in
       record { event = both.1; world = record { model = model; sound = subst IsModel model kept.0; machine = at_start st.world run.later q both.0 } }
 
@@ -84,7 +85,7 @@ module _ (law : CallIsPlain) (keeps : CallKeepsModel) (c : ChipData) (l : Layout
   step_plain w p op h numbers =
       let same : w ≡ world (seen c l p) w.adapters w.device = ap (λ m. world m w.adapters w.device) h.model in
       subst (λ (v : World). IsPlainStep c l (step_of v op) (machine_step c l p op)) (sym same)
-      (step_here p w.adapters w.device op h.sound (subst (λ (v : World). IsMachineOf (scene_at v 0) p) same h.machine) numbers)
+      (step_here p w.adapters w.device op h.sound (subst (λ (v : World). IsMachineOf (scene_at v (without_peer 0)) p) same h.machine) numbers)
 
   -- ---- none ends by a bus error
 

@@ -1,6 +1,7 @@
 -- A session on a device that does as described writes, without the lines of items, the plain machine's log.
 use Rattle.std.proofs.Common.{◌≡◌, ℕ, List, length, replicate, Option, Some, None, IfSome, Ok, Err, refl, sym, ap, subst, ◌∙◌, arith}
 use Rattle.std.proofs.lemmas.List.{length-replicate, get_or-replicate}
+use Rattle.rl_bus.specs.Account.{without_peer}
 use Rattle.rl_bus.specs.Standing.{Standing, kinds_of}
 use Rattle.rl_flaw.specs.declared.flaw.Flaw.{Flaw}
 use Rattle.rl_flaw.specs.Flaws.{first_of}
@@ -33,7 +34,7 @@ first_is_plain : (desc : DescData) (adapters : List Standing) → FirstOnesArePl
 first_is_plain desc adapters first steady sound = record {
   model = first_model desc adapters;
   sound = subst IsModel (first_model desc adapters) sound;
-  machine = first (scene_at (first_world desc adapters) 0) sound steady.fields refl (none_gathered (length desc.layout.places)) (ap (λ (flaws : List Flaw). Some (first_of desc.chip desc.layout
+  machine = first (scene_at (first_world desc adapters) (without_peer 0)) sound steady.fields refl (none_gathered (length desc.layout.places)) (ap (λ (flaws : List Flaw). Some (first_of desc.chip desc.layout
       flaws)) steady.flaws);
 }
 

@@ -56,7 +56,7 @@ fn put_plan<K: Sink>(alloc: Global, asked: Asked, desc: Desc, log: &mut K) -> St
 }
 
 /// Writes the plan of a session's description: a script that finds each single flaw of the device which a check can
-/// show. The adapters are those of which a root map names one; nothing is sent. What is after the separator isn't read.
+/// show. The adapters are those of which a root map names one; nothing is sent. The script isn't looked at.
 ///
 /// The log is finished once, where its last line was written.
 ///

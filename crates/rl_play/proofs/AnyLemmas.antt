@@ -24,6 +24,7 @@ use Rattle.rl_log.specs.Statuses.{is_complete}
 use Rattle.rl_log.specs.Telling.{Tells}
 use Rattle.rl_log.specs.Texts.{end_text}
 use Rattle.rl_play.specs.AnyDevice.{Point, RanWhole, StopsAt, ClosesAt, Close, at_end, refused, broken, unwritten, cut, HasStatus}
+use Rattle.rl_play.proofs.AskedLemmas.{lines_asked}
 use Rattle.rl_play.specs.AnyDevice.{Happens, told_by, text_by, DoneLine, Plays, PlaysInput, PlaysAll, PlaysOnAnyDevice, counting}
 use Rattle.rl_play.specs.Work.{asked, text_of}
 use Rattle.rl_log.specs.Earlier.{KeepsEarlier}
@@ -199,4 +200,9 @@ pub plays_all : (s n : Scene) (old new : Option (List ℕ)) (input : Option (Lis
     → PlaysInput 1 (record { scene = s; text = old; counts = no_counts }) input (record { scene = n; text = new; counts = own }) status
     → PlaysOnAnyDevice (record { scene = s; text = old; counts = counts }) input (record { scene = n; text = new; counts = now }) status
 plays_all s n old new None counts own now status risen p = tt
-plays_all s n old new (Some bytes) counts own now status risen p = record { own = own; risen = risen; plays = p }
+plays_all s n old new (Some bytes) counts own now status risen p = record {
+  own = own;
+  risen = risen;
+  plays = p;
+  asked = lines_asked 1 s (lines_of bytes) p.done p.close n p.happens;
+}

@@ -41,6 +41,7 @@ use Rattle.rl_access.specs.Model.{ModelData}
 use Rattle.rl_access.specs.Runs.{no_tally, counted_all}
 use Rattle.rl_access.specs.World.{World, world, IsAt, unchanged}
 use Rattle.rl_access.proofs.Worlds.{IsWorld, refused_alone}
+use Rattle.rl_bus.specs.Account.{Account}
 use Rattle.rl_bus.specs.Standing.{Standing}
 use Rattle.rl_bus.specs.State.{State}
 use Rattle.rl_report.specs.Pieces.{AppendsFront, joined}
@@ -197,9 +198,9 @@ part_of_text work told rest all old new is h =
 
 -- ---- a turn
 
-abbrev pub here : (m : ModelData) (a : List Standing) (errors : ℕ) (d : State) → IsWorld (scene m a errors (Some d))
+abbrev pub here : (m : ModelData) (a : List Standing) (account : Account) (d : State) → IsWorld (scene m a account (Some d))
     (world m a d)
-here m a errors d = record { model_is = refl; adapters_are = refl; device_is = refl }
+here m a account d = record { model_is = refl; adapters_are = refl; device_is = refl }
 
 ran_on : (s : Result Line LineRefusal) (w : World) (before after : Point) → IsWorld before.scene w
     → RanWhole (asked w.model s) before after
@@ -329,12 +330,12 @@ turn_at number s w before after (Stop status) h t =
     stops_at number s status w before after t.close h t.closes t.counted t.status_is t.whole t.part
 
 -- what was run over a device that tells its state is what the line comes to there
-pub judged_turn : (number : ℕ) (s : Result Line LineRefusal) (m n : ModelData) (a b : List Standing) (errors later : ℕ)
+pub judged_turn : (number : ℕ) (s : Result Line LineRefusal) (m n : ModelData) (a b : List Standing) (account later : Account)
     (before after : Option State) (old new : Option (List ℕ)) (counts now : Counts) (turn : Turn)
-    → Turns number (asked m s) (record { scene = scene m a errors before; text = old; counts = counts })
+    → Turns number (asked m s) (record { scene = scene m a account before; text = old; counts = counts })
     (record { scene = scene n b later after; text = new; counts = now }) turn
     → IfSome before (λ d. IsTurn number (comes_of (world m a d) s) old new counts now (world m a d) n b after turn)
-judged_turn number s m n a b errors later None after old new counts now turn t = tt
-judged_turn number s m n a b errors later (Some d) after old new counts now turn t =
-    turn_at number s (world m a d) (record { scene = scene m a errors (Some d); text = old; counts = counts })
-    (record { scene = scene n b later after; text = new; counts = now }) turn (here m a errors d) t
+judged_turn number s m n a b account later None after old new counts now turn t = tt
+judged_turn number s m n a b account later (Some d) after old new counts now turn t =
+    turn_at number s (world m a d) (record { scene = scene m a account (Some d); text = old; counts = counts })
+    (record { scene = scene n b later after; text = new; counts = now }) turn (here m a account d) t

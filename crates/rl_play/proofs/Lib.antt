@@ -1,3 +1,4 @@
+pub mod AskedLemmas
 pub mod AnyLemmas
 pub mod BufferLemmas
 pub mod Courses

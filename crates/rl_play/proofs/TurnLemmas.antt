@@ -90,7 +90,7 @@ line_taken number before flushed after input g line reading left old now Next no
     let s = before.scene in
     let n = after.scene in
     let says = heard number g line in
-    let judged = judged_turn number says s.model n.model s.adapters n.adapters s.errors n.errors s.device n.device
+    let judged = judged_turn number says s.model n.model s.adapters n.adapters s.account n.account s.device n.device
     flushed after.text before.counts after.counts Next ran in
     record {
       plays_next = λ e final status p. plays_next number before flushed after final input g line reading left says status
@@ -116,7 +116,7 @@ line_taken number before flushed after input g line reading left old now (Stop s
     let s = before.scene in
     let n = after.scene in
     let says = heard number g line in
-    let judged = judged_turn number says s.model n.model s.adapters n.adapters s.errors n.errors s.device n.device
+    let judged = judged_turn number says s.model n.model s.adapters n.adapters s.account n.account s.device n.device
     flushed after.text before.counts after.counts (Stop status) stops in
     let played = plays_stop number before flushed after input g line reading left says status not_end handed is refl kept
     (no_source status old now cause) stops in

@@ -3,11 +3,13 @@
 use Rattle.std.specs.Prelude.{◌≡◌, ◌⊎◌, ℕ, ◌+◌, List, [], ◌∷◌, ◌++◌, true, false, Option, Some, None, IfSome, Result, Ok, Err, OnOk, OnErr, IfOk, MatchResult}
 use Rattle.std.specs.Io.KnownBytes.{Appends}
 use Rattle.rl_access.specs.declared.event.Tally.{Tally}
+use Rattle.rl_access.specs.Asking.{IsAskedBy}
 use Rattle.rl_access.specs.Call.{Scene, scene_of}
 use Rattle.rl_access.specs.HandsOver.{Told}
 use Rattle.rl_access.specs.Model.{ModelData}
 use Rattle.rl_access.specs.Runs.{no_tally, counted_all}
 use Rattle.rl_bus.specs.declared.device.Failed.{Failed}
+use Rattle.rl_bus.specs.Account.{Account}
 use Rattle.rl_bus.specs.Standing.{Standing}
 use Rattle.rl_bus.specs.State.{State}
 use Rattle.rl_report.specs.Lines.{lines_of}
@@ -35,10 +37,10 @@ pub record Point : Type 0 where
   -- what was counted until then
   pub counts : Counts
 
-abbrev pub spot : {A D K : Type 0} → (A → Standing) → (D → ℕ) → (D → Option State) → (K → Option (List ℕ))
+abbrev pub spot : {A D K : Type 0} → (A → Standing) → (D → Account) → (D → Option State) → (K → Option (List ℕ))
     → ModelData → List A → D → K → Counts → Point
-spot standing errors state written model adapters device sink counts =
-    record { scene = scene_of standing errors state model adapters device; text = written sink; counts = counts }
+spot standing account state written model adapters device sink counts =
+    record { scene = scene_of standing account state model adapters device; text = written sink; counts = counts }
 
 abbrev pub moment_at : Point → Moment
 moment_at p = moment p.scene.model p.scene.adapters p.scene.device p.text p.counts
@@ -209,6 +211,8 @@ pub record PlaysAll (before : Point) (lines : List (List ℕ)) (after : Point) (
   pub own : Counts
   pub risen : after.counts ≡ added before.counts own
   pub plays : Plays 1 (counting before no_counts) lines (counting after own) status
+  -- the device was asked exactly what the events of this log say
+  pub asked : IsAskedBy before.scene.account (told_by plays.done plays.close) after.scene.account
 
 abbrev pub PlaysOnAnyDevice : (before : Point) → (input : Option (List ℕ)) → (after : Point) → Status → Type 0
 PlaysOnAnyDevice before input after s = IfSome input (λ bytes. PlaysAll before (lines_of bytes) after s)

@@ -3,6 +3,7 @@ use Rattle.std.specs.Prelude.{◌≡◌, ℕ, List, [], ◌∷◌, Option, Resul
 use Rattle.rl_access.specs.declared.event.Tally.{Tally}
 use Rattle.rl_access.specs.Call.{scene}
 use Rattle.rl_access.specs.Model.{ModelData, IsReady, IsSameChip}
+use Rattle.rl_bus.specs.Account.{Account}
 use Rattle.rl_bus.specs.Causes.{HasCause}
 use Rattle.rl_bus.specs.Standing.{Standing}
 use Rattle.rl_bus.specs.State.{State}
@@ -18,16 +19,16 @@ use Rattle.rl_report.specs.declared.sink.Sink.{Ghosts as Sink}
 -- where it stands, with the adapters as their callers see them
 abbrev pub spot_of : {D K X : Type 0} {V : X → Type 0} → Device D → Sink K → List Standing → Stage D K X V → Point
 spot_of d k adapters stage = record {
-  scene = scene stage.model.now adapters (d.errors stage.device.now) (d.state stage.device.now);
+  scene = scene stage.model.now adapters (d.account stage.device.now) (d.state stage.device.now);
   text = k.written stage.out.now;
   counts = stage.counts.now;
 }
 
 -- where it stands, where a recorder writes and counts
-abbrev pub recorded : {A D K : Type 0} → (A → Standing) → (D → ℕ) → (D → Option State) → (K → Option (List ℕ))
+abbrev pub recorded : {A D K : Type 0} → (A → Standing) → (D → Account) → (D → Option State) → (K → Option (List ℕ))
     → ModelData → List A → D → Writing K → Point
-recorded standing errors state written model adapters device rec =
-    spot standing errors state written model adapters device rec.sink.now rec.counts
+recorded standing account state written model adapters device rec =
+    spot standing account state written model adapters device rec.sink.now rec.counts
 
 -- A recorder was told of the events of some work: each was written and counted in turn, and the next call may follow. It failed
 -- only where the sink has failed once more. The sink is the same, was ended as often, and its bytes go where they went.

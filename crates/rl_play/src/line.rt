@@ -65,8 +65,8 @@ fn run_sequence<D: Device, K: Log>(
     requires ready { IsReady model.old (each standing adapters.old.items) (D.state device.old) }
     requires block { IfSome block (λ b. b < model.old.chip.blocks) }
     ensures { IsRecorded K.Sink (planned (plan_of which model.old block))
-        (recorded standing D.errors D.state K.written model.old adapters.old.items device.old rec.old)
-        (recorded standing D.errors D.state K.written model.new adapters.new.items device.new rec.new)
+        (recorded standing D.account D.state K.written model.old adapters.old.items device.old rec.old)
+        (recorded standing D.account D.state K.written model.new adapters.new.items device.new rec.new)
         rec.old rec.new result }
 {
     match which {
@@ -89,8 +89,8 @@ fn record_job<D: Device, K: Log>(
     requires ready { IsReady model.old (each standing adapters.old.items) (D.state device.old) }
     requires numbers { JobHasNumbers model.old.chip (length model.old.layout.maps) job }
     ensures { IsRecorded K.Sink (job_work job.entry model.old)
-        (recorded standing D.errors D.state K.written model.old adapters.old.items device.old rec.old)
-        (recorded standing D.errors D.state K.written model.new adapters.new.items device.new rec.new)
+        (recorded standing D.account D.state K.written model.old adapters.old.items device.old rec.old)
+        (recorded standing D.account D.state K.written model.new adapters.new.items device.new rec.new)
         rec.old rec.new result }
 {
     match job {
@@ -244,8 +244,8 @@ pub(crate) fn run_line<D: Device, K: Log>(
     requires ready { IsReady model.old (each standing adapters.old.items) (D.state device.old) }
     ensures ready { StaysReady model.old model.new (each standing adapters.new.items) (D.state device.new) }
     ensures run { RunsOn (asked model.old (Ok (line_said line.now)))
-        (spot standing D.errors D.state K.written model.old adapters.old.items device.old out.old counts.old)
-        (spot standing D.errors D.state K.written model.new adapters.new.items device.new out.new counts.new) result }
+        (spot standing D.account D.state K.written model.old adapters.old.items device.old out.old counts.old)
+        (spot standing D.account D.state K.written model.new adapters.new.items device.new out.new counts.new) result }
     ensures stays { SinkStays K.Sink out.old out.new result }
 {
     let mut stage = Stage {

@@ -119,8 +119,8 @@ fn run_read<D: Device, L: Log>(
         (λ fault. fault ≢ LineFault.Memory → read_of line.now ≡ Err fault) }
     ensures ready { StaysReady model.old model.new (map standing adapters.new.items) (D.state device.new) }
     ensures turn { Turns number (asked model.old (said_by (read_of line.now)))
-        (spot standing D.errors D.state L.written model.old adapters.old.items device.old out.old counts.old)
-        (spot standing D.errors D.state L.written model.new adapters.new.items device.new out.new counts.new) result }
+        (spot standing D.account D.state L.written model.old adapters.old.items device.old out.old counts.old)
+        (spot standing D.account D.state L.written model.new adapters.new.items device.new out.new counts.new) result }
     ensures counted { NotByCounts (stop_of result) }
     ensures leaves { Leaves L.Sink 0 0 out.old out.new (stop_of result) }
 {
@@ -154,8 +154,8 @@ fn run_taken<D: Device, L: Log>(
     ensures short { result ≡ Turn.Next → got ≢ Got.TooLong }
     ensures last { result ≡ Turn.Next → number ≤ 1000000 }
     ensures turn { Turns number (asked model.old (heard number got line.now))
-        (spot standing D.errors D.state L.written model.old adapters.old.items device.old out.old counts.old)
-        (spot standing D.errors D.state L.written model.new adapters.new.items device.new out.new counts.new) result }
+        (spot standing D.account D.state L.written model.old adapters.old.items device.old out.old counts.old)
+        (spot standing D.account D.state L.written model.new adapters.new.items device.new out.new counts.new) result }
     ensures counted { NotByCounts (stop_of result) }
     ensures leaves { Leaves L.Sink 0 0 out.old out.new (stop_of result) }
 {
@@ -206,9 +206,9 @@ fn play_line<S: Source, D: Device, L: Log>(
     requires going { lines.old.refused ≡ false }
     ensures ready { StaysReady model.old model.new (map standing adapters.new.items) (D.state device.new) }
     ensures plays { PlaysLine number
-        (spot standing D.errors D.state L.written model.old adapters.old.items device.old out.old counts.old)
+        (spot standing D.account D.state L.written model.old adapters.old.items device.old out.old counts.old)
         (input_of lines.old (S.left source.old))
-        (spot standing D.errors D.state L.written model.new adapters.new.items device.new out.new counts.new)
+        (spot standing D.account D.state L.written model.new adapters.new.items device.new out.new counts.new)
         (input_of lines.new (S.left source.new)) (S.left source.new) lines.new.ended result }
     ensures leaves { LeavesLines L.Sink (L.is_out out.new)
         lines.old lines.new (S.faults source.old) (S.faults source.new) out.old out.new result }
@@ -243,9 +243,9 @@ pub fn play_lines<S: Source, D: Device, L: Log>(
     ensures ready { IsReady model.new (map standing adapters.new.items) (D.state device.new) }
     ensures parts { IsSameChip model.old model.new }
     ensures plays { PlaysThrough
-        (spot standing D.errors D.state L.written model.old adapters.old.items device.old out.old counts.old)
+        (spot standing D.account D.state L.written model.old adapters.old.items device.old out.old counts.old)
         (input_of lines.old (S.left source.old)) (input_of lines.new (S.left source.new)) (S.left source.new)
-        (spot standing D.errors D.state L.written model.new adapters.new.items device.new out.new counts.new) result }
+        (spot standing D.account D.state L.written model.new adapters.new.items device.new out.new counts.new) result }
     ensures leaves { LeavesLines L.Sink (L.is_out out.new)
         lines.old lines.new (S.faults source.old) (S.faults source.new) out.old out.new (Turn.Stop result) }
 {
@@ -278,9 +278,9 @@ fn play_through<S: Source, K: Sink, D: Device, E: Earlier>(
     ensures ready { IsReady model.new (map standing adapters.new.items) (D.state device.new) }
     ensures parts { IsSameChip model.old model.new }
     ensures plays { PlaysThrough
-        (spot standing D.errors D.state K.written model.old adapters.old.items device.old sink.old counts.old)
+        (spot standing D.account D.state K.written model.old adapters.old.items device.old sink.old counts.old)
         (input_of lines.old (S.left source.old)) (input_of lines.new (S.left source.new)) (S.left source.new)
-        (spot standing D.errors D.state K.written model.new adapters.new.items device.new sink.new counts.new) result }
+        (spot standing D.account D.state K.written model.new adapters.new.items device.new sink.new counts.new) result }
     ensures found { lines.new.found ≡ true }
     ensures again { result ≡ Status.SourceFault → lines.new.refused ≡ false }
     ensures keeps_earlier { KeepsEarlier (K.written sink.old) (K.written sink.new) }
@@ -357,9 +357,9 @@ pub fn play<S: Source, K: Sink, D: Device>(
     // Over any device, also one that tells nothing: what is written is the text of events, each of which performs its
     // line's operation from where the one before ended, over the items and answers of these events.
     ensures any_device { PlaysOnAnyDevice
-        (spot standing D.errors D.state K.written model.old adapters.old.items device.old sink.old counts.old)
+        (spot standing D.account D.state K.written model.old adapters.old.items device.old sink.old counts.old)
         (input_of lines.old (S.left source.old))
-        (spot standing D.errors D.state K.written model.new adapters.new.items device.new sink.new counts.new) result }
+        (spot standing D.account D.state K.written model.new adapters.new.items device.new sink.new counts.new) result }
     // In any case the status goes by what happened in this call, and the counts rise by it.
     ensures ends { PlayEnds result counts.old counts.new }
     // No fault is made up.

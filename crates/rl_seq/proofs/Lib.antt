@@ -1,3 +1,4 @@
+pub mod AskedLemmas
 pub mod Choosing
 pub mod Following
 pub mod Granting

@@ -12,7 +12,7 @@ use Rattle.rl_seq.specs.Stage.{Stage, Follows}
 -- What it works on, with its adapters as their callers see them. `X` and `V` are the adapters behind `dyn`.
 abbrev pub stage_at : {D R X : Type 0} {V : X → Type 0} → Device D → List Standing → Running D R X V → Stage R
 stage_at d adapters run = record {
-  scene = scene run.model.now adapters (d.errors run.device.now) (d.state run.device.now);
+  scene = scene run.model.now adapters (d.account run.device.now) (d.state run.device.now);
   recorder = run.recorder.now;
 }
 

@@ -18,7 +18,7 @@ pub record Stage (R : Type 0) : Type 0 where
 
 abbrev pub stage_of : {A D R : Type 0} → (A → Standing) → Device D → ModelData → List A → D → R → Stage R
 stage_of standing d model adapters device recorder =
-    record { scene = scene_of standing d.errors d.state model adapters device; recorder = recorder }
+    record { scene = scene_of standing d.account d.state model adapters device; recorder = recorder }
 
 -- What stays, and what a failure means: the next call may follow, the chip and the layout are the same, the recorder
 -- keeps what no step changes, and `Err` comes only where it failed.

@@ -3,8 +3,10 @@ use Rattle.std.proofs.Common.{◌≡◌, ◌≢◌, ℕ, true, false, List, [], 
 use Rattle.std.specs.Prelude.{unwrap_or}
 use Rattle.std.specs.declared.option.Option.{Option}
 use Rattle.std.specs.Io.KnownBytes.{Keeps}
+use Rattle.rl_access.specs.Asking.{IsAskedBy}
 use Rattle.rl_access.specs.Call.{scene}
 use Rattle.rl_access.specs.Model.{ModelData}
+use Rattle.rl_bus.specs.Account.{Account}
 use Rattle.rl_bus.specs.Standing.{Standing}
 use Rattle.rl_bus.specs.State.{State}
 use Rattle.rl_desc.specs.Data.{DescData}
@@ -17,9 +19,10 @@ use Rattle.rl_log.specs.declared.status.Status.TheVariants.{Refused, SinkFault}
 use Rattle.rl_log.specs.Recording.{no_counts}
 use Rattle.rl_log.specs.Statuses.{is_complete}
 use Rattle.rl_log.specs.Telling.{Tells}
-use Rattle.rl_play.specs.AnyDevice.{Point, Plays, PlaysOnAnyDevice}
+use Rattle.rl_play.specs.AnyDevice.{Point, Plays, PlaysOnAnyDevice, told_by}
 use Rattle.rl_log.specs.Earlier.{KeepsEarlier}
 use Rattle.rl_play.proofs.AnyLemmas.{plays_cut, plays_written}
+use Rattle.rl_play.proofs.AskedLemmas.{lines_asked}
 use Rattle.std.proofs.KnownBytes.{Appends-kept, Keeps-refl, Keeps-trans}
 use Rattle.std.proofs.lemmas.Bool.{cases_Bool}
 use Rattle.rl_log.proofs.TellingLemmas.{not_sink_fault}
@@ -33,68 +36,74 @@ use Rattle.rl_session_run.specs.Telling.{Stops}
 -- ---- a script
 
 -- nothing was played
-cut_plays : (desc : DescData) (bytes : List ℕ) (status : Status) (old new : Option (List ℕ)) (adapters : List Standing) (errors : ℕ)
-    → errors ≡ 0 → is_complete status ≡ false → Keeps old new → PlaysLines desc (lines_of bytes) status old new adapters adapters errors
-cut_plays desc bytes status old new adapters errors none broken kept = record {
-  last = record (first_point desc adapters old) { text = new };
-  plays = plays_cut 1 (first_point desc adapters old) new (Some bytes) status status refl broken kept;
-  text_is = refl;
-  adapters_are = refl;
-  errors_are = sym none;
-}
+cut_plays : (desc : DescData) (bytes : List ℕ) (status : Status) (old new : Option (List ℕ)) (adapters : List Standing) (account : Account)
+    → is_complete status ≡ false → Keeps old new → PlaysLines desc (lines_of bytes) status old new adapters adapters account account
+cut_plays desc bytes status old new adapters account broken kept =
+    let first = first_point desc adapters account old in
+    let none = plays_cut 1 first new (Some bytes) status status refl broken kept in
+    record {
+      last = record first { text = new };
+      plays = none;
+      text_is = refl;
+      adapters_are = refl;
+      account_is = refl;
+      asked = lines_asked 1 first.scene (lines_of bytes) none.done none.close first.scene none.happens;
+    }
 
-pub rest_cut : (desc : DescData) (input : Option (List ℕ)) (status : Status) (old : Option (List ℕ)) (adapters : List Standing) (errors : ℕ)
-    → errors ≡ 0 → is_complete status ≡ false → PlaysRest desc input status old old adapters adapters errors
-rest_cut desc None status old adapters errors none broken = tt
-rest_cut desc (Some bytes) status old adapters errors none broken =
-    cut_plays desc bytes status old old adapters errors none broken (Keeps-refl old)
+pub rest_cut : (desc : DescData) (input : Option (List ℕ)) (status : Status) (old : Option (List ℕ)) (adapters : List Standing) (account : Account)
+    → is_complete status ≡ false → PlaysRest desc input status old old adapters adapters account account
+rest_cut desc None status old adapters account broken = tt
+rest_cut desc (Some bytes) status old adapters account broken =
+    cut_plays desc bytes status old old adapters account broken (Keeps-refl old)
 
-abbrev point_of : ModelData → List Standing → (errors : ℕ) → Option State → (text : Option (List ℕ)) → Counts → Point
-point_of m adapters errors state text counts = record { scene = scene m adapters errors state; text = text; counts = counts }
+abbrev point_of : ModelData → List Standing → Account → Option State → (text : Option (List ℕ)) → Counts → Point
+point_of m adapters account state text counts = record { scene = scene m adapters account state; text = text; counts = counts }
 
-first_is : (desc : DescData) (m : ModelData) (errors : ℕ) (state : Option State) (adapters : List Standing) (text : Option (List ℕ))
-    → m ≡ (first_world desc adapters).model → errors ≡ 0 → state ≡ None
-    → point_of m adapters errors state text no_counts ≡ first_point desc adapters text
-first_is desc m errors state adapters text model none silent =
-    ap (λ m. point_of m adapters errors state text no_counts) model
-    ∙ ap (λ e. point_of (first_world desc adapters).model adapters e state text no_counts) none
-    ∙ ap (λ s. point_of (first_world desc adapters).model adapters 0 s text no_counts) silent
+first_is : (desc : DescData) (m : ModelData) (account : Account) (state : Option State) (adapters : List Standing) (text : Option (List ℕ))
+    → m ≡ (first_world desc adapters).model → state ≡ None
+    → point_of m adapters account state text no_counts ≡ first_point desc adapters account text
+first_is desc m account state adapters text model silent =
+    ap (λ m. point_of m adapters account state text no_counts) model
+    ∙ ap (λ s. point_of (first_world desc adapters).model adapters account s text no_counts) silent
 
-pub plays_rest : (desc : DescData) (input : Option (List ℕ)) (status : Status) (m : ModelData) (errors : ℕ) (state : Option State)
+pub plays_rest : (desc : DescData) (input : Option (List ℕ)) (status : Status) (m : ModelData) (account : Account) (state : Option State)
     (counts : Counts) (adapters : List Standing) (old : Option (List ℕ)) (after : Point)
-    → m ≡ (first_world desc adapters).model → errors ≡ 0 → state ≡ None
-    → PlaysOnAnyDevice (point_of m adapters errors state old counts) input after status
-    → PlaysRest desc input status old after.text adapters after.scene.adapters after.scene.errors
-plays_rest desc None status m errors state counts adapters old after model none silent p = tt
-plays_rest desc (Some bytes) status m errors state counts adapters old after model none silent p = record {
-  last = record after { counts = p.own };
-  plays = subst (λ b. Plays 1 b (lines_of bytes) (record after { counts = p.own }) status)
-      (first_is desc m errors state adapters old model none silent) p.plays;
-  text_is = refl;
-  adapters_are = refl;
-  errors_are = refl;
-}
+    → m ≡ (first_world desc adapters).model → state ≡ None
+    → PlaysOnAnyDevice (point_of m adapters account state old counts) input after status
+    → PlaysRest desc input status old after.text adapters after.scene.adapters account after.scene.account
+plays_rest desc None status m account state counts adapters old after model silent p = tt
+plays_rest desc (Some bytes) status m account state counts adapters old after model silent p =
+    let all = subst (λ b. Plays 1 b (lines_of bytes) (record after { counts = p.own }) status)
+    (first_is desc m account state adapters old model silent) p.plays in
+    record {
+      last = record after { counts = p.own };
+      plays = all;
+      text_is = refl;
+      adapters_are = refl;
+      account_is = refl;
+      asked = lines_asked 1 (first_point desc adapters account old).scene (lines_of bytes) all.done all.close after.scene all.happens;
+    }
 
 -- ---- a session
 
 runs_by : (opening : Result DescData (List ℕ)) (bytes : List ℕ) (status : Status) (old new : Option (List ℕ)) (adapters : List Standing)
-    → Stops opening status old new → RunsSession opening bytes status old new adapters adapters None
-runs_by opening bytes status old new adapters s = record {
+    (first : DescData → Account) → Stops opening status old new → RunsSession opening bytes status old new adapters adapters first None
+runs_by opening bytes status old new adapters first s = record {
   refused = λ line e. subst (λ o. Stops o status old new) e s;
   untouched = λ line e. refl;
   played = λ desc e.
       let cut = subst (λ o. Stops o status old new) e s in
-      cut_plays desc (behind (separator_at bytes) bytes) status old new adapters 0 refl cut.0 cut.1;
+      cut_plays desc (behind (separator_at bytes) bytes) status old new adapters (first desc) cut.0 cut.1;
   unreached = λ desc e none.
       let cut = subst (λ o. Stops o status old new) e s in
       record { broken = cut.0; unwritten = cut.1; untouched = refl };
 }
 
 pub runs_stopped : (input : Option (List ℕ)) (opening : List ℕ → Result DescData (List ℕ)) (status : Status) (old new : Option (List ℕ))
-    (adapters : List Standing) → IfSome input (λ bytes. Stops (opening bytes) status old new)
-    → IfSome input (λ bytes. RunsSession (opening bytes) bytes status old new adapters adapters None)
-runs_stopped None opening status old new adapters s = tt
-runs_stopped (Some bytes) opening status old new adapters s = runs_by (opening bytes) bytes status old new adapters s
+    (adapters : List Standing) (first : DescData → Account) → IfSome input (λ bytes. Stops (opening bytes) status old new)
+    → IfSome input (λ bytes. RunsSession (opening bytes) bytes status old new adapters adapters first None)
+runs_stopped None opening status old new adapters first s = tt
+runs_stopped (Some bytes) opening status old new adapters first s = runs_by (opening bytes) bytes status old new adapters first s
 
 ok-err : {X E : Type 0} {x : X} {e : E} (r : Result X E) → r ≡ Ok x → r ≡ Err e → ⊥
 ok-err r a b = cc
@@ -103,52 +112,54 @@ same_ok : {X E : Type 0} {x y : X} (r : Result X E) → r ≡ Ok x → r ≡ Ok 
 same_ok r a b = cc
 
 runs_after : {K : Type 0} (opening : Result DescData (List ℕ)) (written : K → Option (List ℕ)) (bytes : List ℕ) (desc : DescData)
-    (lines : Reading) (left : Option (List ℕ)) (status : Status) (old mid new : K) (adapters now : List Standing) (errors : Option ℕ)
+    (lines : Reading) (left : Option (List ℕ)) (status : Status) (old mid new : K) (adapters now : List Standing) (first : DescData → Account) (account : Option Account)
     → OpensAs opening bytes desc lines left → mid ≡ old
-    → PlaysRest desc (input_of lines left) status (written mid) (written new) adapters now (unwrap_or errors 0)
-    → (errors ≡ None → IsUnreached status (written mid) (written new) adapters now)
-    → RunsSession opening bytes status (written old) (written new) adapters now errors
-runs_after opening written bytes desc lines left status old mid new adapters now errors opens same p none =
-    let n = unwrap_or errors 0 in
-    let script : PlaysRest desc (Some (behind (separator_at bytes) bytes)) status (written mid) (written new) adapters now n =
-    subst (λ i. PlaysRest desc i status (written mid) (written new) adapters now n) opens.rest p in
-    let here : PlaysLines desc (script_of bytes) status (written old) (written new) adapters now n =
-    subst (λ k. PlaysLines desc (script_of bytes) status (written k) (written new) adapters now n) same script in
+    → PlaysRest desc (input_of lines left) status (written mid) (written new) adapters now (first desc) (unwrap_or account (first desc))
+    → (account ≡ None → IsUnreached status (written mid) (written new) adapters now)
+    → RunsSession opening bytes status (written old) (written new) adapters now first account
+runs_after opening written bytes desc lines left status old mid new adapters now first account opens same p none =
+    let n = unwrap_or account (first desc) in
+    let script : PlaysRest desc (Some (behind (separator_at bytes) bytes)) status (written mid) (written new) adapters now (first desc) n =
+    subst (λ i. PlaysRest desc i status (written mid) (written new) adapters now (first desc) n) opens.rest p in
+    let here : PlaysLines desc (script_of bytes) status (written old) (written new) adapters now (first desc) n =
+    subst (λ k. PlaysLines desc (script_of bytes) status (written k) (written new) adapters now (first desc) n) same script in
     record {
       refused = λ line e. absurd (ok-err opening opens.opening e);
       untouched = λ line e. absurd (ok-err opening opens.opening e);
-      played = λ d e. subst (λ d. PlaysLines d (script_of bytes) status (written old) (written new) adapters now n)
+      played = λ d e. subst (λ d. PlaysLines d (script_of bytes) status (written old) (written new) adapters now (first d) (unwrap_or account (first d)))
           (same_ok opening opens.opening e) here;
       unreached = λ d e is. subst (λ k. IsUnreached status (written k) (written new) adapters now) same (none is);
     }
 
 runs_behind : {K : Type 0} (written : K → Option (List ℕ)) (input : Option (List ℕ)) (opening : List ℕ → Result DescData (List ℕ))
-    (desc : DescData) (lines : Reading) (left : Option (List ℕ)) (status : Status) (old mid new : K) (adapters now : List Standing) (errors : Option ℕ)
+    (desc : DescData) (lines : Reading) (left : Option (List ℕ)) (status : Status) (old mid new : K) (adapters now : List Standing) (first : DescData → Account) (account : Option Account)
     → IfSome input (λ bytes. OpensAs (opening bytes) bytes desc lines left) → mid ≡ old
-    → PlaysRest desc (input_of lines left) status (written mid) (written new) adapters now (unwrap_or errors 0)
-    → (errors ≡ None → IsUnreached status (written mid) (written new) adapters now)
-    → IfSome input (λ bytes. RunsSession (opening bytes) bytes status (written old) (written new) adapters now errors)
-runs_behind written None opening desc lines left status old mid new adapters now errors opens same p none = tt
-runs_behind written (Some bytes) opening desc lines left status old mid new adapters now errors opens same p none =
-    runs_after (opening bytes) written bytes desc lines left status old mid new adapters now errors opens same p none
+    → PlaysRest desc (input_of lines left) status (written mid) (written new) adapters now (first desc) (unwrap_or account (first desc))
+    → (account ≡ None → IsUnreached status (written mid) (written new) adapters now)
+    → IfSome input (λ bytes. RunsSession (opening bytes) bytes status (written old) (written new) adapters now first account)
+runs_behind written None opening desc lines left status old mid new adapters now first account opens same p none = tt
+runs_behind written (Some bytes) opening desc lines left status old mid new adapters now first account opens same p none =
+    runs_after (opening bytes) written bytes desc lines left status old mid new adapters now first account opens same p none
 
--- its script was played on a device that has failed so often then
+-- its script was played on a device that was made for it
 pub runs_played : {K : Type 0} (written : K → Option (List ℕ)) (input : Option (List ℕ)) (opening : List ℕ → Result DescData (List ℕ))
-    (desc : DescData) (lines : Reading) (left : Option (List ℕ)) (status : Status) (old mid new : K) (adapters now : List Standing) (errors : ℕ)
-    → IfSome input (λ bytes. OpensAs (opening bytes) bytes desc lines left) → mid ≡ old
-    → PlaysRest desc (input_of lines left) status (written mid) (written new) adapters now errors
-    → IfSome input (λ bytes. RunsSession (opening bytes) bytes status (written old) (written new) adapters now (Some errors))
-runs_played written input opening desc lines left status old mid new adapters now errors opens same p =
-    runs_behind written input opening desc lines left status old mid new adapters now (Some errors) opens same p (λ none. absurd (cc))
+    (desc : DescData) (lines : Reading) (left : Option (List ℕ)) (status : Status) (old mid new : K) (adapters now : List Standing)
+    (first : DescData → Account) (begun account : Account)
+    → IfSome input (λ bytes. OpensAs (opening bytes) bytes desc lines left) → mid ≡ old → begun ≡ first desc
+    → PlaysRest desc (input_of lines left) status (written mid) (written new) adapters now begun account
+    → IfSome input (λ bytes. RunsSession (opening bytes) bytes status (written old) (written new) adapters now first (Some account))
+runs_played written input opening desc lines left status old mid new adapters now first begun account opens same is p =
+    runs_behind written input opening desc lines left status old mid new adapters now first (Some account) opens same
+    (subst (λ a. PlaysRest desc (input_of lines left) status (written mid) (written new) adapters now a account) is p) (λ none. absurd (cc))
 
 -- it had no device
 pub runs_unmade : {K : Type 0} (written : K → Option (List ℕ)) (input : Option (List ℕ)) (opening : List ℕ → Result DescData (List ℕ))
-    (desc : DescData) (lines : Reading) (left : Option (List ℕ)) (status : Status) (old mid : K) (adapters : List Standing)
+    (desc : DescData) (lines : Reading) (left : Option (List ℕ)) (status : Status) (old mid : K) (adapters : List Standing) (first : DescData → Account)
     → IfSome input (λ bytes. OpensAs (opening bytes) bytes desc lines left) → mid ≡ old → is_complete status ≡ false
-    → IfSome input (λ bytes. RunsSession (opening bytes) bytes status (written old) (written mid) adapters adapters None)
-runs_unmade written input opening desc lines left status old mid adapters opens same broken =
-    runs_behind written input opening desc lines left status old mid mid adapters adapters None opens same
-    (rest_cut desc (input_of lines left) status (written mid) adapters 0 refl broken)
+    → IfSome input (λ bytes. RunsSession (opening bytes) bytes status (written old) (written mid) adapters adapters first None)
+runs_unmade written input opening desc lines left status old mid adapters first opens same broken =
+    runs_behind written input opening desc lines left status old mid mid adapters adapters first None opens same
+    (rest_cut desc (input_of lines left) status (written mid) adapters (first desc) broken)
     (λ none. record { broken = broken; unwritten = Keeps-refl (written mid); untouched = refl })
 
 -- what holds holds where the session is refused
@@ -188,17 +199,20 @@ tells_finished status result old mid new text same kept t = record {
 }
 
 plays_finished : (desc : DescData) (bytes : List ℕ) (status result : Status) (old mid new : Option (List ℕ)) (adapters now : List Standing)
-    (errors : ℕ) → (result ≢ SinkFault → result ≡ status) → KeepsEarlier old new → Keeps mid new
-    → PlaysLines desc (lines_of bytes) status old mid adapters now errors → PlaysLines desc (lines_of bytes) result old new adapters now errors
-plays_finished desc bytes status result old mid new adapters now errors same earlier kept p =
+    (first account : Account) → (result ≢ SinkFault → result ≡ status) → KeepsEarlier old new → Keeps mid new
+    → PlaysLines desc (lines_of bytes) status old mid adapters now first account → PlaysLines desc (lines_of bytes) result old new adapters now first account
+plays_finished desc bytes status result old mid new adapters now first account same earlier kept p =
     let held : Keeps p.last.text new = subst (λ t. Keeps t new) (sym p.text_is) kept in
+    let all = plays_written 1 (first_point desc adapters first old) (Some bytes) p.last new [] status result same earlier
+    (subst (Keeps p.last.text) (sym (append_none new)) held) (λ c. held) (λ f. held) p.plays in
     record {
       last = record p.last { text = new };
-      plays = plays_written 1 (first_point desc adapters old) (Some bytes) p.last new [] status result same earlier
-          (subst (Keeps p.last.text) (sym (append_none new)) held) (λ c. held) (λ f. held) p.plays;
+      plays = all;
       text_is = refl;
       adapters_are = p.adapters_are;
-      errors_are = p.errors_are;
+      account_is = p.account_is;
+      asked = subst (IsAskedBy first (told_by all.done all.close)) p.account_is
+          (lines_asked 1 (first_point desc adapters first old).scene (lines_of bytes) all.done all.close p.last.scene all.happens);
     }
 
 still_broken : (status result : Status) → (result ≢ SinkFault → result ≡ status) → is_complete status ≡ false → is_complete result ≡ false
@@ -218,20 +232,20 @@ unreached_finished status result old mid new adapters now same kept u = record {
 }
 
 runs_ended : (opening : Result DescData (List ℕ)) (bytes : List ℕ) (status result : Status) (old mid new : Option (List ℕ))
-    (adapters now : List Standing) (errors : Option ℕ) → (result ≢ SinkFault → result ≡ status) → KeepsEarlier old new → Keeps mid new
-    → RunsSession opening bytes status old mid adapters now errors → RunsSession opening bytes result old new adapters now errors
-runs_ended opening bytes status result old mid new adapters now errors same earlier kept r = record {
+    (adapters now : List Standing) (first : DescData → Account) (account : Option Account) → (result ≢ SinkFault → result ≡ status) → KeepsEarlier old new → Keeps mid new
+    → RunsSession opening bytes status old mid adapters now first account → RunsSession opening bytes result old new adapters now first account
+runs_ended opening bytes status result old mid new adapters now first account same earlier kept r = record {
   refused = λ line e. tells_finished status result old mid new line same kept (r.refused line e);
   untouched = r.untouched;
-  played = λ desc e. plays_finished desc (behind (separator_at bytes) bytes) status result old mid new adapters now (unwrap_or errors 0) same earlier kept
+  played = λ desc e. plays_finished desc (behind (separator_at bytes) bytes) status result old mid new adapters now (first desc) (unwrap_or account (first desc)) same earlier kept
       (r.played desc e);
   unreached = λ desc e none. unreached_finished status result old mid new adapters now same kept (r.unreached desc e none);
 }
 
 pub runs_finished : (input : Option (List ℕ)) (opening : List ℕ → Result DescData (List ℕ)) (status result : Status)
-    (old mid new : Option (List ℕ)) (adapters now : List Standing) (errors : Option ℕ) → (result ≢ SinkFault → result ≡ status)
-    → KeepsEarlier old new → Keeps mid new → IfSome input (λ bytes. RunsSession (opening bytes) bytes status old mid adapters now errors)
-    → IfSome input (λ bytes. RunsSession (opening bytes) bytes result old new adapters now errors)
-runs_finished None opening status result old mid new adapters now errors same earlier kept r = tt
-runs_finished (Some bytes) opening status result old mid new adapters now errors same earlier kept r =
-    runs_ended (opening bytes) bytes status result old mid new adapters now errors same earlier kept r
+    (old mid new : Option (List ℕ)) (adapters now : List Standing) (first : DescData → Account) (account : Option Account) → (result ≢ SinkFault → result ≡ status)
+    → KeepsEarlier old new → Keeps mid new → IfSome input (λ bytes. RunsSession (opening bytes) bytes status old mid adapters now first account)
+    → IfSome input (λ bytes. RunsSession (opening bytes) bytes result old new adapters now first account)
+runs_finished None opening status result old mid new adapters now first account same earlier kept r = tt
+runs_finished (Some bytes) opening status result old mid new adapters now first account same earlier kept r =
+    runs_ended (opening bytes) bytes status result old mid new adapters now first account same earlier kept r

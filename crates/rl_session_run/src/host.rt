@@ -14,7 +14,9 @@ use std::alloc::{AllocError, Global};
 
 /// What a session runs on: a device that reports nothing, and what of a description it can't have.
 pub trait Host: Check {
-    ghost use Rattle.std.specs.Prelude.{Bool};
+    ghost use Rattle.std.specs.Prelude.{◌≡◌, Bool};
+    ghost use Rattle.rl_bus.specs.Account.{Account};
+    ghost use Rattle.rl_desc.specs.Data.{DescData};
 
     /// The device.
     type Made: Device + Drop;
@@ -26,10 +28,16 @@ pub trait Host: Check {
     fn has_backdoor(&self) -> bool
         ensures { result ≡ backdoor };
 
+    /// The account of the device that it makes for a description.
+    ghost first: { Self → DescData → Account };
+
+    /// It hasn't failed.
+    ghost unfailed: { (host : Self) (desc : DescData) → (first host desc).errors ≡ 0 };
+
     /// The device of a description that passed the check.
     fn device(self, alloc: Global, desc: &Desc) -> Result<Self::Made, AllocError>
         ensures silent { IfOk result (λ device. Self.Made.state device ≡ None) }
-        ensures unfailed { IfOk result (λ device. Self.Made.errors device ≡ 0) };
+        ensures first { IfOk result (λ device. Self.Made.account device ≡ first self desc.now) };
 }
 
 // Takes the backdoors of a description away, where the device has none.
@@ -52,8 +60,8 @@ pub struct Hosted<D> {
 
 /// Runs a session on the device that a host makes for it, and writes its log.
 ///
-/// The description is read and checked before there is a device. The log is finished once, where its last line was
-/// written.
+/// The description is read and checked before there is a device. Where the device has no backdoor, no item of the
+/// description has one from there on. The log is finished once, where its last line was written.
 ///
 /// # Examples
 ///
@@ -74,13 +82,13 @@ pub fn run_on<P: Source, Q: Sink, H: Host + Drop>(
 ) -> Hosted<H::Made>
     requires few { length (map standing adapters.old.items) < 2 ^ 32 }
 
-    // Which sessions are refused and in what words, what is written of the others, the statuses, and where the device
-    // is handed out, which has failed as often as the log's events say, one fact a field.
+    // Which sessions are refused and in what words, what is written of the others, the statuses, and where the device is
+    // handed out, which was asked exactly what the log's events say, one fact a field.
     ensures does { IfSome (P.left session.old) (λ bytes.
         RunsSession (opening_on H.backdoor (H.over (opening_of bytes (kinds_of (map standing adapters.old.items)))))
         bytes result.status
         (Q.written log.old) (Q.written log.new) (map standing adapters.old.items) (map standing adapters.new.items)
-        (option_map H.Made.errors result.device)) }
+        (H.first host) (option_map H.Made.account result.device)) }
     ensures unmade { IfSome (P.left session.old) (λ bytes. (line : List ℕ)
         → opening_on H.backdoor (H.over (opening_of bytes (kinds_of (map standing adapters.old.items)))) ≡ Err line
         → IsNone result.device) }

@@ -22,10 +22,9 @@ pub fn play_described<S: Source, K: Sink, D: Device>(
 ) -> Status
     requires awaits { AwaitsScript desc lines.old (kinds_of (map standing adapters.old.items)) }
     requires silent { D.state device.old ≡ None }
-    requires unfailed { D.errors device.old ≡ 0 }
     ensures plays { PlaysRest desc (input_of lines.old (S.left source.old)) result
         (K.written log.old) (K.written log.new) (map standing adapters.old.items) (map standing adapters.new.items)
-        (D.errors device.new) }
+        (D.account device.old) (D.account device.new) }
     ensures kinds { kinds_of (map standing adapters.new.items) ≡ kinds_of (map standing adapters.old.items) }
     ensures leaves { LeavesOpen K.Sink result (S.faults source.old) (S.faults source.new) log.old log.new }
 {

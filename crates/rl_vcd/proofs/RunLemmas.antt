@@ -5,6 +5,7 @@ use Rattle.std.proofs.KnownBytes.{Keeps-refl}
 use Rattle.rl_access.specs.Call.{scene}
 use Rattle.rl_access.specs.Model.{ModelData}
 use Rattle.rl_access.specs.World.{IsAt}
+use Rattle.rl_bus.specs.Account.{Account, without_peer}
 use Rattle.rl_bus.specs.Standing.{Standing}
 use Rattle.rl_bus.specs.State.{State}
 use Rattle.rl_bus.specs.declared.op.AdapterKind.{AdapterKind}
@@ -42,20 +43,20 @@ use Rattle.rl_vcd.proofs.ScriptLemmas.{draws_cut, plays_on}
 
 -- ---- from the first state
 
-abbrev point_of : ModelData → List Standing → (errors : ℕ) → State → (text : Option (List ℕ)) → Counts → Point
-point_of m adapters errors state text counts =
-    record { scene = scene m adapters errors (Some state); text = text; counts = counts }
+abbrev point_of : ModelData → List Standing → (account : Account) → State → (text : Option (List ℕ)) → Counts → Point
+point_of m adapters account state text counts =
+    record { scene = scene m adapters account (Some state); text = text; counts = counts }
 
 some_is : {A : Type 0} {x y : A} → Some x ≡ Some y → x ≡ y
 some_is e = cc
 
-first_is : (desc : DescData) (m : ModelData) (errors : ℕ) (state : State) (adapters : List Standing) (text : Option (List ℕ))
+first_is : (desc : DescData) (m : ModelData) (account : Account) (state : State) (adapters : List Standing) (text : Option (List ℕ))
     (counts : Counts) → counts ≡ no_counts → IsAt m adapters (Some state) (first_world desc adapters)
-    → point_of m adapters errors state text counts ≡ first_point desc adapters errors text
-first_is desc m errors state adapters text counts none here =
-    ap (λ c. point_of m adapters errors state text c) none
-    ∙ ap (λ m. point_of m adapters errors state text no_counts) here.model_is
-    ∙ ap (λ s. point_of (first_world desc adapters).model adapters errors s text no_counts) (some_is here.device_is)
+    → point_of m adapters account state text counts ≡ first_point desc adapters account text
+first_is desc m account state adapters text counts none here =
+    ap (λ c. point_of m adapters account state text c) none
+    ∙ ap (λ m. point_of m adapters account state text no_counts) here.model_is
+    ∙ ap (λ s. point_of (first_world desc adapters).model adapters account s text no_counts) (some_is here.device_is)
 
 -- ---- what a session opens with
 
@@ -107,18 +108,18 @@ kept_on old told new kept keeps held h =
 module _ {K : Type 0} (sink : Sink K) where
   -- ---- a script
 
-  from_lines : (desc : DescData) (lines : List (List ℕ)) (status result : Status) (errors : ℕ) (p last : Point)
+  from_lines : (desc : DescData) (lines : List (List ℕ)) (status result : Status) (account : Account) (p last : Point)
       (old : Option (List ℕ)) (adapters : List Standing) (d new : Dump K) (fault : Option Fault) (now : K) → result ≡ status
-      → p ≡ first_point desc adapters errors old → HasBegun desc.layout d → Closes sink new fault now
+      → p ≡ first_point desc adapters account old → HasBegun desc.layout d → Closes sink new fault now
       → DrawsLines sink 1 p lines last status d new
       → DrawsFrom sink desc lines old last.text adapters d.sink result fault now
-  from_lines desc lines status result errors p last old adapters d new fault now same here b closed drawn =
+  from_lines desc lines status result account p last old adapters d new fault now same here b closed drawn =
       let first = subst (λ p. DrawsLines sink 1 p lines last status d new) here drawn in
-      let all : DrawsLines sink 1 (first_point desc adapters errors old) lines last result d new =
-      subst (λ s. DrawsLines sink 1 (first_point desc adapters errors old) lines last s d new) (sym same) first in
+      let all : DrawsLines sink 1 (first_point desc adapters account old) lines last result d new =
+      subst (λ s. DrawsLines sink 1 (first_point desc adapters account old) lines last s d new) (sym same) first in
       let events = told_by all.plays.done all.plays.close in
       record {
-        errors = errors;
+        account = account;
         last = last;
         plays = all.plays;
         text_is = refl;
@@ -127,16 +128,16 @@ module _ {K : Type 0} (sink : Sink K) where
       }
 
   -- the lines that are left were run and drawn
-  pub rest_drawn : (desc : DescData) (input : Option (List ℕ)) (status result : Status) (m : ModelData) (errors : ℕ) (state : State)
+  pub rest_drawn : (desc : DescData) (input : Option (List ℕ)) (status result : Status) (m : ModelData) (account : Account) (state : State)
       (counts : Counts) (adapters : List Standing) (old : Option (List ℕ)) (after : Point) (d new : Dump K) (fault : Option Fault) (now : K)
       → counts ≡ no_counts → IsAt m adapters (Some state) (first_world desc adapters) → result ≡ status
       → HasBegun desc.layout d → Closes sink new fault now
-      → DrawsInput sink 1 (point_of m adapters errors state old counts) input after status d new
+      → DrawsInput sink 1 (point_of m adapters account state old counts) input after status d new
       → DrawsRest sink desc input old after.text adapters d.sink result fault now
-  rest_drawn desc None status result m errors state counts adapters old after d new fault now none here same b closed drawn = tt
-  rest_drawn desc (Some bytes) status result m errors state counts adapters old after d new fault now none here same b closed drawn =
-      inr (from_lines desc (lines_of bytes) status result errors (point_of m adapters errors state old counts) after old adapters
-      d new fault now same (first_is desc m errors state adapters old counts none here) b closed drawn)
+  rest_drawn desc None status result m account state counts adapters old after d new fault now none here same b closed drawn = tt
+  rest_drawn desc (Some bytes) status result m account state counts adapters old after d new fault now none here same b closed drawn =
+      inr (from_lines desc (lines_of bytes) status result account (point_of m adapters account state old counts) after old adapters
+      d new fault now same (first_is desc m account state adapters old counts none here) b closed drawn)
 
   -- memory ran out before the first of them
   pub rest_cut : (desc : DescData) (input : Option (List ℕ)) (status : Status) (adapters : List Standing) (old : Option (List ℕ))
@@ -144,8 +145,8 @@ module _ {K : Type 0} (sink : Sink K) where
       → DrawsRest sink desc input old old adapters d.sink status fault now
   rest_cut desc None status adapters old d fault now early b closed = tt
   rest_cut desc (Some bytes) status adapters old d fault now early b closed =
-      let p = first_point desc adapters 0 old in
-      inr (from_lines desc (lines_of bytes) status status 0 p p old adapters d d fault now refl refl b closed
+      let p = first_point desc adapters (without_peer 0) old in
+      inr (from_lines desc (lines_of bytes) status status (without_peer 0) p p old adapters d d fault now refl refl b closed
       (draws_cut sink 1 p old (Some bytes) status status d refl early (Keeps-refl old)))
 
   -- and before its dump
@@ -222,9 +223,9 @@ module _ {K : Type 0} (sink : Sink K) where
     script_written : (desc : DescData) (lines : List (List ℕ)) → DrawsFrom sink desc lines old told adapters before status fault now
         → DrawsFrom sink desc lines old new adapters before result fault now
     script_written desc lines d = record {
-      errors = d.errors;
+      account = d.account;
       last = record d.last { text = new };
-      plays = plays_on 1 (first_point desc adapters d.errors old) lines d.last new kept status result same keeps
+      plays = plays_on 1 (first_point desc adapters d.account old) lines d.last new kept status result same keeps
           (subst (λ t. Keeps t (append_known new kept)) (sym d.text_is) held)
           (λ c. subst (λ t. Keeps t new) (sym d.text_is) (whole c))
           (λ f. subst (λ t. Keeps t new) (sym d.text_is) (at_fault (same_status status result same f))) d.plays;

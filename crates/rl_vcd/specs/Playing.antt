@@ -5,6 +5,7 @@ use Rattle.rl_access.specs.Call.{scene}
 use Rattle.rl_access.specs.Model.{ModelData, IsReady, IsSameChip}
 use Rattle.rl_bench.specs.State.{bench_state, failures_of}
 use Rattle.rl_bench.specs.declared.bench.Bench.{Bench}
+use Rattle.rl_bus.specs.Account.{Account, without_peer}
 use Rattle.rl_bus.specs.Causes.{HasCause}
 use Rattle.rl_bus.specs.Standing.{Standing}
 use Rattle.rl_bus.specs.State.{State}
@@ -19,7 +20,7 @@ use Rattle.rl_vcd.specs.declared.session.Session.{Session}
 -- where a run stands on the device model, with this text written and these counts
 abbrev pub point_at : ModelData → Bench → (adapters : List Standing) → (text : Option (List ℕ)) → Counts → Point
 point_at model bench adapters text counts = record {
-  scene = scene model adapters (failures_of bench) (Some (bench_state bench));
+  scene = scene model adapters (without_peer (failures_of bench)) (Some (bench_state bench));
   text = text;
   counts = counts;
 }
@@ -29,10 +30,10 @@ abbrev pub spot_of : {K : Type 0} → Session K → (adapters : List Standing) �
 spot_of s adapters text = point_at s.model s.bench adapters text s.counts
 
 -- where a run stands while a recorder writes and counts
-abbrev pub recorded : {A D L K : Type 0} → (A → Standing) → (D → ℕ) → (D → Option State) → (L → Option (List ℕ))
+abbrev pub recorded : {A D L K : Type 0} → (A → Standing) → (D → Account) → (D → Option State) → (L → Option (List ℕ))
     → ModelData → List A → D → Drawing L K → Point
-recorded standing errors state written model adapters device rec =
-    spot standing errors state written model adapters device rec.log.now rec.counts
+recorded standing account state written model adapters device rec =
+    spot standing account state written model adapters device rec.log.now rec.counts
 
 -- A recorder was told of the events of some work: each was written, drawn and counted, and the next call may follow. It
 -- failed only where the log has failed once more. Log and dump are the same, and the log was ended as often, and its

@@ -2,6 +2,7 @@
 use Rattle.std.specs.Prelude.{◌≡◌, ◌⊎◌, ℕ, List, false, Option, Some, None, IfSome, Result, Ok, Err}
 use Rattle.std.specs.Io.KnownBytes.{Keeps}
 use Rattle.rl_access.specs.Call.{scene}
+use Rattle.rl_bus.specs.Account.{Account}
 use Rattle.rl_bus.specs.Standing.{Standing}
 use Rattle.rl_desc.specs.Data.{DescData}
 use Rattle.rl_log.specs.Recording.{no_counts}
@@ -28,21 +29,21 @@ pub record HasBegun {K : Type 0} (l : LayoutData) (d : Dump K) : Type 0 where
   pub sound : d.fault ≡ None
 
 -- before its first line: a model and a device model that were just built, which have failed so often
-abbrev pub first_point : DescData → List Standing → (errors : ℕ) → (text : Option (List ℕ)) → Point
-first_point desc adapters errors text =
+abbrev pub first_point : DescData → List Standing → (account : Account) → (text : Option (List ℕ)) → Point
+first_point desc adapters account text =
     let w = first_world desc adapters in
-    record { scene = scene w.model adapters errors (Some w.device); text = text; counts = no_counts }
+    record { scene = scene w.model adapters account (Some w.device); text = text; counts = no_counts }
 
 -- ---- a script
 
 -- Lines were played from there on, and drawn: the log went from `old` to `new`, and the dump from `before` to `now`.
 pub record DrawsFrom {K : Type 0} (sink : Sink K) (desc : DescData) (lines : List (List ℕ)) (old new : Option (List ℕ))
     (adapters : List Standing) (before : K) (status : Status) (fault : Option Fault) (now : K) : Type 0 where
-  pub errors : ℕ
+  pub account : Account
   pub last : Point
   -- What was written is the text of events, each of which performs its line's operation from where the one before
   -- ended. After a log that failed, and where memory ran out, it is a front of that.
-  pub plays : Plays 1 (first_point desc adapters errors old) lines last status
+  pub plays : Plays 1 (first_point desc adapters account old) lines last status
   pub text_is : last.text ≡ new
   -- The dump is that of exactly these events.
   pub dump : IsDumpOf sink before desc.layout (told_by plays.done plays.close) fault now

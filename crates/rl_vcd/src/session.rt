@@ -49,8 +49,8 @@ fn record_sequence<D: Device, L: Log, K: Sink>(
     requires ready { IsReady model.old (each standing adapters.old.items) (D.state device.old) }
     requires block { IfSome block (λ b. b < model.old.chip.blocks) }
     ensures { IsHandedOver L.Sink K.Sink (planned (plan_of which model.old block))
-        (recorded standing D.errors D.state L.written model.old adapters.old.items device.old rec.old)
-        (recorded standing D.errors D.state L.written model.new adapters.new.items device.new rec.new)
+        (recorded standing D.account D.state L.written model.old adapters.old.items device.old rec.old)
+        (recorded standing D.account D.state L.written model.new adapters.new.items device.new rec.new)
         rec.old rec.new result }
 {
     match which {
@@ -86,8 +86,8 @@ fn run_sequence<D: Device, L: Log, K: Sink>(
     requires ready { IsReady model.old (each standing adapters.old.items) (D.state device.old) }
     requires block { IfSome block (λ b. b < model.old.chip.blocks) }
     ensures draws { DrawsTallied K.Sink (planned (plan_of which model.old block))
-        (spot standing D.errors D.state L.written model.old adapters.old.items device.old log.old counts.old)
-        (spot standing D.errors D.state L.written model.new adapters.new.items device.new log.new counts.new)
+        (spot standing D.account D.state L.written model.old adapters.old.items device.old log.old counts.old)
+        (spot standing D.account D.state L.written model.new adapters.new.items device.new log.new counts.new)
         dump.old dump.new result }
     ensures ready { StaysReady model.old model.new (each standing adapters.new.items) (D.state device.new) }
     ensures stays { SinkStays L.Sink log.old log.new result }
@@ -119,8 +119,8 @@ fn run_writes<D: Device, L: Log, K: Sink>(
     requires mem { mem < length model.old.chip.mems }
     requires map { IsMapIn (length model.old.layout.maps) map }
     ensures draws { DrawsTallied K.Sink (burst_write_work model.old mem map first values.now)
-        (spot standing D.errors D.state L.written model.old adapters.old.items device.old log.old counts.old)
-        (spot standing D.errors D.state L.written model.new adapters.new.items device.new log.new counts.new)
+        (spot standing D.account D.state L.written model.old adapters.old.items device.old log.old counts.old)
+        (spot standing D.account D.state L.written model.new adapters.new.items device.new log.new counts.new)
         dump.old dump.new result }
     ensures ready { StaysReady model.old model.new (each standing adapters.new.items) (D.state device.new) }
     ensures stays { SinkStays L.Sink log.old log.new result }
@@ -152,8 +152,8 @@ fn run_reads<D: Device, L: Log, K: Sink>(
     requires mem { mem < length model.old.chip.mems }
     requires map { IsMapIn (length model.old.layout.maps) map }
     ensures draws { DrawsTallied K.Sink (burst_read_work model.old mem map first count)
-        (spot standing D.errors D.state L.written model.old adapters.old.items device.old log.old counts.old)
-        (spot standing D.errors D.state L.written model.new adapters.new.items device.new log.new counts.new)
+        (spot standing D.account D.state L.written model.old adapters.old.items device.old log.old counts.old)
+        (spot standing D.account D.state L.written model.new adapters.new.items device.new log.new counts.new)
         dump.old dump.new result }
     ensures ready { StaysReady model.old model.new (each standing adapters.new.items) (D.state device.new) }
     ensures stays { SinkStays L.Sink log.old log.new result }

@@ -139,8 +139,8 @@ impl Weave {
         requires open { Contains self.old.still_open which }
         requires ready { IsReady model.old (each standing adapters.old.items) (D.state device.old) }
         requires weave { IsWeaveOn model.old self.old }
-        ensures steps { IsStepOf (scene_of standing D.errors D.state model.old adapters.old.items device.old)
-            (scene_of standing D.errors D.state model.new adapters.new.items device.new)
+        ensures steps { IsStepOf (scene_of standing D.account D.state model.old adapters.old.items device.old)
+            (scene_of standing D.account D.state model.new adapters.new.items device.new)
             (woven_at self.old.accesses which) result }
         ensures stepped { self.new ≡ stepped self.old which result.item }
         ensures fewer { words_left self.new < words_left self.old }
@@ -171,8 +171,8 @@ impl Weave {
         requires open { Contains self.old.still_open which }
         requires ready { IsReady model.old (each standing adapters.old.items) (D.state device.old) }
         requires weave { IsWeaveOn model.old self.old }
-        ensures steps { IsStepOf (scene_of standing D.errors D.state model.old adapters.old.items device.old)
-            (scene_of standing D.errors D.state model.new adapters.new.items device.new)
+        ensures steps { IsStepOf (scene_of standing D.account D.state model.old adapters.old.items device.old)
+            (scene_of standing D.account D.state model.new adapters.new.items device.new)
             (woven_at self.old.accesses which) (step_told result event.new) }
         ensures stepped { self.new ≡ stepped self.old which result.item }
         ensures fewer { words_left self.new < words_left self.old }

@@ -1,6 +1,7 @@
 -- The words of a group, on the device model with whatever flaws.
 use Rattle.std.proofs.Common.{◌≡◌, ℕ, zero, suc, ◌+◌, ◌<◌, Bool, true, false, cond, is_some, unwrap_or, List, [], ◌∷◌, ◌++◌, length, Option, None, Some, refl, sym, ap, ◌∙◌, subst, arith}
 use Rattle.std.proofs.lemmas.Option.{slice_get-get_or}
+use Rattle.rl_bus.specs.Account.{without_peer}
 use Rattle.rl_access.specs.declared.event.Event.{Event}
 use Rattle.rl_access.specs.declared.trace.TraceItem.{TraceItem}
 use Rattle.rl_access.specs.Model.{ModelData, IsModel}
@@ -42,7 +43,7 @@ turns_same m n (t ∷ turns) chip layout =
 -- ---- a word is a step
 
 word_is_step : (g : Weaving) (errors : ℕ) → IsModel g.world.model → IsWeave g.weave → IsOpen g.weave (which_at g) → AreBegun g.world.model g.weave
-    → IsStepOf (scene_at g.world errors) (scene_at (word_at g).after.world (errors + 1)) (woven_now g) (step_at g)
+    → IsStepOf (scene_at g.world (without_peer errors)) (scene_at (word_at g).after.world (without_peer (errors + 1))) (woven_now g) (step_at g)
 word_is_step g errors model ok there begun =
     let v = woven_now g in
     let l = g.world.model.layout in
@@ -58,7 +59,7 @@ word_is_step g errors model ok there begun =
         op = slice_get-get_or ops (length v.items) no_op low;
         item_is = refl;
         adapters = refl;
-        cause = record { later = omega arith; failed = λ f. omega arith };
+        asked = record { cause = record { later = omega arith; failed = λ f. omega arith }; talks = tt };
         step = record { goes = refl; answers = λ s is. cc };
         model = refl;
       };
@@ -73,7 +74,7 @@ turn_at g = record { which = which_at g; step = step_at g }
 record IsRun (g : Weaving) (errors : ℕ) (part : Part) : Type 0 where
   turns : List Turn
   later : ℕ
-  run : RunsTo g.weave (scene_at g.world errors) turns part.after.weave (scene_at part.after.world later)
+  run : RunsTo g.weave (scene_at g.world (without_peer errors)) turns part.after.weave (scene_at part.after.world (without_peer later))
   text : part.text ≡ turns_text g.world.model turns
   counted : part.after.counts ≡ counted_in g.counts (events_of turns)
   sound : IsModel part.after.world.model
@@ -91,7 +92,7 @@ none_run g errors model begun = record {
 }
 
 one_run : (g : Weaving) (errors : ℕ) (others : Weaving → Part) → IsModel g.world.model → IsOpen g.weave (which_at g)
-    → IsStepOf (scene_at g.world errors) (scene_at (word_at g).after.world (errors + 1)) (woven_now g) (step_at g)
+    → IsStepOf (scene_at g.world (without_peer errors)) (scene_at (word_at g).after.world (without_peer (errors + 1))) (woven_now g) (step_at g)
     → IsRun (word_at g).after (errors + 1) (others (word_at g).after) → IsRun g errors (followed (word_at g) others)
 one_run g errors others model there here rest =
     let next = (word_at g).after in
@@ -102,7 +103,7 @@ one_run g errors others model there here rest =
     record {
       turns = turn_at g ∷ rest.turns;
       later = rest.later;
-      run = (scene_at next.world (errors + 1), model, there, here, rest.run);
+      run = (scene_at next.world (without_peer (errors + 1)), model, there, here, rest.run);
       text = ap (λ t. t ++ (others next).text) (text_same m n (item_at g) (step_at g).end chip layout)
           ∙ ap (λ t. step_text m (item_at g) (step_at g).end ++ t) (rest.text ∙ turns_same m n rest.turns chip layout);
       counted = rest.counted ∙ sym (counted_on (step_at g).end (events_of rest.turns) g.counts);
@@ -124,7 +125,7 @@ runs (suc most) g errors model ok begun =
         let next = (word_at g).after in
         let there = is_open g some in
         let here = word_is_step g errors model ok there begun in
-        let taken = each_word_is_taken (scene_at g.world errors) (scene_at next.world (errors + 1)) g.weave (which_at g) (step_at g) model ok there begun here in
+        let taken = each_word_is_taken (scene_at g.world (without_peer errors)) (scene_at next.world (without_peer (errors + 1))) g.weave (which_at g) (step_at g) model ok there begun here in
         one_run g errors (words most) model there here
         (others next (errors + 1) taken.sound (weave_stepped g.weave (which_at g) (item_at g) ok there) taken.begun)
 

@@ -1,6 +1,7 @@
 -- The words of a group are steps of its weave.
 use Rattle.std.proofs.Common.{ℕ, ◌+◌, ◌<◌, is_some, unwrap_or, length, refl, arith}
 use Rattle.std.proofs.lemmas.Option.{slice_get-get_or}
+use Rattle.rl_bus.specs.Account.{without_peer}
 use Rattle.rl_bus.specs.State.{State}
 use Rattle.rl_access.specs.Model.{IsModel}
 use Rattle.rl_access.specs.Observed.{word_ops}
@@ -28,7 +29,7 @@ step_at g = record { item = item_at g; end = end_of (word_at g).after.world.mode
 -- its device's count of errors rises whatever it answers
 pub word_is_step : (g : Weaving) (errors : ℕ) (begun : State) (p : Machine) → IsModel g.world.model → IsWeave g.weave
     → IsOpen g.weave (which_at g) → IsHalf begun p g.world.model g.world.device g.weave
-    → IsStepOf (scene_at g.world errors) (scene_at (word_at g).after.world (errors + 1)) (woven_now g) (step_at g)
+    → IsStepOf (scene_at g.world (without_peer errors)) (scene_at (word_at g).after.world (without_peer (errors + 1))) (woven_now g) (step_at g)
 word_is_step g errors begun p model ok there half =
     let v = woven_now g in
     let l = g.world.model.layout in
@@ -44,7 +45,7 @@ word_is_step g errors begun p model ok there half =
         op = slice_get-get_or ops (length v.items) no_op low;
         item_is = refl;
         adapters = refl;
-        cause = record { later = omega arith; failed = λ f. omega arith };
+        asked = record { cause = record { later = omega arith; failed = λ f. omega arith }; talks = tt };
         step = record { goes = refl; answers = λ s is. cc };
         model = refl;
       };

@@ -3,6 +3,7 @@ use Rattle.std.proofs.Common.{◌≡◌, ℕ, zero, suc, ◌+◌, Bool, true, fa
 use Rattle.std.specs.List.{concat}
 use Rattle.std.specs.List.Sorted.{IsPermutation}
 use Rattle.std.proofs.lemmas.List.Sorted.{IsPermutation-map, length_permutation}
+use Rattle.rl_bus.specs.Account.{without_peer}
 use Rattle.rl_bus.specs.State.{State}
 use Rattle.rl_model.specs.Chip.{IsSound}
 use Rattle.rl_access.specs.Model.{ModelData, IsModel}
@@ -43,7 +44,7 @@ turns (suc most) g = cond (is_done g) [] (turn_at g ∷ turns most (word_at g).a
 -- what some of its words do and write
 record IsSent (m : ModelData) (g : Weaving) (errors : ℕ) (turns : List Turn) (part : Part) : Type 0 where
   later : ℕ
-  run : RunsTo g.weave (scene_at g.world errors) turns part.after.weave (scene_at part.after.world later)
+  run : RunsTo g.weave (scene_at g.world (without_peer errors)) turns part.after.weave (scene_at part.after.world (without_peer later))
   sound : IsModel part.after.world.model
   counted : part.after.counts ≡ counted_in g.counts (events_of turns)
   text : (rest : List ℕ)
@@ -69,7 +70,7 @@ module _ (m : ModelData) (chip : IsSound m.chip) (names : HasNames m.chip m.layo
       let more = concat (event_lines m (events_of ts)) in
       record {
         later = rest.later;
-        run = (scene_at next.world (errors + 1), model, there, here, rest.run);
+        run = (scene_at next.world (without_peer (errors + 1)), model, there, here, rest.run);
         sound = rest.sound;
         counted = rest.counted ∙ sym (counted_on (step_at g).end (events_of ts) g.counts);
         text = λ r.
@@ -98,8 +99,8 @@ module _ (m : ModelData) (chip : IsSound m.chip) (names : HasNames m.chip m.layo
       by true none others = none_sent m g errors model
       by false some others =
           let next = (word_at g).after in
-          let s = scene_at g.world errors in
-          let new = scene_at next.world (errors + 1) in
+          let s = scene_at g.world (without_peer errors) in
+          let new = scene_at next.world (without_peer (errors + 1)) in
           let there = is_open g some in
           let here = word_is_step g errors begun p model ok there half in
           let after = step_keeps_half s new begun g.world.device p g.weave (which_at g) (step_at g) model refl ok there half here in
@@ -114,7 +115,7 @@ module _ (m : ModelData) (chip : IsSound m.chip) (names : HasNames m.chip m.layo
 -- ---- a group
 
 -- whatever the count of errors
-agree_at : (w : World) (later : ℕ) → Agree (scene_at w later) → Agree (scene_at w 0)
+agree_at : (w : World) (later : ℕ) → Agree (scene_at w (without_peer later)) → Agree (scene_at w (without_peer 0))
 agree_at w later h = record { device = h.device; told = h.told; believed_is = h.believed_is; gathered = h.gathered }
 
 seen_again : (m n : ModelData) (p : Machine) → n ≡ seen m.chip m.layout p → n ≡ seen n.chip n.layout p
@@ -126,7 +127,7 @@ seen_again m n p is =
 pub group_is_plain : GroupIsPlain
 group_is_plain g p names world gathered =
     let m = g.world.model in
-    let s = scene_at g.world 0 in
+    let s = scene_at g.world (without_peer 0) in
     let a = world.agree in
     let w = g.weave in
     let ts = turns 512 g in
@@ -136,7 +137,7 @@ group_is_plain g p names world gathered =
     let begun : IsHalf a.device p m g.world.device w =
     subst (λ d. IsHalf a.device p m d w) (sym (some_is a.told)) half in
     let r = sent m world.sound.chip names 512 g 0 a.device p refl refl world.sound gathered.weave begun in
-    let new = scene_at after.world r.later in
+    let new = scene_at after.world (without_peer r.later) in
     let none = none_is_open g world.sound gathered.weave gathered.on in
     let plain = weave_is_plain s new p w after.weave ts world.sound a world.model gathered.weave gathered.on gathered.unsent r.run
     r.sound none in

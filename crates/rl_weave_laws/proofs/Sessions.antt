@@ -1,5 +1,6 @@
 -- What `weave` writes of a session on a device that does as described.
 use Rattle.std.proofs.Common.{◌≡◌, ℕ, List, length, Option, Some, None, IfSome, Result, Ok, Err, refl, sym, ap, subst}
+use Rattle.rl_bus.specs.Account.{without_peer}
 use Rattle.rl_flaw.specs.declared.flaw.Flaw.{Flaw}
 use Rattle.rl_flaw.specs.Flaws.{first_of}
 use Rattle.rl_bus.specs.Standing.{Standing, kinds_of}
@@ -31,7 +32,7 @@ first_model desc adapters = refl
 first_is_machine : (desc : DescData) (adapters : List Standing) → IsSteady desc → IsModel (first_world desc adapters).model
     → IsMachineWorld (first_world desc adapters) (first_machine desc.chip)
 first_is_machine desc adapters steady sound =
-    let both = first_ones_are_plain (scene_at (first_world desc adapters) 0) sound steady.fields refl
+    let both = first_ones_are_plain (scene_at (first_world desc adapters) (without_peer 0)) sound steady.fields refl
     (none_gathered (length desc.layout.places))
     (ap (λ (flaws : List Flaw). Some (first_of desc.chip desc.layout flaws)) steady.flaws) in
     record { sound = sound; agree = both.agree; model = first_model desc adapters }

@@ -1,5 +1,6 @@
 -- Woven accesses over any device, whatever it answers: the items of an access, its event, and what is believed.
 use Rattle.std.specs.Prelude.{◌≡◌, ℕ, ◌+◌, ◌<◌, true, false, List, [], ◌∷◌, ◌++◌, length, map, take, Ok, IfSome, IfNone}
+use Rattle.rl_bus.specs.Account.{without_peer}
 use Rattle.rl_model.specs.Rows.{ChipData}
 use Rattle.rl_model.specs.Fields.{fields_of}
 use Rattle.rl_map.specs.Layout.{words_of}
@@ -132,7 +133,7 @@ pub record IsGroupRun (g : Weaving) (errors : ℕ) : Type 0 where
   pub turns : List Turn
   pub left : WeaveData
   pub later : ℕ
-  pub run : RunsTo g.weave (scene_at g.world errors) turns left (scene_at (group g).after.world later)
+  pub run : RunsTo g.weave (scene_at g.world (without_peer errors)) turns left (scene_at (group g).after.world (without_peer later))
   pub none_left : left.still_open ≡ []
   pub text : (group g).text ≡ turns_text g.world.model turns
   pub counted : (group g).after.counts ≡ counted_in g.counts (events_of turns)

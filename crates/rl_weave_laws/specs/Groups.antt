@@ -2,6 +2,7 @@
 use Rattle.std.specs.Prelude.{◌≡◌, ℕ, List, [], ◌∷◌, ◌++◌, map}
 use Rattle.std.specs.List.{concat}
 use Rattle.std.specs.List.Sorted.{IsPermutation}
+use Rattle.rl_bus.specs.Account.{without_peer}
 use Rattle.rl_access.specs.declared.event.Event.{Event}
 use Rattle.rl_access.specs.Model.{ModelData, IsModel, IsSameChip}
 use Rattle.rl_access.specs.World.{World, scene_at}
@@ -35,7 +36,7 @@ pub record IsGathered (m : ModelData) (w : WeaveData) : Type 0 where
 -- the device has no flaw, no field is volatile, and device and model agree and are the machine's
 pub record IsMachineWorld (w : World) (p : Machine) : Type 0 where
   pub sound : IsModel w.model
-  pub agree : Agree (scene_at w 0)
+  pub agree : Agree (scene_at w (without_peer 0))
   pub model : w.model ≡ seen w.model.chip w.model.layout p
 
 -- ---- what it writes

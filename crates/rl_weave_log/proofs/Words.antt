@@ -9,6 +9,7 @@ use Rattle.std.proofs.lemmas.Option.{get_or_from_slice_get}
 use Rattle.std.specs.declared.option.Option.{Option}
 use Rattle.std.specs.declared.result.Result.{Result}
 use Rattle.std.specs.Io.KnownBytes.{Appends}
+use Rattle.rl_bus.specs.Account.{Account}
 use Rattle.rl_bus.specs.declared.op.Answer.{Answer}
 use Rattle.rl_bus.specs.declared.op.BusOp.{BusOp}
 use Rattle.rl_bus.specs.Standing.{Standing, standing_at}
@@ -34,9 +35,9 @@ use Rattle.rl_weave_log.specs.WeaveLog.{Weaving, Part, nothing, group, next_op, 
 
 -- ---- one word
 
-sent_is : (m n : ModelData) (a b : List Standing) (d : State) (errors later : ℕ) (after : Option State) (v : Woven) (step : Step)
-    → IsStepOf (scene m a errors (Some d)) (scene n b later after) v step → step.item ≡ item_sent (world m a d) v
-sent_is m n a b d errors later after v step h =
+sent_is : (m n : ModelData) (a b : List Standing) (d : State) (account later : Account) (after : Option State) (v : Woven) (step : Step)
+    → IsStepOf (scene m a account (Some d)) (scene n b later after) v step → step.item ≡ item_sent (world m a d) v
+sent_is m n a b d account later after v step h =
     let s = h.sent in
     let port = port_for m.layout v.place in
     let standing = standing_at a (adapter_for m.layout v.place) in
@@ -54,11 +55,11 @@ set w m a st x text counts =
 
 -- a step sends its item
 step_sends : {T E : Type 0} (old new : Option (List ℕ)) (w v : WeaveData) (m n : ModelData) (a b : List Standing) (d : State)
-    (errors later : ℕ) (after : Option State) (x which : ℕ) (step : Step) (counts now : Counts) (r : Result T E)
-    → IsStepOf (scene m a errors (Some d)) (scene n b later after) (woven_at w.accesses which) step
+    (account later : Account) (after : Option State) (x which : ℕ) (step : Step) (counts now : Counts) (r : Result T E)
+    → IsStepOf (scene m a account (Some d)) (scene n b later after) (woven_at w.accesses which) step
     → v ≡ stepped w which step.item → now ≡ counted_at_end counts step.end → Puts old new (step_text n step.item step.end) r
     → IsPart (sends (weaving w (world m a d) x counts) which step.item) old (set v n b after x new now) r
-step_sends old new w v m n a b d errors later after x which step counts now r h is counted puts =
+step_sends old new w v m n a b d account later after x which step counts now r h is counted puts =
     let u = woven_at w.accesses which in
     let model : n ≡ observing m step.item = h.sent.model in
     let ending : step.end ≡ end_of (observing m step.item) u step.item =
@@ -80,30 +81,30 @@ step_sends old new w v m n a b d errors later after x which step counts now r h 
 
 -- the step of the access that is drawn is the word drawn
 step_draws : {T E : Type 0} (old new : Option (List ℕ)) (w v : WeaveData) (m n : ModelData) (a b : List Standing) (d : State)
-    (errors later : ℕ) (after : Option State) (x y which : ℕ) (step : Step) (counts now : Counts) (r : Result T E)
+    (account later : Account) (after : Option State) (x y which : ℕ) (step : Step) (counts now : Counts) (r : Result T E)
     → y ≡ next_state x → which ≡ chosen w y
-    → IsStepOf (scene m a errors (Some d)) (scene n b later after) (woven_at w.accesses which) step
+    → IsStepOf (scene m a account (Some d)) (scene n b later after) (woven_at w.accesses which) step
     → v ≡ stepped w which step.item → now ≡ counted_at_end counts step.end → Puts old new (step_text n step.item step.end) r
     → IsPart (word_drawn (weaving w (world m a d) x counts)) old (set v n b after y new now) r
 unfolding word_drawn
-step_draws old new w v m n a b d errors later after x y which step counts now r drawn chose h is counted puts =
+step_draws old new w v m n a b d account later after x y which step counts now r drawn chose h is counted puts =
     let s = set v n b after y new now in
     let by_item : IsPart (word_by (weaving w (world m a d) y counts) which) old s r =
     subst (λ item. IsPart (sends (weaving w (world m a d) y counts) which item) old s r)
-    (sent_is m n a b d errors later after (woven_at w.accesses which) step h)
-    (step_sends old new w v m n a b d errors later after y which step counts now r h is counted puts) in
+    (sent_is m n a b d account later after (woven_at w.accesses which) step h)
+    (step_sends old new w v m n a b d account later after y which step counts now r h is counted puts) in
     subst (λ z. IsPart (word_by (weaving w (world m a d) z counts) (chosen w z)) old s r) drawn
     (subst (λ k. IsPart (word_by (weaving w (world m a d) y counts) k) old s r) chose by_item)
 
 pub step_writes : {T E : Type 0} (old new : Option (List ℕ)) (w v : WeaveData) (m n : ModelData) (a b : List Standing)
-    (st : Option State) (errors later : ℕ) (after : Option State) (x y which : ℕ) (step : Step) (counts now : Counts)
+    (st : Option State) (account later : Account) (after : Option State) (x y which : ℕ) (step : Step) (counts now : Counts)
     (r : Result T E) → y ≡ next_state x → which ≡ chosen w y
-    → IsStepOf (scene m a errors st) (scene n b later after) (woven_at w.accesses which) step
+    → IsStepOf (scene m a account st) (scene n b later after) (woven_at w.accesses which) step
     → v ≡ stepped w which step.item → now ≡ counted_at_end counts step.end → Puts old new (step_text n step.item step.end) r
     → IfSome st (λ d. IsPart (word_drawn (weaving w (world m a d) x counts)) old (set v n b after y new now) r)
-step_writes old new w v m n a b None errors later after x y which step counts now r drawn chose h is counted puts = tt
-step_writes old new w v m n a b (Some d) errors later after x y which step counts now r drawn chose h is counted puts =
-    step_draws old new w v m n a b d errors later after x y which step counts now r drawn chose h is counted puts
+step_writes old new w v m n a b None account later after x y which step counts now r drawn chose h is counted puts = tt
+step_writes old new w v m n a b (Some d) account later after x y which step counts now r drawn chose h is counted puts =
+    step_draws old new w v m n a b d account later after x y which step counts now r drawn chose h is counted puts
 
 -- the access that is drawn
 pub chosen_is : (w : WeaveData) (x i m which : ℕ) → slice_get w.still_open i ≡ Some which → i ≡ drawn x m

@@ -1,4 +1,5 @@
 // A device that doesn't tell its state.
+ghost use Rattle.rl_bus.specs.Account.{without_peer};
 ghost use Rattle.std.specs.Prelude.{◌<◌, None};
 
 use rl_bus::{Answer, BusOp, Cell, Device, Response, Transfer, carried, response_to};
@@ -54,7 +55,7 @@ fn touch(bytes: &mut [u8; 4], op: &BusOp) -> u8 {
 impl Device for Quiet {
     ghost state = { λ _. None };
 
-    ghost errors = { λ d. d.failures };
+    ghost account = { λ d. without_peer d.failures };
 
     fn transfer(&mut self, _port: u32, transfer: &Transfer) -> Response {
         let failed = self.fails();

@@ -1,4 +1,5 @@
 // A device that is no model of a chip.
+ghost use Rattle.rl_bus.specs.Account.{without_peer};
 ghost use Rattle.std.specs.Prelude.{None};
 
 use rl_bus::{Answer, Cell, Device, Response, Transfer, response_to};
@@ -23,7 +24,7 @@ impl Wavering {
 impl Device for Wavering {
     ghost state = { λ _. None };
 
-    ghost errors = { λ d. d.failures };
+    ghost account = { λ d. without_peer d.failures };
 
     fn transfer(&mut self, _port: u32, transfer: &Transfer) -> Response {
         let failed = self.transfers % 3 == 2;

@@ -1,4 +1,5 @@
 // A device that notes at each transfer how many lines of the log are out.
+ghost use Rattle.rl_bus.specs.Account.{without_peer};
 ghost use Rattle.std.specs.Prelude.{◌<◌, ◌^◌, None, length, map};
 ghost use Rattle.rl_access.specs.Model.{IsReady};
 
@@ -23,7 +24,7 @@ struct Noting<'a> {
 impl Device for Noting<'_> {
     ghost state = { λ _. None };
 
-    ghost errors = { λ _. 0 };
+    ghost account = { λ _. without_peer 0 };
 
     fn transfer(&mut self, _port: u32, transfer: &Transfer) -> Response {
         let _ = self.noted.push(self.heard.get());

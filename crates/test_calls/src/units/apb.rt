@@ -1,3 +1,4 @@
+ghost use Rattle.rl_bus.specs.Account.{without_peer};
 ghost use Rattle.std.specs.Prelude.{Option, None};
 
 use rl_apb::*;
@@ -18,7 +19,7 @@ struct Wavering {
 impl Device for Wavering {
     ghost state = { λ _. None };
 
-    ghost errors = { λ d. d.failures };
+    ghost account = { λ d. without_peer d.failures };
 
     fn transfer(&mut self, _port: u32, transfer: &Transfer) -> Response {
         let failed = self.fails_next;

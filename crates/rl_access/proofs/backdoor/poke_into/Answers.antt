@@ -8,4 +8,4 @@ pub returns-in-Ok-clause-performs : goal.returns-in-Ok-clause-performs
 returns-in-Ok-clause-performs g c =
     let m = c.args.model.now in
     let granted = then_only (fitting m (item.Reg c.args.reg) c.args.value) (by_backdoor m (item.Reg c.args.reg)) _ _ _ c.by_backdoor.ensures c.fitting.ensures.grant c.in-Ok.is in
-    poke_performs m c.predict_raw.new.self _ _ _ _ c.args.reg c.args.value _ _ _ granted c.deposit.ensures.step c.predict_raw.ensures refl c.fill.ensures.event c.deposit.ensures.later
+    poke_performs m c.predict_raw.new.self _ _ _ _ c.args.reg c.args.value _ _ _ granted c.deposit.ensures.step c.predict_raw.ensures refl c.fill.ensures.event c.deposit.ensures.asked

@@ -70,7 +70,7 @@ returns-then-not-needs_update g c =
     does_so c.args.op _ _ _ _ c.in-Update.is (record {
       performs =
           quiet_performs m m _ c.args.event.now.op c.args.place reg reg end.Nothing c.args.event.now.trace c.conclude.new.event _
-          (g.D.Device.errors c.args.device.now) (g.D.Device.state c.args.device.now) begun.granted begun.named
+          (g.D.Device.account c.args.device.now) (g.D.Device.state c.args.device.now) begun.granted begun.named
           (is_no_update m reg c.in-Update.map c.args.place nothing) refl c.requires.begun.empty c.conclude.ensures.event;
       ready = c.requires.ready;
       parts = record { chip = refl; layout = refl };

@@ -34,7 +34,7 @@ returns-then-item g c =
     let s = c.args.outgoing.now in
     let word = next_word l s c.loop-k.k c.loop-k-test.true (c.words-k-end.ensures.count s.index c.requires.outgoing.location) c.word.ensures.word c.in-Some.is in
     let sent = c.send_one-item.ensures in
-    let next = next_of c.requires.in_range word.op sent.item sent.small sent.adapters sent.kinds sent.cause sent.step in
+    let next = next_of c.requires.in_range word.op sent.item sent.small sent.adapters sent.kinds sent.asked sent.step in
     let all = under_way_failed c.loop-k.invariant.under_way next c.if-item.true in
     record {
       sent = rw c.push.ensures all.sent;
@@ -53,7 +53,7 @@ loop-k-preserved g c =
     let was = c.loop-k.invariant in
     let sent = c.send_one-item.ensures in
     let word = next_word l s k c.loop-k-test.true (c.words-k-end.ensures.count s.index c.requires.outgoing.location) c.word.ensures.word c.in-Some.is in
-    let next = next_of c.requires.in_range word.op sent.item sent.small sent.adapters sent.kinds sent.cause sent.step in
+    let next = next_of c.requires.in_range word.op sent.item sent.small sent.adapters sent.kinds sent.asked sent.step in
     let more : length (sent_of_first l s (k + 1)) ≡ length (sent_of_first l s k) + 1 = ap length word.more ∙ length_push (sent_of_first l s k) (word_in l s k) in
     record {
       under_way = sent_as_before more c.push.ensures (under_way_next was.under_way next c.if-item.false);

@@ -35,7 +35,7 @@ returns-clause-ready g c =
     let which : c.adapter-which.result < length m.layout.kinds =
     subst (λ (l : LayoutData). c.adapter-which.result < length l.kinds) c.layout-2.ensures.layout c.adapter-which.ensures.in_range in
     let sent = one_sent (adapter_there m _ c.adapter-which.result c.requires.ready.kinds which) done.item done.small done.adapters
-    done.kinds done.cause done.step in
+    done.kinds done.asked done.step in
     subst (λ (x : ModelData). IsReady x (map (λ b. (goal.Adapter-dyn g (b.vtable, b.value)).standing b.value)
     c.send_one-item.new.adapters.items) (g.D.Device.state c.send_one-item.new.device)) (sym c.observe.ensures)
     (ready_later m _ _ _ _ _ _ _ _ _ _ sent.sent sent.kinds c.requires.ready)
@@ -51,7 +51,7 @@ returns-clause-fits g c =
     let which : c.adapter-which.result < length m.layout.kinds =
     subst (λ (l : LayoutData). c.adapter-which.result < length l.kinds) c.layout-2.ensures.layout c.adapter-which.ensures.in_range in
     let sent = one_sent (adapter_there m _ c.adapter-which.result c.requires.ready.kinds which) done.item done.small done.adapters
-    done.kinds done.cause done.step in
+    done.kinds done.asked done.step in
     subst (λ (x : ModelData). ItemFits x.layout c.send_one-item.result) (sym c.observe.ensures)
     (item_fits_sent m.layout c.args.place sent inside
     (c.word_of-op.ensures.bytes ∙ ap (λ p. (port_at m.layout p).bytes) (sym port)) c.word_of-op.ensures.fits done.small)
@@ -84,4 +84,4 @@ returns-clause-sent g c =
     ∙ ap (λ (l : LayoutData). (port_at l c.port_of-port.result).adapter) c.layout-2.ensures.layout
     ∙ ap (λ p. (port_at m.layout p).adapter) port in
     word_sent m c.observe.new.self c.args.place c.args.k c.args.value c.adapter-which.result c.port_of-port.result c.word_of-op.result c.send_one-item.result c.word_of-op.ensures.word port which
-    done.item done.adapters done.cause done.step c.observe.ensures
+    done.item done.adapters done.asked done.step c.observe.ensures

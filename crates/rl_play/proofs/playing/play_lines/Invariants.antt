@@ -54,14 +54,14 @@ invariant-loop-number g l =
       playing : (last : Point) (status : Status) → PlaysInput l.number
           (record {
             scene = scene l.model (map (λ b. (goal.Adapter-dyn g (b.vtable, b.value)).standing b.value) l.adapters.items)
-                (g.D.Device.errors l.device) (g.D.Device.state l.device);
+                (g.D.Device.account l.device) (g.D.Device.state l.device);
             text = g.L.Sink.written l.out;
             counts = l.counts;
           }) (input_of l.lines (g.S.Source.left l.source)) last status
           → PlaysInput 1
           (record {
             scene = scene l.initial.model (map (λ b. (goal.Adapter-dyn g (b.vtable, b.value)).standing b.value) l.initial.adapters.items)
-                (g.D.Device.errors l.initial.device) (g.D.Device.state l.initial.device);
+                (g.D.Device.account l.initial.device) (g.D.Device.state l.initial.device);
             text = g.L.Sink.written l.initial.out;
             counts = l.initial.counts;
           }) (input_of l.initial.lines (g.S.Source.left l.initial.source)) last status;

@@ -79,11 +79,11 @@ returns-clause-agree g c =
     let m = c.args.model.now in
     let w = c.args.window in
     let size = c.args.size in
-    λ adapters errors a.
-    subst (λ (b : BankData). BankAgree (scene m adapters errors (g.D.Device.state c.args.device.now)) b)
+    λ adapters account a.
+    subst (λ (b : BankData). BankAgree (scene m adapters account (g.D.Device.state c.args.device.now)) b)
     (sym (built_as m w size c.bits_of-index.result c.bits_of-held.result c.bytes.result c.in_ok-new.field-0 c.in_ok-new-2.field-0
     (sym (row_answer c.chip-2.result.now w.data_reg c.bytes.result (λ r. r.bytes) c.bytes.ensures.value) ∙ ap (λ (h : ChipData). size_of h w.data_reg) c.chip-2.ensures.chip)
     c.in_ok-new.ensures
     (believed_are m w size _ _ _ _ _ c.mirrored-believed.ensures c.mirror.ensures.mirror c.mirrored-mirrored.ensures c.mirror-2.ensures.mirror c.in_ok-new-2.ensures)))
-    (new_banks_agree (scene m adapters errors (g.D.Device.state c.args.device.now)) w size c.bits_of-index.result c.bits_of-held.result a c.chip.ensures.sound c.requires.index_reg c.requires.data_reg
+    (new_banks_agree (scene m adapters account (g.D.Device.state c.args.device.now)) w size c.bits_of-index.result c.bits_of-held.result a c.chip.ensures.sound c.requires.index_reg c.requires.data_reg
     c.bits_of-index.ensures c.bits_of-held.ensures)
