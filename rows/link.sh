@@ -150,7 +150,7 @@ judge 'a break within a sequence' 7 'check d @bus: bus error at word 0' shown
 grep -c '#[0-9]* ok$' shown > behind
 judge 'nothing is answered behind a break' 7 0 behind
 
-describe false '---\nhw ctrl.value 0x1f\n' > session
+describe '---\nhw ctrl.value 0x1f\n' > session
 printf 'ok\n' | "$program" session log > requests 2> messages
 status=$?
 judge 'a change by the hardware' 0 'hw ctrl.value 0x1f' requests
