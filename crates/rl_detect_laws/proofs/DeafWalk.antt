@@ -1,4 +1,4 @@
--- Over a device with deaf items: no access of the walk changes the first location of a deaf memory, and its check is marked.
+-- Over a device with deaf items: no access of the walk changes a location of a deaf memory, and its check is marked.
 use Rattle.std.proofs.Common.{◌≡◌, ◌≢◌, ◌⊎◌, ℕ, zero, suc, ◌+◌, ◌*◌, ◌^◌, ◌<◌, ◌==◌, eq-eqb, ne_eqb, Bool, true, false, ◌&&◌, List, [], ◌∷◌, length, map}
 use Rattle.std.proofs.Common.{replicate, All, Option, None, Some, option_map, Ok, Err, MatchResult, if◌then◌else◌, refl, sym, ap, ◌∙◌, subst, inl, inr, arith}
 use Rattle.std.specs.Prelude.{slice_index, sum_by}
@@ -15,7 +15,7 @@ use Rattle.rl_bus.specs.Standing.{standing_at}
 use Rattle.rl_bus.specs.State.{State}
 use Rattle.rl_model.specs.Rows.{ChipData}
 use Rattle.rl_model.specs.declared.rows.Item.TheVariants.{Mem}
-use Rattle.rl_map.specs.Layout.{LayoutData}
+use Rattle.rl_map.specs.Layout.{LayoutData, place_of}
 use Rattle.rl_map.specs.Tables.{setup_of}
 use Rattle.rl_split.specs.Access.{op_of, sent_of, ops_of, joined}
 use Rattle.rl_split.specs.Law.{no_flaws, IsReady, HasLocation}
@@ -31,7 +31,7 @@ use Rattle.rl_access.specs.HandsOver.{Told}
 use Rattle.rl_access.specs.Items.{failed_at, items_of, words_answered, state_after_all, port_for, adapter_for}
 use Rattle.rl_access.specs.Model.{ModelData, IsModel}
 use Rattle.rl_access.specs.Operation.{location_size, register_of, HasNumbers}
-use Rattle.rl_access.specs.Rules.{Grant, grant, named, memory_size, location_bytes, location_value, sends}
+use Rattle.rl_access.specs.Rules.{Grant, grant, named, map_of_place, memory_size, location_bytes, location_value, sends}
 use Rattle.rl_access.specs.Rules.{Outcome, or_error, outcome, event_at}
 use Rattle.rl_access.proofs.Setups.{setup-state_after_all}
 use Rattle.rl_seq.specs.declared.sequence.Sequence.TheVariants.{MemWalk}
@@ -39,6 +39,7 @@ use Rattle.rl_seq.specs.Choice.{is_of, may_read, may_write, turned_round}
 use Rattle.rl_seq.specs.Plan.{Plan, stop, step, look, followed_by, only_if, each_below, Runs}
 use Rattle.rl_seq.specs.Sequences.{map_at, fill, check_filled, write_number, settle_before, check_last, walk_location, is_chosen, is_visited}
 use Rattle.rl_seq.specs.Sequences.{at_place, visit, visit_all, walk}
+use Rattle.rl_seq.proofs.Granting.{found}
 use Rattle.rl_plain.specs.Agree.{IsMemoryAccess}
 use Rattle.rl_plain.proofs.Accesses.{all_written}
 use Rattle.rl_plain.proofs.Answered.{answered, none_failed, done_of}
@@ -46,32 +47,41 @@ use Rattle.rl_plain.proofs.Locations.{location_within, apart}
 use Rattle.rl_plain.proofs.MemoryAccesses.{IsGranted, granted_at, write_granted, check_granted, stored_at, loaded_at}
 use Rattle.rl_plain.proofs.Outcomes.{good_is}
 use Rattle.rl_detect_laws.specs.Devices.{IsSetUp}
-use Rattle.rl_detect_laws.specs.Deaf.{deaf_items, DeafMemoryIsFound}
+use Rattle.rl_detect_laws.specs.Deaf.{deaf_items, IsMarkedCheck, DeafMemoryIsFound}
 use Rattle.rl_detect_laws.specs.Visited.{HasEvent, IsVisited}
+use Rattle.rl_detect_laws.proofs.Failing.{end_is}
 use Rattle.rl_detect_laws.proofs.Holding.{HoldsOne, in_first, in_second, in_chosen, in_each}
-use Rattle.rl_detect_laws.proofs.Reaching.{IsPlaceOf, is_place, mem_check_granted, location_in}
+use Rattle.rl_detect_laws.proofs.Reaching.{IsPlaceOf, is_place, mem_check_granted}
 use Rattle.rl_detect_laws.proofs.Twins.{hearing, twin, AreAlike, none_fails, all_alike, heard, reads_heard}
 use Rattle.rl_detect_laws.proofs.Untouched.{IsGuarded, rows_known, all_kept}
 
 -- ---- what stands
 
 -- the device has this setup and these lengths, its beats are 0, and the location holds this
-record Holding (m : ModelData) (t : Setup) (mem x : ℕ) (s : Scene) : Type 0 where
+record Holding (m : ModelData) (t : Setup) (mem j x : ℕ) (s : Scene) : Type 0 where
   model : s.model ≡ m
   device : State
   told : s.device ≡ Some device
   set_up : IsSetUp m.chip t device
   open set_up use *
   locations : length device.locations ≡ sum_by (λ m. m.size) m.chip.mems
-  here : slice_index device.locations (location t mem 0) ≡ x
+  here : slice_index device.locations (location t mem j) ≡ x
 
 -- a setup with deaf items
-record IsDeafSetup (c : ChipData) (l : LayoutData) (t : Setup) (mem : ℕ) : Type 0 where
-  hears : hearing t ≡ setup_of c l no_flaws
-  guarded : IsGuarded c t mem
+pub record IsDeafSetup (c : ChipData) (l : LayoutData) (t : Setup) : Type 0 where
+  pub hears : hearing t ≡ setup_of c l no_flaws
+  pub guarded : IsGuarded c t
+
+-- one in which this location is deaf
+record IsDeafAt (c : ChipData) (l : LayoutData) (t : Setup) (mem j : ℕ) : Type 0 where
+  setup : IsDeafSetup c l t
+  open setup use *
+  inside : mem < length c.mems
+  low : j < memory_size c mem
+  deaf : is_deaf t (Loc mem j) ≡ true
 
 -- a twin that hears
-ready_twin : (c : ChipData) (l : LayoutData) (t : Setup) (d : State) (xs : List ℕ) → hearing t ≡ setup_of c l no_flaws → IsSetUp c t d
+pub ready_twin : (c : ChipData) (l : LayoutData) (t : Setup) (d : State) (xs : List ℕ) → hearing t ≡ setup_of c l no_flaws → IsSetUp c t d
     → IsReady c l (twin d d.bits d.marks xs)
 ready_twin c l t d xs hears is = record { setup = ap hearing is.setup ∙ hears; beats = is.beats; bits = is.bits; marks = is.marks }
 
@@ -97,12 +107,12 @@ has_blank c l t d mem index hears is long inside low =
 -- ---- an access of the walk
 
 -- where the twin's items don't fail and leave its beats at 0, those of the device do so too
-after_ops : (s new : Scene) (t : Setup) (mem x place : ℕ) (o : Op) (e : Event) (ops : List BusOp) → IsDeafSetup s.model.chip s.model.layout t mem
-    → (h : Holding s.model t mem x s) → IsDone s new o place e → sends s.model o place ≡ ops → new.model ≡ s.model
+after_ops : (s new : Scene) (t : Setup) (mem j x place : ℕ) (o : Op) (e : Event) (ops : List BusOp) → IsDeafAt s.model.chip s.model.layout t mem j
+    → (h : Holding s.model t mem j x s) → IsDone s new o place e → sends s.model o place ≡ ops → new.model ≡ s.model
     → new.device ≡ Some (state_after_all h.device e.trace) → All (λ a. a.failed ≡ false) (answers_of (blank h.device) (port_for s.model.layout place) ops)
     → ((port address : ℕ) → (ops_after (blank h.device) (port_for s.model.layout place) ops).beats port address ≡ 0)
-    → Holding s.model t mem x new
-after_ops s new t mem x place o e ops deaf h done sent model goes fine first =
+    → Holding s.model t mem j x new
+after_ops s new t mem j x place o e ops deaf h done sent model goes fine first =
     let m = s.model in
     let d = h.device in
     let port = port_for m.layout place in
@@ -111,7 +121,7 @@ after_ops s new t mem x place o e ops deaf h done sent model goes fine first =
     let ans = answered adapter d port ops (none_fails d (blank d) port ops alike fine) in
     let trace : e.trace ≡ items_of adapter d port ops = done.answers d h.told ∙ ap (items_of adapter d port) sent in
     let after : state_after_all d e.trace ≡ ops_after d port ops = ap (state_after_all d) trace ∙ ans.state in
-    let kept = all_kept m.chip mem t d e.trace deaf.guarded h.setup in
+    let kept = all_kept m.chip t d e.trace deaf.guarded h.setup in
     record {
       model = model;
       device = state_after_all d e.trace;
@@ -123,72 +133,75 @@ after_ops s new t mem x place o e ops deaf h done sent model goes fine first =
         marks = kept.marks ∙ h.marks;
       };
       locations = kept.locations ∙ h.locations;
-      here = kept.here ∙ h.here;
+      here = kept.deaf mem j deaf.inside deaf.low deaf.deaf ∙ h.here;
     }
 
 either_model : (m : ModelData) (failed : Option ℕ) (good : Outcome) → good.model ≡ m → (or_error failed m good).model ≡ m
 either_model m None good is = is
 either_model m (Some k) good is = refl
 
-model_stays : (m : ModelData) (o : Op) (place sampled : ℕ) (items : List TraceItem) → IsMemoryAccess o → (outcome m o place sampled items).model ≡ m
+pub model_stays : (m : ModelData) (o : Op) (place sampled : ℕ) (items : List TraceItem) → IsMemoryAccess o → (outcome m o place sampled items).model ≡ m
 model_stays m (op.MemWrite n map index value) place sampled items is = either_model m (failed_at items) _ refl
 model_stays m (op.MemRead n map index) place sampled items is = either_model m (failed_at items) _ refl
 model_stays m (op.MemCheck n map index value) place sampled items is = either_model m (failed_at items) _ refl
 model_stays m _ place sampled items is = absurd is
 
 -- a read of a location, which sends these operations
-load_done : (s new : Scene) (t : Setup) (mem x place n index : ℕ) (o : Op) (e : Event) → IsModel s.model → IsDeafSetup s.model.chip s.model.layout t mem
-    → n < length s.model.chip.mems → (h : Holding s.model t mem x s) → IsGranted s.model n index false place
+load_done : (s new : Scene) (t : Setup) (mem j x place n index : ℕ) (o : Op) (e : Event) → IsModel s.model → IsDeafAt s.model.chip s.model.layout t mem j
+    → n < length s.model.chip.mems → (h : Holding s.model t mem j x s) → IsGranted s.model n index false place
     → sends s.model o place ≡ ops_of s.model.layout place index (location_bytes s.model n) 0 false → new.model ≡ s.model
-    → new.device ≡ Some (state_after_all h.device e.trace) → IsDone s new o place e → Holding s.model t mem x new
-load_done s new t mem x place n index o e ok deaf inside h by sent model goes done =
+    → new.device ≡ Some (state_after_all h.device e.trace) → IsDone s new o place e → Holding s.model t mem j x new
+load_done s new t mem j x place n index o e ok deaf inside h by sent model goes done =
     let m = s.model in
     let d = h.device in
     let has = has_blank m.chip m.layout t d n index deaf.hears h.setup h.locations inside by.index_in in
     let load = loaded_at m n index place (blank d) ok (ready_twin m.chip m.layout t d _ deaf.hears h.set_up) has by in
-    after_ops s new t mem x place o e (ops_of m.layout place index (location_bytes m n) 0 false) deaf h done sent model goes load.answers load.ready.beats
+    after_ops s new t mem j x place o e (ops_of m.layout place index (location_bytes m n) 0 false) deaf h done sent model goes load.answers load.ready.beats
 
-memory_done : (s new : Scene) (t : Setup) (mem x place : ℕ) (o : Op) (e : Event) → IsModel s.model → IsDeafSetup s.model.chip s.model.layout t mem
-    → IsMemoryAccess o → HasNumbers s.model.chip (length s.model.layout.maps) o → Holding s.model t mem x s → grant s.model o ≡ Ok place → IsDone s new o place e
-    → Holding s.model t mem x new
-memory_done s new t mem x place (op.MemWrite n map index value) e ok deaf is numbers h granted done =
+memory_done : (s new : Scene) (t : Setup) (mem j x place : ℕ) (o : Op) (e : Event) → IsModel s.model → IsDeafAt s.model.chip s.model.layout t mem j
+    → IsMemoryAccess o → HasNumbers s.model.chip (length s.model.layout.maps) o → Holding s.model t mem j x s → grant s.model o ≡ Ok place → IsDone s new o place e
+    → Holding s.model t mem j x new
+memory_done s new t mem j x place (op.MemWrite n map index value) e ok deaf is numbers h granted done =
     let m = s.model in
     let d = h.device in
     let by = write_granted m n index value map place granted in
     let has = has_blank m.chip m.layout t d n index deaf.hears h.setup h.locations numbers.0 by.granted.index_in in
     let store = stored_at m n index value place (blank d) ok (ready_twin m.chip m.layout t d _ deaf.hears h.set_up) numbers.0 has by in
     let ops = ops_of m.layout place index (location_bytes m n) value true in
-    after_ops s new t mem x place (op.MemWrite n map index value) e ops deaf h done refl (done.model ∙ model_stays m (op.MemWrite n map index value) place done.sampled e.trace tt)
+    after_ops s new t mem j x place (op.MemWrite n map index value) e ops deaf h done refl (done.model ∙ model_stays m (op.MemWrite n map index value) place done.sampled e.trace tt)
     (done.goes ∙ ap (option_map (λ (y : State). state_after_all y e.trace)) h.told) (all_written (answers_of (blank d) (port_for m.layout place) ops) ops store.answers) store.ready.beats
-memory_done s new t mem x place (op.MemCheck n map index value) e ok deaf is numbers h granted done =
-    load_done s new t mem x place n index (op.MemCheck n map index value) e ok deaf numbers.0 h (check_granted s.model n index value map place granted) refl
+memory_done s new t mem j x place (op.MemCheck n map index value) e ok deaf is numbers h granted done =
+    load_done s new t mem j x place n index (op.MemCheck n map index value) e ok deaf numbers.0 h (check_granted s.model n index value map place granted) refl
     (done.model ∙ model_stays s.model (op.MemCheck n map index value) place done.sampled e.trace tt)
     (done.goes ∙ ap (option_map (λ (y : State). state_after_all y e.trace)) h.told) done
-memory_done s new t mem x place (op.MemRead n map index) e ok deaf is numbers h granted done =
-    load_done s new t mem x place n index (op.MemRead n map index) e ok deaf numbers.0 h (granted_at s.model n index map false place granted) refl
+memory_done s new t mem j x place (op.MemRead n map index) e ok deaf is numbers h granted done =
+    load_done s new t mem j x place n index (op.MemRead n map index) e ok deaf numbers.0 h (granted_at s.model n index map false place granted) refl
     (done.model ∙ model_stays s.model (op.MemRead n map index) place done.sampled e.trace tt)
     (done.goes ∙ ap (option_map (λ (y : State). state_after_all y e.trace)) h.told) done
-memory_done s new t mem x place _ e ok deaf is numbers h granted done = absurd is
+memory_done s new t mem j x place _ e ok deaf is numbers h granted done = absurd is
 
-memory_by : (s new : Scene) (t : Setup) (mem x : ℕ) (o : Op) (e : Event) (g : Grant) → grant s.model o ≡ g → IsModel s.model → IsDeafSetup s.model.chip s.model.layout t mem
-    → IsMemoryAccess o → HasNumbers s.model.chip (length s.model.layout.maps) o → Holding s.model t mem x s
-    → MatchResult g (λ place. IsDone s new o place e) (λ why. IsRefused s new o why e) → Holding s.model t mem x new
-memory_by s new t mem x o e (Ok place) granted ok deaf is numbers h done = memory_done s new t mem x place o e ok deaf is numbers h granted done
-memory_by s new t mem x o e (Err why) granted ok deaf is numbers h refused = subst (Holding s.model t mem x) (sym refused.unchanged) h
+memory_by : (s new : Scene) (t : Setup) (mem j x : ℕ) (o : Op) (e : Event) (g : Grant) → grant s.model o ≡ g → IsModel s.model → IsDeafAt s.model.chip s.model.layout t mem j
+    → IsMemoryAccess o → HasNumbers s.model.chip (length s.model.layout.maps) o → Holding s.model t mem j x s
+    → MatchResult g (λ place. IsDone s new o place e) (λ why. IsRefused s new o why e) → Holding s.model t mem j x new
+memory_by s new t mem j x o e (Ok place) granted ok deaf is numbers h done = memory_done s new t mem j x place o e ok deaf is numbers h granted done
+memory_by s new t mem j x o e (Err why) granted ok deaf is numbers h refused = subst (Holding s.model t mem j x) (sym refused.unchanged) h
 
-memory_step : (m : ModelData) (s new : Scene) (t : Setup) (mem x : ℕ) (o : Op) (e : Event) → IsModel m → IsDeafSetup m.chip m.layout t mem
-    → IsMemoryAccess o → HasNumbers m.chip (length m.layout.maps) o → Holding m t mem x s → Performs s new o e → Holding m t mem x new
-memory_step m s new t mem x o e ok deaf is numbers h performs =
-    subst (λ m. IsModel m → IsDeafSetup m.chip m.layout t mem → HasNumbers m.chip (length m.layout.maps) o → Holding m t mem x s → Holding m t mem x new) h.model
-    (λ ok deaf numbers h. memory_by s new t mem x o e (grant s.model o) refl ok deaf is numbers h performs) ok deaf numbers h
+memory_step : (m : ModelData) (s new : Scene) (t : Setup) (mem j x : ℕ) (o : Op) (e : Event) → IsModel m → IsDeafAt m.chip m.layout t mem j
+    → IsMemoryAccess o → HasNumbers m.chip (length m.layout.maps) o → Holding m t mem j x s → Performs s new o e → Holding m t mem j x new
+memory_step m s new t mem j x o e ok deaf is numbers h performs =
+    subst (λ m. IsModel m → IsDeafAt m.chip m.layout t mem j → HasNumbers m.chip (length m.layout.maps) o → Holding m t mem j x s → Holding m t mem j x new) h.model
+    (λ ok deaf numbers h. memory_by s new t mem j x o e (grant s.model o) refl ok deaf is numbers h performs) ok deaf numbers h
 
--- ---- the check of the first location
+-- ---- the check of a location
+
+abbrev pub walk_check : ModelData → (mem place j : ℕ) → Op
+walk_check m mem place j = op.MemCheck mem (Some (map_at m.layout place)) j (turned_round m.chip (Mem mem) j)
 
 all_reads : (l : LayoutData) (place index chosen : ℕ) → All (λ (o : BusOp). o.write ≡ false) (ops_of l place index chosen 0 false)
 unfolding ops_of
 all_reads l place index chosen = All-map (λ (o : BusOp). o.write ≡ false) (op_of l place chosen 0 false) (sent_of l place index chosen) (λ k d low. refl)
 
-differ_is : (r : Option ℕ) (o : Op) (items : List TraceItem) (out : Outcome) → (event_at r o items out).differ ≡ out.differ
+pub differ_is : (r : Option ℕ) (o : Op) (items : List TraceItem) (out : Outcome) → (event_at r o items out).differ ≡ out.differ
 differ_is None o items out = refl
 differ_is (Some reg) o items out = refl
 
@@ -196,43 +209,78 @@ other_differs : (b : Bool) → b ≡ false → ◌≡◌ {A = ℕ} (if b then 0 
 other_differs true so = absurd (cc)
 other_differs false so = refl
 
-check_done : (s new : Scene) (t : Setup) (mem x value place : ℕ) (over : Option ℕ) (e : Event) → IsModel s.model → IsDeafSetup s.model.chip s.model.layout t mem → mem < length s.model.chip.mems
-    → x < 256 ^ location_size s.model.chip mem → x ≢ value → Holding s.model t mem x s → grant s.model (op.MemCheck mem over 0 value) ≡ Ok place
-    → IsDone s new (op.MemCheck mem over 0 value) place e → e.differ ≡ 1
-check_done s new t mem x value place over e ok deaf inside fits other h granted done =
+-- the event's operation is the check, with the map of the place that was found
+op_is : (r : Option ℕ) (o : Op) (items : List TraceItem) (out : Outcome) → (event_at r o items out).op ≡ o
+op_is None o items out = refl
+op_is (Some reg) o items out = refl
+
+-- the walk's check of a location that held this
+pub record IsChecked (m : ModelData) (mem place j x : ℕ) (e : Event) : Type 0 where
+  pub check : e.op ≡ walk_check m mem place j
+  pub reads : e.end ≡ end.Value x
+  pub differ : e.differ ≡ (if x == turned_round m.chip (Mem mem) j then 0 else 1)
+
+pub check_done : (s new : Scene) (d : State) (t : Setup) (mem j x place : ℕ) (e : Event) → IsModel s.model → hearing t ≡ setup_of s.model.chip s.model.layout no_flaws
+    → mem < length s.model.chip.mems → x < 256 ^ location_size s.model.chip mem → s.device ≡ Some d → IsSetUp s.model.chip t d
+    → length d.locations ≡ sum_by (λ m. m.size) s.model.chip.mems → slice_index d.locations (location t mem j) ≡ x
+    → place_of s.model.layout (Mem mem) (Some (map_at s.model.layout place)) ≡ Some place
+    → grant s.model (walk_check s.model mem place j) ≡ Ok place → IsDone s new (walk_check s.model mem place j) place e → IsChecked s.model mem place j x e
+check_done s new d t mem j x place e ok hears inside fits told set_up long here there granted done =
     let m = s.model in
     let c = m.chip in
     let l = m.layout in
-    let d = h.device in
+    let value = turned_round c (Mem mem) j in
+    let o = walk_check m mem place j in
     let port = port_for l place in
     let adapter = standing_at s.adapters (adapter_for l place) in
-    let by = check_granted m mem 0 value over place granted in
+    let by = check_granted m mem j value (Some (map_at l place)) place granted in
     let chosen = location_bytes m mem in
-    let ops = ops_of l place 0 chosen 0 false in
-    let setup : (heard d).setup ≡ setup_of c l no_flaws = ap hearing h.setup ∙ deaf.hears in
-    let at : location (heard d).setup mem 0 ≡ location t mem 0 = ap (λ (u : Setup). location u mem 0) h.setup in
-    let held : slice_index (heard d).locations (location (heard d).setup mem 0) ≡ x = ap (slice_index d.locations) at ∙ h.here in
-    let room : location (heard d).setup mem 0 < length d.locations =
-    subst (λ (u : Setup). location u mem 0 < length d.locations) (sym setup)
-    (subst (λ n. location (setup_of c l no_flaws) mem 0 < n) (sym h.locations) (location_within c l mem 0 inside by.index_in)) in
-    let has : HasLocation (heard d) mem 0 (location_size c mem) = record { inside = room; fits = subst (λ n. n < 256 ^ location_size c mem) (sym held) fits } in
-    let load = loaded_at m mem 0 place (heard d) ok (ready_twin c l t d d.locations deaf.hears h.set_up) has by in
-    let reads : answers_of (heard d) port ops ≡ answers_of d port ops = reads_heard d port ops (all_reads l place 0 chosen) in
+    let ops = ops_of l place j chosen 0 false in
+    let setup : (heard d).setup ≡ setup_of c l no_flaws = ap hearing set_up.setup ∙ hears in
+    let at : location (heard d).setup mem j ≡ location t mem j = ap (λ (u : Setup). location u mem j) set_up.setup in
+    let held : slice_index (heard d).locations (location (heard d).setup mem j) ≡ x = ap (slice_index d.locations) at ∙ here in
+    let room : location (heard d).setup mem j < length d.locations =
+    subst (λ (u : Setup). location u mem j < length d.locations) (sym setup)
+    (subst (λ n. location (setup_of c l no_flaws) mem j < n) (sym long) (location_within c l mem j inside by.index_in)) in
+    let has : HasLocation (heard d) mem j (location_size c mem) = record { inside = room; fits = subst (λ n. n < 256 ^ location_size c mem) (sym held) fits } in
+    let load = loaded_at m mem j place (heard d) ok (ready_twin c l t d d.locations hears set_up) has by in
+    let reads : answers_of (heard d) port ops ≡ answers_of d port ops = reads_heard d port ops (all_reads l place j chosen) in
     let ans = answered adapter d port ops (subst (All (λ (a : Answer). a.failed ≡ false)) reads load.answers) in
-    let trace : e.trace ≡ items_of adapter d port ops = done.answers d h.told in
+    let trace : e.trace ≡ items_of adapter d port ops = done.answers d told in
     let none : failed_at e.trace ≡ None = ap failed_at trace ∙ none_failed adapter d port ops ans in
     let words : words_answered e.trace ≡ map (λ (a : Answer). a.word) (answers_of (heard d) port ops) =
     ap words_answered trace ∙ ans.words ∙ ap (map (λ (a : Answer). a.word)) (sym reads) in
-    let read : location_value m mem place 0 e.trace ≡ x = ap (joined l place 0 chosen) words ∙ load.value_is ∙ held in
+    let read : location_value m mem place j e.trace ≡ x = ap (joined l place j chosen) words ∙ load.value_is ∙ held in
     let good : Outcome = record {
-      end = end.Value (location_value m mem place 0 e.trace);
+      end = end.Value (location_value m mem place j e.trace);
       model = m;
-      differ = if location_value m mem place 0 e.trace == value then 0 else 1;
+      differ = if location_value m mem place j e.trace == value then 0 else 1;
     } in
-    ap (λ (y : Event). y.differ) done.event_is
-    ∙ differ_is (register_of c (named m (op.MemCheck mem over 0 value))) (named m (op.MemCheck mem over 0 value)) e.trace (outcome m (op.MemCheck mem over 0 value) place done.sampled e.trace)
-    ∙ ap (λ (o : Outcome). o.differ) (good_is (failed_at e.trace) m good none)
-    ∙ other_differs (location_value m mem place 0 e.trace == value) (ap (λ n. n == value) read ∙ ne_eqb x value other)
+    let out = outcome m o place done.sampled e.trace in
+    let fine : out ≡ good = good_is (failed_at e.trace) m good none in
+    record {
+      check = ap (λ (y : Event). y.op) done.event_is
+          ∙ op_is (register_of c (named m o)) (named m o) e.trace out
+          ∙ ap (λ p. op.MemCheck mem (map_of_place l p (Some (map_at l place))) j value) there;
+      reads = ap (λ (y : Event). y.end) done.event_is
+          ∙ end_is (register_of c (named m o)) (named m o) e.trace out
+          ∙ ap (λ (o : Outcome). o.end) fine
+          ∙ ap end.Value read;
+      differ = ap (λ (y : Event). y.differ) done.event_is
+          ∙ differ_is (register_of c (named m o)) (named m o) e.trace out
+          ∙ ap (λ (o : Outcome). o.differ) fine
+          ∙ ap (λ n. if n == value then 0 else 1) read;
+    }
+
+abbrev Marked : ModelData → (mem place j x : ℕ) → Event → Type 0
+Marked m mem place j x e = IsMarkedCheck m.chip mem (map_at m.layout place) j x e
+
+pub marks : (m : ModelData) (mem place j x : ℕ) (e : Event) → IsChecked m mem place j x e → x ≢ turned_round m.chip (Mem mem) j → Marked m mem place j x e
+marks m mem place j x e h other = record {
+  check = h.check;
+  reads = h.reads;
+  marked = h.differ ∙ other_differs (x == turned_round m.chip (Mem mem) j) (ne_eqb x (turned_round m.chip (Mem mem) j) other);
+}
 
 -- ---- the plan: accesses to memories, and among them this check
 
@@ -254,38 +302,40 @@ all_each : (IsSo : Op → Type 0) (n : ℕ) (f : ℕ → Plan) → ((k : ℕ) �
 all_each IsSo zero f h = tt
 all_each IsSo (suc n) f h = all_followed IsSo (each_below n f) (f n) (all_each IsSo n f (λ k low. h k (omega (arith, low)))) (h n (omega arith))
 
--- a check of the first location of this memory, or some access to a memory
-record IsFirstCheck (m : ModelData) (mem : ℕ) (o : Op) : Type 0 where
-  place : ℕ
-  is : o ≡ op.MemCheck mem (Some (map_at m.layout place)) 0 (turned_round m.chip (Mem mem) 0)
-  granted : (n : ModelData) → n.chip ≡ m.chip → n.layout ≡ m.layout
-      → grant n (op.MemCheck mem (Some (map_at m.layout place)) 0 (turned_round m.chip (Mem mem) 0)) ≡ Ok place
+-- the walk's check of this location at this place
+pub record IsWalkCheck (m : ModelData) (mem place j : ℕ) (o : Op) : Type 0 where
+  pub is : o ≡ walk_check m mem place j
+  pub there : place_of m.layout (Mem mem) (Some (map_at m.layout place)) ≡ Some place
+  pub granted : (n : ModelData) → n.chip ≡ m.chip → n.layout ≡ m.layout → grant n (walk_check m mem place j) ≡ Ok place
 
+-- or some access to a memory
 abbrev IsAccess : ModelData → Op → Type 0
 IsAccess m o = IsMemoryAccess o × HasNumbers m.chip (length m.layout.maps) o
 
-marked : (m : ModelData) (s new : Scene) (t : Setup) (mem x : ℕ) (o : Op) (e : Event) → IsModel m → IsDeafSetup m.chip m.layout t mem → mem < length m.chip.mems
-    → x < 256 ^ location_size m.chip mem → x ≢ turned_round m.chip (Mem mem) 0 → IsFirstCheck m mem o → Holding m t mem x s → Performs s new o e → e.differ ≡ 1
-marked m s new t mem x o e ok deaf inside fits other first h performs =
-    subst (λ m. IsModel m → IsDeafSetup m.chip m.layout t mem → mem < length m.chip.mems → x < 256 ^ location_size m.chip mem
-    → x ≢ turned_round m.chip (Mem mem) 0 → IsFirstCheck m mem o → Holding m t mem x s → e.differ ≡ 1) h.model
-    (λ ok deaf inside fits other first h.
-    let check = op.MemCheck mem (Some (map_at s.model.layout first.place)) 0 (turned_round s.model.chip (Mem mem) 0) in
-    let granted = first.granted s.model refl refl in
-    check_done s new t mem x (turned_round s.model.chip (Mem mem) 0) first.place (Some (map_at s.model.layout first.place)) e ok deaf inside fits other h granted
-    (done_of s new check first.place e granted (subst (λ o. Performs s new o e) first.is performs))) ok deaf inside fits other first h
+marked : (m : ModelData) (s new : Scene) (t : Setup) (mem j x place : ℕ) (o : Op) (e : Event) → IsModel m → IsDeafAt m.chip m.layout t mem j
+    → x < 256 ^ location_size m.chip mem → x ≢ turned_round m.chip (Mem mem) j → IsWalkCheck m mem place j o → Holding m t mem j x s → Performs s new o e
+    → Marked m mem place j x e
+marked m s new t mem j x place o e ok deaf fits other one h performs =
+    subst (λ m. IsModel m → IsDeafAt m.chip m.layout t mem j → x < 256 ^ location_size m.chip mem
+    → x ≢ turned_round m.chip (Mem mem) j → IsWalkCheck m mem place j o → Holding m t mem j x s → Marked m mem place j x e) h.model
+    (λ ok deaf fits other one h.
+    let granted = one.granted s.model refl refl in
+    marks s.model mem place j x e
+    (check_done s new h.device t mem j x place e ok deaf.hears deaf.inside fits h.told h.set_up h.locations h.here one.there granted
+    (done_of s new (walk_check s.model mem place j) place e granted (subst (λ o. Performs s new o e) one.is performs))) other) ok deaf fits other one h
 
-found_among : (m : ModelData) (t : Setup) (mem x : ℕ) → IsModel m → IsDeafSetup m.chip m.layout t mem → mem < length m.chip.mems → x < 256 ^ location_size m.chip mem
-    → x ≢ turned_round m.chip (Mem mem) 0 → (p : Plan) (s new : Scene) (told : List Told) → AreAll (IsAccess m) p → HoldsOne (IsFirstCheck m mem) p → Holding m t mem x s
-    → Runs p s told new → HasEvent (λ e. e.differ ≡ 1) told
-found_among m t mem x ok deaf inside fits other stop s new told all one h run = absurd one
-found_among m t mem x ok deaf inside fits other (step o p) s new [] all one h run = absurd run
-found_among m t mem x ok deaf inside fits other (step o p) s new (u ∷ told) all (inl first) h (mid, done, rest) =
-    inl (marked m s mid t mem x o u.event ok deaf inside fits other first h done.performs)
-found_among m t mem x ok deaf inside fits other (step o p) s new (u ∷ told) all (inr later) h (mid, done, rest) =
-    inr (found_among m t mem x ok deaf inside fits other p mid new told all.1 later (memory_step m s mid t mem x o u.event ok deaf all.0.0 all.0.1 h done.performs) rest)
-found_among m t mem x ok deaf inside fits other (look f) s new told all one h run =
-    found_among m t mem x ok deaf inside fits other (f s.model) s new told (all s.model) (one s.model) h run
+found_among : (m : ModelData) (t : Setup) (mem j x place : ℕ) → IsModel m → IsDeafAt m.chip m.layout t mem j → x < 256 ^ location_size m.chip mem
+    → x ≢ turned_round m.chip (Mem mem) j → (p : Plan) (s new : Scene) (told : List Told) → AreAll (IsAccess m) p → HoldsOne (IsWalkCheck m mem place j) p
+    → Holding m t mem j x s → Runs p s told new → HasEvent (Marked m mem place j x) told
+found_among m t mem j x place ok deaf fits other stop s new told all one h run = absurd one
+found_among m t mem j x place ok deaf fits other (step o p) s new [] all one h run = absurd run
+found_among m t mem j x place ok deaf fits other (step o p) s new (u ∷ told) all (inl first) h (mid, done, rest) =
+    inl (marked m s mid t mem j x place o u.event ok deaf fits other first h done.performs)
+found_among m t mem j x place ok deaf fits other (step o p) s new (u ∷ told) all (inr later) h (mid, done, rest) =
+    inr (found_among m t mem j x place ok deaf fits other p mid new told all.1 later
+    (memory_step m s mid t mem j x o u.event ok deaf all.0.0 all.0.1 h done.performs) rest)
+found_among m t mem j x place ok deaf fits other (look f) s new told all one h run =
+    found_among m t mem j x place ok deaf fits other (f s.model) s new told (all s.model) (one s.model) h run
 
 settled_all : (m : ModelData) (mem map k : ℕ) → mem < length m.chip.mems → map < length m.layout.maps → AreAll (IsAccess m) (settle_before m.chip mem map k)
 settled_all m mem map zero inside in_map = tt
@@ -308,15 +358,15 @@ walk_all m block ok =
     (λ visited. all_each (IsAccess m) (memory_size c mem) (walk_location c mem (map_at l place))
     (λ k low. location_all m mem (map_at l place) k inside (ok.layout.each_place place there).map)))))
 
--- the check of the first location is that of the last, or that after the second was filled
-first_check : (m : ModelData) (block : Option ℕ) (mem place : ℕ) → IsModel m → IsVisited MemWalk m.chip m.layout block mem place
-    → HoldsOne (IsFirstCheck m mem) (walk MemWalk m.chip m.layout block)
-first_check m block mem place ok v =
-    let one = IsFirstCheck m mem in
+-- the check of a location is that of the last, or that after the next was filled
+check_in : (m : ModelData) (block : Option ℕ) (mem place j : ℕ) → IsModel m → IsVisited MemWalk m.chip m.layout block mem place → j < memory_size m.chip mem
+    → HoldsOne (IsWalkCheck m mem place j) (walk MemWalk m.chip m.layout block)
+check_in m block mem place j ok v low =
+    let one = IsWalkCheck m mem place j in
     in_each one (length m.chip.mems) mem (visit_all MemWalk m.chip m.layout block) v.number_in
     (in_chosen one (is_chosen MemWalk m.chip m.layout block mem) (each_below (length m.layout.places) (visit MemWalk m.chip m.layout mem)) v.chosen
     (in_each one (length m.layout.places) place (visit MemWalk m.chip m.layout mem) v.place_in
-    (in_chosen one (is_visited MemWalk m.layout mem place) (at_place MemWalk m.chip m.layout mem place) v.visited (by (cases_eq 1 (memory_size m.chip mem))))))
+    (in_chosen one (is_visited MemWalk m.layout mem place) (at_place MemWalk m.chip m.layout mem place) v.visited (by (cases_eq (j + 1) (memory_size m.chip mem))))))
   where
     at : IsPlaceOf m.chip m.layout place (Mem mem)
     at = is_place m.chip m.layout place (Mem mem) ok.layout ok.built v.place_in
@@ -327,63 +377,61 @@ first_check m block mem place ok v =
         (and_parts (may_read m.layout place) (may_write m.layout place)
         (and_parts (is_of m.layout place (Mem mem)) (may_read m.layout place && may_write m.layout place) v.visited).1).0
 
-    some : 0 < memory_size m.chip mem
-    some =
-        let here = ok.layout.each_place place v.place_in in
-        location_in m.chip m.layout mem place 0 at ok.built (record { place_in = v.place_in; index_in = omega (arith, here.size) })
+    check : IsWalkCheck m mem place j (walk_check m mem place j)
+    check = record {
+      is = refl;
+      there = found m.layout (Mem mem) place ok.layout v.place_in at.mine;
+      granted = mem_check_granted m.chip m.layout mem place j j at reads low;
+    }
 
-    check : IsFirstCheck m mem (op.MemCheck mem (Some (map_at m.layout place)) 0 (turned_round m.chip (Mem mem) 0))
-    check = record { place = place; is = refl; granted = mem_check_granted m.chip m.layout mem place 0 0 at reads some }
-
-    by : (1 ≡ memory_size m.chip mem) ⊎ (1 ≡ memory_size m.chip mem → ⊥) → HoldsOne (IsFirstCheck m mem) (at_place MemWalk m.chip m.layout mem place)
+    by : (j + 1 ≡ memory_size m.chip mem) ⊎ (j + 1 ≡ memory_size m.chip mem → ⊥) → HoldsOne (IsWalkCheck m mem place j) (at_place MemWalk m.chip m.layout mem place)
     by (inl last) =
         let c = m.chip in
         let map = map_at m.layout place in
-        let one = IsFirstCheck m mem in
-        let is_last : 0 + 1 ≡ memory_size c mem = omega (arith, last) in
-        in_each one (memory_size c mem) 0 (walk_location c mem map) some
-        (in_second one (fill c mem map 0) (followed_by (settle_before c mem map 0) (check_last c mem map 0))
-        (in_second one (settle_before c mem map 0) (check_last c mem map 0)
-        (in_chosen one (0 + 1 == memory_size c mem) (check_filled c mem map 0) (eq-eqb (0 + 1) (memory_size c mem) is_last) (inl check))))
+        let one = IsWalkCheck m mem place j in
+        in_each one (memory_size c mem) j (walk_location c mem map) low
+        (in_second one (fill c mem map j) (followed_by (settle_before c mem map j) (check_last c mem map j))
+        (in_second one (settle_before c mem map j) (check_last c mem map j)
+        (in_chosen one (j + 1 == memory_size c mem) (check_filled c mem map j) (eq-eqb (j + 1) (memory_size c mem) last) (inl check))))
     by (inr more) =
         let c = m.chip in
         let map = map_at m.layout place in
-        let one = IsFirstCheck m mem in
-        in_each one (memory_size c mem) 1 (walk_location c mem map) (omega (arith, some, more))
-        (in_second one (fill c mem map 1) (followed_by (settle_before c mem map 1) (check_last c mem map 1))
-        (in_first one (settle_before c mem map 1) (check_last c mem map 1)
-        (in_first one (check_filled c mem map 0) (write_number c mem map 0) (inl check))))
+        let one = IsWalkCheck m mem place j in
+        in_each one (memory_size c mem) (suc j) (walk_location c mem map) (omega (arith, low, more))
+        (in_second one (fill c mem map (suc j)) (followed_by (settle_before c mem map (suc j)) (check_last c mem map (suc j)))
+        (in_first one (settle_before c mem map (suc j)) (check_last c mem map (suc j))
+        (in_first one (check_filled c mem map j) (write_number c mem map j) (inl check))))
 
 -- ---- the law
 
-deaf_setup : (m : ModelData) (mem : ℕ) (deaf : List ItemRow) → IsModel m → mem < length m.chip.mems → 0 < memory_size m.chip mem
-    → is_deaf (setup_of m.chip m.layout (deaf_items deaf)) (Loc mem 0) ≡ true → IsDeafSetup m.chip m.layout (setup_of m.chip m.layout (deaf_items deaf)) mem
+pub deaf_setup : (m : ModelData) (deaf : List ItemRow) → IsModel m → IsDeafSetup m.chip m.layout (setup_of m.chip m.layout (deaf_items deaf))
 unfolding setup_of
-deaf_setup m mem deaf ok inside some is = record {
+deaf_setup m deaf ok = record {
   hears = refl;
   guarded = record {
     known = rows_known m.chip m.layout ok.layout ok.built;
-    apart = λ n i within below same. (apart m.chip m.layout mem 0 n i inside some within below (sym same)).0;
-    deaf = is;
+    apart = λ n k i j inside low within below same. (apart m.chip m.layout i j n k within below inside low same).0;
   };
 }
 
 pub deaf_memory_is_found : DeafMemoryIsFound
-deaf_memory_is_found s new d block told mem place ok is has deaf v run =
+deaf_memory_is_found s new d block told mem index place ok is has deaf v run =
     let m = s.model in
-    let at = is_place m.chip m.layout place (Mem mem) ok.layout ok.built v.place_in
-    (and_parts (is_of m.layout place (Mem mem)) (may_read m.layout place && may_write m.layout place) v.visited).0 in
-    let here = ok.layout.each_place place v.place_in in
-    let some = location_in m.chip m.layout mem place 0 at ok.built (record { place_in = v.place_in; index_in = omega (arith, here.size) }) in
-    let x = slice_index d.locations (location d.setup mem 0) in
+    let x = slice_index d.locations (location d.setup mem index) in
     let t = setup_of m.chip m.layout (deaf_items has.deaf) in
-    let sound = deaf_setup m mem has.deaf ok v.number_in some (subst (λ (u : Setup). is_deaf u (Loc mem 0) ≡ true) has.setup deaf.deaf) in
-    found_among m t mem x ok sound v.number_in deaf.fits deaf.other (walk MemWalk m.chip m.layout block) s new told (walk_all m block ok) (first_check m block mem place ok v)
+    let sound : IsDeafAt m.chip m.layout t mem index = record {
+      setup = deaf_setup m has.deaf ok;
+      inside = v.number_in;
+      low = deaf.index_in;
+      deaf = subst (λ (u : Setup). is_deaf u (Loc mem index) ≡ true) has.setup deaf.deaf;
+    } in
+    found_among m t mem index x place ok sound deaf.fits deaf.other (walk MemWalk m.chip m.layout block) s new told (walk_all m block ok)
+    (check_in m block mem place index ok v deaf.index_in)
     (record {
       model = refl;
       device = d;
       told = is;
       set_up = has.set_up;
       locations = has.locations;
-      here = ap (λ (u : Setup). slice_index d.locations (location u mem 0)) (sym has.setup);
+      here = ap (λ (u : Setup). slice_index d.locations (location u mem index)) (sym has.setup);
     }) run

@@ -13,7 +13,9 @@ pub mod HwReset
 pub mod Walked
 pub mod Twins
 pub mod Untouched
+pub mod Heard
 pub mod DeafWalk
+pub mod DeafAlone
 pub mod StuckBit
 pub mod ReadsAlike
 pub mod DeafReads

@@ -15,13 +15,17 @@ use Rattle.rl_bus.specs.Setup.{Setup, Flaws, location, is_deaf, value_in, reset_
 use Rattle.rl_bus.specs.State.{State, empty_state, reg_reset, reset_by, first_state}
 use Rattle.rl_model.specs.Rows.{ChipData}
 use Rattle.rl_model.specs.Chip.{IsSound}
+use Rattle.rl_model.specs.declared.rows.Item.TheVariants.{Mem}
 use Rattle.rl_model.specs.declared.rows.MemRow.{MemRow}
 use Rattle.rl_map.specs.Layout.{LayoutData}
 use Rattle.rl_map.specs.Tables.{reset_rows, setup_of}
 use Rattle.rl_mirror.proofs.WordLemmas.{bytes_pow}
 use Rattle.rl_access.specs.Operation.{location_size}
+use Rattle.rl_access.specs.Rules.{memory_size}
+use Rattle.rl_access.proofs.MemoryRows.{location_within}
+use Rattle.rl_seq.specs.Choice.{turned_round}
 use Rattle.rl_detect_laws.specs.Devices.{IsSetUp}
-use Rattle.rl_detect_laws.specs.Deaf.{deaf_items, HasDeafItems, NewOneHasDeafMemory}
+use Rattle.rl_detect_laws.specs.Deaf.{deaf_items, HasDeafItems, IsSetFirst, NewOneHasDeafMemory, NewOneHasLocations}
 use Rattle.rl_detect_laws.specs.Resets.{wrong_resets, NewOneHasWrongResets}
 
 pub regs_of : (c : ChipData) (l : LayoutData) (f : Flaws) → length (setup_of c l f).regs ≡ length c.regs
@@ -72,6 +76,14 @@ zero_in zero i = refl
 zero_in (suc n) zero = refl
 zero_in (suc n) (suc i) = zero_in n i
 
+pub zero_held : (c : ChipData) (l : LayoutData) (f : Flaws) (count mem index : ℕ)
+    → let d = first_state (setup_of c l f) count in
+    slice_index d.locations (location d.setup mem index) ≡ 0
+zero_held c l f count mem index =
+    let t = setup_of c l f in
+    let n = location (first_state t count).setup mem index in
+    ap (λ xs. slice_index xs n) (blank_locations t count) ∙ zero_in count n
+
 -- which isn't 1 in each bit of some bytes
 bytes_turned : (bytes : ℕ) → 1 ≤ bytes → 0 ≢ 2 ^ (8 * bytes) - 1 - 0 % 2 ^ (8 * bytes)
 bytes_turned zero some same = omega (arith, some)
@@ -82,14 +94,41 @@ bytes_turned (suc n) some same =
     let none = zero-mod (2 ^ (8 * suc n)) in
     omega (arith, more, low, none, same)
 
-some_bytes : (c : ChipData) (mem : ℕ) → IsSound c → mem < length c.mems → 1 ≤ location_size c mem
-some_bytes c mem sound inside = by (slice_get_cases c.mems mem).1
+mem_fits : (c : ChipData) (mem : ℕ) → IsSound c → mem < length c.mems → (1 ≤ location_size c mem) × (1 ≤ memory_size c mem)
+mem_fits c mem sound inside = by (slice_get_cases c.mems mem).1
   where
     by : ((row : MemRow) × (mem < length c.mems) × (slice_get c.mems mem ≡ Some row) × (get_or c.mems mem row ≡ row))
-        ⊎ ((length c.mems ≤ mem) × (slice_get c.mems mem ≡ None)) → 1 ≤ location_size c mem
+        ⊎ ((length c.mems ≤ mem) × (slice_get c.mems mem ≡ None)) → (1 ≤ location_size c mem) × (1 ≤ memory_size c mem)
     by (inl (row, there, is, same)) =
-        subst (λ (o : Option MemRow). 1 ≤ option_map_or (λ m. m.bytes) o 0) (sym is) (sound.each_mem mem row is).0
+        let fits = sound.each_mem mem row is in (
+          subst (λ (o : Option MemRow). 1 ≤ option_map_or (λ m. m.bytes) o 0) (sym is) fits.0,
+          subst (λ (o : Option MemRow). 1 ≤ option_map_or (λ m. m.size) o 0) (sym is) fits.2,
+        )
     by (inr (past, none)) = absurd (omega (arith, past, inside))
+
+-- the first location, or another one to which the walk writes something else than 0
+set_first : (c : ChipData) (mem index : ℕ) → IsSound c → mem < length c.mems → IsSetFirst c mem index
+    → (index < memory_size c mem) × (0 ≢ turned_round c (Mem mem) index)
+set_first c mem index sound inside (inl first) =
+    let fits = mem_fits c mem sound inside in
+    subst (λ i. (i < memory_size c mem) × (0 ≢ turned_round c (Mem mem) i)) (sym first) (fits.1, bytes_turned (location_size c mem) fits.0)
+set_first c mem index sound inside (inr (low, other)) = (low, λ same. other (sym same))
+
+pub new_one_has_locations : NewOneHasLocations
+new_one_has_locations c l deaf mem index inside low =
+    let f = deaf_items deaf in
+    let t = setup_of c l f in
+    let count = sum_by (λ m. m.size) c.mems in
+    let d = first_state t count in
+    let long : length d.locations ≡ count = ap length (blank_locations t count) ∙ length-replicate count 0 in
+    let set_up = new_set_up c l f count in
+    let there = location_within c l f mem index inside low in
+    record {
+      inside = subst (λ (u : Setup). location u mem index < length d.locations) (sym set_up.setup)
+          (subst (λ n. location t mem index < n) (sym long) there);
+      fits = subst (λ n. n < 256 ^ location_size c mem) (sym (zero_held c l f count mem index))
+          (subst (λ k. 0 < k) (bytes_pow (location_size c mem)) (pow_pos (8 * location_size c mem)));
+    }
 
 pub new_deaf : (c : ChipData) (l : LayoutData) (deaf : List ItemRow)
     → HasDeafItems c l (first_state (setup_of c l (deaf_items deaf)) (sum_by (λ m. m.size) c.mems))
@@ -102,18 +141,19 @@ new_deaf c l deaf =
     }
 
 pub new_one_has_deaf_memory : NewOneHasDeafMemory
-new_one_has_deaf_memory c l deaf mem sound inside is =
+new_one_has_deaf_memory c l deaf mem index sound inside is shown =
     let t = setup_of c l (deaf_items deaf) in
     let count = sum_by (λ m. m.size) c.mems in
     let d = first_state t count in
-    let here : slice_index d.locations (location d.setup mem 0) ≡ 0 =
-    ap (λ xs. slice_index xs (location d.setup mem 0)) (blank_locations t count) ∙ zero_in count (location d.setup mem 0) in
-    let set_up = new_set_up c l (deaf_items deaf) count in (
+    let here : slice_index d.locations (location d.setup mem index) ≡ 0 = zero_held c l (deaf_items deaf) count mem index in
+    let set_up = new_set_up c l (deaf_items deaf) count in
+    let at = set_first c mem index sound inside shown in (
       new_deaf c l deaf,
       record {
-        deaf = subst (λ (u : Setup). is_deaf u (Loc mem 0) ≡ true) (sym set_up.setup) is;
+        index_in = at.0;
+        deaf = subst (λ (u : Setup). is_deaf u (Loc mem index) ≡ true) (sym set_up.setup) is;
         fits = subst (λ n. n < 256 ^ location_size c mem) (sym here)
             (subst (λ k. 0 < k) (bytes_pow (location_size c mem)) (pow_pos (8 * location_size c mem)));
-        other = λ same. bytes_turned (location_size c mem) (some_bytes c mem sound inside) (sym here ∙ same);
+        other = λ same. at.1 (sym here ∙ same);
       },
     )

@@ -1,7 +1,7 @@
 -- A session whose script has a line of a sequence is found to have what each run of the sequence finds.
 use Rattle.std.proofs.Common.{◌≡◌, ℕ, ◌+◌, ◌-◌, ◌^◌, ◌<◌, true, false, ◌||◌, List, [], ◌∷◌, ◌++◌, codes, length, map}
 use Rattle.std.proofs.Common.{Option, Some, None, option_map, Result, Ok, Err, refl, sym, ap, subst, ◌∙◌, inl, inr, eq-eqb, arith}
-use Rattle.std.specs.Prelude.{unwrap_or}
+use Rattle.std.specs.Prelude.{unwrap_or, slice_index}
 use Rattle.std.proofs.lemmas.List.Elements.{All-head}
 use Rattle.std.proofs.lemmas.Option.{slice_get-get_or}
 use Rattle.rl_bus.specs.Account.{without_peer}
@@ -12,8 +12,9 @@ use Rattle.rl_bus.specs.declared.table.Cell.TheVariants as cell
 use Rattle.rl_bus.specs.declared.table.ItemRow.TheVariants as row
 use Rattle.rl_bus.specs.declared.table.ResetRow.{ResetRow}
 use Rattle.rl_bus.specs.declared.table.StuckRow.{StuckRow}
-use Rattle.rl_bus.specs.Setup.{Setup, is_deaf}
+use Rattle.rl_bus.specs.Setup.{Setup, Flaws, is_deaf, location}
 use Rattle.rl_bus.specs.Standing.{Standing, kinds_of}
+use Rattle.rl_bus.specs.State.{first_state}
 use Rattle.rl_model.specs.Rows.{FieldSeen, ChipData}
 use Rattle.rl_model.specs.Fields.{no_field, field_of, first_of as first_field}
 use Rattle.rl_model.specs.declared.rows.Item.TheVariants.{Reg}
@@ -33,6 +34,7 @@ use Rattle.rl_access.specs.Operation.{reg_of}
 use Rattle.rl_access.specs.World.{World, scene_at}
 use Rattle.rl_seq.specs.declared.sequence.Sequence.{Sequence}
 use Rattle.rl_seq.specs.declared.sequence.Sequence.TheVariants.{HwReset as HwResetOf, BitBash as BitBashOf, Access as AccessOf, MemWalk as MemWalkOf}
+use Rattle.rl_seq.specs.Sequences.{map_at}
 use Rattle.rl_desc.specs.declared.fault.DescFault.{DescFault}
 use Rattle.rl_desc.specs.Data.{DescData}
 use Rattle.rl_desc.specs.Described.{described, document_of, first_fault, description_of}
@@ -55,7 +57,7 @@ use Rattle.rl_plain.specs.Agree.{HasNoVolatile}
 use Rattle.rl_plain_log_laws.proofs.Openings.{each_opening_sound}
 use Rattle.rl_detect_laws.specs.BitFlaws.{IsComparedAt, HasFlaw}
 use Rattle.rl_detect_laws.specs.BitTables.{first_sides, first_believed}
-use Rattle.rl_detect_laws.specs.Deaf.{deaf_items, HasDeafItems, IsDeafTo, IsDeafBit, IsTurned}
+use Rattle.rl_detect_laws.specs.Deaf.{deaf_items, HasDeafItems, IsDeafTo, IsMarkedCheck, IsDeafBit, IsTurned}
 use Rattle.rl_detect_laws.specs.Errors.{EndsByError, HasError, SendsSome}
 use Rattle.rl_detect_laws.specs.Logged.{Leads, HasLogged, Shows}
 use Rattle.rl_detect_laws.specs.Otherwise.{IsNewOtherwise}
@@ -78,7 +80,7 @@ use Rattle.rl_detect_laws.proofs.Errors.{visited_error_is_found}
 use Rattle.rl_detect_laws.proofs.HwReset.{wrong_reset_is_named}
 use Rattle.rl_detect_laws.proofs.Logged.{line_comes, sequence_is_logged, shown_is_found}
 use Rattle.rl_detect_laws.proofs.NewDeaf.{new_ones_agree_on_bits, none_spent}
-use Rattle.rl_detect_laws.proofs.NewOnes.{one_reset, reset_taken, new_set_up, new_deaf, new_one_has_deaf_memory}
+use Rattle.rl_detect_laws.proofs.NewOnes.{one_reset, reset_taken, new_set_up, new_deaf, zero_held, new_one_has_deaf_memory}
 use Rattle.rl_detect_laws.proofs.StuckReset.{stuck_reset_is_named}
 use Rattle.rl_detect_laws.proofs.Turned.{new_one_has_stuck_bit}
 
@@ -103,8 +105,8 @@ named_shows c field e h =
     let k = field - first_field c (reg_of c field) in
     inl (λ none. let no : true ≡ false = sym h.names ∙ ap (λ n. bit n k) none ∙ bit-zero k in absurd (cc))
 
-marked_shows : (e : Event) → e.differ ≡ 1 → Shows e
-marked_shows e h = inl (λ none. let no = sym h ∙ none in absurd (cc))
+marked_shows : (c : ChipData) (mem map index read : ℕ) (e : Event) → IsMarkedCheck c mem map index read e → Shows e
+marked_shows c mem map index read e h = inl (λ none. let no = sym h.marked ∙ none in absurd (cc))
 
 -- ---- a session
 
@@ -330,10 +332,6 @@ deaf_reg : (c : ChipData) (l : LayoutData) (reg : ℕ) → is_deaf (setup_of c l
 unfolding setup_of
 deaf_reg c l reg = subst (λ b. (b || false) ≡ true) (sym (eq-eqb reg reg refl)) refl
 
-deaf_mem : (c : ChipData) (l : LayoutData) (mem : ℕ) → is_deaf (setup_of c l (deaf_items (row.Mem mem ∷ []))) (cell.Loc mem 0) ≡ true
-unfolding setup_of
-deaf_mem c l mem = subst (λ b. (b || false) ≡ true) (sym (eq-eqb mem mem refl)) refl
-
 pub session_finds_deaf_register : SessionFindsDeafRegister
 session_finds_deaf_register bytes adapters desc block field i place played has only steady is at =
     let c = desc.chip in
@@ -361,15 +359,20 @@ session_finds_deaf_register bytes adapters desc block field i place played has o
     (subst (λ fs. IsDeafBit c (first_of c l fs) (fresh c) field i) (sym only) deaf_bit) at run)
 
 pub session_finds_deaf_memory : SessionFindsDeafMemory
-session_finds_deaf_memory bytes adapters desc block mem place played has only at =
+session_finds_deaf_memory bytes adapters desc block mem index place played has only shown at =
     let c = desc.chip in
     let l = desc.layout in
     let w = first_world desc adapters in
     let sound = model_of bytes adapters desc played in
-    let new_one = new_one_has_deaf_memory c l (row.Mem mem ∷ []) mem sound.chip at.number_in (deaf_mem c l mem) in
-    let both = subst (λ fs. HasDeafItems c l (first_of c l fs) × IsDeafTo c (first_of c l fs) mem) (sym only) new_one in
-    found_first bytes adapters desc MemWalkOf block (λ e. e.differ ≡ 1) played has marked_shows
-    (λ told new run. deaf_memory_is_found (scene_at w (without_peer 0)) new w.device block told mem place sound refl both.0 both.1 at run)
+    let t = setup_of c l (deaf_items only.deaf) in
+    let named : is_deaf t (cell.Loc mem index) ≡ true = only.named in
+    let new_one = new_one_has_deaf_memory c l only.deaf mem index sound.chip at.number_in named shown in
+    let both = subst (λ (f : Flaws). let d = first_state (setup_of c l f) (locations_of c) in HasDeafItems c l d × IsDeafTo c d mem index) (sym only.flaws) new_one in
+    let zero : slice_index w.device.locations (location w.device.setup mem index) ≡ 0 = zero_held c l (flaws_of desc.flaws) (locations_of c) mem index in
+    found_first bytes adapters desc MemWalkOf block (IsMarkedCheck c mem (map_at l place) index 0) played has (marked_shows c mem (map_at l place) index 0)
+    (λ told new run.
+    subst (λ n. HasEvent (IsMarkedCheck c mem (map_at l place) index n) told) zero
+    (deaf_memory_is_found (scene_at w (without_peer 0)) new w.device block told mem index place sound refl both.0 both.1 at run))
 
 -- ---- a flaw of a bit
 

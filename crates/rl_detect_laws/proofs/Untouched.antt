@@ -1,4 +1,4 @@
--- No item changes the first location of a deaf memory, nor how much a device holds.
+-- No item changes the locations of a deaf memory, nor how much a device holds.
 use Rattle.std.proofs.Common.{◌≡◌, ℕ, ◌<◌, Bool, true, false, not, List, [], ◌∷◌, length, get_or, All, Option, None, Some, option_map, if◌then◌else◌, refl, sym, ap, ◌∙◌, subst}
 use Rattle.std.specs.Prelude.{slice_index, slice_get}
 use Rattle.std.specs.List.{list_any}
@@ -55,24 +55,29 @@ rows_known c l sound built k d low =
 
 -- ---- what stays
 
--- a setup whose words are known ones, in which this memory is deaf and stands apart from every other one
-pub record IsGuarded (c : ChipData) (t : Setup) (mem : ℕ) : Type 0 where
+-- a setup whose words are known ones, in which the locations of two memories stand apart
+pub record IsGuarded (c : ChipData) (t : Setup) : Type 0 where
   pub known : All (λ (w : WordRow). IsKnown c w.cell) t.words
-  pub apart : (m i : ℕ) → m < length c.mems → i < memory_size c m → location t mem 0 ≡ location t m i → m ≡ mem
-  pub deaf : is_deaf t (cell.Loc mem 0) ≡ true
+  pub apart : (n k m i : ℕ) → n < length c.mems → k < memory_size c n → m < length c.mems → i < memory_size c m
+      → location t n k ≡ location t m i → n ≡ m
 
-pub record IsKept (n : ℕ) (x y : State) : Type 0 where
-  pub here : slice_index y.locations n ≡ slice_index x.locations n
+-- each location of a deaf memory holds what it did
+abbrev pub DeafKept : ChipData → Setup → List ℕ → List ℕ → Type 0
+DeafKept c t xs ys =
+    (m i : ℕ) → m < length c.mems → i < memory_size c m → is_deaf t (cell.Loc m i) ≡ true → slice_index ys (location t m i) ≡ slice_index xs (location t m i)
+
+pub record IsKept (c : ChipData) (t : Setup) (x y : State) : Type 0 where
+  pub deaf : DeafKept c t x.locations y.locations
   pub bits : length y.bits ≡ length x.bits
   pub marks : length y.marks ≡ length x.marks
   pub locations : length y.locations ≡ length x.locations
 
-same : (n : ℕ) (x : State) → IsKept n x x
-same n x = record { here = refl; bits = refl; marks = refl; locations = refl }
+same : (c : ChipData) (t : Setup) (x : State) → IsKept c t x x
+same c t x = record { deaf = λ m i inside low so. refl; bits = refl; marks = refl; locations = refl }
 
-further : (n : ℕ) (x y z : State) → IsKept n x y → IsKept n y z → IsKept n x z
-further n x y z h k = record {
-  here = k.here ∙ h.here;
+further : (c : ChipData) (t : Setup) (x y z : State) → IsKept c t x y → IsKept c t y z → IsKept c t x z
+further c t x y z h k = record {
+  deaf = λ m i inside low so. k.deaf m i inside low so ∙ h.deaf m i inside low so;
   bits = k.bits ∙ h.bits;
   marks = k.marks ∙ h.marks;
   locations = k.locations ∙ h.locations;
@@ -83,76 +88,80 @@ further n x y z h k = record {
 same_memory : (m : ℕ) (i j : ℕ) (rows : List ItemRow) → list_any (is_of (cell.Loc m i)) rows ≡ list_any (is_of (cell.Loc m j)) rows
 same_memory m i j rows = refl
 
-clash : (b : Bool) → b ≡ true → b ≡ false → ⊥
-clash b p q = absurd (cc)
+-- a deaf location and one that hears stand apart
+pub parted : (c : ChipData) (t : Setup) (n k m i : ℕ) → IsGuarded c t → n < length c.mems → k < memory_size c n → m < length c.mems → i < memory_size c m
+    → is_deaf t (cell.Loc n k) ≡ true → is_deaf t (cell.Loc m i) ≡ false → location t n k ≡ location t m i → ⊥
+parted c t n k m i g inside low within below deaf hears meets =
+    let is = g.apart n k m i inside low within below meets in
+    let too : is_deaf t (cell.Loc m i) ≡ true = subst (λ j. is_deaf t (cell.Loc j i) ≡ true) is (same_memory n i k t.flaws.deaf ∙ deaf) in
+    let both : true ≡ false = sym too ∙ hears in
+    absurd (cc)
 
-by_test : (n : ℕ) (b : Bool) (s x y : State) → (b ≡ true → IsKept n s x) → (b ≡ false → IsKept n s y) → IsKept n s (if b then x else y)
-by_test n true s x y h k = h refl
-by_test n false s x y h k = k refl
+by_test : (c : ChipData) (t : Setup) (b : Bool) (s x y : State) → (b ≡ true → IsKept c t s x) → (b ≡ false → IsKept c t s y) → IsKept c t s (if b then x else y)
+by_test c t true s x y h k = h refl
+by_test c t false s x y h k = k refl
 
-reading : (n : ℕ) (s : State) (lanes : ℕ → Bool) (c : Cell) → IsKept n s (after_reading s lanes c)
-reading n s lanes (cell.Reg r) = record { here = refl; bits = length-set s.bits r _; marks = refl; locations = refl }
-reading n s lanes (cell.Loc m i) = same n s
+reading : (c : ChipData) (t : Setup) (s : State) (lanes : ℕ → Bool) (at : Cell) → IsKept c t s (after_reading s lanes at)
+reading c t s lanes (cell.Reg r) = record { deaf = λ m i inside low so. refl; bits = length-set s.bits r _; marks = refl; locations = refl }
+reading c t s lanes (cell.Loc m i) = same c t s
 
-writing : (c : ChipData) (mem : ℕ) (s : State) (word lanes : ℕ → Bool) (at : Cell) → IsGuarded c s.setup mem → IsKnown c at → is_deaf s.setup at ≡ false
-    → IsKept (location s.setup mem 0) s (after_writing s word lanes at)
-writing c mem s word lanes (cell.Reg r) g known hears = record {
-  here = refl;
+writing : (c : ChipData) (s : State) (word lanes : ℕ → Bool) (at : Cell) → IsGuarded c s.setup → IsKnown c at → is_deaf s.setup at ≡ false
+    → IsKept c s.setup s (after_writing s word lanes at)
+writing c s word lanes (cell.Reg r) g known hears = record {
+  deaf = λ m i inside low so. refl;
   bits = length-set s.bits r _;
   marks = length-set s.marks r _;
   locations = refl;
 }
-writing c mem s word lanes (cell.Loc m i) g known hears =
-    by_test (location s.setup mem 0) (mem_of s.setup m).writable s _ s
+writing c s word lanes (cell.Loc m i) g known hears =
+    let t = s.setup in
+    by_test c t (mem_of t m).writable s _ s
     (λ so. record {
-      here = get_or-set_other s.locations (location s.setup m i) (location s.setup mem 0) _ 0 (λ meets.
-          let is : m ≡ mem = g.apart m i known.0 known.1 meets in
-          let deaf : is_deaf s.setup (cell.Loc m i) ≡ true =
-          subst (λ k. is_deaf s.setup (cell.Loc k i) ≡ true) (sym is) (same_memory mem i 0 s.setup.flaws.deaf ∙ g.deaf) in
-          clash (is_deaf s.setup (cell.Loc m i)) deaf hears);
+      deaf = λ n k inside low deaf.
+          get_or-set_other s.locations (location t m i) (location t n k) _ 0 (parted c t n k m i g inside low known.0 known.1 deaf hears);
       bits = refl;
       marks = refl;
-      locations = length-set s.locations (location s.setup m i) _;
-    }) (λ so. same (location s.setup mem 0) s)
+      locations = length-set s.locations (location t m i) _;
+    }) (λ so. same c t s)
 
-word : (c : ChipData) (mem : ℕ) (s : State) (op : BusOp) (w : WordRow) → IsGuarded c s.setup mem → IsKnown c w.cell → IsKept (location s.setup mem 0) s (after_word s op w)
-word c mem s op w g known =
-    let n = location s.setup mem 0 in
-    by_test n (not op.write) s _ _ (λ so. reading n s (lane_bit (lanes_in w.lanes op.lanes)) w.cell)
-    (λ so. by_test n (is_deaf s.setup w.cell) s s _ (λ deaf. same n s)
-    (λ hears. writing c mem s (spread_bit (lanes_in w.lanes op.lanes) (bit op.word)) (lane_bit (lanes_in w.lanes op.lanes)) w.cell g known hears))
+word : (c : ChipData) (s : State) (op : BusOp) (w : WordRow) → IsGuarded c s.setup → IsKnown c w.cell → IsKept c s.setup s (after_word s op w)
+word c s op w g known =
+    let t = s.setup in
+    by_test c t (not op.write) s _ _ (λ so. reading c t s (lane_bit (lanes_in w.lanes op.lanes)) w.cell)
+    (λ so. by_test c t (is_deaf t w.cell) s s _ (λ deaf. same c t s)
+    (λ hears. writing c s (spread_bit (lanes_in w.lanes op.lanes) (bit op.word)) (lane_bit (lanes_in w.lanes op.lanes)) w.cell g known hears))
 
-touched : (c : ChipData) (mem : ℕ) (s : State) (port : ℕ) (op : BusOp) (o : Option WordRow) → IsGuarded c s.setup mem
-    → ((w : WordRow) → o ≡ Some w → IsKnown c w.cell) → IsKept (location s.setup mem 0) s (after_touch s port op o)
-touched c mem s port op None g known = same (location s.setup mem 0) s
-touched c mem s port op (Some w) g known =
-    let n = location s.setup mem 0 in
-    let h = word c mem s op w g (known w refl) in
-    by_test n (is_faulty s port op) s _ _ (λ faulty. record { here = refl; bits = refl; marks = refl; locations = refl })
-    (λ fine. record { here = h.here; bits = h.bits; marks = h.marks; locations = h.locations })
+touched : (c : ChipData) (s : State) (port : ℕ) (op : BusOp) (o : Option WordRow) → IsGuarded c s.setup
+    → ((w : WordRow) → o ≡ Some w → IsKnown c w.cell) → IsKept c s.setup s (after_touch s port op o)
+touched c s port op None g known = same c s.setup s
+touched c s port op (Some w) g known =
+    let h = word c s op w g (known w refl) in
+    by_test c s.setup (is_faulty s port op) s _ _
+    (λ faulty. record { deaf = λ m i inside low so. refl; bits = refl; marks = refl; locations = refl })
+    (λ fine. record { deaf = h.deaf; bits = h.bits; marks = h.marks; locations = h.locations })
 
-known_word : (c : ChipData) (mem : ℕ) (s : State) (port : ℕ) (op : BusOp) (w : WordRow) → IsGuarded c s.setup mem → word_at s port op ≡ Some w → IsKnown c w.cell
-known_word c mem s port op w g found =
+pub known_word : (c : ChipData) (s : State) (port : ℕ) (op : BusOp) (w : WordRow) → IsGuarded c s.setup → word_at s port op ≡ Some w → IsKnown c w.cell
+known_word c s port op w g found =
     let words = words_at s.setup port op.address op.write in
     let k = s.beats port op.address in
     let all : All (λ (w : WordRow). IsKnown c w.cell) words =
     All-filter (stands_for port op.address op.write) (λ (w : WordRow). IsKnown c w.cell) s.setup.words g.known in
     subst (λ (x : WordRow). IsKnown c x.cell) (get_or_from_slice_get words k w w found) (all k w (slice_get_within words k w found))
 
-own_kept : (c : ChipData) (mem : ℕ) (s : State) (port : ℕ) (op : BusOp) → IsGuarded c s.setup mem → IsKept (location s.setup mem 0) s (state_after s port op)
+own_kept : (c : ChipData) (s : State) (port : ℕ) (op : BusOp) → IsGuarded c s.setup → IsKept c s.setup s (state_after s port op)
 unfolding state_after
-own_kept c mem s port op g =
-    let h = touched c mem (counted s) port op (word_at s port op) g (λ w found. known_word c mem s port op w g found) in
-    record { here = h.here; bits = h.bits; marks = h.marks; locations = h.locations }
+own_kept c s port op g =
+    let h = touched c (counted s) port op (word_at s port op) g (λ w found. known_word c s port op w g found) in
+    record { deaf = h.deaf; bits = h.bits; marks = h.marks; locations = h.locations }
 
-item_kept : (c : ChipData) (mem : ℕ) (t : Setup) (s : State) (port : ℕ) (op : BusOp) → IsGuarded c t mem → s.setup ≡ t → IsKept (location t mem 0) s (state_after s port op)
-item_kept c mem t s port op g is = subst (λ (t : Setup). IsGuarded c t mem → IsKept (location t mem 0) s (state_after s port op)) is (own_kept c mem s port op) g
+item_kept : (c : ChipData) (t : Setup) (s : State) (port : ℕ) (op : BusOp) → IsGuarded c t → s.setup ≡ t → IsKept c t s (state_after s port op)
+item_kept c t s port op g is = subst (λ (t : Setup). IsGuarded c t → IsKept c t s (state_after s port op)) is (own_kept c s port op) g
 
 -- ---- items one after another
 
-pub all_kept : (c : ChipData) (mem : ℕ) (t : Setup) (s : State) (items : List TraceItem) → IsGuarded c t mem → s.setup ≡ t → IsKept (location t mem 0) s (state_after_all s items)
-all_kept c mem t s [] g is = same (location t mem 0) s
-all_kept c mem t s (item ∷ items) g is =
+pub all_kept : (c : ChipData) (t : Setup) (s : State) (items : List TraceItem) → IsGuarded c t → s.setup ≡ t → IsKept c t s (state_after_all s items)
+all_kept c t s [] g is = same c t s
+all_kept c t s (item ∷ items) g is =
     let after = state_after s item.port item.op in
-    further (location t mem 0) s after (state_after_all after items) (item_kept c mem t s item.port item.op g is)
-    (all_kept c mem t after items g (setup-state_after s item.port item.op ∙ is))
+    further c t s after (state_after_all after items) (item_kept c t s item.port item.op g is)
+    (all_kept c t after items g (setup-state_after s item.port item.op ∙ is))

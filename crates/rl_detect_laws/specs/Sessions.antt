@@ -1,11 +1,14 @@
 -- Which sessions find the one flaw of their description: those whose script has a line of a sequence that does.
-use Rattle.std.specs.Prelude.{◌≡◌, ◌≢◌, ℕ, ◌+◌, ◌<◌, false, List, [], ◌∷◌, ◌++◌, codes, length, Option, None, Some, Ok}
+use Rattle.std.specs.Prelude.{◌≡◌, ◌≢◌, ℕ, ◌+◌, ◌<◌, true, false, List, [], ◌∷◌, ◌++◌, codes, length, Option, None, Some, Ok}
 use Rattle.rl_policy.specs.Bits.{bit}
+use Rattle.rl_bus.specs.declared.table.Cell.TheVariants.{Loc}
+use Rattle.rl_bus.specs.declared.table.ItemRow.{ItemRow}
 use Rattle.rl_bus.specs.declared.table.StuckRow.{StuckRow}
+use Rattle.rl_bus.specs.Setup.{is_deaf}
 use Rattle.rl_bus.specs.Standing.{Standing, kinds_of}
 use Rattle.rl_model.specs.Chip.{value_for}
 use Rattle.rl_model.specs.Fields.{field_of}
-use Rattle.rl_model.specs.declared.rows.Item.TheVariants.{Reg, Mem}
+use Rattle.rl_model.specs.declared.rows.Item.TheVariants.{Reg}
 use Rattle.rl_map.specs.Tables.{setup_of}
 use Rattle.rl_flaw.specs.declared.flaw.Flaw.TheVariants.{OtherPolicy, OtherReset, Stuck, Deaf}
 use Rattle.rl_flaw.specs.Flaws.{flaws_of}
@@ -17,6 +20,7 @@ use Rattle.rl_access.specs.Operation.{reg_of}
 use Rattle.rl_access.specs.World.{World}
 use Rattle.rl_seq.specs.declared.sequence.Sequence.{Sequence}
 use Rattle.rl_seq.specs.declared.sequence.Sequence.TheVariants.{HwReset, BitBash, Access, MemWalk}
+use Rattle.rl_seq.specs.Sequences.{map_at}
 use Rattle.rl_desc.specs.Data.{DescData}
 use Rattle.rl_script.specs.Commands.{sequence_name}
 use Rattle.rl_script.specs.declared.line.Sequence.{Sequence as Word}
@@ -28,7 +32,7 @@ use Rattle.rl_plain.specs.Agree.{HasNoVolatile}
 use Rattle.rl_plain_log_laws.specs.Sound.{AreKinds}
 use Rattle.rl_detect_laws.specs.BitFlaws.{IsComparedAt, IsShown}
 use Rattle.rl_detect_laws.specs.BitTables.{first_sides, first_believed}
-use Rattle.rl_detect_laws.specs.Deaf.{IsTurned}
+use Rattle.rl_detect_laws.specs.Deaf.{deaf_items, IsSetFirst, IsMarkedCheck, IsTurned}
 use Rattle.rl_detect_laws.specs.Errors.{EndsByError, HasError, SendsSome}
 use Rattle.rl_detect_laws.specs.Logged.{Leads, SaysSequence, HasLogged}
 use Rattle.rl_detect_laws.specs.Otherwise.{ChecksWritten, KeepsApart}
@@ -162,14 +166,20 @@ SessionFindsDeafRegister =
     → IsVisited Access desc.chip desc.layout block (reg_of desc.chip field) place
     → IsFound bytes adapters (IsNamedBy desc.chip field)
 
--- a deaf memory
+-- the only flaws are deaf items, and the memory is one of them
+pub record HasDeafMemory (desc : DescData) (mem : ℕ) : Type 0 where
+  pub deaf : List ItemRow
+  pub flaws : flaws_of desc.flaws ≡ deaf_items deaf
+  pub named : is_deaf (setup_of desc.chip desc.layout (deaf_items deaf)) (Loc mem 0) ≡ true
+
+-- a deaf memory, by a check of its first location, and of each other one that the walk first sets to more than 0
 abbrev pub SessionFindsDeafMemory : Type 0
 SessionFindsDeafMemory =
-    (bytes : List ℕ) (adapters : List Standing) (desc : DescData) (block : Option ℕ) (mem place : ℕ)
+    (bytes : List ℕ) (adapters : List Standing) (desc : DescData) (block : Option ℕ) (mem index place : ℕ)
     → IsPlayed bytes adapters desc → HasSequence bytes adapters desc [] MemWalk block
-    → desc.flaws ≡ Deaf (Mem mem) ∷ []
+    → HasDeafMemory desc mem → IsSetFirst desc.chip mem index
     → IsVisited MemWalk desc.chip desc.layout block mem place
-    → IsFound bytes adapters (λ e. e.differ ≡ 1)
+    → IsFound bytes adapters (IsMarkedCheck desc.chip mem (map_at desc.layout place) index 0)
 
 -- bit i of the field is stuck, its register is deaf, or the field has another policy, and nothing else is wrong
 abbrev pub HasOnlyFlaw : DescData → (field i : ℕ) → BitFlaw → Type 0

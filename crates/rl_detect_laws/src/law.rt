@@ -3,7 +3,7 @@ ghost use Rattle.rl_detect_laws.specs.BitFlaws.{BitFlawIsNamed};
 ghost use Rattle.rl_detect_laws.specs.BitTables.{DeafIsShown, NewOneHasFlaw, OtherPolicyIsShown, StuckIsShown};
 ghost use Rattle.rl_detect_laws.specs.BitTables.{FirstValueIsShown, FirstValueIsShownBehind, FirstValueShowsDeaf};
 ghost use Rattle.rl_detect_laws.specs.Deaf.{DeafMemoryIsFound, DeafRegisterIsNamed, NewOnesAgreeOnBits, NoneSpent};
-ghost use Rattle.rl_detect_laws.specs.Deaf.{NewOneHasDeafMemory, PoliciesTurn};
+ghost use Rattle.rl_detect_laws.specs.Deaf.{NewOneHasDeafMemory, NewOneHasLocations, OnlyDeafIsMarked, PoliciesTurn};
 ghost use Rattle.rl_detect_laws.specs.Errors.{NthErrorIsFound, SharedErrorIsFound, VisitedErrorIsFound};
 ghost use Rattle.rl_detect_laws.specs.Named.{NoLocationDiffers, NothingIsNamed};
 ghost use Rattle.rl_detect_laws.specs.Otherwise.{HeldOtherwiseIsNamed, NewOneIsHeldOtherwise, PoliciesKeepApart};
@@ -47,11 +47,18 @@ pub fn wrong_reset_is_named()
     ensures first { NewOneHasWrongResets }
 {}
 
-/// `mem_walk` finds a deaf memory: where a memory that it visits takes no write, and its first location doesn't hold 1
-/// in each bit, some check of a location is marked.
+/// `mem_walk` finds a deaf memory. Let a memory that it visits take no write, and a location of it not hold its number
+/// turned round, as the walk first writes there. Then the check of that location at each visited place is marked.
 pub fn deaf_memory_is_found()
     ensures found { DeafMemoryIsFound }
     ensures first { NewOneHasDeafMemory }
+{}
+
+/// `mem_walk` marks no other event: each that is marked is the check of such a location of a deaf memory. So of two
+/// deaf memories each has its own marks, and a memory that hears has none.
+pub fn only_deaf_memories_are_marked()
+    ensures only { OnlyDeafIsMarked }
+    ensures first { NewOneHasLocations }
 {}
 
 /// `bit_bash` finds a stuck bit: where one bit of a compared field of a register that it visits is stuck, and

@@ -51,7 +51,8 @@ pub fn session_finds_deaf_register()
     ensures { SessionFindsDeafRegister }
 {}
 
-/// A session whose one flaw is a deaf memory finds it by a first line `seq mem-walk`.
+/// A session whose flaws are deaf items finds each of its deaf memories by a first line `seq mem-walk` that visits it:
+/// the check of its first location is marked, and of each other one to which the walk first writes more than 0.
 pub fn session_finds_deaf_memory()
     ensures { SessionFindsDeafMemory }
 {}
