@@ -20,7 +20,7 @@ use Rattle.rl_seq.specs.Choice.{is_of, may_read, may_write, is_bit_compared, is_
 use Rattle.rl_seq.specs.Plan.{Plan, followed_by, each_below}
 use Rattle.rl_seq.specs.Sequences.{map_at, check_at, bash_once, bash_bit, check_other, fill, settle_before, check_last, walk_location}
 use Rattle.rl_seq.specs.Sequences.{items_of, item_of, is_chosen, has_rights, is_visited, at_place, visit, visit_all, walk, plan_of}
-use Rattle.rl_detect_laws.specs.Errors.{HasError, EndsByError, SendsSome, VisitedErrorIsFound, SharedErrorIsFound}
+use Rattle.rl_detect_laws.specs.Errors.{HasError, FailsAtWord, SendsSome, VisitedErrorIsFound, SharedErrorIsFound}
 use Rattle.rl_detect_laws.specs.Visited.{RunsAll, HasEvent, IsVisited}
 use Rattle.rl_detect_laws.proofs.Failing.{IsAccessAt, access_fails}
 use Rattle.rl_detect_laws.proofs.Holding.{HoldsOne, in_first, in_chosen, in_each, held_found}
@@ -107,12 +107,12 @@ seat_of which c l block s number place index ok v location =
 -- ---- the laws
 
 errors_found : (s new : Scene) (d : State) (which : Sequence) (block : Option ℕ) (told : List Told) (place index : ℕ) → IsModel s.model → s.device ≡ Some d
-    → HasError s.model.layout d.setup place index → HoldsOne (IsAccessAt s.model.chip s.model.layout place index) (plan_of which s.model.chip s.model.layout block)
-    → RunsAll which block s told new → HasEvent EndsByError told
+    → (error : HasError s.model.layout d.setup place index) → HoldsOne (IsAccessAt s.model.chip s.model.layout place index) (plan_of which s.model.chip s.model.layout block)
+    → RunsAll which block s told new → HasEvent (FailsAtWord s.model.layout place index error.stands.number) told
 errors_found s new d which block told place index ok is error held run =
     let c = s.model.chip in
     let l = s.model.layout in
-    held_found (IsAccessAt c l place index) (Stands c l d.setup) EndsByError (still_stands c l d.setup)
+    held_found (IsAccessAt c l place index) (Stands c l d.setup) (FailsAtWord l place index error.stands.number) (still_stands c l d.setup)
     (access_fails c l d.setup place index ok.layout error) (plan_of which c l block) s new told held
     (record { chip = refl; layout = refl; device = d; told = is; setup = refl }) run
 
@@ -140,7 +140,7 @@ other_held c l reg written place index p location right other =
 pub shared_error_is_found : SharedErrorIsFound
 shared_error_is_found s new d block told reg written place index ok is v at error run = by at.right
   where
-    here : may_write s.model.layout place ≡ true → HasEvent EndsByError told
+    here : may_write s.model.layout place ≡ true → HasEvent (FailsAtWord s.model.layout place index error.stands.number) told
     here right =
         visited_error_is_found s new d Shared block told reg place index ok is (record {
           number_in = v.number_in;
@@ -149,7 +149,7 @@ shared_error_is_found s new d block told reg written place index ok is v at erro
           visited = both_true (is_of s.model.layout place (Reg reg)) _ at.register right;
         }) tt error run
 
-    read_there : may_read s.model.layout place ≡ true → (place ≡ written) ⊎ (place ≡ written → ⊥) → HasEvent EndsByError told
+    read_there : may_read s.model.layout place ≡ true → (place ≡ written) ⊎ (place ≡ written → ⊥) → HasEvent (FailsAtWord s.model.layout place index error.stands.number) told
     read_there right (inl same) =
         let writes : may_write s.model.layout written ≡ true =
         (and_parts (is_of s.model.layout written (Reg reg)) (may_write s.model.layout written) v.visited).1 in
@@ -162,6 +162,6 @@ shared_error_is_found s new d block told reg written place index ok is v at erro
         (in_plan (IsAccessAt c l place index) Shared c l block (in_walk (IsAccessAt c l place index) Shared c l block reg written v
         (other_held c l reg written place index p error.stands.location right other))) run
 
-    by : (may_read s.model.layout place ≡ true) ⊎ (may_write s.model.layout place ≡ true) → HasEvent EndsByError told
+    by : (may_read s.model.layout place ≡ true) ⊎ (may_write s.model.layout place ≡ true) → HasEvent (FailsAtWord s.model.layout place index error.stands.number) told
     by (inl right) = read_there right (cases_eq place written)
     by (inr right) = here right

@@ -1,5 +1,5 @@
--- An access to a place with an address that answers errors ends by a bus error.
-use Rattle.std.proofs.Common.{◌≡◌, ℕ, zero, suc, ◌<◌, Bool, true, false, ◌||◌, if◌then◌else◌, List, [], ◌∷◌, length, map, get_or, Option, None, Some, Ok, refl, sym, ap, ◌∙◌, subst, arith}
+-- An access to a place with an address that answers errors ends by a bus error there, or at a word before it.
+use Rattle.std.proofs.Common.{◌≡◌, ℕ, zero, suc, ◌<◌, ◌≤◌, Bool, true, false, ◌||◌, if◌then◌else◌, List, [], ◌∷◌, ◌++◌, length, map, get_or, Option, None, Some, Ok, refl, sym, ap, ◌∙◌, subst, arith}
 use Rattle.std.proofs.lemmas.List.{get_or-map, length-map}
 use Rattle.rl_bus.specs.declared.op.Answer.{Answer}
 use Rattle.rl_bus.specs.declared.op.BusOp.{BusOp}
@@ -25,7 +25,7 @@ use Rattle.rl_access.specs.Tally.{is_bus_error}
 use Rattle.rl_access.proofs.Setups.{setup-state_after}
 use Rattle.rl_access.proofs.Traces.{quiet_where_none}
 use Rattle.rl_plain.proofs.Answered.{done_of}
-use Rattle.rl_detect_laws.specs.Errors.{is_error_at, HasError, EndsByError}
+use Rattle.rl_detect_laws.specs.Errors.{is_error_at, HasError, FailsAtWord}
 use Rattle.rl_detect_laws.proofs.Standing.{Stands}
 
 -- ---- one item
@@ -55,20 +55,68 @@ answer_fails d port op error = at_fails (counted d) port op (word_at d port op) 
 
 -- ---- items one after another
 
-goes_on : (b : Bool) (rest : List TraceItem) → has_failed rest ≡ true → (b || has_failed (if b then [] else rest)) ≡ true
-goes_on true rest h = refl
-goes_on false rest h = h
+-- the last of them failed, of the operations up to this one
+record LastFails (items : List TraceItem) (port : ℕ) (ops : List BusOp) (k : ℕ) : Type 0 where
+  front : List TraceItem
+  item : TraceItem
+  all : items ≡ front ++ item ∷ []
+  fails : item.answer.failed ≡ true
+  upto : length front ≤ k
+  port_is : item.port ≡ port
+  op_is : item.op ≡ get_or ops (length front) no_op
+
+first_fails : (a : Standing) (d : State) (port k : ℕ) (op : BusOp) (ops : List BusOp) → (answer_of d port op).failed ≡ true
+    → LastFails (items_of a d port (op ∷ ops)) port (op ∷ ops) k
+first_fails a d port k op ops failed =
+    let item = item_of a port op (answer_of d port op) in
+    let more = items_of (took_item a item) (state_after d port op) port ops in
+    record {
+      front = [];
+      item = item;
+      all = ap (λ b. item ∷ (if b then [] else more)) failed;
+      fails = failed;
+      upto = omega arith;
+      port_is = refl;
+      op_is = refl;
+    }
+
+later_fails : (a : Standing) (d : State) (port k : ℕ) (op : BusOp) (ops : List BusOp) → (answer_of d port op).failed ≡ false
+    → LastFails (items_of (took_item a (item_of a port op (answer_of d port op))) (state_after d port op) port ops) port ops k
+    → LastFails (items_of a d port (op ∷ ops)) port (op ∷ ops) (suc k)
+later_fails a d port k op ops fine rest =
+    let item = item_of a port op (answer_of d port op) in
+    let more = items_of (took_item a item) (state_after d port op) port ops in
+    record {
+      front = item ∷ rest.front;
+      item = rest.item;
+      all = ap (λ b. item ∷ (if b then [] else more)) fine ∙ ap (λ (xs : List TraceItem). item ∷ xs) rest.all;
+      fails = rest.fails;
+      upto = omega (arith, rest.upto);
+      port_is = rest.port_is;
+      op_is = rest.op_is;
+    }
+
+by_first : (a : Standing) (d : State) (port k : ℕ) (op : BusOp) (ops : List BusOp) (b : Bool) → (answer_of d port op).failed ≡ b
+    → LastFails (items_of (took_item a (item_of a port op (answer_of d port op))) (state_after d port op) port ops) port ops k
+    → LastFails (items_of a d port (op ∷ ops)) port (op ∷ ops) (suc k)
+by_first a d port k op ops true failed rest = first_fails a d port (suc k) op ops failed
+by_first a d port k op ops false fine rest = later_fails a d port k op ops fine rest
 
 some_fails : (a : Standing) (t : Setup) (d : State) (port address k : ℕ) (ops : List BusOp) → d.setup ≡ t → is_error_at t port address ≡ true → k < length ops
-    → (get_or ops k no_op).address ≡ address → has_failed (items_of a d port ops) ≡ true
+    → (get_or ops k no_op).address ≡ address → LastFails (items_of a d port ops) port ops k
 some_fails a t d port address k [] setup error low at = absurd (omega (arith, low))
 some_fails a t d port address zero (op ∷ ops) setup error low at =
-    or_left (answer_of d port op).failed _
+    first_fails a d port 0 op ops
     (answer_fails d port op (subst (λ (u : Setup). is_error_at u port op.address ≡ true) (sym setup) (subst (λ n. is_error_at t port n ≡ true) (sym at) error)))
 some_fails a t d port address (suc k) (op ∷ ops) setup error low at =
     let item = item_of a port op (answer_of d port op) in
-    goes_on item.answer.failed (items_of (took_item a item) (state_after d port op) port ops)
+    by_first a d port k op ops (answer_of d port op).failed refl
     (some_fails (took_item a item) t (state_after d port op) port address k ops (setup-state_after d port op ∙ setup) error (omega (arith, low)) at)
+
+-- then one of them failed
+pub last_failed : (front : List TraceItem) (item : TraceItem) → item.answer.failed ≡ true → has_failed (front ++ item ∷ []) ≡ true
+last_failed [] item failed = or_left item.answer.failed false failed
+last_failed (x ∷ front) item failed = or_right x.answer.failed (has_failed (front ++ item ∷ [])) (last_failed front item failed)
 
 -- ---- the operations of a whole access
 
@@ -84,16 +132,16 @@ unfolding ops_of sent_of
 all_sent l place index value write t sound e =
     ap (map (op_of l place (all_bytes (place_at l place).bytes) value write)) (whole_sent l place index (is_here l place index sound e.stands.location))
 
-is_sent : (l : LayoutData) (place index value : ℕ) (write : Bool) (t : Setup) → IsSound l → (e : HasError l t place index) → IsSent l place index value write e.stands.number
-is_sent l place index value write t sound e =
+is_sent : (l : LayoutData) (place index value : ℕ) (write : Bool) (t : Setup) (k : ℕ) → IsSound l → HasError l t place index
+    → k < length (words_of l place index) → IsSent l place index value write k
+is_sent l place index value write t k sound e low =
     let bytes = all_bytes (place_at l place).bytes in
     let words = words_of l place index in
-    let k = e.stands.number in
     let sent = all_sent l place index value write t sound e in
     record {
-      low = subst (λ (ops : List BusOp). k < length ops) (sym sent) (subst (λ n. k < n) (sym (length-map words (op_of l place bytes value write))) e.stands.number_in);
+      low = subst (λ (ops : List BusOp). k < length ops) (sym sent) (subst (λ n. k < n) (sym (length-map words (op_of l place bytes value write))) low);
       address = ap (λ (ops : List BusOp). (get_or ops k no_op).address) sent
-          ∙ ap (λ (o : BusOp). o.address) (get_or-map (op_of l place bytes value write) words k no_word no_op e.stands.number_in);
+          ∙ ap (λ (o : BusOp). o.address) (get_or-map (op_of l place bytes value write) words k no_word no_op low);
     }
 
 -- ---- an operation that is such an access
@@ -115,24 +163,34 @@ pub end_is : (r : Option ℕ) (op : Op) (items : List TraceItem) (o : Outcome) �
 end_is None op items o = refl
 end_is (Some reg) op items o = refl
 
-pub access_fails : (c : ChipData) (l : LayoutData) (t : Setup) (place index : ℕ) → IsSound l → HasError l t place index → (s new : Scene) (op : Op) (e : Event)
-    → IsAccessAt c l place index op → Stands c l t s → Performs s new op e → EndsByError e
+pub access_fails : (c : ChipData) (l : LayoutData) (t : Setup) (place index : ℕ) → IsSound l → (error : HasError l t place index) → (s new : Scene) (op : Op) (e : Event)
+    → IsAccessAt c l place index op → Stands c l t s → Performs s new op e → FailsAtWord l place index error.stands.number e
 access_fails c l t place index sound error s new op e a st performs =
     let done = done_of s new op place e (a.granted s.model st.chip st.layout) performs in
     let port = (place_at l place).port in
     let adapter = standing_at s.adapters (adapter_for s.model.layout place) in
-    let here = is_sent l place index a.value a.write t sound error in
+    let ops = ops_of l place index (all_bytes (place_at l place).bytes) a.value a.write in
+    let k = error.stands.number in
+    let here = is_sent l place index a.value a.write t k sound error error.stands.number_in in
     let same : port_for s.model.layout place ≡ port = ap (λ (x : LayoutData). port_for x place) st.layout in
-    let failed : has_failed (items_of adapter st.device port (ops_of l place index (all_bytes (place_at l place).bytes) a.value a.write)) ≡ true =
-    some_fails adapter t st.device port error.address error.stands.number _ st.setup error.fails here.low (here.address ∙ error.stands.address_is) in
-    let trace : e.trace ≡ items_of adapter st.device port (ops_of l place index (all_bytes (place_at l place).bytes) a.value a.write) =
+    let found = some_fails adapter t st.device port error.address k ops st.setup error.fails here.low (here.address ∙ error.stands.address_is) in
+    let trace : e.trace ≡ found.front ++ found.item ∷ [] =
     done.answers st.device st.told
     ∙ ap (λ p. items_of adapter st.device p (sends s.model op place)) same
-    ∙ ap (items_of adapter st.device port) (a.sent s.model st.chip st.layout) in
+    ∙ ap (items_of adapter st.device port) (a.sent s.model st.chip st.layout)
+    ∙ found.all in
     let some : failed_at e.trace ≡ None → ⊥ =
     λ none. let quiet : has_failed e.trace ≡ false = quiet_where_none e.trace none in
-    let both : true ≡ false = sym failed ∙ sym (ap has_failed trace) ∙ quiet in absurd (cc) in
+    let both : true ≡ false = sym (last_failed found.front found.item found.fails) ∙ sym (ap has_failed trace) ∙ quiet in absurd (cc) in
     let ended : e.end ≡ (outcome s.model op place done.sampled e.trace).end =
     ap (λ (x : Event). x.end) done.event_is
     ∙ end_is (register_of s.model.chip (named s.model op)) (named s.model op) e.trace (outcome s.model op place done.sampled e.trace) in
-    ap is_bus_error ended ∙ a.ends s.model done.sampled e.trace some
+    let there = is_sent l place index a.value a.write t (length found.front) sound error (omega (arith, found.upto, error.stands.number_in)) in
+    record {
+      front = found.front;
+      item = found.item;
+      at = record { ends = ap is_bus_error ended ∙ a.ends s.model done.sampled e.trace some; trace = trace; fails = found.fails };
+      upto = found.upto;
+      port_is = found.port_is;
+      address_is = ap (λ (o : BusOp). o.address) found.op_is ∙ there.address;
+    }

@@ -18,7 +18,7 @@ use Rattle.rl_bus.specs.State.{first_state}
 use Rattle.rl_model.specs.Rows.{FieldSeen, ChipData}
 use Rattle.rl_model.specs.Fields.{no_field, field_of, first_of as first_field}
 use Rattle.rl_model.specs.declared.rows.Item.TheVariants.{Reg}
-use Rattle.rl_map.specs.Layout.{LayoutData}
+use Rattle.rl_map.specs.Layout.{LayoutData, place_at}
 use Rattle.rl_map.specs.Tables.{setup_of}
 use Rattle.rl_flaw.specs.declared.flaw.Flaw.{Flaw}
 use Rattle.rl_flaw.specs.declared.flaw.Flaw.TheVariants.{OtherReset, Deaf}
@@ -58,7 +58,7 @@ use Rattle.rl_plain_log_laws.proofs.Openings.{each_opening_sound}
 use Rattle.rl_detect_laws.specs.BitFlaws.{IsComparedAt, HasFlaw}
 use Rattle.rl_detect_laws.specs.BitTables.{first_sides, first_believed}
 use Rattle.rl_detect_laws.specs.Deaf.{deaf_items, HasDeafItems, IsDeafTo, IsMarkedCheck, IsDeafBit, IsTurned}
-use Rattle.rl_detect_laws.specs.Errors.{EndsByError, HasError, SendsSome}
+use Rattle.rl_detect_laws.specs.Errors.{FailsAtWord, HasError, SendsSome, is_error_at}
 use Rattle.rl_detect_laws.specs.Logged.{Leads, HasLogged, Shows}
 use Rattle.rl_detect_laws.specs.Otherwise.{IsNewOtherwise}
 use Rattle.rl_detect_laws.specs.Resets.{wrong_resets, HasWrongResets, IsResetOtherwise, IsNamedBy}
@@ -274,14 +274,19 @@ session_finds_kept_reset bytes adapters desc which block field place played has 
 -- ---- an address that answers errors
 
 error_at : (c : ChipData) (l : LayoutData) (t : Setup) (v : World) (which : Sequence) (block : Option ℕ) (number place index : ℕ) (told : List Told) (new : Scene)
-    → IsWorldOf c l t v → IsVisited which c l block number place → SendsSome which c number → HasError l t place index
-    → RunsAll which block (scene_at v (without_peer 0)) told new → HasEvent EndsByError told
+    → IsWorldOf c l t v → IsVisited which c l block number place → SendsSome which c number → (error : HasError l t place index)
+    → RunsAll which block (scene_at v (without_peer 0)) told new → HasEvent (FailsAtWord l place index error.stands.number) told
 error_at c l t v which block number place index told new h at sends error run =
     from_own c l v.model
-    (λ x y. IsVisited which x y block number place → SendsSome which x number → HasError y v.device.setup place index → HasEvent EndsByError told)
+    (λ x y. IsVisited which x y block number place → SendsSome which x number → (error : HasError y v.device.setup place index)
+    → HasEvent (FailsAtWord y place index error.stands.number) told)
     h.chip h.layout
     (λ at sends error. visited_error_is_found (scene_at v (without_peer 0)) new v.device which block told number place index h.model refl at sends error run)
-    at sends (subst (λ u. HasError l u place index) (sym h.setup) error)
+    at sends (record {
+      address = error.address;
+      stands = error.stands;
+      fails = subst (λ u. is_error_at u (place_at l place).port error.address ≡ true) (sym h.setup) error.fails;
+    })
 
 pub session_finds_error : SessionFindsError
 session_finds_error bytes adapters desc before which block number place index played has at sends error =
@@ -290,7 +295,7 @@ session_finds_error bytes adapters desc before which block number place index pl
     let t = setup_of c l (flaws_of desc.flaws) in
     let v = leads_keeps c l t before 1 (first_world desc adapters) has.world
     (first_stands desc adapters (model_of bytes adapters desc played)) has.says.leads in
-    found bytes adapters desc before which block EndsByError played has (λ e h. inr h)
+    found bytes adapters desc before which block (FailsAtWord l place index error.stands.number) played has (λ e h. inr h.at.ends)
     (λ told new run. error_at c l t has.world which block number place index told new v at sends error run)
 
 -- ---- a stuck bit

@@ -33,7 +33,7 @@ use Rattle.rl_plain_log_laws.specs.Sound.{AreKinds}
 use Rattle.rl_detect_laws.specs.BitFlaws.{IsComparedAt, IsShown}
 use Rattle.rl_detect_laws.specs.BitTables.{first_sides, first_believed}
 use Rattle.rl_detect_laws.specs.Deaf.{deaf_items, IsSetFirst, IsMarkedCheck, IsTurned}
-use Rattle.rl_detect_laws.specs.Errors.{EndsByError, HasError, SendsSome}
+use Rattle.rl_detect_laws.specs.Errors.{FailsAtWord, HasError, SendsSome}
 use Rattle.rl_detect_laws.specs.Logged.{Leads, SaysSequence, HasLogged}
 use Rattle.rl_detect_laws.specs.Otherwise.{ChecksWritten, KeepsApart}
 use Rattle.rl_detect_laws.specs.Resets.{IsNamedBy}
@@ -110,8 +110,8 @@ SessionFindsError =
     (block : Option ℕ) (number place index : ℕ)
     → IsPlayed bytes adapters desc → HasSequence bytes adapters desc before which block
     → IsVisited which desc.chip desc.layout block number place → SendsSome which desc.chip number
-    → HasError desc.layout (setup_of desc.chip desc.layout (flaws_of desc.flaws)) place index
-    → IsFound bytes adapters EndsByError
+    → (error : HasError desc.layout (setup_of desc.chip desc.layout (flaws_of desc.flaws)) place index)
+    → IsFound bytes adapters (FailsAtWord desc.layout place index error.stands.number)
 
 -- ---- a flaw that the first line of the script finds
 

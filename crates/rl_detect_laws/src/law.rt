@@ -25,7 +25,8 @@ pub fn no_location_differs()
 {}
 
 /// Each sequence finds an address that answers errors, by a flaw of a range: where a word of a register or a location
-/// is there, in a place that the sequence visits, some event ends by a bus error.
+/// is there, in a place that the sequence visits, some event ends by a bus error. The item that failed is of this word,
+/// or of one before it in the location.
 pub fn visited_error_is_found()
     ensures { VisitedErrorIsFound }
 {}
@@ -35,7 +36,8 @@ pub fn shared_error_is_found()
     ensures { SharedErrorIsFound }
 {}
 
-/// Each finds an item that fails by its number, where the device took that item while the sequence ran.
+/// Each finds an item that fails by its number, where the device took that item while the sequence ran: some event
+/// ends by a bus error at the item with this number.
 pub fn nth_error_is_found()
     ensures { NthErrorIsFound }
 {}

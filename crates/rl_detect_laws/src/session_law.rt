@@ -32,7 +32,7 @@ pub fn session_finds_wrong_reset()
 {}
 
 /// A session finds an address that answers errors, with any flaws beside it, by any line of a sequence that visits a
-/// place with a word there.
+/// place with a word there. The item that failed is of this word, or of one before it in the location.
 pub fn session_finds_error()
     ensures { SessionFindsError }
 {}
