@@ -1,5 +1,7 @@
 -- An access to a place with an address that answers errors ends by a bus error there, or at a word before it.
-use Rattle.std.proofs.Common.{◌≡◌, ℕ, zero, suc, ◌<◌, ◌≤◌, Bool, true, false, ◌||◌, if◌then◌else◌, List, [], ◌∷◌, ◌++◌, length, map, get_or, Option, None, Some, Ok, refl, sym, ap, ◌∙◌, subst, arith}
+use Rattle.std.proofs.Common.{◌≡◌, ℕ, zero, suc, ◌+◌, ◌<◌, ◌≤◌, Bool, true, false, ◌||◌, cond, if◌then◌else◌, List, [], ◌∷◌, ◌++◌, length, map, get_or, Option, None, Some, Ok, refl, sym, ap, ◌∙◌, subst, arith}
+use Rattle.std.specs.List.{position_from}
+use Rattle.std.proofs.lemmas.Iterator.Adapters.{position_from-zero}
 use Rattle.std.proofs.lemmas.List.{get_or-map, length-map}
 use Rattle.rl_bus.specs.declared.op.Answer.{Answer}
 use Rattle.rl_bus.specs.declared.op.BusOp.{BusOp}
@@ -13,6 +15,7 @@ use Rattle.rl_map.specs.Words.{no_word}
 use Rattle.rl_split.specs.Access.{all_bytes, op_of, sent_of, ops_of}
 use Rattle.rl_split.specs.Seats.{no_op}
 use Rattle.rl_split.proofs.Sending.{is_here, whole_sent}
+use Rattle.rl_access.specs.declared.event.End.TheVariants as end
 use Rattle.rl_access.specs.declared.event.Event.{Event}
 use Rattle.rl_access.specs.declared.event.Op.{Op}
 use Rattle.rl_access.specs.declared.trace.TraceItem.{TraceItem}
@@ -21,9 +24,7 @@ use Rattle.rl_access.specs.Items.{item_of, took_item, items_of, has_failed, fail
 use Rattle.rl_access.specs.Model.{ModelData}
 use Rattle.rl_access.specs.Operation.{register_of}
 use Rattle.rl_access.specs.Rules.{grant, named, sends, Outcome, or_error, outcome, event_at}
-use Rattle.rl_access.specs.Tally.{is_bus_error}
 use Rattle.rl_access.proofs.Setups.{setup-state_after}
-use Rattle.rl_access.proofs.Traces.{quiet_where_none}
 use Rattle.rl_plain.proofs.Answered.{done_of}
 use Rattle.rl_detect_laws.specs.Errors.{is_error_at, HasError, FailsAtWord}
 use Rattle.rl_detect_laws.proofs.Standing.{Stands}
@@ -55,11 +56,20 @@ answer_fails d port op error = at_fails (counted d) port op (word_at d port op) 
 
 -- ---- items one after another
 
+pub both_quiet : (a b : Bool) → a ≡ false → b ≡ false → (a || b) ≡ false
+both_quiet true b so h = so
+both_quiet false b so h = h
+
+each_quiet : (a b : Bool) → (a || b) ≡ false → (a ≡ false) × (b ≡ false)
+each_quiet true b so = absurd (cc)
+each_quiet false b so = (refl, so)
+
 -- the last of them failed, of the operations up to this one
 record LastFails (items : List TraceItem) (port : ℕ) (ops : List BusOp) (k : ℕ) : Type 0 where
   front : List TraceItem
   item : TraceItem
   all : items ≡ front ++ item ∷ []
+  quiet : has_failed front ≡ false
   fails : item.answer.failed ≡ true
   upto : length front ≤ k
   port_is : item.port ≡ port
@@ -74,6 +84,7 @@ first_fails a d port k op ops failed =
       front = [];
       item = item;
       all = ap (λ b. item ∷ (if b then [] else more)) failed;
+      quiet = refl;
       fails = failed;
       upto = omega arith;
       port_is = refl;
@@ -90,6 +101,7 @@ later_fails a d port k op ops fine rest =
       front = item ∷ rest.front;
       item = rest.item;
       all = ap (λ b. item ∷ (if b then [] else more)) fine ∙ ap (λ (xs : List TraceItem). item ∷ xs) rest.all;
+      quiet = both_quiet item.answer.failed (has_failed rest.front) fine rest.quiet;
       fails = rest.fails;
       upto = omega (arith, rest.upto);
       port_is = rest.port_is;
@@ -117,6 +129,24 @@ some_fails a t d port address (suc k) (op ∷ ops) setup error low at =
 pub last_failed : (front : List TraceItem) (item : TraceItem) → item.answer.failed ≡ true → has_failed (front ++ item ∷ []) ≡ true
 last_failed [] item failed = or_left item.answer.failed false failed
 last_failed (x ∷ front) item failed = or_right x.answer.failed (has_failed (front ++ item ∷ [])) (last_failed front item failed)
+
+-- and it is the first that did
+position_is : (i : ℕ) (front : List TraceItem) (item : TraceItem) → has_failed front ≡ false → item.answer.failed ≡ true
+    → position_from (λ (item : TraceItem). item.answer.failed) i (front ++ item ∷ []) ≡ Some (i + length front)
+position_is i [] item quiet fails =
+    let same : i ≡ i + 0 = omega arith in
+    ap (λ b. cond b (Some i) None) fails ∙ ap (λ k. Some k) same
+position_is i (x ∷ front) item quiet fails =
+    let each = each_quiet x.answer.failed (has_failed front) quiet in
+    let more = position_from (λ (item : TraceItem). item.answer.failed) (i + 1) (front ++ item ∷ []) in
+    let same : i + 1 + length front ≡ i + suc (length front) = omega arith in
+    ap (λ b. cond b (Some i) more) each.0 ∙ position_is (i + 1) front item each.1 fails ∙ ap (λ k. Some k) same
+
+pub failed_last : (front : List TraceItem) (item : TraceItem) → has_failed front ≡ false → item.answer.failed ≡ true
+    → failed_at (front ++ item ∷ []) ≡ Some (length front)
+failed_last front item quiet fails =
+    let same : 0 + length front ≡ length front = omega arith in
+    position_from-zero (λ (item : TraceItem). item.answer.failed) (front ++ item ∷ []) ∙ position_is 0 front item quiet fails ∙ ap (λ k. Some k) same
 
 -- ---- the operations of a whole access
 
@@ -147,17 +177,17 @@ is_sent l place index value write t k sound e low =
 -- ---- an operation that is such an access
 
 -- it is granted this place from any model of the chip and the layout, sends all words of the location there, and ends by a bus
--- error where one of them failed
+-- error at the first of them that failed
 pub record IsAccessAt (c : ChipData) (l : LayoutData) (place index : ℕ) (op : Op) : Type 0 where
   pub granted : (m : ModelData) → m.chip ≡ c → m.layout ≡ l → grant m op ≡ Ok place
   pub value : ℕ
   pub write : Bool
   pub sent : (m : ModelData) → m.chip ≡ c → m.layout ≡ l → sends m op place ≡ ops_of l place index (all_bytes (place_at l place).bytes) value write
-  pub ends : (m : ModelData) (sampled : ℕ) (items : List TraceItem) → (failed_at items ≡ None → ⊥) → is_bus_error (outcome m op place sampled items).end ≡ true
+  pub ends : (m : ModelData) (sampled : ℕ) (items : List TraceItem) (k : ℕ) → failed_at items ≡ Some k → (outcome m op place sampled items).end ≡ end.BusError k
 
-pub error_end : (o : Option ℕ) (m : ModelData) (good : Outcome) → (o ≡ None → ⊥) → is_bus_error (or_error o m good).end ≡ true
-error_end None m good some = absurd (some refl)
-error_end (Some k) m good some = refl
+pub error_end : (o : Option ℕ) (m : ModelData) (good : Outcome) (k : ℕ) → o ≡ Some k → (or_error o m good).end ≡ end.BusError k
+error_end None m good k is = absurd (cc)
+error_end (Some j) m good k is = let same : j ≡ k = cc in ap end.BusError same
 
 pub end_is : (r : Option ℕ) (op : Op) (items : List TraceItem) (o : Outcome) → (event_at r op items o).end ≡ o.end
 end_is None op items o = refl
@@ -179,9 +209,7 @@ access_fails c l t place index sound error s new op e a st performs =
     ∙ ap (λ p. items_of adapter st.device p (sends s.model op place)) same
     ∙ ap (items_of adapter st.device port) (a.sent s.model st.chip st.layout)
     ∙ found.all in
-    let some : failed_at e.trace ≡ None → ⊥ =
-    λ none. let quiet : has_failed e.trace ≡ false = quiet_where_none e.trace none in
-    let both : true ≡ false = sym (last_failed found.front found.item found.fails) ∙ sym (ap has_failed trace) ∙ quiet in absurd (cc) in
+    let at : failed_at e.trace ≡ Some (length found.front) = ap failed_at trace ∙ failed_last found.front found.item found.quiet found.fails in
     let ended : e.end ≡ (outcome s.model op place done.sampled e.trace).end =
     ap (λ (x : Event). x.end) done.event_is
     ∙ end_is (register_of s.model.chip (named s.model op)) (named s.model op) e.trace (outcome s.model op place done.sampled e.trace) in
@@ -189,7 +217,7 @@ access_fails c l t place index sound error s new op e a st performs =
     record {
       front = found.front;
       item = found.item;
-      at = record { ends = ap is_bus_error ended ∙ a.ends s.model done.sampled e.trace some; trace = trace; fails = found.fails };
+      at = record { ends = ended ∙ a.ends s.model done.sampled e.trace (length found.front) at; trace = trace; fails = found.fails };
       upto = found.upto;
       port_is = found.port_is;
       address_is = ap (λ (o : BusOp). o.address) found.op_is ∙ there.address;

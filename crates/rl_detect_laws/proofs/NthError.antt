@@ -19,13 +19,11 @@ use Rattle.rl_access.specs.Items.{item_of, took_item, items_of, has_failed, fail
 use Rattle.rl_access.specs.Model.{ModelData}
 use Rattle.rl_access.specs.Operation.{register_of}
 use Rattle.rl_access.specs.Rules.{Grant, grant, named, sends, Outcome, or_error, in_field, outcome, event_at, quiet, device_after}
-use Rattle.rl_access.specs.Tally.{is_bus_error}
 use Rattle.rl_access.proofs.Setups.{setup-state_after}
-use Rattle.rl_access.proofs.Traces.{quiet_where_none}
 use Rattle.rl_seq.specs.Plan.{Plan, stop, step, look, Runs}
 use Rattle.rl_seq.specs.Sequences.{plan_of}
 use Rattle.rl_detect_laws.specs.Errors.{EndsAt, FailsAtItem, is_failing, NthErrorIsFound}
-use Rattle.rl_detect_laws.proofs.Failing.{or_right, at_fails, error_end, end_is, last_failed}
+use Rattle.rl_detect_laws.proofs.Failing.{or_right, at_fails, error_end, end_is, both_quiet, last_failed, failed_last}
 use Rattle.rl_detect_laws.proofs.Standing.{setup_after}
 use Rattle.rl_detect_laws.proofs.Twins.{word as same_but}
 
@@ -71,6 +69,7 @@ record IsHit (n : ℕ) (items : List TraceItem) (d : State) : Type 0 where
   front : List TraceItem
   item : TraceItem
   all : items ≡ front ++ item ∷ []
+  quiet : has_failed front ≡ false
   fails : item.answer.failed ≡ true
   number_is : d.items + length front + 1 ≡ n
 
@@ -82,28 +81,29 @@ record IsToCome (n : ℕ) (items : List TraceItem) (d : State) : Type 0 where
 abbrev HitsOrWaits : ℕ → List TraceItem → State → Type 0
 HitsOrWaits n items d = IsHit n items d ⊎ IsToCome n items d
 
-one_more : (d : State) (n : ℕ) (first : TraceItem) (more : List TraceItem) → d.items < n
+one_more : (d : State) (n : ℕ) (first : TraceItem) (more : List TraceItem) → first.answer.failed ≡ false → d.items < n
     → (state_after d first.port first.op).items ≡ next_number d.items → HitsOrWaits n more (state_after d first.port first.op)
     → HitsOrWaits n (first ∷ more) d
-one_more d n first more low next (inl hit) =
+one_more d n first more fine low next (inl hit) =
     inl (record {
       most = hit.most;
       front = first ∷ hit.front;
       item = hit.item;
       all = ap (λ (xs : List TraceItem). first ∷ xs) hit.all;
+      quiet = both_quiet first.answer.failed (has_failed hit.front) fine hit.quiet;
       fails = hit.fails;
       number_is = omega (arith, hit.number_is, next, one_on d.items n low hit.most);
     })
-one_more d n first more low next (inr wait) =
+one_more d n first more fine low next (inr wait) =
     inr (record { low = wait.low; exact = λ most. omega (arith, wait.exact most, next, one_on d.items n low most) })
 
 -- an item that isn't the one, behind which the others are sent unless it fails
-not_it : (d : State) (n : ℕ) (first : TraceItem) (more : List TraceItem) (b : Bool) → d.items < n
+not_it : (d : State) (n : ℕ) (first : TraceItem) (more : List TraceItem) (b : Bool) → first.answer.failed ≡ b → d.items < n
     → (state_after d first.port first.op).items ≡ next_number d.items → next_number d.items < n
     → HitsOrWaits n more (state_after d first.port first.op) → HitsOrWaits n (first ∷ (if b then [] else more)) d
-not_it d n first more true low next still rest =
+not_it d n first more true so low next still rest =
     inr (record { low = subst (λ k. k < n) (sym next) still; exact = λ most. next ∙ one_on d.items n low most })
-not_it d n first more false low next still rest = one_more d n first more low next rest
+not_it d n first more false so low next still rest = one_more d n first more so low next rest
 
 -- the item that is it fails, and is the last one
 it_is : (d : State) (n : ℕ) (first : TraceItem) (more : List TraceItem) → d.items < n → next_number d.items ≡ n → first.answer.failed ≡ true
@@ -116,6 +116,7 @@ it_is d n first more low at failed =
       front = [];
       item = first;
       all = ap (λ b. first ∷ (if b then [] else more)) failed;
+      quiet = refl;
       fails = failed;
       number_is = omega (arith, at, on);
     })
@@ -126,7 +127,7 @@ by_number : (d : State) (n : ℕ) (first : TraceItem) (more : List TraceItem) �
     → (next_number d.items ≡ n) ⊎ (next_number d.items ≡ n → ⊥) → HitsOrWaits n (first ∷ (if first.answer.failed then [] else more)) d
 by_number d n first more low next fails further (inl at) = it_is d n first more low at (fails at)
 by_number d n first more low next fails further (inr other) =
-    not_it d n first more first.answer.failed low next (not_yet d.items n low other) (further other)
+    not_it d n first more first.answer.failed refl low next (not_yet d.items n low other) (further other)
 
 hits_or_waits : (a : Standing) (t : Setup) (d : State) (port n : ℕ) (ops : List BusOp) → d.setup ≡ t → is_failing t n ≡ true → d.items < n
     → HitsOrWaits n (items_of a d port ops) d
@@ -143,29 +144,31 @@ hits_or_waits a t d port n (op ∷ ops) setup failing low =
 -- ---- an operation
 
 -- where an item failed, whatever was sent
-in_field_error : (m : ModelData) (field : ℕ) (o : Option ℕ) (e : ModelData) (good : Outcome) → (o ≡ None → ⊥) → is_bus_error (in_field m.chip field (or_error o e good)).end ≡ true
-in_field_error m field None e good some = absurd (some refl)
-in_field_error m field (Some k) e good some = refl
+in_field_error : (m : ModelData) (field : ℕ) (o : Option ℕ) (e : ModelData) (good : Outcome) (k : ℕ) → o ≡ Some k
+    → (in_field m.chip field (or_error o e good)).end ≡ end.BusError k
+in_field_error m field None e good k is = absurd (cc)
+in_field_error m field (Some j) e good k is = let same : j ≡ k = cc in ap end.BusError same
 
-needed : (b : Bool) (ops : List BusOp) (x y : Outcome) → ((if b then ops else []) ≡ [] → ⊥) → is_bus_error x.end ≡ true → is_bus_error (if b then x else y).end ≡ true
-needed true ops x y some h = h
-needed false ops x y some h = absurd (some refl)
+needed : (b : Bool) (ops : List BusOp) (x y : Outcome) (k : ℕ) → ((if b then ops else []) ≡ [] → ⊥) → x.end ≡ end.BusError k
+    → (if b then x else y).end ≡ end.BusError k
+needed true ops x y k some h = h
+needed false ops x y k some h = absurd (some refl)
 
-failed_ends : (m : ModelData) (o : Op) (place sampled : ℕ) (items : List TraceItem) → (sends m o place ≡ [] → ⊥) → (failed_at items ≡ None → ⊥)
-    → is_bus_error (outcome m o place sampled items).end ≡ true
-failed_ends m (op.Write reg map value) place sampled items sent some = error_end (failed_at items) _ _ some
-failed_ends m (op.Read reg map) place sampled items sent some = error_end (failed_at items) _ _ some
-failed_ends m (op.Mirror reg map) place sampled items sent some = error_end (failed_at items) _ _ some
-failed_ends m (op.Check reg map) place sampled items sent some = error_end (failed_at items) _ _ some
-failed_ends m (op.FieldWrite field map value) place sampled items sent some = error_end (failed_at items) _ _ some
-failed_ends m (op.FieldRead field map) place sampled items sent some = in_field_error m field (failed_at items) _ _ some
-failed_ends m (op.Update reg map) place sampled items sent some = needed (needs_update m.mirror reg) _ _ _ sent (error_end (failed_at items) _ _ some)
-failed_ends m (op.MemWrite mem map index value) place sampled items sent some = error_end (failed_at items) _ _ some
-failed_ends m (op.MemRead mem map index) place sampled items sent some = error_end (failed_at items) _ _ some
-failed_ends m (op.MemCheck mem map index value) place sampled items sent some = error_end (failed_at items) _ _ some
-failed_ends m (op.OtherWrite reg map value) place sampled items sent some = error_end (failed_at items) _ _ some
-failed_ends m (op.OtherRead reg map) place sampled items sent some = error_end (failed_at items) _ _ some
-failed_ends m _ place sampled items sent some = absurd (sent refl)
+failed_ends : (m : ModelData) (o : Op) (place sampled : ℕ) (items : List TraceItem) (k : ℕ) → (sends m o place ≡ [] → ⊥) → failed_at items ≡ Some k
+    → (outcome m o place sampled items).end ≡ end.BusError k
+failed_ends m (op.Write reg map value) place sampled items k sent at = error_end (failed_at items) _ _ k at
+failed_ends m (op.Read reg map) place sampled items k sent at = error_end (failed_at items) _ _ k at
+failed_ends m (op.Mirror reg map) place sampled items k sent at = error_end (failed_at items) _ _ k at
+failed_ends m (op.Check reg map) place sampled items k sent at = error_end (failed_at items) _ _ k at
+failed_ends m (op.FieldWrite field map value) place sampled items k sent at = error_end (failed_at items) _ _ k at
+failed_ends m (op.FieldRead field map) place sampled items k sent at = in_field_error m field (failed_at items) _ _ k at
+failed_ends m (op.Update reg map) place sampled items k sent at = needed (needs_update m.mirror reg) _ _ _ k sent (error_end (failed_at items) _ _ k at)
+failed_ends m (op.MemWrite mem map index value) place sampled items k sent at = error_end (failed_at items) _ _ k at
+failed_ends m (op.MemRead mem map index) place sampled items k sent at = error_end (failed_at items) _ _ k at
+failed_ends m (op.MemCheck mem map index value) place sampled items k sent at = error_end (failed_at items) _ _ k at
+failed_ends m (op.OtherWrite reg map value) place sampled items k sent at = error_end (failed_at items) _ _ k at
+failed_ends m (op.OtherRead reg map) place sampled items k sent at = error_end (failed_at items) _ _ k at
+failed_ends m _ place sampled items k sent at = absurd (sent refl)
 
 -- the device took the items, or none was sent
 took : (m : ModelData) (o : Op) (place sampled : ℕ) (items : List TraceItem) (d : State)
@@ -233,8 +236,7 @@ done_steps t n count s new o place e failing h done = by (hits_or_waits adapter 
     by (inl hit) =
         let is : e.trace ≡ hit.front ++ hit.item ∷ [] = trace ∙ hit.all in
         let failed : has_failed e.trace ≡ true = ap has_failed is ∙ last_failed hit.front hit.item hit.fails in
-        let some : failed_at e.trace ≡ None → ⊥ =
-        λ none. let both : true ≡ false = sym failed ∙ quiet_where_none e.trace none in absurd (cc) in
+        let at : failed_at e.trace ≡ Some (length hit.front) = ap failed_at is ∙ failed_last hit.front hit.item hit.quiet hit.fails in
         let sent : ops ≡ [] → ⊥ =
         λ none. let both : true ≡ false = sym failed ∙ ap has_failed trace ∙ ap (λ (xs : List BusOp). has_failed (items_of adapter h.device port xs)) none in absurd (cc) in
         let ended : e.end ≡ (outcome s.model o place done.sampled e.trace).end =
@@ -242,7 +244,7 @@ done_steps t n count s new o place e failing h done = by (hits_or_waits adapter 
         inl (record {
           front = hit.front;
           item = hit.item;
-          at = record { ends = ap is_bus_error ended ∙ failed_ends s.model o place done.sampled e.trace sent some; trace = is; fails = hit.fails };
+          at = record { ends = ended ∙ failed_ends s.model o place done.sampled e.trace (length hit.front) sent at; trace = is; fails = hit.fails };
           number_is = omega (arith, hit.number_is, h.exact hit.most);
         })
     by (inr wait) =

@@ -63,7 +63,7 @@ check_is c l reg place p right = record {
   write = false;
   sent = λ m chip layout. ap (λ (x : LayoutData). ops_of x place 0 (all_bytes (size_of m.chip reg)) 0 false) layout
       ∙ ap (λ n. ops_of l place 0 (all_bytes n) 0 false) (ap (λ x. size_of x reg) chip ∙ p.size);
-  ends = λ m sampled items some. error_end (failed_at items) _ _ some;
+  ends = λ m sampled items k at. error_end (failed_at items) _ _ k at;
 }
 
 pub write_is : (c : ChipData) (l : LayoutData) (reg place v : ℕ) → IsPlaceOf c l place (Reg reg) → may_write l place ≡ true
@@ -76,7 +76,7 @@ write_is c l reg place v p right =
       write = true;
       sent = λ m chip layout. ap (λ (x : LayoutData). ops_of x place 0 (all_bytes (size_of m.chip reg)) value true) layout
           ∙ ap (λ n. ops_of l place 0 (all_bytes n) value true) (ap (λ x. size_of x reg) chip ∙ p.size);
-      ends = λ m sampled items some. error_end (failed_at items) _ _ some;
+      ends = λ m sampled items k at. error_end (failed_at items) _ _ k at;
     }
 
 -- the word that turns a bit round is written too
@@ -99,7 +99,7 @@ mem_write_is c l mem place index v p right writable low =
       write = true;
       sent = λ m chip layout. ap (λ (x : LayoutData). ops_of x place index (all_bytes (location_size m.chip mem)) value true) layout
           ∙ ap (λ n. ops_of l place index (all_bytes n) value true) (ap (λ x. location_size x mem) chip ∙ p.size);
-      ends = λ m sampled items some. error_end (failed_at items) _ _ some;
+      ends = λ m sampled items k at. error_end (failed_at items) _ _ k at;
     }
 
 -- a check of a location is granted too, and so is a write of its number

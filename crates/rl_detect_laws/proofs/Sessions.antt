@@ -31,6 +31,7 @@ use Rattle.rl_access.specs.HandsOver.{Told}
 use Rattle.rl_access.specs.Laws.{IsComparedField}
 use Rattle.rl_access.specs.Model.{IsModel}
 use Rattle.rl_access.specs.Operation.{reg_of}
+use Rattle.rl_access.specs.Tally.{is_bus_error}
 use Rattle.rl_access.specs.World.{World, scene_at}
 use Rattle.rl_seq.specs.declared.sequence.Sequence.{Sequence}
 use Rattle.rl_seq.specs.declared.sequence.Sequence.TheVariants.{HwReset as HwResetOf, BitBash as BitBashOf, Access as AccessOf, MemWalk as MemWalkOf}
@@ -295,7 +296,7 @@ session_finds_error bytes adapters desc before which block number place index pl
     let t = setup_of c l (flaws_of desc.flaws) in
     let v = leads_keeps c l t before 1 (first_world desc adapters) has.world
     (first_stands desc adapters (model_of bytes adapters desc played)) has.says.leads in
-    found bytes adapters desc before which block (FailsAtWord l place index error.stands.number) played has (λ e h. inr h.at.ends)
+    found bytes adapters desc before which block (FailsAtWord l place index error.stands.number) played has (λ e h. inr (ap is_bus_error h.at.ends))
     (λ told new run. error_at c l t has.world which block number place index told new v at sends error run)
 
 -- ---- a stuck bit

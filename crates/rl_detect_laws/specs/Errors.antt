@@ -8,12 +8,12 @@ use Rattle.rl_model.specs.Fields.{size_of}
 use Rattle.rl_model.specs.declared.rows.Item.TheVariants.{Reg}
 use Rattle.rl_map.specs.Layout.{LayoutData, place_at, words_of, Occupies}
 use Rattle.rl_map.specs.Words.{no_word}
+use Rattle.rl_access.specs.declared.event.End.TheVariants as end
 use Rattle.rl_access.specs.declared.event.Event.{Event}
 use Rattle.rl_access.specs.declared.trace.TraceItem.{TraceItem}
 use Rattle.rl_access.specs.Call.{Scene}
 use Rattle.rl_access.specs.HandsOver.{Told}
 use Rattle.rl_access.specs.Model.{IsModel}
-use Rattle.rl_access.specs.Tally.{is_bus_error}
 use Rattle.rl_seq.specs.declared.sequence.Sequence.{Sequence}
 use Rattle.rl_seq.specs.declared.sequence.Sequence.TheVariants.{BitBash, Shared}
 use Rattle.rl_seq.specs.Choice.{is_of, may_read, may_write, is_bit_compared}
@@ -30,18 +30,13 @@ pub record HasError (l : LayoutData) (t : Setup) (place index : ℕ) : Type 0 wh
   pub stands : Occupies l (place_at l place).port address place index
   pub fails : is_error_at t (place_at l place).port address ≡ true
 
--- the event ended by a bus error
-abbrev pub EndsByError : Event → Type 0
-EndsByError e = is_bus_error e.end ≡ true
-
--- it did so by this item, which is its last one and behind these
+-- the event ended by a bus error at this item, which is its last one; these came before
 pub record EndsAt (e : Event) (front : List TraceItem) (item : TraceItem) : Type 0 where
-  pub ends : EndsByError e
+  pub ends : e.end ≡ end.BusError (length front)
   pub trace : e.trace ≡ front ++ item ∷ []
   pub fails : item.answer.failed ≡ true
 
--- The item is of the word with this number of the location, or of one before it that failed first: the n-th item
--- stands at the n-th word.
+-- It ended so at the word with this number of the location, or at one before it that failed first.
 pub record FailsAtWord (l : LayoutData) (place index number : ℕ) (e : Event) : Type 0 where
   pub front : List TraceItem
   pub item : TraceItem
