@@ -52,19 +52,19 @@ use Rattle.rl_log.specs.Events.{Happened, events_from}
 use Rattle.rl_log.specs.Lines.{told_at}
 use Rattle.rl_log.specs.Log.{comes_of, said, said_by as read_as}
 use Rattle.rl_log.specs.Recording.{no_counts}
-use Rattle.rl_session.specs.Judged.{first_world, judged_by, events_by}
+use Rattle.rl_session.specs.Judged.{first_world, judged_by, events_by, judged_events}
 use Rattle.rl_session.specs.Session.{head_of, said_by, opening_after, opening_of, script_of}
-use Rattle.rl_plain.specs.Agree.{HasNoVolatile}
+use Rattle.rl_plain.specs.Agree.{HasNoVolatile, HasLocations}
 use Rattle.rl_plain_log_laws.proofs.Openings.{each_opening_sound}
 use Rattle.rl_detect_laws.specs.BitFlaws.{IsComparedAt, HasFlaw}
 use Rattle.rl_detect_laws.specs.BitTables.{first_sides, first_believed}
 use Rattle.rl_detect_laws.specs.Deaf.{deaf_items, HasDeafItems, IsDeafTo, IsMarkedCheck, IsDeafBit, IsTurned}
 use Rattle.rl_detect_laws.specs.Errors.{FailsAtWord, HasError, SendsSome, is_error_at}
-use Rattle.rl_detect_laws.specs.Logged.{Leads, HasLogged, Shows}
+use Rattle.rl_detect_laws.specs.Logged.{Leads, HasLogged, HasRun, Shows}
 use Rattle.rl_detect_laws.specs.Otherwise.{IsNewOtherwise}
 use Rattle.rl_detect_laws.specs.Resets.{wrong_resets, HasWrongResets, IsResetOtherwise, IsNamedBy}
 use Rattle.rl_detect_laws.specs.Sessions.{IsPlayed, HasSequence, IsFound, LoneLineIsPlayed, SessionFindsWrongReset, SessionFindsKeptReset, SessionFindsError}
-use Rattle.rl_detect_laws.specs.Sessions.{IsOnlyStuck, SessionFindsStuckBit, SessionFindsStuckBitBeside, SessionFindsStuckReset, SessionFindsDeafRegister, SessionFindsDeafMemory}
+use Rattle.rl_detect_laws.specs.Sessions.{IsOnlyStuck, SessionFindsStuckBit, SessionFindsStuckBitBeside, SessionFindsStuckReset, SessionFindsDeafRegister, SessionFindsDeafMemory, SessionMarksOnlyDeaf}
 use Rattle.rl_detect_laws.specs.Sessions.{HasOnlyFlaw, SessionFindsBitFlaw}
 use Rattle.rl_detect_laws.specs.Sides.{BitFlaw, sticks, hears_nothing, goes_by}
 use Rattle.rl_detect_laws.specs.Stuck.{HasStuckBit, IsComparedBit}
@@ -74,6 +74,7 @@ use Rattle.rl_detect_laws.proofs.BitBash.{stuck_bit_is_named, stuck_bit_beside_i
 use Rattle.rl_detect_laws.proofs.BitFlaw.{bit_flaw_is_named}
 use Rattle.rl_detect_laws.proofs.BitTables.{new_one_has_flaw}
 use Rattle.rl_detect_laws.proofs.Checks.{from_own}
+use Rattle.rl_detect_laws.proofs.DeafAlone.{only_deaf_is_marked}
 use Rattle.rl_detect_laws.proofs.DeafRegister.{deaf_register_is_named}
 use Rattle.rl_detect_laws.proofs.DeafWalk.{deaf_memory_is_found}
 use Rattle.rl_detect_laws.proofs.EachLine.{IsWorldOf, leads_keeps}
@@ -81,7 +82,7 @@ use Rattle.rl_detect_laws.proofs.Errors.{visited_error_is_found}
 use Rattle.rl_detect_laws.proofs.HwReset.{wrong_reset_is_named}
 use Rattle.rl_detect_laws.proofs.Logged.{line_comes, sequence_is_logged, shown_is_found}
 use Rattle.rl_detect_laws.proofs.NewDeaf.{new_ones_agree_on_bits, none_spent}
-use Rattle.rl_detect_laws.proofs.NewOnes.{one_reset, reset_taken, new_set_up, new_deaf, zero_held, new_one_has_deaf_memory}
+use Rattle.rl_detect_laws.proofs.NewOnes.{one_reset, reset_taken, new_set_up, new_deaf, zero_held, new_one_has_deaf_memory, new_one_has_locations}
 use Rattle.rl_detect_laws.proofs.StuckReset.{stuck_reset_is_named}
 use Rattle.rl_detect_laws.proofs.Turned.{new_one_has_stuck_bit}
 
@@ -379,6 +380,27 @@ session_finds_deaf_memory bytes adapters desc block mem index place played has o
     (λ told new run.
     subst (λ n. HasEvent (IsMarkedCheck c mem (map_at l place) index n) told) zero
     (deaf_memory_is_found (scene_at w (without_peer 0)) new w.device block told mem index place sound refl both.0 both.1 at run))
+
+pub session_marks_only_deaf : SessionMarksOnlyDeaf
+session_marks_only_deaf bytes adapters desc block played has only =
+    let c = desc.chip in
+    let l = desc.layout in
+    let w = first_world desc adapters in
+    let sound = model_of bytes adapters desc played in
+    let logged = sequence_is_logged 1 w has.world [] has.after has.line MemWalkOf block has.says in
+    let told = map told_at logged.own in
+    let run : HasRun MemWalkOf block has.world (judged_events bytes adapters) = record {
+      earlier = logged.earlier;
+      own = logged.own;
+      later = logged.later;
+      all = ap (λ o. events_by o bytes adapters) played.opens ∙ ap (events_from 1 w) has.lines ∙ logged.all;
+      new = logged.new;
+      runs = logged.runs;
+    } in
+    let deaf = subst (λ (f : Flaws). HasDeafItems c l (first_state (setup_of c l f) (locations_of c))) (sym only.flaws) (new_deaf c l only.deaf) in
+    let room = subst (λ (f : Flaws). HasLocations c (first_state (setup_of c l f) (locations_of c))) (sym only.flaws) (new_one_has_locations c l only.deaf) in
+    let runs = subst (λ v. RunsAll MemWalkOf block (scene_at v (without_peer 0)) told logged.new) has.says.leads logged.runs in
+    (run, only_deaf_is_marked (scene_at w (without_peer 0)) logged.new w.device block told sound refl deaf room runs)
 
 -- ---- a flaw of a bit
 

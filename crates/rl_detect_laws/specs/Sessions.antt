@@ -1,5 +1,5 @@
 -- Which sessions find the one flaw of their description: those whose script has a line of a sequence that does.
-use Rattle.std.specs.Prelude.{◌≡◌, ◌≢◌, ℕ, ◌+◌, ◌<◌, true, false, List, [], ◌∷◌, ◌++◌, codes, length, Option, None, Some, Ok}
+use Rattle.std.specs.Prelude.{◌≡◌, ◌≢◌, ◌⊎◌, ℕ, ◌+◌, ◌<◌, true, false, All, List, [], ◌∷◌, ◌++◌, codes, length, map, Option, None, Some, Ok}
 use Rattle.rl_policy.specs.Bits.{bit}
 use Rattle.rl_bus.specs.declared.table.Cell.TheVariants.{Loc}
 use Rattle.rl_bus.specs.declared.table.ItemRow.{ItemRow}
@@ -26,15 +26,16 @@ use Rattle.rl_script.specs.Commands.{sequence_name}
 use Rattle.rl_script.specs.declared.line.Sequence.{Sequence as Word}
 use Rattle.rl_log.specs.declared.status.Status.TheVariants.{Found}
 use Rattle.rl_log.specs.Entry.{sequence_of}
+use Rattle.rl_log.specs.Lines.{told_at}
 use Rattle.rl_session.specs.Judged.{first_world, judged, judged_events}
 use Rattle.rl_session.specs.Session.{opening_of, script_of}
 use Rattle.rl_plain.specs.Agree.{HasNoVolatile}
 use Rattle.rl_plain_log_laws.specs.Sound.{AreKinds}
 use Rattle.rl_detect_laws.specs.BitFlaws.{IsComparedAt, IsShown}
 use Rattle.rl_detect_laws.specs.BitTables.{first_sides, first_believed}
-use Rattle.rl_detect_laws.specs.Deaf.{deaf_items, IsSetFirst, IsMarkedCheck, IsTurned}
+use Rattle.rl_detect_laws.specs.Deaf.{deaf_items, IsSetFirst, IsMarkedCheck, MarksDeaf, IsTurned}
 use Rattle.rl_detect_laws.specs.Errors.{FailsAtWord, HasError, SendsSome}
-use Rattle.rl_detect_laws.specs.Logged.{Leads, SaysSequence, HasLogged}
+use Rattle.rl_detect_laws.specs.Logged.{Leads, SaysSequence, HasLogged, HasRun}
 use Rattle.rl_detect_laws.specs.Otherwise.{ChecksWritten, KeepsApart}
 use Rattle.rl_detect_laws.specs.Resets.{IsNamedBy}
 use Rattle.rl_detect_laws.specs.Sides.{BitFlaw, sticks, hears_nothing, goes_by}
@@ -166,10 +167,15 @@ SessionFindsDeafRegister =
     → IsVisited Access desc.chip desc.layout block (reg_of desc.chip field) place
     → IsFound bytes adapters (IsNamedBy desc.chip field)
 
--- the only flaws are deaf items, and the memory is one of them
-pub record HasDeafMemory (desc : DescData) (mem : ℕ) : Type 0 where
+-- the only flaws are deaf items
+pub record HasOnlyDeaf (desc : DescData) : Type 0 where
   pub deaf : List ItemRow
   pub flaws : flaws_of desc.flaws ≡ deaf_items deaf
+
+-- and the memory is one of them
+pub record HasDeafMemory (desc : DescData) (mem : ℕ) : Type 0 where
+  pub only : HasOnlyDeaf desc
+  pub open only use *
   pub named : is_deaf (setup_of desc.chip desc.layout (deaf_items deaf)) (Loc mem 0) ≡ true
 
 -- a deaf memory, by a check of its first location, and of each other one that the walk first sets to more than 0
@@ -180,6 +186,15 @@ SessionFindsDeafMemory =
     → HasDeafMemory desc mem → IsSetFirst desc.chip mem index
     → IsVisited MemWalk desc.chip desc.layout block mem place
     → IsFound bytes adapters (IsMarkedCheck desc.chip mem (map_at desc.layout place) index 0)
+
+-- and of the events of that line no other one is marked
+abbrev pub SessionMarksOnlyDeaf : Type 0
+SessionMarksOnlyDeaf =
+    (bytes : List ℕ) (adapters : List Standing) (desc : DescData) (block : Option ℕ)
+    → IsPlayed bytes adapters desc → (has : HasSequence bytes adapters desc [] MemWalk block) → HasOnlyDeaf desc
+    → (run : HasRun MemWalk block has.world (judged_events bytes adapters))
+    × All (λ t. (t.event.differ ≡ 0) ⊎ MarksDeaf desc.chip (first_world desc adapters).device t.event)
+    (map told_at run.own)
 
 -- bit i of the field is stuck, its register is deaf, or the field has another policy, and nothing else is wrong
 abbrev pub HasOnlyFlaw : DescData → (field i : ℕ) → BitFlaw → Type 0

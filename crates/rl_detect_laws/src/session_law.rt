@@ -1,9 +1,10 @@
 //! What a judged session says of the flaws of its description. Each function does nothing; its contract is the law.
 ghost use Rattle.rl_detect_laws.specs.Logged.{SequenceIsLogged, ShownIsFound, ShownNeverPasses};
-ghost use Rattle.rl_detect_laws.specs.Sessions.{LoneLineIsPlayed, SessionFindsBitFlaw, SessionFindsDeafMemory, SessionFindsDeafRegister};
+ghost use Rattle.rl_detect_laws.specs.Sessions.{LoneLineIsPlayed, SessionFindsBitFlaw};
+ghost use Rattle.rl_detect_laws.specs.Sessions.{SessionFindsDeafMemory, SessionFindsDeafRegister};
 ghost use Rattle.rl_detect_laws.specs.Sessions.{SessionFindsError, SessionFindsKeptReset, SessionFindsStuckBit};
 ghost use Rattle.rl_detect_laws.specs.Sessions.{SessionFindsStuckBitBeside, SessionFindsStuckReset};
-ghost use Rattle.rl_detect_laws.specs.Sessions.{SessionFindsWrongReset};
+ghost use Rattle.rl_detect_laws.specs.Sessions.{SessionFindsWrongReset, SessionMarksOnlyDeaf};
 
 /// The events of a line `seq NAME BLOCK` in the log of a script are those of a run of the sequence, from the world that
 /// the lines before it lead to. So what a law says of the events of a run it says of the log.
@@ -52,9 +53,11 @@ pub fn session_finds_deaf_register()
 {}
 
 /// A session whose flaws are deaf items finds each of its deaf memories by a first line `seq mem-walk` that visits it:
-/// the check of its first location is marked, and of each other one to which the walk first writes more than 0.
+/// the check of its first location is marked, and of each other one to which the walk first writes more than 0. No event
+/// of that line is marked but such a check of a deaf memory.
 pub fn session_finds_deaf_memory()
-    ensures { SessionFindsDeafMemory }
+    ensures found { SessionFindsDeafMemory }
+    ensures only { SessionMarksOnlyDeaf }
 {}
 
 /// Let the one flaw of a session be a stuck bit, a deaf register or another policy of a field. The session finds it by
