@@ -5,6 +5,15 @@ pub mod Parts
 mod PlaceLemmas
 mod PlainLemmas
 mod Placed
+mod RowLemmas
+mod RowList
+mod RowMaps
+mod RowNames
+mod RowPlain
+mod RowSaid
+mod RowSame
+mod RowSingles
+mod RowText
 mod SessionLemmas
 mod Together
 mod WaiverLemmas

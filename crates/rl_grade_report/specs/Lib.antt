@@ -19,6 +19,7 @@ pub mod Prelude
 pub mod Progress
 pub mod Refusal
 pub mod Row
+pub mod RowLaw
 pub mod Said
 pub mod Shares
 pub mod Sums

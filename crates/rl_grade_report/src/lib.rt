@@ -29,6 +29,7 @@ mod pieces;
 mod places;
 mod refusal;
 mod row;
+pub mod row_law;
 mod said;
 mod shares;
 mod sums;
