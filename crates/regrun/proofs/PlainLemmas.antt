@@ -9,11 +9,11 @@ use Rattle.rl_session_run.specs.Output.{IsJudged}
 use Rattle.rl_session_run.specs.Telling.{Stops}
 use Rattle.rl_session_run.proofs.StopLemmas.{stops_refused}
 use Rattle.rl_session.specs.Session.{opening_of, refusal_of}
-use Rattle.rl_plain_log_laws.specs.PlainLog.{IsSteadyOpening, IsPlainLog, WritesPlainLog}
+use Rattle.rl_session_laws.specs.PlainLog.{IsSteadyOpening, IsPlainLog, WritesPlainLog}
 use Rattle.rl_log.specs.Statuses.{is_complete}
 use Rattle.std.proofs.KnownBytes.{Appends-kept}
 use Rattle.rl_log.proofs.TellingLemmas.{not_sink_fault}
-use Rattle.rl_plain_log_laws.proofs.PlainSession.{log_of_refused}
+use Rattle.rl_session_laws.proofs.PlainSession.{log_of_refused}
 
 -- ---- of what was read
 

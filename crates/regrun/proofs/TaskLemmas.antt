@@ -8,7 +8,7 @@ use Rattle.rl_log.specs.declared.status.Status.TheVariants.{Found, SourceFault, 
 use Rattle.rl_log.specs.Statuses.{is_complete}
 use Rattle.rl_log.specs.Earlier.{KeepsEarlier}
 use Rattle.rl_play.proofs.FaultLemmas.{same_status}
-use Rattle.rl_plain_log_laws.specs.PlainLog.{IsPlainLog}
+use Rattle.rl_session_laws.specs.PlainLog.{IsPlainLog}
 use Rattle.rl_session.specs.Judged.{Judged, judged, map_judged, soak_judged, taken_text}
 use Rattle.regrun.specs.declared.words.Task.{Task}
 use Rattle.regrun.specs.declared.words.Task.TheVariants.{Run, Map, Soak, Weave}

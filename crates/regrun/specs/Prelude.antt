@@ -2,7 +2,7 @@
 pub use Rattle.rl_session_run.specs.Prelude.{AwaitsScript, EndedOnce, IsBuiltWith, IsCaused, IsModel, KeepsEarlier, LeavesScript, Rose, Standing, TakesNoHead, WritesJudged, first_world, is_complete, kinds_of, output_of}
 pub use Rattle.rl_play.specs.Prelude.{Leaves, Tells}
 pub use Rattle.rl_map.specs.LayoutText.{layout_text}
-pub use Rattle.rl_plain_log_laws.specs.PlainLog.{IsPlainLog}
+pub use Rattle.rl_session_laws.specs.PlainLog.{IsPlainLog}
 pub use Rattle.rl_session_run.specs.Running.{RunsScript}
 pub use Rattle.rl_session.specs.Judged.{judged, map_judged, taken_text}
 pub use Rattle.rl_weave_laws.specs.Scripts.{IsWovenLogPlain}

@@ -7,7 +7,7 @@ use Rattle.rl_log.specs.Events.{IsLawful}
 use Rattle.rl_log.specs.Statuses.{is_complete}
 use Rattle.rl_session_run.specs.Opening.{LeavesScript}
 use Rattle.rl_session_run.specs.Output.{Output, WritesJudged}
-use Rattle.rl_plain_log_laws.specs.PlainLog.{IsSteadyOpening, WritesPlainLog}
+use Rattle.rl_session_laws.specs.PlainLog.{IsSteadyOpening, WritesPlainLog}
 use Rattle.rl_report.specs.Opening.{TakesNoHead}
 use Rattle.rl_session.specs.Judged.{judged, judged_events, map_judged, soak_judged, taken_text}
 use Rattle.rl_session.specs.Session.{opening_of, script_of}

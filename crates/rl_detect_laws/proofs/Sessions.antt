@@ -55,7 +55,7 @@ use Rattle.rl_log.specs.Recording.{no_counts}
 use Rattle.rl_session.specs.Judged.{first_world, judged_by, events_by, judged_events}
 use Rattle.rl_session.specs.Session.{head_of, said_by, opening_after, opening_of, script_of}
 use Rattle.rl_plain.specs.Agree.{HasNoVolatile, HasLocations}
-use Rattle.rl_plain_log_laws.proofs.Openings.{each_opening_sound}
+use Rattle.rl_session_laws.proofs.Openings.{each_opening_sound}
 use Rattle.rl_detect_laws.specs.BitFlaws.{IsComparedAt, HasFlaw}
 use Rattle.rl_detect_laws.specs.BitTables.{first_sides, first_believed}
 use Rattle.rl_detect_laws.specs.Deaf.{deaf_items, HasDeafItems, IsDeafTo, IsMarkedCheck, IsDeafBit, IsTurned}

@@ -30,7 +30,7 @@ use Rattle.rl_log.specs.Lines.{told_at}
 use Rattle.rl_session.specs.Judged.{first_world, judged, judged_events}
 use Rattle.rl_session.specs.Session.{opening_of, script_of}
 use Rattle.rl_plain.specs.Agree.{HasNoVolatile}
-use Rattle.rl_plain_log_laws.specs.Sound.{AreKinds}
+use Rattle.rl_session_laws.specs.Sound.{AreKinds}
 use Rattle.rl_detect_laws.specs.BitFlaws.{IsComparedAt, IsShown}
 use Rattle.rl_detect_laws.specs.BitTables.{first_sides, first_believed}
 use Rattle.rl_detect_laws.specs.Deaf.{deaf_items, IsSetFirst, IsMarkedCheck, MarksDeaf, IsTurned}

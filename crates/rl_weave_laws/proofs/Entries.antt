@@ -14,8 +14,8 @@ use Rattle.rl_log.specs.Recording.{with_event, with_events}
 use Rattle.rl_plain.specs.Calls.{without_items}
 use Rattle.rl_plain.specs.Courses.{Course, through}
 use Rattle.rl_plain.specs.Machine.{Machine, seen, done_by, machine_step}
-use Rattle.rl_plain_log_laws.specs.PlainLog.{PlainEntry, plain_entry, plain_entry_of, plain_comes_of}
-use Rattle.rl_plain_log_laws.proofs.LogLines.{refused_is_line}
+use Rattle.rl_session_laws.specs.PlainLog.{PlainEntry, plain_entry, plain_entry_of, plain_comes_of}
+use Rattle.rl_session_laws.proofs.LogLines.{refused_is_line}
 use Rattle.rl_report.specs.Event.{event_line, event_text}
 use Rattle.rl_report.specs.Pieces.{joined}
 use Rattle.rl_report.specs.WithoutItems.{is_one_line, is_indented, IsLine}

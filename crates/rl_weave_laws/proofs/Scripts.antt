@@ -14,8 +14,8 @@ use Rattle.rl_log.specs.Recording.{with_event, with_events}
 use Rattle.rl_log.specs.Texts.{end_text}
 use Rattle.rl_plain.specs.Courses.{Course, through}
 use Rattle.rl_plain.specs.Machine.{Machine, machine_step}
-use Rattle.rl_plain_log_laws.specs.PlainLog.{PlainEntry, plain_comes_of, plain_from, plain_goes_on}
-use Rattle.rl_plain_log_laws.proofs.LogLines.{end_is_line, line_stays}
+use Rattle.rl_session_laws.specs.PlainLog.{PlainEntry, plain_comes_of, plain_from, plain_goes_on}
+use Rattle.rl_session_laws.proofs.LogLines.{end_is_line, line_stays}
 use Rattle.rl_report.specs.Event.{event_line}
 use Rattle.rl_report.specs.WithoutItems.{HasNames}
 use Rattle.rl_script.specs.declared.line.Line.{Line}

@@ -12,10 +12,10 @@ use Rattle.rl_desc.specs.Data.{DescData}
 use Rattle.rl_log.specs.Recording.{no_counts}
 use Rattle.rl_plain.specs.Machine.{seen, first_machine}
 use Rattle.rl_plain.proofs.FirstOnes.{first_ones_are_plain}
-use Rattle.rl_plain_log_laws.specs.PlainLog.{IsSteady, plain_by}
-use Rattle.rl_plain_log_laws.proofs.LogLines.{opening_stays}
-use Rattle.rl_plain_log_laws.proofs.Openings.{each_opening_sound}
-use Rattle.rl_plain_log_laws.proofs.PlainNames.{opening_named}
+use Rattle.rl_session_laws.specs.PlainLog.{IsSteady, plain_by}
+use Rattle.rl_session_laws.proofs.LogLines.{opening_stays}
+use Rattle.rl_session_laws.proofs.Openings.{each_opening_sound}
+use Rattle.rl_session_laws.proofs.PlainNames.{opening_named}
 use Rattle.rl_report.proofs.BuiltNames.{built_ones_have_names}
 use Rattle.rl_session.specs.Judged.{first_world}
 use Rattle.rl_session.specs.Session.{opening_of, refusal_of, script_of}

@@ -14,8 +14,8 @@ use Rattle.rl_log.specs.declared.refusal.LineRefusal.{LineRefusal}
 use Rattle.rl_log.specs.Log.{said}
 use Rattle.rl_log.specs.Recording.{no_counts}
 use Rattle.rl_plain.specs.Machine.{Machine, first_machine}
-use Rattle.rl_plain_log_laws.specs.PlainLog.{PlainEntry, IsSteady, plain_by, plain_comes_of, plain_from}
-use Rattle.rl_plain_log_laws.specs.Sound.{AreKinds}
+use Rattle.rl_session_laws.specs.PlainLog.{PlainEntry, IsSteady, plain_by, plain_comes_of, plain_from}
+use Rattle.rl_session_laws.specs.Sound.{AreKinds}
 use Rattle.rl_report.specs.WithoutItems.{plain_part, HasNames, IsLine}
 use Rattle.rl_script.specs.declared.line.Line.{Line}
 use Rattle.rl_session.specs.Judged.{first_world}

@@ -1,6 +1,6 @@
 use Rattle.std.proofs.Common.{Err, refl, ap, ◌∙◌}
-use Rattle.rl_plain_log_laws.proofs.PlainLaws.{laws}
-use Rattle.rl_plain_log_laws.proofs.PlainSession.{plain_opened}
+use Rattle.rl_session_laws.proofs.PlainLaws.{laws}
+use Rattle.rl_session_laws.proofs.PlainSession.{plain_opened}
 use Rattle.rl_session.specs.Judged.{judged_by, script_judged}
 use Rattle.rl_session_run.proofs.OpeningLemmas.{opens_as}
 use Rattle.regrun.proofs.BreakLemmas.{run_taken}

@@ -1,2 +1,0 @@
-pub mod PlainLog
-pub mod Sound

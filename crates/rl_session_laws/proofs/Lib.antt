@@ -1,0 +1,16 @@
+pub mod Layouts
+pub mod LogLines
+pub mod Maps
+pub mod Openings
+pub mod Places
+pub mod PlainCourse
+pub mod PlainEntries
+pub mod PlainLaws
+pub mod PlainNames
+pub mod PlainSession
+pub mod PlainText
+pub mod Shares
+pub mod SoakLines
+pub mod SoakNoFault
+pub mod SoakOpening
+pub mod SoakTable

@@ -1,0 +1,5 @@
+pub mod PlainLog
+pub mod Sound
+pub mod SoakScript
+pub mod SoakDescription
+pub mod SoakNoFault

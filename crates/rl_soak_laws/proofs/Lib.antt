@@ -1,4 +1,0 @@
-pub mod Lines
-pub mod NoFault
-pub mod Opening
-pub mod Table
