@@ -22,9 +22,9 @@ on_timer (Ok desc) = unless_flawed desc (has_flaws desc.flaws)
 on_timer (Err line) = Err line
 
 -- It is refused by what it describes and for the timer, or its script is played on a timer that hasn't failed yet.
--- `errors` is how often it failed then, where there is one.
-abbrev pub RunsOnTimer : (bytes : List ℕ) → Status → (old new : Option (List ℕ)) → (adapters now : List Standing)
-    → (errors : Option ℕ) → Type 0
-RunsOnTimer bytes status old new adapters now errors =
-    RunsSession (on_timer (opening_of bytes (kinds_of adapters))) bytes status old new adapters now (λ desc. without_peer 0)
-    (option_map without_peer errors)
+-- `errors` is how often it failed then, where there is one, and `left` what the session's source has left.
+abbrev pub RunsOnTimer : (bytes : List ℕ) → (left : Option (List ℕ)) → Status → (old new : Option (List ℕ))
+    → (adapters now : List Standing) → (errors : Option ℕ) → Type 0
+RunsOnTimer bytes left status old new adapters now errors =
+    RunsSession (on_timer (opening_of bytes (kinds_of adapters))) bytes left status old new adapters now
+    (λ desc. without_peer 0) (option_map without_peer errors)

@@ -70,7 +70,7 @@ pub(crate) fn run_session<P: Source, Q: Sink>(
 
     // Which sessions are refused and in what words, what is written of the others, the statuses, and how often the
     // timer failed, one fact a field.
-    ensures does { IfSome (P.left session.old) (λ bytes. RunsOnTimer bytes result.status
+    ensures does { IfSome (P.left session.old) (λ bytes. RunsOnTimer bytes (P.left session.new) result.status
         (Q.written log.old) (Q.written log.new) (map standing adapters.old.items) (map standing adapters.new.items)
         (option_map (λ timer. timer.errors) result.device)) }
 

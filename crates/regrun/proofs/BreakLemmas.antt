@@ -1,5 +1,5 @@
 -- What was told when a source failed.
-use Rattle.std.proofs.Common.{◌≡◌, ℕ, ◌+◌, ◌≤◌, Bool, true, false, ◌&&◌, cond, eqb, List, [], ◌∷◌, ◌++◌, length, drop, Option, Some, None, IfSome, Result, Ok, Err}
+use Rattle.std.proofs.Common.{◌≡◌, ℕ, ◌≤◌, false, List, [], ◌∷◌, ◌++◌, length, drop, Option, Some, None, IfSome, Result, Ok, Err}
 use Rattle.std.proofs.Common.{refl, sym, ap, subst, ◌∙◌, append_assoc, length-append, arith}
 use Rattle.std.specs.Io.KnownBytes.{Appends, Keeps}
 use Rattle.std.proofs.lemmas.Bool.{true≢false}
@@ -11,13 +11,12 @@ use Rattle.rl_bus.specs.State.{State}
 use Rattle.rl_access.specs.Model.{ModelData}
 use Rattle.rl_desc.specs.Data.{DescData}
 use Rattle.rl_report.specs.Lines.{first_line, after_line, whole_lines}
-use Rattle.rl_report.specs.Opening.{FindsHead, TakesNoHead, is_separator, separator_at, separator_from}
+use Rattle.rl_report.specs.Opening.{FindsHead, TakesNoHead, separator_at}
 use Rattle.rl_report.specs.Reading.{Reading, input_of}
-use Rattle.rl_report.proofs.OpeningLemmas.{no_ten}
-use Rattle.rl_report.proofs.TakenLemmas.{begins_later}
 use Rattle.rl_play.specs.Played.{LinesBreak}
 use Rattle.rl_session_run.specs.Output.{run_lines}
 use Rattle.rl_session_run.proofs.JudgedLemmas.{from_first}
+use Rattle.rl_session_run.proofs.TakenLemmas.{after_first, nothing_behind, stays}
 use Rattle.regrun.specs.Output.{woven_lines, BreaksOff}
 use Rattle.rl_session.specs.Judged.{taken_by, taken_text, first_world}
 use Rattle.rl_session.specs.Session.{behind, opening_of}
@@ -32,58 +31,7 @@ use Rattle.rl_log.proofs.KnownLemmas.{keeps_nothing, keeps_then_appends}
 use Rattle.rl_session.proofs.SessionLemmas.{found_head, opening_found}
 use Rattle.rl_play.proofs.FaultLemmas.{nothing_from}
 
--- ---- what is behind a separator
-
-pub after_none : (p : List ℕ) → first_line p ≡ p → after_line p ≡ []
-after_none [] none = refl
-after_none (b ∷ bs) none = let t = no_ten b bs none in ap (λ c. cond c bs (after_line bs)) t.0 ∙ after_none bs t.1
-
-after_by : (b : ℕ) (bs more : List ℕ) (t : Bool) → eqb b 10 ≡ t → after_line (first_line bs ++ 10 ∷ more) ≡ more
-    → after_line (cond t [] (b ∷ first_line bs) ++ 10 ∷ more) ≡ more
-after_by b bs more true e rest = refl
-after_by b bs more false e rest =
-    ap (λ c. cond c (first_line bs ++ 10 ∷ more) (after_line (first_line bs ++ 10 ∷ more))) e ∙ rest
-
-after_first : (p more : List ℕ) → after_line (first_line p ++ 10 ∷ more) ≡ more
-after_first [] more = refl
-after_first (b ∷ bs) more = after_by b bs more (eqb b 10) refl (after_first bs more)
-
--- the lines before a 10 don't depend on what is behind it
-first_same : (l a b : List ℕ) → first_line (l ++ 10 ∷ a) ≡ first_line (l ++ 10 ∷ b)
-first_same [] a b = refl
-first_same (x ∷ xs) a b = ap (λ l. cond (eqb x 10) [] (x ∷ l)) (first_same xs a b)
-
-stays_by : (at n : ℕ) (t u : Bool) (o p : Option ℕ) → t ≡ u → (o ≡ Some n → p ≡ Some n) → cond t (Some at) o ≡ Some n
-    → cond u (Some at) p ≡ Some n
-stays_by at n true true o p same rest h = h
-stays_by at n true false o p same rest h = absurd (true≢false same)
-stays_by at n false true o p same rest h = absurd (true≢false (sym same))
-stays_by at n false false o p same rest h = rest h
-
-too_late : (at n : ℕ) (o p : Option ℕ) → (o ≡ Some n → at + 1 ≤ n) → n ≤ at → o ≡ Some n → p ≡ Some n
-too_late at n o p later early e = absurd (omega (arith, later e, early))
-
--- a separator that begins before a 10 begins there whatever is behind it
-stays : (at n : ℕ) (starts : Bool) (l a b : List ℕ) → n ≤ at + length l → separator_from at starts
-    (l ++ 10 ∷ a) ≡ Some n → separator_from at starts (l ++ 10 ∷ b) ≡ Some n
-stays at n starts [] a b within h =
-    stays_by at n (starts && is_separator []) (starts && is_separator []) (separator_from (at + 1) true a)
-    (separator_from (at + 1) true b) refl
-    (too_late at n (separator_from (at + 1) true a) (separator_from (at + 1) true b) (begins_later (at + 1) true a n)
-    (omega (arith, within))) h
-stays at n starts (x ∷ xs) a b within h =
-    stays_by at n (starts && is_separator (first_line (x ∷ (xs ++ 10 ∷ a))))
-    (starts && is_separator (first_line (x ∷ (xs ++ 10 ∷ b))))
-    (separator_from (at + 1) (eqb x 10) (xs ++ 10 ∷ a)) (separator_from (at + 1) (eqb x 10) (xs ++ 10 ∷ b))
-    (ap (λ l. starts && is_separator l) (first_same (x ∷ xs) a b))
-    (stays (at + 1) n (eqb x 10) xs a b (omega (arith, within))) h
-
 -- ---- a session that broke off in its head
-
-nothing_behind : (place : Option ℕ) (taken : List ℕ) →
-    ((at : ℕ) → place ≡ Some at → first_line (drop at taken) ≡ drop at taken) → behind place taken ≡ []
-nothing_behind None taken none = refl
-nothing_behind (Some at) taken none = after_none (drop at taken) (none at refl)
 
 -- the log of a front of a session: that of the whole lines behind its separator, where it opens
 pub record TellsTaken (log : List ℕ → List Standing → List ℕ) (lines : DescData → List Standing → List (List ℕ) → List ℕ) : Type 0 where

@@ -69,17 +69,17 @@ requests_sent xs before after t u first last h going =
 
 module _ {P K N M : Type 0} (left : P → Option (List ℕ)) (written : K → Option (List ℕ)) (streams : Streams P K N M) where
   -- what was sent over the link that is handed out
-  link_requests : (bytes : List ℕ) (status : Status) (old new : Option (List ℕ)) (adapters now : List Standing) (account : Option Account)
+  link_requests : (bytes : List ℕ) (others : Option (List ℕ)) (status : Status) (old new : Option (List ℕ)) (adapters now : List Standing) (account : Option Account)
       (link : Option (Link P K N M))
-      → (runs : RunsSession (linked_opening bytes (kinds_of adapters)) bytes status old new adapters now (first_account left written streams) account)
+      → (runs : RunsSession (linked_opening bytes (kinds_of adapters)) bytes others status old new adapters now (first_account left written streams) account)
       → AreClosed written account link → (desc : DescData) → (opens : linked_opening bytes (kinds_of adapters) ≡ Ok desc)
       → IfSome link (λ it. IsNone it.broken
       → let played = runs.played desc opens in
       SendsRequests (names_of desc.chip desc.layout) (told_by played.plays.done played.plays.close) (written streams.sink) (written it.talk.sink))
-  link_requests bytes status old new adapters now None None runs closed desc opens = tt
-  link_requests bytes status old new adapters now None (Some it) runs closed desc opens = absurd closed
-  link_requests bytes status old new adapters now (Some account) None runs closed desc opens = absurd closed
-  link_requests bytes status old new adapters now (Some account) (Some it) runs closed desc opens = λ unbroken.
+  link_requests bytes others status old new adapters now None None runs closed desc opens = tt
+  link_requests bytes others status old new adapters now None (Some it) runs closed desc opens = absurd closed
+  link_requests bytes others status old new adapters now (Some account) None runs closed desc opens = absurd closed
+  link_requests bytes others status old new adapters now (Some account) (Some it) runs closed desc opens = λ unbroken.
       let asked = (runs.played desc opens).asked in
       let names = names_of desc.chip desc.layout in
       record {
@@ -90,17 +90,17 @@ module _ {P K N M : Type 0} (left : P → Option (List ℕ)) (written : K → Op
             (closed.whole unbroken));
       }
 
-  pub runs_linked : (input : Option (List ℕ)) (status : Status) (old new : Option (List ℕ)) (adapters now : List Standing) (account : Option Account)
+  pub runs_linked : (input others : Option (List ℕ)) (status : Status) (old new : Option (List ℕ)) (adapters now : List Standing) (account : Option Account)
       (link : Option (Link P K N M))
-      → IfSome input (λ bytes. RunsSession (linked_opening bytes (kinds_of adapters)) bytes status old new adapters now (first_account left written streams) account)
+      → IfSome input (λ bytes. RunsSession (linked_opening bytes (kinds_of adapters)) bytes others status old new adapters now (first_account left written streams) account)
       → AreClosed written account link
-      → IfSome input (λ bytes. RunsLinked left written streams bytes status old new adapters now link)
-  runs_linked None status old new adapters now account link runs closed = tt
-  runs_linked (Some bytes) status old new adapters now account link runs closed = record {
+      → IfSome input (λ bytes. RunsLinked left written streams bytes others status old new adapters now link)
+  runs_linked None others status old new adapters now account link runs closed = tt
+  runs_linked (Some bytes) others status old new adapters now account link runs closed = record {
     account = account;
     runs = runs;
     closed = closed;
-    requests = link_requests bytes status old new adapters now account link runs closed;
+    requests = link_requests bytes others status old new adapters now account link runs closed;
   }
 
 -- ---- a link that is closed

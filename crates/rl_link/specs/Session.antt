@@ -60,13 +60,14 @@ pub record SendsRequests (names : NameData) (told : List Told) (old new : Option
   pub sent : Appends old new (joined (map (request_of names) asked))
 
 -- It is refused by what it describes and for the link, or its script is played on what it describes without
--- backdoors, over a link to these streams, which is asked exactly what the log's events say.
+-- backdoors, over a link to these streams, which is asked exactly what the log's events say. Its source has `others`
+-- left. After one that failed, exactly the lines that were taken whole are in the log.
 pub record RunsLinked {P K N M : Type 0} (left : P → Option (List ℕ)) (written : K → Option (List ℕ))
-    (streams : Streams P K N M) (bytes : List ℕ) (status : Status) (old new : Option (List ℕ))
-    (adapters now : List Standing) (link : Option (Link P K N M)) : Type 0 where
+    (streams : Streams P K N M) (bytes : List ℕ) (others : Option (List ℕ)) (status : Status)
+    (old new : Option (List ℕ)) (adapters now : List Standing) (link : Option (Link P K N M)) : Type 0 where
   pub account : Option Account
   pub runs :
-      RunsSession (linked_opening bytes (kinds_of adapters)) bytes status old new adapters now
+      RunsSession (linked_opening bytes (kinds_of adapters)) bytes others status old new adapters now
       (first_account left written streams) account
   pub closed : AreClosed written account link
   -- Unless the link broke, the requests that were written are exactly those of the log's events.

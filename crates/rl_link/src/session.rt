@@ -61,10 +61,11 @@ pub fn run_linked<
 
     // Which sessions are refused and in what words, what is written of the others, the statuses, and where the link is
     // handed out. It was asked exactly what the log's events say, each answer is the peer's to that request, and unless
-    // it broke, what was sent is the request of each, in order; one fact a field.
-    ensures does { IfSome (P.left session.old) (λ bytes. RunsLinked S.left K.written streams bytes result.status
-        (Q.written log.old) (Q.written log.new) (map standing adapters.old.items) (map standing adapters.new.items)
-        result.link) }
+    // it broke, what was sent is the request of each, in order. After a source that failed, exactly the lines that were
+    // taken whole are in the log. One fact a field.
+    ensures does { IfSome (P.left session.old) (λ bytes. RunsLinked S.left K.written streams bytes
+        (P.left session.new) result.status (Q.written log.old) (Q.written log.new)
+        (map standing adapters.old.items) (map standing adapters.new.items) result.link) }
 
     // Of a session that is refused before its script, nothing is sent: there is no link.
     ensures unsent { IfSome (P.left session.old) (λ bytes. (line : List ℕ)

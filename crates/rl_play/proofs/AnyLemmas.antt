@@ -1,6 +1,6 @@
 -- Line by line over any device.
-use Rattle.std.proofs.Common.{◌≡◌, ◌≢◌, ℕ, ◌+◌, ◌<◌, true, false, List, [], ◌∷◌, ◌++◌, length, Option, Some, None, IfSome, Result, Ok, Err, refl, sym, ap, subst, ◌∙◌}
-use Rattle.std.specs.Io.KnownBytes.{Appends, Keeps, append_known}
+use Rattle.std.proofs.Common.{◌≡◌, ◌≢◌, ℕ, suc, ◌+◌, ◌<◌, true, false, if◌then◌else◌, List, [], ◌∷◌, ◌++◌, length, Option, Some, None, IfSome, Result, Ok, Err, refl, sym, ap, subst, ◌∙◌, append_assoc}
+use Rattle.std.specs.Io.KnownBytes.{Appends, Keeps, append_known, prepend_known}
 use Rattle.std.proofs.KnownBytes.{Appends-trans}
 use Rattle.std.proofs.lemmas.Bool.{true≢false}
 use Rattle.rl_access.specs.Call.{Scene}
@@ -8,15 +8,16 @@ use Rattle.rl_access.specs.HandsOver.{Told}
 use Rattle.rl_report.specs.declared.lines.Got.{Got}
 use Rattle.rl_report.specs.declared.lines.Got.TheVariants as got
 use Rattle.rl_report.specs.Got.{Hands}
-use Rattle.rl_report.specs.Lines.{first_line, after_line, lines_of}
+use Rattle.rl_report.specs.Lines.{first_line, after_line, lines_of, whole_lines}
 use Rattle.rl_report.specs.Pieces.{AppendsFront}
 use Rattle.rl_report.specs.Reading.{Reading, input_of}
+use Rattle.rl_report.proofs.LineLemmas.{whole_first, whole_none}
 use Rattle.rl_report.proofs.PieceLemmas.{front_after}
 use Rattle.rl_script.specs.declared.line.Line.{Line}
 use Rattle.rl_log.specs.declared.counts.Counts.{Counts}
 use Rattle.rl_log.specs.declared.refusal.LineRefusal.{LineRefusal}
 use Rattle.rl_log.specs.declared.status.Status.{Status}
-use Rattle.rl_log.specs.declared.status.Status.TheVariants.{SourceFault, SinkFault}
+use Rattle.rl_log.specs.declared.status.Status.TheVariants.{Passed, Found, Refused, SourceFault, SinkFault, Memory, Words}
 use Rattle.rl_log.specs.Endings.{added, end_status}
 use Rattle.rl_log.specs.Log.{said}
 use Rattle.rl_log.specs.Recording.{no_counts, with_event, with_events}
@@ -25,7 +26,7 @@ use Rattle.rl_log.specs.Telling.{Tells}
 use Rattle.rl_log.specs.Texts.{end_text}
 use Rattle.rl_play.specs.AnyDevice.{Point, RanWhole, StopsAt, ClosesAt, Close, at_end, refused, broken, unwritten, cut, HasStatus}
 use Rattle.rl_play.proofs.AskedLemmas.{lines_asked}
-use Rattle.rl_play.specs.AnyDevice.{Happens, told_by, text_by, DoneLine, Plays, PlaysInput, PlaysAll, PlaysOnAnyDevice, counting}
+use Rattle.rl_play.specs.AnyDevice.{Happens, told_by, text_by, DoneLine, Plays, PlaysInput, PlaysCut, PlaysTaken, PlaysAll, PlaysOnAnyDevice, RunsTaken, counting}
 use Rattle.rl_play.specs.Work.{asked, text_of}
 use Rattle.rl_log.specs.Earlier.{KeepsEarlier}
 use Rattle.rl_play.specs.Heard.{heard}
@@ -127,12 +128,12 @@ plays_end number p flushed new (Some bytes) g reading left result status is same
       part = front_later p.text flushed new (end_text p.counts) kept t.part;
     }))
 
-cut_here : (number : ℕ) (s : Scene) (lines : List (List ℕ)) → Happens number s lines [] cut s
+pub cut_here : (number : ℕ) (s : Scene) (lines : List (List ℕ)) → Happens number s lines [] cut s
 cut_here number s [] = refl
 cut_here number s (line ∷ lines) = refl
 
 -- with nothing more
-pub plays_cut : (number : ℕ) (p : Point) (new : Option (List ℕ)) (input : Option (List ℕ)) (result status : Status)
+unfoldable pub plays_cut : (number : ℕ) (p : Point) (new : Option (List ℕ)) (input : Option (List ℕ)) (result status : Status)
     → result ≡ status → is_complete result ≡ false → Keeps p.text new → PlaysInput number p input (record p { text = new }) status
 plays_cut number p new None result status same early kept = tt
 plays_cut number p new (Some bytes) result status same early kept =
@@ -147,10 +148,76 @@ plays_cut number p new (Some bytes) result status same early kept =
       part = front_none p.text new [] kept;
     })
 
+-- ---- a source that failed
+
+taken_pending : (number : ℕ) (p : Point) (new : Option (List ℕ)) (bytes pending : List ℕ) (left : Option (List ℕ)) → Keeps p.text new
+    → Keeps (Some bytes) (prepend_known pending left) → first_line pending ≡ pending
+    → PlaysTaken number p bytes left (record p { text = new })
+unfolding plays_cut
+taken_pending number p new bytes pending None kept held none = absurd held
+taken_pending number p new bytes pending (Some others) kept held none = record {
+  plays = plays_cut number p new (Some bytes) SourceFault SourceFault refl refl kept;
+  runs = record {
+    taken = pending;
+    others = others;
+    split = held;
+    is_left = refl;
+    every = sym (ap length (whole_none pending none));
+    no_more = refl;
+  };
+}
+
+-- in the midst of a line: no line was taken whole
+pub taken_here : (number : ℕ) (p : Point) (new input left : Option (List ℕ)) (reading : Reading) → Keeps p.text new
+    → Keeps input (input_of reading left) → first_line reading.pending ≡ reading.pending → reading.ended ≡ false
+    → PlaysCut number p input left (record p { text = new })
+taken_here number p new None left reading kept held none going = tt
+taken_here number p new (Some bytes) left reading kept held none going =
+    taken_pending number p new bytes reading.pending left kept
+    (subst (λ b. Keeps (Some bytes) (if b then Some reading.pending else prepend_known reading.pending left)) going held) none
+
+taken_behind : (number : ℕ) (before : Point) (flushed : Option (List ℕ)) (mid last : Point) (bytes : List ℕ)
+    (s : Result Line LineRefusal) (left : Option (List ℕ)) → 0 < length bytes → s ≡ said number (first_line bytes)
+    → bytes ≡ first_line bytes ++ 10 ∷ after_line bytes → Keeps before.text flushed
+    → RanWhole (asked before.scene.model s) (record before { text = flushed }) mid
+    → PlaysTaken (number + 1) mid (after_line bytes) left last → PlaysTaken number before bytes left last
+unfolding plays_behind
+taken_behind number before flushed mid last bytes s left some is whole same r p =
+    let line = first_line bytes in
+    let t = p.runs in
+    record {
+      plays = plays_behind number before flushed mid last bytes s SourceFault some is same r p.plays;
+      runs = record {
+        taken = line ++ 10 ∷ t.taken;
+        others = t.others;
+        split = append_assoc line (10 ∷ t.taken) t.others ∙ ap (λ l. line ++ 10 ∷ l) t.split ∙ sym whole;
+        is_left = t.is_left;
+        every = ap suc t.every ∙ sym (ap length (whole_first bytes t.taken));
+        no_more = t.no_more;
+      };
+    }
+
+-- behind a line that was taken whole
+pub taken_later : (number : ℕ) (before : Point) (flushed : Option (List ℕ)) (mid last : Point) (input : Option (List ℕ)) (g : Got)
+    (line : List ℕ) (reading : Reading) (reached left : Option (List ℕ)) (s : Result Line LineRefusal)
+    → g ≢ got.End → g ≢ got.TooLong → IfSome input (λ bytes. Hands bytes g reading reached) → line ≡ reading.line
+    → s ≡ heard number g line → Keeps before.text flushed
+    → RanWhole (asked before.scene.model s) (record before { text = flushed }) mid → reading.ended ≡ false
+    → PlaysCut (number + 1) mid (input_of reading reached) left last → PlaysCut number before input left last
+taken_later number before flushed mid last None g line reading reached left s not_end not_long h is says same r going p = tt
+taken_later number before flushed mid last (Some bytes) got.Line line reading reached left s not_end not_long h is says same r going p =
+    taken_behind number before flushed mid last bytes s left h.some
+    (says ∙ heard_said number bytes line got.Line reading reached not_end h is) (h.whole going) same r
+    (subst (λ i. PlaysCut (number + 1) mid i left last) h.rest p)
+taken_later number before flushed mid last (Some bytes) got.TooLong line reading reached left s not_end not_long h is says same r going p =
+    absurd (not_long refl)
+taken_later number before flushed mid last (Some bytes) got.End line reading reached left s not_end not_long h is says same r going p =
+    absurd (not_end refl)
+
 -- ---- what is written in the end
 
 -- the sink may still fail when what was kept back is written
-status_on : (counts : Counts) (close : Close) (status result : Status) → (result ≢ SinkFault → result ≡ status)
+pub status_on : (counts : Counts) (close : Close) (status result : Status) → (result ≢ SinkFault → result ≡ status)
     → HasStatus counts close status → HasStatus counts close result
 status_on counts close status result same h = by close h
   where
@@ -167,7 +234,7 @@ status_on counts close status result same h = by close h
     by (unwritten work told) h = early h
     by cut h = early h
 
-written_on : (number : ℕ) (before : Point) (lines : List (List ℕ)) (told : Point) (new : Option (List ℕ)) (kept : List ℕ)
+unfoldable pub written_on : (number : ℕ) (before : Point) (lines : List (List ℕ)) (told : Point) (new : Option (List ℕ)) (kept : List ℕ)
     (status result : Status) → (result ≢ SinkFault → result ≡ status) → KeepsEarlier before.text new
     → Keeps told.text (append_known new kept) → (is_complete result ≡ true → Keeps told.text new)
     → (result ≡ SourceFault → Keeps told.text new)
@@ -186,7 +253,7 @@ written_on number before lines told new kept status result same keeps held whole
       part = front_written before.text told.text new kept text keeps held p.part;
     }
 
-pub plays_written : (number : ℕ) (before : Point) (input : Option (List ℕ)) (told : Point) (new : Option (List ℕ)) (kept : List ℕ)
+unfoldable pub plays_written : (number : ℕ) (before : Point) (input : Option (List ℕ)) (told : Point) (new : Option (List ℕ)) (kept : List ℕ)
     (status result : Status) → (result ≢ SinkFault → result ≡ status) → KeepsEarlier before.text new
     → Keeps told.text (append_known new kept) → (is_complete result ≡ true → Keeps told.text new)
     → (result ≡ SourceFault → Keeps told.text new)
@@ -195,14 +262,41 @@ plays_written number before None told new kept status result same keeps held who
 plays_written number before (Some bytes) told new kept status result same keeps held whole fault p =
     written_on number before (lines_of bytes) told new kept status result same keeps held whole fault p
 
-pub plays_all : (s n : Scene) (old new : Option (List ℕ)) (input : Option (List ℕ)) (counts own now : Counts) (status : Status)
-    → now ≡ added counts own
-    → PlaysInput 1 (record { scene = s; text = old; counts = no_counts }) input (record { scene = n; text = new; counts = own }) status
-    → PlaysOnAnyDevice (record { scene = s; text = old; counts = counts }) input (record { scene = n; text = new; counts = now }) status
-plays_all s n old new None counts own now status risen p = tt
-plays_all s n old new (Some bytes) counts own now status risen p = record {
-  own = own;
-  risen = risen;
-  plays = p;
-  asked = lines_asked 1 s (lines_of bytes) p.done p.close n p.happens;
-}
+-- the source failed, or it didn't
+by_fault : (status : Status) (P : Type 0) → (status ≡ SourceFault → P) → (status ≢ SourceFault → P) → P
+by_fault SourceFault P failed other = failed refl
+by_fault Passed P failed other = other (λ e. absurd (cc))
+by_fault Found P failed other = other (λ e. absurd (cc))
+by_fault Refused P failed other = other (λ e. absurd (cc))
+by_fault Memory P failed other = other (λ e. absurd (cc))
+by_fault SinkFault P failed other = other (λ e. absurd (cc))
+by_fault Words P failed other = other (λ e. absurd (cc))
+
+module _ (s n : Scene) (old new : Option (List ℕ)) (counts own now : Counts) (risen : now ≡ added counts own) where
+  abbrev pub start : Point
+  start = record { scene = s; text = old; counts = no_counts }
+
+  abbrev pub stop : Point
+  stop = record { scene = n; text = new; counts = own }
+
+  abbrev pub All : (input left : Option (List ℕ)) → Status → Type 0
+  All input left status = PlaysOnAnyDevice (record { scene = s; text = old; counts = counts }) input left
+      (record { scene = n; text = new; counts = now }) status
+
+  all_of : (bytes : List ℕ) (left : Option (List ℕ)) (status : Status) (p : Plays 1 start (lines_of bytes) stop status)
+      → (status ≡ SourceFault → RunsTaken whole_lines bytes left p.done p.close) → All (Some bytes) left status
+  all_of bytes left status p fault = record {
+    own = own;
+    risen = risen;
+    plays = p;
+    asked = lines_asked 1 s (lines_of bytes) p.done p.close n p.happens;
+    at_fault = fault;
+  }
+
+  pub plays_all : (input left : Option (List ℕ)) (status : Status) → PlaysInput 1 start input stop status
+      → (status ≡ SourceFault → PlaysCut 1 start input left stop) → All input left status
+  plays_all None left status p t = tt
+  plays_all (Some bytes) left status p t =
+      by_fault status (All (Some bytes) left status)
+      (λ is. let c = t is in subst (All (Some bytes) left) (sym is) (all_of bytes left SourceFault c.plays (λ same. c.runs)))
+      (λ other. all_of bytes left status p (λ is. absurd (other is)))

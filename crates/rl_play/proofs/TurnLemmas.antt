@@ -19,7 +19,7 @@ use Rattle.rl_play.specs.Heard.{heard}
 use Rattle.rl_play.specs.Leaves.{CutsLine, NotByCounts, stop_of}
 use Rattle.rl_play.specs.Played.{Ends, PlaysLine, to_come}
 use Rattle.rl_play.specs.Work.{asked}
-use Rattle.rl_play.proofs.AnyLemmas.{plays_cut, plays_end, plays_next, plays_stop}
+use Rattle.rl_play.proofs.AnyLemmas.{plays_cut, plays_end, plays_next, plays_stop, taken_here, taken_later}
 use Rattle.rl_play.proofs.CutLemmas.{next_here, next_later}
 use Rattle.rl_play.proofs.DoneLemmas.{does_none, does_next, does_stop}
 use Rattle.rl_play.proofs.EndingLemmas.{counted_none}
@@ -39,6 +39,9 @@ line_untaken number p new old reading before left is_out status early kept cuts 
     record {
       plays_next = λ is. absurd (stop_is_no_next status is);
       plays_stop = λ last is. plays_cut number p new input status last (stopped status last is) early kept;
+      taken = λ is. let cut = cuts (stopped status SourceFault is) in
+          taken_here number p new input left reading kept cut.none_lost cut.none_whole cut.still;
+      later_taken = λ is. absurd (stop_is_no_next status is);
       next = λ is. absurd (stop_is_no_next status is);
       stop = λ last is. early_stops (to_come number (moment_at p) input) status last p.text new p.counts
           s.model s.adapters s.device (stopped status last is) early kept;
@@ -65,6 +68,8 @@ line_ended number p flushed new input g reading left old now status end handed k
       plays_next = λ is. absurd (stop_is_no_next status is);
       plays_stop = λ last is. plays_end number p flushed new input g reading left status last end (stopped status last is)
           handed kept (no_source status old now cause) tells;
+      taken = λ is. absurd (no_source status old now cause (stopped status SourceFault is));
+      later_taken = λ is. absurd (stop_is_no_next status is);
       next = λ is. absurd (stop_is_no_next status is);
       stop = λ last is. ends_at_end number p.counts s.model s.adapters s.device input g reading left status last
           p.text flushed new end (stopped status last is) handed kept tells;
@@ -96,6 +101,9 @@ line_taken number before flushed after input g line reading left old now Next no
       plays_next = λ e final status p. plays_next number before flushed after final input g line reading left says status
           not_end (short e) handed is refl kept ran p;
       plays_stop = λ status e. absurd (stop_is_no_next status (sym e));
+      taken = λ e. absurd (stop_is_no_next SourceFault (sym e));
+      later_taken = λ e going rest final p. taken_later number before flushed after final input g line reading left rest says
+          not_end (short e) handed is refl kept ran going p;
       next = λ e. next_passes number before.counts after.counts s.model n.model s.adapters n.adapters s.device n.device
           input g line reading left says before.text flushed after.text not_end (short e) handed is refl kept judged;
       stop = λ status e. absurd (stop_is_no_next status (sym e));
@@ -125,6 +133,8 @@ line_taken number before flushed after input g line reading left old now (Stop s
     record {
       plays_next = λ e. absurd (stop_is_no_next status e);
       plays_stop = λ last e. subst (PlaysInput number before input after) (stopped status last e) played;
+      taken = λ e. absurd (no_source status old now cause (stopped status SourceFault e));
+      later_taken = λ e. absurd (stop_is_no_next status e);
       next = λ e. absurd (stop_is_no_next status e);
       stop = λ last e. subst (Ends number (moment_at before) input (moment_at after)) (stopped status last e) ends;
       at_fault = λ e. absurd (no_source status old now cause (stopped status SourceFault e));

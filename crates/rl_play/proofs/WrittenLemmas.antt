@@ -49,8 +49,8 @@ module _ (s n : Scene) (old new : Option (List ℕ)) (own counts total now : Cou
       played_written (to_come 1 (moment_at (point s old no_counts)) input) status old new counts total now
       n.model n.adapters n.device risen whole.log
 
-  pub script_played : PlaysOnAnyDevice (point s old counts) input (point n new now) status
-  script_played = plays_all s n old new input counts total now status risen whole.on_any_device
+  pub script_played : PlaysOnAnyDevice (point s old counts) input left (point n new now) status
+  script_played = plays_all s n old new counts total now risen input left status whole.on_any_device whole.taken
 
   pub script_done : DoesFirstEvents (moment_at (point s old counts)) input (moment_at (point n new now))
   script_done = does_first s.model n.model s.adapters n.adapters s.device n.device input counts total now risen whole.done

@@ -1,6 +1,6 @@
 -- What a script does over any device, one that reports its state or one that reports nothing:
 -- events, each of which performs its operation from where the one before ended.
-use Rattle.std.specs.Prelude.{◌≡◌, ◌⊎◌, ℕ, ◌+◌, List, [], ◌∷◌, ◌++◌, true, false, Option, Some, None, IfSome, Result, Ok, Err, OnOk, OnErr, IfOk, MatchResult}
+use Rattle.std.specs.Prelude.{◌≡◌, ◌⊎◌, ℕ, ◌+◌, List, [], ◌∷◌, ◌++◌, length, true, false, Option, Some, None, IfSome, Result, Ok, Err, OnOk, OnErr, IfOk, MatchResult}
 use Rattle.std.specs.Io.KnownBytes.{Appends}
 use Rattle.rl_access.specs.declared.event.Tally.{Tally}
 use Rattle.rl_access.specs.Asking.{IsAskedBy}
@@ -12,7 +12,7 @@ use Rattle.rl_bus.specs.declared.device.Failed.{Failed}
 use Rattle.rl_bus.specs.Account.{Account}
 use Rattle.rl_bus.specs.Standing.{Standing}
 use Rattle.rl_bus.specs.State.{State}
-use Rattle.rl_report.specs.Lines.{lines_of}
+use Rattle.rl_report.specs.Lines.{lines_of, whole_lines}
 use Rattle.rl_report.specs.Pieces.{AppendsFront}
 use Rattle.rl_log.specs.declared.counts.Counts.{Counts}
 use Rattle.rl_log.specs.declared.refusal.LineRefusal.{LineRefusal}
@@ -203,16 +203,45 @@ pub record Plays (number : ℕ) (before : Point) (lines : List (List ℕ)) (afte
 abbrev pub PlaysInput : (number : ℕ) → (before : Point) → (input : Option (List ℕ)) → (after : Point) → Status → Type 0
 PlaysInput number before input after s = IfSome input (λ bytes. Plays number before (lines_of bytes) after s)
 
+-- ---- a script whose source failed
+
+-- Bytes were taken from the front of an input, and as many lines were run as end among these, with nothing more.
+-- `lines` says which lines end among some bytes.
+pub record RunsTaken (lines : List ℕ → List (List ℕ)) (bytes : List ℕ) (left : Option (List ℕ))
+    (done : List DoneLine) (close : Close) : Type 0 where
+  pub taken : List ℕ
+  pub others : List ℕ
+  pub split : taken ++ others ≡ bytes
+  pub is_left : left ≡ Some others
+  pub every : length done ≡ length (lines taken)
+  pub no_more : close ≡ cut
+
+-- Lines were played until the source failed: exactly those that were taken whole.
+pub record PlaysTaken (number : ℕ) (before : Point) (bytes : List ℕ) (left : Option (List ℕ)) (after : Point)
+    : Type 0 where
+  pub plays : Plays number before (lines_of bytes) after ended.SourceFault
+  pub runs : RunsTaken whole_lines bytes left plays.done plays.close
+
+-- of an input, where the source tells its bytes
+abbrev pub PlaysCut : (number : ℕ) → (before : Point) → (input left : Option (List ℕ)) → (after : Point) → Type 0
+PlaysCut number before input left after = IfSome input (λ bytes. PlaysTaken number before bytes left after)
+
+-- ---- a whole script
+
 abbrev pub counting : Point → Counts → Point
 counting p counts = record p { counts = counts }
 
--- A whole script, counted from nothing; its counts were added to those before.
-pub record PlaysAll (before : Point) (lines : List (List ℕ)) (after : Point) (status : Status) : Type 0 where
+-- It was counted from nothing; its counts were added to those before.
+pub record PlaysAll (before : Point) (bytes : List ℕ) (left : Option (List ℕ)) (after : Point) (status : Status)
+    : Type 0 where
   pub own : Counts
   pub risen : after.counts ≡ added before.counts own
-  pub plays : Plays 1 (counting before no_counts) lines (counting after own) status
+  pub plays : Plays 1 (counting before no_counts) (lines_of bytes) (counting after own) status
   -- the device was asked exactly what the events of this log say
   pub asked : IsAskedBy before.scene.account (told_by plays.done plays.close) after.scene.account
+  -- after a source that failed these are exactly the lines that were taken whole
+  pub at_fault : status ≡ ended.SourceFault → RunsTaken whole_lines bytes left plays.done plays.close
 
-abbrev pub PlaysOnAnyDevice : (before : Point) → (input : Option (List ℕ)) → (after : Point) → Status → Type 0
-PlaysOnAnyDevice before input after s = IfSome input (λ bytes. PlaysAll before (lines_of bytes) after s)
+-- of an input, where the source tells its bytes
+abbrev pub PlaysOnAnyDevice : (before : Point) → (input left : Option (List ℕ)) → (after : Point) → Status → Type 0
+PlaysOnAnyDevice before input left after s = IfSome input (λ bytes. PlaysAll before bytes left after s)

@@ -17,7 +17,7 @@ use Rattle.rl_log.specs.Recording.{no_counts, with_events}
 use Rattle.rl_log.specs.Entry.{Entry}
 use Rattle.rl_log.specs.Log.{Ending, script_from, lines_text, after_text, stops}
 use Rattle.rl_play.specs.Done.{DoesFrom, DoesWithRest}
-use Rattle.rl_play.specs.AnyDevice.{Point, PlaysInput, moment_at}
+use Rattle.rl_play.specs.AnyDevice.{Point, PlaysCut, PlaysInput, moment_at}
 use Rattle.rl_play.specs.Leaves.{stop_of}
 use Rattle.rl_play.specs.Moment.{Moment}
 use Rattle.rl_play.specs.Recording.{IsDone}
@@ -182,11 +182,20 @@ PlaysWithRest number before input after rest =
     (last : Point) (status : Status)
     → PlaysInput (number + 1) after rest last status → PlaysInput number before input last status
 
+-- and after a source that failed: as exactly the lines that are taken whole behind it are played, the whole is
+abbrev pub IsCutWithRest : (number : ℕ) (before : Point) (input : Option (List ℕ))
+    (after : Point) (rest : Option (List ℕ)) → Type 0
+IsCutWithRest number before input after rest =
+    (left : Option (List ℕ)) (last : Point)
+    → PlaysCut (number + 1) after rest left last → PlaysCut number before input left last
+
 -- It was read and run at one moment, and the script is the rest, or ended at it.
 pub record PlaysLine (number : ℕ) (before : Point) (input : Option (List ℕ)) (after : Point)
     (rest left : Option (List ℕ)) (ended : Bool) (turn : Turn) : Type 0 where
   pub plays_next : turn ≡ Next → PlaysWithRest number before input after rest
   pub plays_stop : (status : Status) → turn ≡ Stop status → PlaysInput number before input after status
+  pub taken : turn ≡ Stop SourceFault → PlaysCut number before input left after
+  pub later_taken : turn ≡ Next → ended ≡ false → IsCutWithRest number before input after rest
   -- where the device tells its state
   pub next : turn ≡ Next → GoesOn number (moment_at before) input (moment_at after) rest
   pub stop : (status : Status) → turn ≡ Stop status → Ends number (moment_at before) input (moment_at after) status
@@ -208,6 +217,7 @@ pub record PlaysLine (number : ℕ) (before : Point) (input : Option (List ℕ))
 pub record PlaysThrough (before : Point) (input next left : Option (List ℕ)) (after : Point)
     (status : Status) : Type 0 where
   pub on_any_device : PlaysInput 1 before input after status
+  pub taken : status ≡ SourceFault → PlaysCut 1 before input left after
   -- where the device tells its state
   pub log : Ends 1 (moment_at before) input (moment_at after) status
   pub at_fault : status ≡ SourceFault → BreaksFrom 1 (moment_at before) input left after.text

@@ -355,10 +355,11 @@ pub fn play<S: Source, K: Sink, D: Device>(
         (input_of lines.old (S.left source.old))
         (moment_of standing D.state K.written model.new adapters.new.items device.new sink.new counts.new) }
     // Over any device, also one that tells nothing: what is written is the text of events, each of which performs its
-    // line's operation from where the one before ended, over the items and answers of these events.
+    // line's operation from where the one before ended, over the items and answers of these events. After a source that
+    // failed these are exactly the lines that were taken whole, and their text was written whole.
     ensures any_device { PlaysOnAnyDevice
         (spot standing D.account D.state K.written model.old adapters.old.items device.old sink.old counts.old)
-        (input_of lines.old (S.left source.old))
+        (input_of lines.old (S.left source.old)) (S.left source.new)
         (spot standing D.account D.state K.written model.new adapters.new.items device.new sink.new counts.new) result }
     // In any case the status goes by what happened in this call, and the counts rise by it.
     ensures ends { PlayEnds result counts.old counts.new }

@@ -9,3 +9,4 @@ pub mod SoakLemmas
 pub mod SoakTextLemmas
 pub mod StaysLemmas
 pub mod StopLemmas
+pub mod TakenLemmas

@@ -83,10 +83,11 @@ pub fn run_on<P: Source, Q: Sink, H: Host + Drop>(
     requires few { length (map standing adapters.old.items) < 2 ^ 32 }
 
     // Which sessions are refused and in what words, what is written of the others, the statuses, and where the device is
-    // handed out, which was asked exactly what the log's events say, one fact a field.
+    // handed out, which was asked exactly what the log's events say. After a source that failed, exactly the lines that
+    // were taken whole are in the log. One fact a field.
     ensures does { IfSome (P.left session.old) (λ bytes.
         RunsSession (opening_on H.backdoor (H.over (opening_of bytes (kinds_of (map standing adapters.old.items)))))
-        bytes result.status
+        bytes (P.left session.new) result.status
         (Q.written log.old) (Q.written log.new) (map standing adapters.old.items) (map standing adapters.new.items)
         (H.first host) (option_map H.Made.account result.device)) }
     ensures unmade { IfSome (P.left session.old) (λ bytes. (line : List ℕ)

@@ -11,6 +11,8 @@ use rl_session::model_of;
 use std::alloc::Global;
 
 /// Runs the script of a session on a device that doesn't report its state, and writes its log. The log isn't ended.
+///
+/// After a source that failed, the log has exactly the lines that were taken whole.
 pub fn play_described<S: Source, K: Sink, D: Device>(
     alloc: Global,
     desc: Desc,
@@ -22,7 +24,7 @@ pub fn play_described<S: Source, K: Sink, D: Device>(
 ) -> Status
     requires awaits { AwaitsScript desc lines.old (kinds_of (map standing adapters.old.items)) }
     requires silent { D.state device.old ≡ None }
-    ensures plays { PlaysRest desc (input_of lines.old (S.left source.old)) result
+    ensures plays { PlaysRest desc (input_of lines.old (S.left source.old)) (S.left source.new) result
         (K.written log.old) (K.written log.new) (map standing adapters.old.items) (map standing adapters.new.items)
         (D.account device.old) (D.account device.new) }
     ensures kinds { kinds_of (map standing adapters.new.items) ≡ kinds_of (map standing adapters.old.items) }

@@ -7,4 +7,4 @@ returns-clause-unsent g c = unsent_then _ _ _ _ c.closed.ensures.none c.run_on-r
 
 pub returns-clause-does : goal.returns-clause-does
 returns-clause-does g c =
-    runs_linked g.S.Source.left g.K.Sink.written c.args.streams _ _ _ _ _ _ _ _ c.run_on-ran.ensures.does c.closed.ensures.closed
+    runs_linked g.S.Source.left g.K.Sink.written c.args.streams _ _ _ _ _ _ _ _ _ c.run_on-ran.ensures.does c.closed.ensures.closed

@@ -20,6 +20,7 @@ loop-number-init g c = record {
   cutting = λ ended next others k. k;
   doing = λ total last standings state h. h;
   playing = λ last status p. p;
+  taking = λ ended left last p. p;
 }
 
 pub loop-number-preserved : goal.loop-number-preserved
@@ -43,6 +44,8 @@ loop-number-preserved g c =
       doing = λ total last standings state h. i.doing total last standings state
           (e.plays.done_next c.in-Next.is total last standings state h);
       playing = λ last status p. i.playing last status (e.plays.plays_next c.in-Next.is last status p);
+      taking = λ ended left last p. i.taking (still_going _ _ e.leaves.reads.ended ended) left last
+          (e.plays.later_taken c.in-Next.is ended left last p);
     }
 
 pub returns-in-Stop-clause-plays : goal.returns-in-Stop-clause-plays
@@ -51,6 +54,7 @@ returns-in-Stop-clause-plays g c =
     let e = c.play_line.ensures in
     record {
       on_any_device = i.playing _ _ (e.plays.plays_stop _ c.in-Stop.is);
+      taken = λ is. let stop = c.in-Stop.is ∙ ap Stop is in i.taking (e.leaves.goes_on stop).unended _ _ (e.plays.taken stop);
       log = ends_both _ _ _ _ _ _ _ _ _ _ i.going_on (e.plays.stop _ c.in-Stop.is);
       at_fault = λ is. let stop = c.in-Stop.is ∙ ap Stop is in
           i.breaking (e.leaves.goes_on stop).unended _ _ (e.plays.at_fault stop);

@@ -9,7 +9,7 @@ use Rattle.rl_report.specs.Reading.{input_of}
 use Rattle.rl_log.specs.declared.counts.Counts.{Counts}
 use Rattle.rl_log.specs.declared.status.Status.{Status}
 use Rattle.rl_access.specs.Call.{scene}
-use Rattle.rl_play.specs.AnyDevice.{Point, PlaysInput}
+use Rattle.rl_play.specs.AnyDevice.{Point, PlaysCut, PlaysInput}
 use Rattle.rl_play.specs.Done.{Does}
 use Rattle.rl_play.specs.Leaves.{Leaves}
 use Rattle.rl_play.specs.Played.{coming, Breaks, KeepsCut, PassesTo}
@@ -65,6 +65,20 @@ invariant-loop-number g l =
             text = g.L.Sink.written l.initial.out;
             counts = l.initial.counts;
           }) (input_of l.initial.lines (g.S.Source.left l.initial.source)) last status;
+      taking : l.lines.ended ≡ false → (left : Option (List ℕ)) (last : Point) → PlaysCut l.number
+          (record {
+            scene = scene l.model (map (λ b. (goal.Adapter-dyn g (b.vtable, b.value)).standing b.value) l.adapters.items)
+                (g.D.Device.account l.device) (g.D.Device.state l.device);
+            text = g.L.Sink.written l.out;
+            counts = l.counts;
+          }) (input_of l.lines (g.S.Source.left l.source)) left last
+          → PlaysCut 1
+          (record {
+            scene = scene l.initial.model (map (λ b. (goal.Adapter-dyn g (b.vtable, b.value)).standing b.value) l.initial.adapters.items)
+                (g.D.Device.account l.initial.device) (g.D.Device.state l.initial.device);
+            text = g.L.Sink.written l.initial.out;
+            counts = l.initial.counts;
+          }) (input_of l.initial.lines (g.S.Source.left l.initial.source)) left last;
     }
 
 abbrev pub decreases-loop-number : goal.decreases-loop-number
