@@ -1,5 +1,6 @@
 // Shares of a grading that are added.
-ghost use Rattle.std.specs.Prelude.{◌≡◌, IfErr, IfOk, IfSome, OnOk, ◌++◌, false};
+ghost use Rattle.std.specs.Prelude.{◌≡◌, IfErr, IfOk, IfSome, OnOk, ◌++◌, false, true};
+ghost use Rattle.std.specs.Io.KnownBytes.{IsAtEnd};
 ghost use Rattle.rl_grade_report.specs.Added.{added_of, of_share, refusal_text, sums_of, sums_status, sums_told};
 ghost use Rattle.rl_grade_report.specs.Prelude.{IsCaused, LeavesEnded, Puts, Stays, TellsGraded, is_complete};
 ghost use Rattle.rl_grade_report.specs.Shares.{refused_by};
@@ -175,6 +176,9 @@ pub fn run_add<S: Source, K: Sink>(
     // However it ends, the log keeps the bytes that it had before, and is ended exactly where its line was written.
     // No fault is made up, and the status is never that of other words.
     ensures leaves { LeavesEnded K.Sink result (S.faults source.old) (S.faults source.new) log.old log.new }
+
+    // Where a line was written, the source was read to its end.
+    ensures end { is_complete result ≡ true → IsAtEnd (S.left source.new) }
 {
     let bytes = match read_all(alloc, source) {
         Ok(bytes) => bytes,

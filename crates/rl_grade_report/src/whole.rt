@@ -62,6 +62,7 @@ fn append(bytes: &mut Vec<u8>, more: &[u8]) -> Result<(), Status>
 /// `SourceFault` where the source fails, and `Memory`.
 pub fn read_all<S: Source>(alloc: Global, source: &mut S) -> Result<Vec<u8>, Status>
     ensures bytes { IfOk result (λ bytes. IfSome (S.left source.old) (λ all. bytes.items ≡ all)) }
+    ensures end { IfOk result (λ _. IsAtEnd (S.left source.new)) }
     ensures later { S.faults source.old ≤ S.faults source.new }
     ensures broken { IfErr result (λ status. is_complete status ≡ false) }
     ensures cause { IfErr result (λ status. IsCaused status (S.faults source.old) (S.faults source.new) 0 0) }
