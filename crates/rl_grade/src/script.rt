@@ -13,12 +13,10 @@ ghost use Rattle.rl_grade.specs.Script.{job_asked, job_named, named_there, tasks
 use crate::job::{Job, Task};
 use rl_access::Model;
 use rl_log::LineRefusal;
-use rl_play::{block_asked, is_end, is_too_long, map_asked, mem_at, op_of, refusal_of};
+use rl_play::{MOST_LINES, block_asked, is_end, is_too_long, map_asked, mem_at, op_of, refusal_of};
 use rl_report::{Got, LineReader, Source};
 use rl_script::{IdentRef, Item, ItemLine, LineRef, PathRef, Sequence, Values, read_line_ref};
 use std::alloc::Global;
-
-const MOST_LINES: u64 = 1_000_000;
 
 /// Why a script gives no tasks.
 #[derive(Clone, Copy, Debug, PartialEq, Eq)]
@@ -169,7 +167,7 @@ fn job_taken(
 ) -> Result<Option<Job>, Unread>
     ensures answers { Answers (job_asked model.now (heard number got line.now)) result }
     ensures fits { IfOk result (λ job. IfSome job (JobFits model.now.chip (length model.now.layout.maps))) }
-    ensures last { OnOk result (number ≤ 1000000) }
+    ensures last { OnOk result (number ≤ MOST_LINES) }
     ensures short { OnOk result (got ≢ Got.TooLong) }
 {
     if number > MOST_LINES {
@@ -200,7 +198,7 @@ fn next_job<S: Source>(
     ensures fits { IfOk result (TurnFits model.now.chip (length model.now.layout.maps)) }
     ensures found { lines.new.found ≡ true }
     ensures going { OnOk result (lines.new.refused ≡ false) }
-    ensures last { IfOk result (λ turn. turn ≢ Turn.End → number ≤ 1000000) }
+    ensures last { IfOk result (λ turn. turn ≢ Turn.End → number ≤ MOST_LINES) }
     ensures source_later { S.faults source.old ≤ S.faults source.new }
     ensures cause { result ≡ Err ScriptFault.Source → Rose (S.faults source.old) (S.faults source.new) }
 {

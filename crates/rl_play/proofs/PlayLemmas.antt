@@ -23,6 +23,7 @@ use Rattle.rl_script.specs.Reading.{read_of, by_words}
 use Rattle.rl_script.specs.Said.{line_said}
 use Rattle.rl_script.specs.Words.{words_of}
 use Rattle.rl_log.specs.declared.counts.Counts.{Counts}
+use Rattle.rl_play.specs.declared.playing.TheConstants.{MOST_LINES}
 use Rattle.rl_play.specs.declared.playing.Turn.{Turn}
 use Rattle.rl_play.specs.declared.playing.Turn.TheVariants.{Next, Stop}
 use Rattle.rl_log.specs.declared.status.Status.{Status}
@@ -90,20 +91,20 @@ hands_some bytes got.Line new left some h = h.some
 hands_some bytes got.TooLong new left some h = long_some bytes h
 hands_some bytes got.End new left some h = absurd (some refl)
 
-pub heard_read : (number : ℕ) (g : Got) (line : List ℕ) → number ≤ 1000000 → g ≢ got.TooLong → said_by
+pub heard_read : (number : ℕ) (g : Got) (line : List ℕ) → number ≤ MOST_LINES → g ≢ got.TooLong → said_by
     (read_of line) ≡ heard number g line
 heard_read number got.Line line few short =
-    ap (λ b. if b then Err TooManyLines else said_by (read_of line)) (sym (le-ltb 1000000 number few))
+    ap (λ b. if b then Err TooManyLines else said_by (read_of line)) (sym (le-ltb MOST_LINES number few))
 heard_read number got.End line few short =
-    ap (λ b. if b then Err TooManyLines else said_by (read_of line)) (sym (le-ltb 1000000 number few))
+    ap (λ b. if b then Err TooManyLines else said_by (read_of line)) (sym (le-ltb MOST_LINES number few))
 heard_read number got.TooLong line few short = absurd (short refl)
 
-pub heard_many : (number : ℕ) (g : Got) (line : List ℕ) → 1000000 < number → heard number g line ≡ Err TooManyLines
-heard_many number g line many = ap (λ b. if b then Err TooManyLines else handed g line) (lt-ltb 1000000 number many)
+pub heard_many : (number : ℕ) (g : Got) (line : List ℕ) → MOST_LINES < number → heard number g line ≡ Err TooManyLines
+heard_many number g line many = ap (λ b. if b then Err TooManyLines else handed g line) (lt-ltb MOST_LINES number many)
 
-pub heard_long : (number : ℕ) (g : Got) (line : List ℕ) → number ≤ 1000000 → g ≡ got.TooLong → heard number g line ≡ Err TooLong
+pub heard_long : (number : ℕ) (g : Got) (line : List ℕ) → number ≤ MOST_LINES → g ≡ got.TooLong → heard number g line ≡ Err TooLong
 heard_long number g line few is =
-    ap (λ b. if b then Err TooManyLines else handed g line) (le-ltb 1000000 number few) ∙ ap (λ g. handed g line) is
+    ap (λ b. if b then Err TooManyLines else handed g line) (le-ltb MOST_LINES number few) ∙ ap (λ g. handed g line) is
 
 pub read_not : (bytes : List ℕ) (r : Result LineRef LineFault) (fault : LineFault) → r ≡ Err fault → MatchResult r
     (λ line. read_of bytes ≡ Ok (line_said line)) (λ fault. fault ≢ Memory → read_of bytes ≡ Err fault)

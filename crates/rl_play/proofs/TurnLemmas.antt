@@ -12,6 +12,7 @@ use Rattle.rl_log.specs.Endings.{end_status, IsCounted}
 use Rattle.rl_log.specs.Statuses.{is_complete}
 use Rattle.rl_log.specs.Telling.{Tells}
 use Rattle.rl_log.specs.Texts.{end_text}
+use Rattle.rl_play.specs.declared.playing.TheConstants.{MOST_LINES}
 use Rattle.rl_play.specs.declared.playing.Turn.{Turn}
 use Rattle.rl_play.specs.declared.playing.Turn.TheVariants.{Next, Stop}
 use Rattle.rl_play.specs.AnyDevice.{Point, PlaysInput, Turns, moment_at}
@@ -89,7 +90,7 @@ pub line_taken : (number : ℕ) (before : Point) (flushed : Option (List ℕ)) (
     → (turn ≡ Next → g ≢ got.TooLong) → IfSome input (λ bytes. Hands bytes g reading left) → line ≡ reading.line
     → Keeps before.text flushed
     → Turns number (asked before.scene.model (heard number g line)) (record before { text = flushed }) after turn
-    → IfSome (stop_of turn) (λ s. IsCaused s 0 0 old now) → NotByCounts (stop_of turn) → (turn ≡ Next → number ≤ 1000000)
+    → IfSome (stop_of turn) (λ s. IsCaused s 0 0 old now) → NotByCounts (stop_of turn) → (turn ≡ Next → number ≤ MOST_LINES)
     → PlaysLine number before input after (input_of reading left) left reading.ended turn
 line_taken number before flushed after input g line reading left old now Next not_end short handed is kept ran cause counted last =
     let s = before.scene in

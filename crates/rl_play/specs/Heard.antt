@@ -7,6 +7,7 @@ use Rattle.rl_script.specs.Reading.{read_of}
 use Rattle.rl_log.specs.declared.refusal.LineRefusal.{LineRefusal}
 use Rattle.rl_log.specs.declared.refusal.LineRefusal.TheVariants.{TooLong, TooManyLines}
 use Rattle.rl_log.specs.Log.{said_by}
+use Rattle.rl_play.specs.declared.playing.TheConstants.{MOST_LINES}
 
 -- it may have been too long
 abbrev pub handed : Got → List ℕ → Result Line LineRefusal
@@ -15,4 +16,4 @@ handed got.Line line = said_by (read_of line)
 handed got.End line = said_by (read_of line)
 
 abbrev pub heard : (number : ℕ) → Got → List ℕ → Result Line LineRefusal
-heard number got line = if nat_lt 1000000 number then Err TooManyLines else handed got line
+heard number got line = if nat_lt MOST_LINES number then Err TooManyLines else handed got line

@@ -7,6 +7,7 @@ use Rattle.rl_bus.specs.State.{State}
 use Rattle.rl_report.specs.Lines.{first_line, lines_of, whole_lines}
 use Rattle.rl_report.specs.Pieces.{AppendsFront}
 use Rattle.rl_log.specs.declared.counts.Counts.{Counts}
+use Rattle.rl_play.specs.declared.playing.TheConstants.{MOST_LINES}
 use Rattle.rl_play.specs.declared.playing.Turn.{Turn}
 use Rattle.rl_play.specs.declared.playing.Turn.TheVariants.{Next, Stop}
 use Rattle.rl_log.specs.declared.status.Status.{Status}
@@ -208,7 +209,7 @@ pub record PlaysLine (number : ℕ) (before : Point) (input : Option (List ℕ))
   pub done_next : turn ≡ Next → DoesWithRest number (moment_at before) input (moment_at after) rest
   pub done_stop : (status : Status) → turn ≡ Stop status → DoesFrom number (moment_at before) input (moment_at after)
   -- at most so many lines are run, and a status that goes by the counts goes by these
-  pub last : turn ≡ Next → number ≤ 1000000
+  pub last : turn ≡ Next → number ≤ MOST_LINES
   pub counted : IfSome (stop_of turn) (λ status. IsCounted status after.counts)
 
 -- ---- the lines that are left

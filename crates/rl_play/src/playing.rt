@@ -22,7 +22,8 @@ use rl_script::{LineFault, LineRef, read_line_ref};
 use std::alloc::Global;
 use std::marker::Brand;
 
-const MOST_LINES: u64 = 1_000_000;
+/// The number of the last line of a script that is run.
+pub const MOST_LINES: u64 = 1_000_000;
 
 /// What comes of a line.
 #[derive(Clone, Copy)]
@@ -152,7 +153,7 @@ fn run_taken<D: Device, L: Log>(
     requires ready { IsReady model.old (map standing adapters.old.items) (D.state device.old) }
     ensures ready { StaysReady model.old model.new (map standing adapters.new.items) (D.state device.new) }
     ensures short { result ≡ Turn.Next → got ≢ Got.TooLong }
-    ensures last { result ≡ Turn.Next → number ≤ 1000000 }
+    ensures last { result ≡ Turn.Next → number ≤ MOST_LINES }
     ensures turn { Turns number (asked model.old (heard number got line.now))
         (spot standing D.account D.state L.written model.old adapters.old.items device.old out.old counts.old)
         (spot standing D.account D.state L.written model.new adapters.new.items device.new out.new counts.new) result }

@@ -18,12 +18,12 @@ ghost use Rattle.rl_vcd.specs.Script.{DrawsLine, DrawsScript};
 use crate::session::Session;
 use rl_bus::{Adapter, Adapters};
 use rl_log::{LineRefusal, Status};
-use rl_play::{Log, Turn, end, is_end, is_too_long, put_line_refused, refusal_of, take_line};
+use rl_play::{
+    Log, MOST_LINES, Turn, end, is_end, is_too_long, put_line_refused, refusal_of, take_line,
+};
 use rl_report::{Failed, Got, LineReader, Sink, Source};
 use rl_script::{LineFault, LineRef, read_line_ref};
 use std::alloc::Global;
-
-const MOST_LINES: u64 = 1_000_000;
 
 // Ends a script at a line that is refused.
 fn refuse<L: Log>(number: u64, refusal: LineRefusal, log: &mut L) -> Status
@@ -87,7 +87,7 @@ impl<K: Sink> Session<K> {
         ensures ready { StaysReady self.old.model self.new.model
             (map standing adapters.new.items) (Some (bench_state self.new.bench)) }
         ensures short { result ≡ Turn.Next → got ≢ Got.TooLong }
-        ensures last { result ≡ Turn.Next → number ≤ 1000000 }
+        ensures last { result ≡ Turn.Next → number ≤ MOST_LINES }
         ensures draws { DrawsTurn K.Sink number (asked self.old.model (heard number got line.now))
             (spot_of self.old (map standing adapters.old.items) (L.written log.old))
             (spot_of self.new (map standing adapters.new.items) (L.written log.new))

@@ -10,6 +10,7 @@ use Rattle.rl_log.specs.declared.status.Status.TheVariants.{SourceFault}
 use Rattle.rl_log.specs.Endings.{IsCounted}
 use Rattle.rl_log.specs.Log.{Ending}
 use Rattle.rl_log.specs.Statuses.{is_complete}
+use Rattle.rl_play.specs.declared.playing.TheConstants.{MOST_LINES}
 use Rattle.rl_play.specs.declared.playing.Turn.{Turn}
 use Rattle.rl_play.specs.declared.playing.Turn.TheVariants.{Next, Stop}
 use Rattle.rl_play.specs.Leaves.{stop_of}
@@ -112,7 +113,7 @@ pub record WeavesLine (number : ℕ) (before : Setting) (input : Option (List �
   pub at_fault : turn ≡ Stop SourceFault → BreaksFrom number before input left after.text
   pub later_fault : turn ≡ Next → ended ≡ false → BreaksAsRest number before input after rest
   -- at most so many lines are taken in, and a status that goes by the counts goes by these
-  pub last : turn ≡ Next → number ≤ 1000000
+  pub last : turn ≡ Next → number ≤ MOST_LINES
   pub counted : IfSome (stop_of turn) (λ status. IsCounted status after.counts)
 
 -- ---- the end

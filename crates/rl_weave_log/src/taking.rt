@@ -10,12 +10,10 @@ use crate::refusal::{WovenRefusal, put_woven_refused};
 use crate::script::{Stage, WovenScript};
 use rl_bus::{Adapter, Device};
 use rl_log::{LineRefusal, Status};
-use rl_play::{Log, Turn, end, is_too_long, refusal_of};
+use rl_play::{Log, MOST_LINES, Turn, end, is_too_long, refusal_of};
 use rl_report::{Failed, Got};
 use rl_script::{LineFault, LineRef, read_line_ref};
 use std::alloc::Global;
-
-const MOST_LINES: u64 = 1_000_000;
 
 /// Ends a script at a line that is refused.
 fn refuse<L: Log>(number: u64, refusal: WovenRefusal, out: &mut L) -> Status
@@ -119,7 +117,7 @@ pub(crate) fn take_in_handed<D: Device, L: Log>(
 ) -> Turn
     requires gathering { CanGather D.Device (each standing stage.old.adapters.now.items) script.old stage.old }
     ensures short { result ≡ Turn.Next → got ≢ Got.TooLong }
-    ensures last { result ≡ Turn.Next → number ≤ 1000000 }
+    ensures last { result ≡ Turn.Next → number ≤ MOST_LINES }
     ensures turn { Takes number (heard number got line.now)
         (setting_on D.Device L.Sink (each standing stage.old.adapters.now.items) script.old stage.old)
         (setting_on D.Device L.Sink (each standing stage.new.adapters.now.items) script.new stage.new) result }

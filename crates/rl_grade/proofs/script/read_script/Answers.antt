@@ -1,4 +1,5 @@
 use Rattle.std.proofs.Common.{◌≤◌, length, arith}
+use Rattle.rl_play.specs.declared.playing.TheConstants.{MOST_LINES}
 use Rattle.rl_report.specs.Reading.{input_of}
 use Rattle.rl_grade.proofs.Reading.{fits_more, out_by, read_on, read_out, read_refused}
 use Rattle.rl_grade.proofs.script.read_script.Goals as goal
@@ -23,7 +24,7 @@ loop-tasks-preserved g c =
     let i = c.loop-tasks.invariant in
     let e = c.in_ok-job.ensures in
     let more = c.in_ok-push_job-in-Line.ensures.more in
-    let last : c.loop-tasks.number ≤ 1000000 = (rw c.in-Line.is at e.last) (λ is. cc) in
+    let last : c.loop-tasks.number ≤ MOST_LINES = (rw c.in-Line.is at e.last) (λ is. cc) in
     record {
       found = e.found;
       going = e.going;

@@ -1,4 +1,4 @@
-use Rattle.std.proofs.Common.{◌≡◌, ◌≢◌, ◌<◌, ◌≤◌, ap, sym, ◌∙◌, arith}
+use Rattle.std.proofs.Common.{◌≡◌, ◌≢◌, ap, sym, ◌∙◌}
 use Rattle.rl_report.specs.declared.lines.Got.TheVariants as got
 use Rattle.rl_play.specs.Work.{asked}
 use Rattle.rl_play.proofs.LeavesLemmas.{leaves_none, stop_is_no_next}
@@ -9,31 +9,27 @@ use Rattle.rl_vcd.proofs.session.Session.run_taken.Goals as goal
 
 pub returns-clause-draws : goal.returns-clause-draws
 returns-clause-draws g c =
-    let few : c.args.number ≤ 1000000 = omega (arith, c.if-number-gt-MOST_LINES.false) in
     let short : c.args.got ≢ got.TooLong = c.is_too_long.ensures.short c.if-is_too_long.false in
-    let same = ap (asked c.args.self.now.model) (heard_read c.args.number c.args.got c.args.line.now few short) in
+    let same = ap (asked c.args.self.now.model) (heard_read c.args.number c.args.got c.args.line.now c.if-number-gt-MOST_LINES.false short) in
     turn_as g.K.Sink c.args.number _ _ _ _ _ _ _ same c.run_read.ensures.draws
 
 pub returns-then-is_empty-clause-draws : goal.returns-then-is_empty-clause-draws
 returns-then-is_empty-clause-draws g c =
-    let few : c.args.number ≤ 1000000 = omega (arith, c.if-number-gt-MOST_LINES.false) in
     let short : c.args.got ≢ got.TooLong = c.is_too_long.ensures.short c.if-is_too_long.false in
     ran_blank g.K.Sink c.args.self.now.model _ _ _
-    (sym (heard_read c.args.number c.args.got c.args.line.now few short)
+    (sym (heard_read c.args.number c.args.got c.args.line.now c.if-number-gt-MOST_LINES.false short)
     ∙ empty_said c.args.line.now (sym c.is_empty.ensures ∙ c.if-is_empty.true))
 
 pub returns-then-number-gt-MOST_LINES-clause-draws : goal.returns-then-number-gt-MOST_LINES-clause-draws
 returns-then-number-gt-MOST_LINES-clause-draws g c =
-    let many : 1000000 < c.args.number = omega (arith, c.if-number-gt-MOST_LINES.true) in
     read_refused g.K.Sink c.args.number _ _ _ _ _ _
-    (ap (asked c.args.self.now.model) (heard_many c.args.number c.args.got c.args.line.now many)) c.refuse.ensures.tells
+    (ap (asked c.args.self.now.model) (heard_many c.args.number c.args.got c.args.line.now c.if-number-gt-MOST_LINES.true)) c.refuse.ensures.tells
 
 pub returns-then-is_too_long-clause-draws : goal.returns-then-is_too_long-clause-draws
 returns-then-is_too_long-clause-draws g c =
-    let few : c.args.number ≤ 1000000 = omega (arith, c.if-number-gt-MOST_LINES.false) in
     let long : c.args.got ≡ got.TooLong = c.is_too_long.ensures.long c.if-is_too_long.true in
     read_refused g.K.Sink c.args.number _ _ _ _ _ _
-    (ap (asked c.args.self.now.model) (heard_long c.args.number c.args.got c.args.line.now few long))
+    (ap (asked c.args.self.now.model) (heard_long c.args.number c.args.got c.args.line.now c.if-number-gt-MOST_LINES.false long))
     c.refuse-then-is_too_long.ensures.tells
 
 pub returns-then-number-gt-MOST_LINES-clause-ready : goal.returns-then-number-gt-MOST_LINES-clause-ready
