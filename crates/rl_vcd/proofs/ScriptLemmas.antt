@@ -19,13 +19,14 @@ use Rattle.rl_log.specs.Telling.{Tells}
 use Rattle.rl_log.specs.Texts.{end_text}
 use Rattle.rl_log.proofs.KnownLemmas.{front_later, front_none, front_written, keeps_nothing, keeps_then_appends}
 use Rattle.rl_log.proofs.TellingLemmas.{not_sink_fault}
-use Rattle.rl_play.specs.AnyDevice.{Close, ClosesAt, DoneLine, Happens, HasStatus, Plays, Point, at_end, broken, cut, refused, text_by, told_by, unwritten}
+use Rattle.rl_play.specs.AnyDevice.{ClosesAt, DoneLine, Happens, Plays, Point, at_end, cut, text_by, told_by}
 use Rattle.rl_play.specs.Heard.{heard}
 use Rattle.rl_play.specs.Leaves.{CutsLine, NotByCounts, stop_of}
 use Rattle.rl_play.specs.Work.{asked, text_of}
+use Rattle.rl_play.specs.declared.playing.TheConstants.{MOST_LINES}
 use Rattle.rl_play.specs.declared.playing.Turn.{Turn}
 use Rattle.rl_play.specs.declared.playing.Turn.TheVariants.{Next, Stop}
-use Rattle.rl_play.proofs.EndingLemmas.{incomplete}
+use Rattle.rl_play.proofs.AnyLemmas.{status_on}
 use Rattle.rl_play.proofs.FaultLemmas.{no_source, same_status}
 use Rattle.rl_play.proofs.LeavesLemmas.{stop_is_no_next, stopped}
 use Rattle.rl_play.proofs.PlayLemmas.{heard_said, hands_some, lines_more}
@@ -51,24 +52,6 @@ with_append counts (t ∷ told) more = with_append (with_event counts t.event) t
 cut_here : (number : ℕ) (s : Scene) (lines : List (List ℕ)) → Happens number s lines [] cut s
 cut_here number s [] = refl
 cut_here number s (line ∷ lines) = refl
-
--- the sink may still fail when what was kept back is written
-pub status_on : (counts : Counts) (close : Close) (status result : Status) → (result ≢ SinkFault → result ≡ status)
-    → HasStatus counts close status → HasStatus counts close result
-status_on counts close status result same h = by close h
-  where
-    is : is_complete result ≡ true → result ≡ status
-    is c = same (not_sink_fault result c)
-
-    early : is_complete status ≡ false → is_complete result ≡ false
-    early e = incomplete (is_complete result) (λ c. true≢false (sym c ∙ ap is_complete (is c) ∙ e))
-
-    by : (close : Close) → HasStatus counts close status → HasStatus counts close result
-    by at_end h = λ c. is c ∙ h (sym (ap is_complete (is c)) ∙ c)
-    by (refused n why) h = λ c. is c ∙ h (sym (ap is_complete (is c)) ∙ c)
-    by (broken work told) h = early h
-    by (unwritten work told) h = early h
-    by cut h = early h
 
 module _ {K : Type 0} (sink : Sink K) where
   -- events, and then others
@@ -231,7 +214,7 @@ module _ {K : Type 0} (sink : Sink K) where
       → (turn ≡ Next → g ≢ got.TooLong) → IfSome input (λ bytes. Hands bytes g reading left) → line ≡ reading.line
       → Keeps before.text flushed
       → DrawsTurn sink number (asked before.scene.model (heard number g line)) (record before { text = flushed }) after old new turn
-      → IfSome (stop_of turn) (λ s. IsCaused s 0 0 a b) → NotByCounts (stop_of turn) → (turn ≡ Next → number ≤ 1000000)
+      → IfSome (stop_of turn) (λ s. IsCaused s 0 0 a b) → NotByCounts (stop_of turn) → (turn ≡ Next → number ≤ MOST_LINES)
       → DrawsLine sink number before input after (input_of reading left) left reading.ended old new turn
   line_drawn number before flushed after input g line reading left a b Next old new not_end short handed is kept d cause counted last =
       record {
