@@ -1,26 +1,22 @@
 -- The words of a group, on the device model with whatever flaws.
-use Rattle.std.proofs.Common.{◌≡◌, ℕ, zero, suc, ◌+◌, ◌<◌, Bool, true, false, cond, is_some, unwrap_or, List, [], ◌∷◌, ◌++◌, length, Option, None, Some, refl, sym, ap, ◌∙◌, subst, arith}
-use Rattle.std.proofs.lemmas.Option.{slice_get-get_or}
+use Rattle.std.proofs.Common.{◌≡◌, ℕ, zero, suc, ◌+◌, Bool, true, false, cond, List, [], ◌∷◌, ◌++◌, Option, None, Some, refl, sym, ap, ◌∙◌, subst}
 use Rattle.rl_bus.specs.Account.{without_peer}
 use Rattle.rl_access.specs.declared.event.Event.{Event}
 use Rattle.rl_access.specs.declared.trace.TraceItem.{TraceItem}
 use Rattle.rl_access.specs.Model.{ModelData, IsModel}
-use Rattle.rl_access.specs.Observed.{word_ops}
 use Rattle.rl_access.specs.World.{scene_at}
-use Rattle.rl_access.proofs.Whole.{whole_count, first_of_place}
 use Rattle.rl_report.specs.Item.{item_line}
 use Rattle.rl_weave.specs.Step.{IsStepOf}
 use Rattle.rl_weave.specs.Weave.{IsWeave}
-use Rattle.rl_weave.proofs.Weaves.{at_open, weave_stepped}
-use Rattle.rl_weave_log.specs.WeaveLog.{Part, Weaving, followed, line_at_end, no_op, nothing, step_text, words}
+use Rattle.rl_weave.proofs.Weaves.{weave_stepped}
+use Rattle.rl_weave_log.specs.WeaveLog.{Part, Weaving, followed, line_at_end, nothing, step_text, words}
 use Rattle.rl_weave_laws.specs.AnyDevice.{AreBegun, EachGroupRuns, turns_text}
 use Rattle.rl_weave_laws.specs.Groups.{counted_in}
 use Rattle.rl_weave_laws.specs.Half.{IsOpen}
 use Rattle.rl_weave_laws.specs.Runs.{Turn, RunsTo, events_of}
 use Rattle.rl_weave_laws.proofs.AnyWords.{each_word_is_taken, none_open_gathers_nothing, unsent_are_begun}
 use Rattle.rl_weave_laws.proofs.Counting.{counted_on}
-use Rattle.rl_weave_laws.proofs.GroupWords.{step_at, woven_now}
-use Rattle.rl_weave_laws.proofs.Moves.{half_granted}
+use Rattle.rl_weave_laws.proofs.GroupWords.{step_at, word_is_step, woven_now}
 use Rattle.rl_weave_laws.proofs.Open.{is_done, is_open, item_at, none_is_open, which_at, word_at, words_more, words_none}
 use Rattle.rl_weave_laws.proofs.Texts.{line_same}
 
@@ -39,32 +35,6 @@ turns_same m n [] chip layout = refl
 turns_same m n (t ∷ turns) chip layout =
     ap (λ x. x ++ turns_text n turns) (text_same m n t.step.item t.step.end chip layout)
     ∙ ap (λ x. step_text m t.step.item t.step.end ++ x) (turns_same m n turns chip layout)
-
--- ---- a word is a step
-
-word_is_step : (g : Weaving) (errors : ℕ) → IsModel g.world.model → IsWeave g.weave → IsOpen g.weave (which_at g) → AreBegun g.world.model g.weave
-    → IsStepOf (scene_at g.world (without_peer errors)) (scene_at (word_at g).after.world (without_peer (errors + 1))) (woven_now g) (step_at g)
-word_is_step g errors model ok there begun =
-    let v = woven_now g in
-    let l = g.world.model.layout in
-    let ops = word_ops l v.place v.access.value in
-    let mine = begun.each (which_at g) there in
-    let at = half_granted g.world.model v mine.granted in
-    let count = whole_count l v.place 0 (unwrap_or v.access.value 0) (is_some v.access.value) model.layout
-    (first_of_place l v.place model.layout at.there.inside) in
-    let short = (at_open g.weave (which_at g) ok there).short in
-    let low : length v.items < length ops = omega (arith, short, mine.words, count) in
-    record {
-      sent = record {
-        op = slice_get-get_or ops (length v.items) no_op low;
-        item_is = refl;
-        adapters = refl;
-        asked = record { cause = record { later = omega arith; failed = λ f. omega arith }; talks = tt };
-        step = record { goes = refl; answers = λ s is. cc };
-        model = refl;
-      };
-      end = refl;
-    }
 
 -- ---- the words of a group
 
@@ -124,7 +94,7 @@ runs (suc most) g errors model ok begun =
     by false some others =
         let next = (word_at g).after in
         let there = is_open g some in
-        let here = word_is_step g errors model ok there begun in
+        let here = word_is_step g errors model ok there (begun.each (which_at g) there).granted (begun.each (which_at g) there).words in
         let taken = each_word_is_taken (scene_at g.world (without_peer errors)) (scene_at next.world (without_peer (errors + 1))) g.weave (which_at g) (step_at g) model ok there begun here in
         one_run g errors (words most) model there here
         (others next (errors + 1) taken.sound (weave_stepped g.weave (which_at g) (item_at g) ok there) taken.begun)

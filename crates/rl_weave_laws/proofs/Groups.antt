@@ -63,7 +63,7 @@ module _ (m : ModelData) (chip : IsSound m.chip) (names : HasNames m.chip m.layo
   one_sent g errors begun p ts others same_chip same_layout model ok some half rest =
       let next = (word_at g).after in
       let there = is_open g some in
-      let here = word_is_step g errors begun p model ok there half in
+      let here = word_is_step g errors model ok there (half.open_ones (which_at g) there).granted (half.open_ones (which_at g) there).words in
       let q = others next in
       let first = (word_at g).text in
       let lines = concat (event_lines m (with_event (step_at g).end [])) in
@@ -102,7 +102,7 @@ module _ (m : ModelData) (chip : IsSound m.chip) (names : HasNames m.chip m.layo
           let s = scene_at g.world (without_peer errors) in
           let new = scene_at next.world (without_peer (errors + 1)) in
           let there = is_open g some in
-          let here = word_is_step g errors begun p model ok there half in
+          let here = word_is_step g errors model ok there (half.open_ones (which_at g) there).granted (half.open_ones (which_at g) there).words in
           let after = step_keeps_half s new begun g.world.device p g.weave (which_at g) (step_at g) model refl ok there half here in
           let sound = step_keeps_model s new begun g.world.device p g.weave (which_at g) (step_at g) model refl ok there half here in
           let q = machine_after_word g.world.model p (woven_now g) (item_at g) in
