@@ -109,7 +109,9 @@ fn add(rt: &HostRuntime, bound: Option<u64>) -> Status {
 // Says what can be asked for. Answers the exit status.
 fn tell_words(rt: &HostRuntime) -> u8 {
     let _ = eprintln!(rt;
-        "regrun-grade: `run`, `missed`, `hidden`, `found`, `waived`, `lines` or `json` is asked for, then `K/N` with K from 1 to N, `at-least P` with P up to 100 and `waive FILE` if so wanted, and a session on standard input; or `add`, then `at-least P` if so wanted, and the shares of a grading on standard input"
+        "regrun-grade: `run`, `missed`, `hidden`, `found`, `waived`, `lines` or `json` is asked for, then `K/N` with K \
+         from 1 to N, `at-least P` with P up to 100 and `waive FILE` if so wanted, and a session on standard input; or \
+         `add`, then `at-least P` if so wanted, and the shares of a grading on standard input"
     );
     Status::Words.code()
 }

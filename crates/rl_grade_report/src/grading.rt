@@ -254,7 +254,8 @@ fn grade_tasks<K: Sink, M: Meter>(
     requires every { 0 < asked.share.every }
     requires first { world model (map standing adapters.old.items) (bench_state bench)
         ≡ first_world (desc_of model) fresh_standings }
-    ensures bytes { Puts (K.written log.old) (K.written log.new) (graded_as asked mark waivers.now (desc_of model) tasks.now
+    ensures bytes { Puts (K.written log.old) (K.written log.new)
+        (graded_as asked mark waivers.now (desc_of model) tasks.now
         (heard_by (world model (map standing adapters.old.items) (bench_state bench)) tasks.now)).text result }
     ensures status { IfOk result (λ status. status ≡ (graded_as asked mark waivers.now (desc_of model) tasks.now
         (heard_by (world model (map standing adapters.old.items) (bench_state bench)) tasks.now)).status) }
@@ -305,7 +306,8 @@ fn grade_script<S: Source, K: Sink, M: Meter>(
     requires fresh { map standing adapters.old.items ≡ fresh_standings }
     requires every { 0 < asked.share.every }
     ensures tells { IfSome (input_of lines.old (S.left source.old)) (λ bytes.
-        TellsGraded (script_graded asked mark waivers.now desc (lines_of bytes)) result (K.written log.old) (K.written log.new)) }
+        TellsGraded (script_graded asked mark waivers.now desc (lines_of bytes)) result
+        (K.written log.old) (K.written log.new)) }
     ensures leaves { LeavesOpen K.Sink result (S.faults source.old) (S.faults source.new) log.old log.new }
 {
     let Ok((model, bench)) = open(alloc, desc) else {
@@ -359,7 +361,8 @@ fn grade_marked<S: Source, K: Sink, M: Meter>(
     requires fresh { map standing adapters.old.items ≡ fresh_standings }
     requires every { 0 < asked.share.every }
     ensures tells { IfSome (S.left source.old) (λ bytes.
-        TellsGraded (grading_with asked (Some (mark_from (mark_of bytes) waivers.now)) waivers.now bytes) result (K.written log.old) (K.written log.new)) }
+        TellsGraded (grading_with asked (Some (mark_from (mark_of bytes) waivers.now)) waivers.now bytes) result
+        (K.written log.old) (K.written log.new)) }
     ensures leaves { LeavesEnded K.Sink result (S.faults source.old) (S.faults source.new) log.old log.new }
 {
     let bytes = match read_all(alloc, source) {

@@ -99,7 +99,8 @@ fn ended(whole: Vec<Part>, part: Part) -> Result<Shares, SharesFault>
 // With a line where no share is open.
 fn begun(whole: Vec<Part>, number: u64, said: Said) -> Result<Shares, SharesFault>
     ensures next { IfOk result (λ next. begun whole.items number said ≡ Ok (came next)) }
-    ensures refused { IfErr result (λ fault. IfSome (refused_by fault) (λ why. begun whole.items number said ≡ Err why)) }
+    ensures refused { IfErr result (λ fault. IfSome (refused_by fault)
+        (λ why. begun whole.items number said ≡ Err why)) }
 {
     match said {
         Said::Head(head) => Ok(Shares {
@@ -115,7 +116,8 @@ fn begun(whole: Vec<Part>, number: u64, said: Said) -> Result<Shares, SharesFaul
 // With a line where this share is open.
 fn gone_on(whole: Vec<Part>, head: Head, said: Said) -> Result<Shares, SharesFault>
     ensures next { IfOk result (λ next. gone_on whole.items head said ≡ Ok (came next)) }
-    ensures refused { IfErr result (λ fault. IfSome (refused_by fault) (λ why. gone_on whole.items head said ≡ Err why)) }
+    ensures refused { IfErr result (λ fault. IfSome (refused_by fault)
+        (λ why. gone_on whole.items head said ≡ Err why)) }
 {
     match said {
         Said::End(totals) => ended(whole, Part { head, totals }),
