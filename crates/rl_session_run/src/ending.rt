@@ -9,6 +9,7 @@ use rl_report::{Failed, Sink};
 /// Ends a log, once, where its last line was written.
 pub fn end_log<K: Sink>(status: Status, log: &mut K) -> Status
     ensures kept { result ≢ Status.SinkFault → result ≡ status }
+    ensures given_up { is_complete status ≡ false → result ≡ status }
     ensures told { Keeps (K.written log.old) (K.written log.new) }
     ensures later { K.faults log.old ≤ K.faults log.new }
     ensures cause { result ≡ Status.SinkFault → status ≢ Status.SinkFault
