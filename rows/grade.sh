@@ -15,9 +15,10 @@ room=$(mktemp -d "${TMPDIR:-/tmp}/regrun-grade.XXXXXX") || exit 73
 trap 'rm -rf "$room"' EXIT
 cd "$room" || exit 73
 passed=0 failed=0 skipped=0
-# With each flaw alone, but on a trial (TRIAL in the environment) many flaws a run.
-alone=yes
-[ -z "${TRIAL:-}" ] || alone=''
+# With each flaw alone, but on a trial (TRIAL in the environment) many flaws a run; and where a check runs the program once for
+# each row or each byte, a trial takes each eighth.
+alone=yes every=1
+[ -z "${TRIAL:-}" ] || { alone='' every=8; }
 
 # judge NAME COMMAND..: counts what the command comes to, and shows what it says where it fails.
 judge() {
@@ -68,7 +69,7 @@ of_these() {
 is_cut() {
     local at size text
     size=$(wc -c < "$1")
-    for ((at = 1; at < size; at++)); do
+    for ((at = size - 1; at > 0; at -= every)); do
         head -c "$at" "$1" > part
         cat part "$2" > both
         for text in both part; do
@@ -246,6 +247,7 @@ shows_nothing() {
     "$grade" "$1" < "$2" | awk '/^\[\[flaw\]\]/ { n++ } { print > ("row" n) }' || return
     for row in row*; do
         count=$((count + 1))
+        [ $((count % every)) = 0 ] || continue
         { sed '/^---$/,$d' "$2"; cat "$row"; sed -n '/^---$/,$p' "$2"; } > flawed
         "$program" run < flawed | tail -n "$lines" | cmp -s end - || { cat "$row"; return 1; }
     done
