@@ -16,7 +16,7 @@ trap 'rm -rf "$room"' EXIT
 cd "$room" || exit 73
 passed=0 failed=0 skipped=0
 # With each flaw alone, but on a trial (TRIAL in the environment) many flaws a run; and where a check runs the program once for
-# each row or each byte, a trial takes each eighth.
+# each row or each byte, a trial takes each eighth and counts the others as skipped.
 alone=yes every=1
 [ -z "${TRIAL:-}" ] || { alone='' every=8; }
 
@@ -69,7 +69,8 @@ of_these() {
 is_cut() {
     local at size text
     size=$(wc -c < "$1")
-    for ((at = size - 1; at > 0; at -= every)); do
+    for ((at = size - 1; at > 0; at--)); do
+        [ $(((size - 1 - at) % every)) = 0 ] || { skipped=$((skipped + 1)) && continue; }
         head -c "$at" "$1" > part
         cat part "$2" > both
         for text in both part; do
@@ -247,7 +248,7 @@ shows_nothing() {
     "$grade" "$1" < "$2" | awk '/^\[\[flaw\]\]/ { n++ } { print > ("row" n) }' || return
     for row in row*; do
         count=$((count + 1))
-        [ $((count % every)) = 0 ] || continue
+        [ $((count % every)) = 0 ] || { skipped=$((skipped + 1)) && continue; }
         { sed '/^---$/,$d' "$2"; cat "$row"; sed -n '/^---$/,$p' "$2"; } > flawed
         "$program" run < flawed | tail -n "$lines" | cmp -s end - || { cat "$row"; return 1; }
     done
