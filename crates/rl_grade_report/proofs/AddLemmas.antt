@@ -1,13 +1,12 @@
 -- Shares that are added: the lines of their text, their sums, and what is written.
-use Rattle.std.proofs.Common.{◌≡◌, ◌≢◌, ℕ, zero, suc, ◌+◌, ◌-◌, ◌^◌, ◌<◌, ◌≤◌, min, Bool, true, false, cond, eqb, ltb, not, List, [], ◌∷◌, ◌++◌, length, take, drop, get_or}
+use Rattle.std.proofs.Common.{◌≡◌, ◌≢◌, ℕ, suc, ◌+◌, ◌-◌, ◌<◌, ◌≤◌, Bool, true, false, cond, eqb, ltb, not, List, [], ◌∷◌, length}
 use Rattle.std.proofs.Common.{Option, Some, None, IfSome, Result, Ok, Err, IfOk, IfErr, IsErr, refl, sym, ap, subst, ◌∙◌, arith}
 use Rattle.std.specs.Prelude.{IsErrAnd, find, position}
-use Rattle.std.specs.List.{position_or_len, range_with_len, sum_by}
+use Rattle.std.specs.List.{position_or_len, range_with_len}
 use Rattle.std.specs.Io.KnownBytes.{Keeps}
 use Rattle.std.proofs.KnownBytes.{Keeps-refl}
 use Rattle.std.proofs.lemmas.Bool.{eqb-true, ltb-false}
-use Rattle.std.proofs.lemmas.List.{drop_all, drop_more, length-drop, take_all}
-use Rattle.std.proofs.lemmas.List.Sums.{sum_by_more}
+use Rattle.std.proofs.lemmas.List.{drop_all, length-drop, take_all}
 use Rattle.rl_bus.specs.Causes.{Rose}
 use Rattle.rl_report.specs.declared.sink.Sink.{Ghosts as Sink}
 use Rattle.rl_report.specs.Ends.{EndedOnce}
@@ -17,7 +16,6 @@ use Rattle.rl_report.proofs.LineLemmas.{line_behind, line_front}
 use Rattle.rl_log.specs.declared.status.Status.{Status}
 use Rattle.rl_log.specs.declared.status.Status.TheVariants.{SinkFault}
 use Rattle.rl_log.specs.Causes.{IsCaused}
-use Rattle.rl_log.specs.Earlier.{KeepsEarlier}
 use Rattle.rl_log.specs.Statuses.{is_complete}
 use Rattle.rl_log.proofs.TellingLemmas.{tells_none, tells_written}
 use Rattle.rl_play.proofs.EndingLemmas.{append_none}
@@ -32,8 +30,7 @@ use Rattle.rl_grade_report.specs.declared.totals.Totals.{Totals}
 use Rattle.rl_grade_report.specs.Added.{added_of, sums_of, sums_told}
 use Rattle.rl_grade_report.specs.Progress.{TellsGraded, status_of}
 use Rattle.rl_grade_report.specs.Shares.{Came, and_then, closed, refused_by, shares_from, with_line}
-use Rattle.rl_grade_report.specs.Sums.{has_share, plus, sum_of, twice_in}
-use Rattle.rl_grade_report.specs.Totals.{capped, is_below}
+use Rattle.rl_grade_report.specs.Totals.{is_below}
 use Rattle.rl_grade_report.proofs.SessionLemmas.{caused_by, complete_by, complete_if, told_by}
 
 -- ---- the first line
@@ -117,19 +114,7 @@ pub out_by : {X : Type 0} (r : Result X SharesFault) (f : SharesFault) (P : Shar
 out_by (Ok x) f P h p = tt
 out_by (Err x) f P h p = rw h.1 p
 
--- ---- what came twice, and what is lacking
-
-pub twice_passed : (ps : List Part) (i : ℕ) (d : Part) → i < length ps → has_share (get_or ps i d).head.share.first (drop (i + 1) ps) ≡ false
-    → twice_in (drop i ps) ≡ twice_in (drop (i + 1) ps)
-twice_passed ps i d low none =
-    ap twice_in (drop_more ps i d low)
-    ∙ ap (λ b. cond b (Some (get_or ps i d)) (twice_in (drop (i + 1) ps))) none
-
-pub twice_found : (ps : List Part) (i : ℕ) (d : Part) → i < length ps → has_share (get_or ps i d).head.share.first (drop (i + 1) ps) ≡ true
-    → twice_in (drop i ps) ≡ Some (get_or ps i d)
-twice_found ps i d low some =
-    ap twice_in (drop_more ps i d low)
-    ∙ ap (λ b. cond b (Some (get_or ps i d)) (twice_in (drop (i + 1) ps))) some
+-- ---- what is lacking
 
 module _ (test : ℕ → Bool) (before every : ℕ) (low : before < every) where
   -- the numbers behind those that were tried
@@ -144,42 +129,12 @@ module _ (test : ℕ → Bool) (before every : ℕ) (low : before < every) where
       ap (find test) one_less
       ∙ ap (λ b. cond b (Some (before + 1)) (find test (range_with_len (before + 1 + 1) (every - (before + 1))))) fails
 
-  pub number_found : test (before + 1) ≡ true → find test (range_with_len (before + 1) (every - before)) ≡ Some (before + 1)
-  number_found passes =
-      ap (find test) one_less
-      ∙ ap (λ b. cond b (Some (before + 1)) (find test (range_with_len (before + 1 + 1) (every - (before + 1))))) passes
-
-pub numbers_end : (test : ℕ → Bool) (before every : ℕ) → every ≤ before → find test (range_with_len (before + 1) (every - before)) ≡ None
-numbers_end test before every done =
-    let none : every - before ≡ 0 = omega (arith, done) in ap (λ n. find test (range_with_len (before + 1) n)) none
-
 -- ---- sums
-
-capped_more : (sum more : ℕ) → capped (capped sum + more) ≡ capped (sum + more)
-capped_more sum more = by (2 ^ 64 - 1)
-  where
-    by : (most : ℕ) → min (min sum most + more) most ≡ min (sum + more) most
-    by most = omega arith
 
 pub same_totals : (a b x y m n u v p q : ℕ) → a ≡ b → x ≡ y → m ≡ n → u ≡ v → p ≡ q
     → (let t : Totals = record { flaws = a; found = x; hidden = m; waived = u; needless = p } in t)
     ≡ record { flaws = b; found = y; hidden = n; waived = v; needless = q }
 same_totals a b x y m n u v p q flaws found hidden waived needless = cc
-
-pub sums_more : (ps : List Part) (i : ℕ) (d : Part) → i < length ps → plus (sum_of (take i ps)) (get_or ps i d).totals ≡ sum_of (take (i + 1) ps)
-sums_more ps i d low =
-    let p = get_or ps i d in
-    let flaws = capped_more (sum_by (λ (p : Part). p.totals.flaws) (take i ps)) p.totals.flaws
-    ∙ ap capped (sym (sum_by_more (λ (p : Part). p.totals.flaws) ps i d low)) in
-    let found = capped_more (sum_by (λ (p : Part). p.totals.found) (take i ps)) p.totals.found
-    ∙ ap capped (sym (sum_by_more (λ (p : Part). p.totals.found) ps i d low)) in
-    let hidden = capped_more (sum_by (λ (p : Part). p.totals.hidden) (take i ps)) p.totals.hidden
-    ∙ ap capped (sym (sum_by_more (λ (p : Part). p.totals.hidden) ps i d low)) in
-    let waived = capped_more (sum_by (λ (p : Part). p.totals.waived) (take i ps)) p.totals.waived
-    ∙ ap capped (sym (sum_by_more (λ (p : Part). p.totals.waived) ps i d low)) in
-    let needless = capped_more (sum_by (λ (p : Part). p.totals.needless) (take i ps)) p.totals.needless
-    ∙ ap capped (sym (sum_by_more (λ (p : Part). p.totals.needless) ps i d low)) in
-    same_totals _ _ _ _ _ _ _ _ _ _ flaws found hidden waived needless
 
 -- ---- what is written
 

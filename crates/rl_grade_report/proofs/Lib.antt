@@ -1,6 +1,7 @@
 mod AddLemmas
 mod EachOnce
 mod Flaws
+mod KeyLemmas
 pub mod Parts
 mod PlaceLemmas
 mod PlainLemmas

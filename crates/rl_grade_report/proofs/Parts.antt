@@ -3,6 +3,7 @@ use Rattle.std.proofs.Common.{◌≡◌, ℕ, ◌+◌, Bool, true, false, if◌t
 use Rattle.std.specs.List.{flat_map, range_with_len}
 use Rattle.std.proofs.lemmas.List.{map-append, map-id}
 use Rattle.std.proofs.lemmas.List.Elements.{filter-append}
+use Rattle.std.proofs.lemmas.List.Folds.{flat_map-map}
 use Rattle.std.proofs.lemmas.List.FromFn.{map-range_with_len_more}
 use Rattle.rl_report.specs.Pieces.{joined}
 use Rattle.rl_grade_report.specs.Counts.{led}
@@ -22,10 +23,6 @@ pub five_parts : (a b c d e : List ℕ) → (((a ++ b) ++ c) ++ d) ++ e ≡ join
 unfolding joined
 five_parts a b c d e = simp (append_assoc, append-nil)
 
-four_behind : (t a b c d : List ℕ) → (((t ++ a) ++ b) ++ c) ++ d ≡ t ++ joined (a ∷ b ∷ c ∷ d ∷ [])
-unfolding joined
-four_behind t a b c d = simp (append_assoc, append-nil)
-
 two_behind : (t a b : List ℕ) → (t ++ a) ++ b ≡ t ++ joined (a ∷ b ∷ [])
 unfolding joined
 two_behind t a b = simp (append_assoc, append-nil)
@@ -38,10 +35,6 @@ pub three_parts : (a b c : List ℕ) → (a ++ b) ++ c ≡ joined (a ∷ b ∷ c
 unfolding joined
 three_parts a b c = simp (append_assoc, append-nil)
 
--- pieces, and four more behind them one after another
-pub then_four : (xs : List (List ℕ)) (a b c d : List ℕ) → (((joined xs ++ a) ++ b) ++ c) ++ d ≡ joined (xs ++ a ∷ b ∷ c ∷ d ∷ [])
-then_four xs a b c d = four_behind (joined xs) a b c d ∙ joined_more xs (a ∷ b ∷ c ∷ d ∷ [])
-
 -- a text, and pieces behind it
 pub then_pieces : (a b : List ℕ) (xs : List (List ℕ)) → (a ++ b) ++ joined xs ≡ joined (a ∷ b ∷ xs)
 unfolding joined
@@ -53,6 +46,11 @@ pub flat_more : {X Y : Type 0} (f : X → List Y) (xs : List X) (x : X) → flat
 flat_more f [] x = append-nil (f x)
 flat_more f (first ∷ xs) x =
     ap (λ t. f first ++ t) (flat_more f xs x) ∙ sym (append_assoc (f first) (flat_map f xs) (f x))
+
+-- a text, that of each, and one more
+pub mapped_three : {X Y : Type 0} (a : List ℕ) (f : Y → List ℕ) (g : X → Y) (xs : List X) (b : List ℕ)
+    → (a ++ flat_map (λ x. f (g x)) xs) ++ b ≡ joined (a ∷ flat_map f (map g xs) ∷ b ∷ [])
+mapped_three a f g xs b = ap (λ t. (a ++ t) ++ b) (sym (flat_map-map f g xs)) ∙ three_parts a (flat_map f (map g xs)) b
 
 -- ---- of those that pass a test
 

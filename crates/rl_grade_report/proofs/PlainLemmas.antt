@@ -1,5 +1,5 @@
 -- A grading without waivers.
-use Rattle.std.proofs.Common.{◌≡◌, ℕ, ◌+◌, ◌-◌, ◌<◌, ◌==◌, Bool, true, false, cond, ◌&&◌, if◌then◌else◌, List, [], ◌∷◌, ◌++◌, length, map, filter, get_or, All, codes, decimal, Option, Some, None, refl, sym, ap, subst, ◌∙◌, append-nil, zero-add, arith}
+use Rattle.std.proofs.Common.{◌≡◌, ℕ, ◌+◌, ◌-◌, ◌==◌, Bool, true, false, cond, ◌&&◌, if◌then◌else◌, List, [], ◌∷◌, ◌++◌, length, map, filter, get_or, All, codes, decimal, Option, Some, None, refl, sym, ap, subst, ◌∙◌, append-nil, arith}
 use Rattle.std.specs.Prelude.{count_by}
 use Rattle.std.proofs.lemmas.List.Elements.{All-append, All-cons, All-head, All-nil, All-tail}
 use Rattle.std.proofs.lemmas.List.Sums.{length-filter}
@@ -19,10 +19,10 @@ use Rattle.rl_grade_report.specs.declared.kind.Kind.{Kind}
 use Rattle.rl_grade_report.specs.declared.totals.Totals.{Totals}
 use Rattle.rl_grade_report.specs.declared.verdict.Judged.{Judged}
 use Rattle.rl_grade_report.specs.declared.verdict.Verdict.TheVariants.{Missed, Hidden, Waived}
-use Rattle.rl_grade_report.specs.Counts.{count_if, count_text, counts_of, is_of}
+use Rattle.rl_grade_report.specs.Counts.{count_if, count_json, count_text, counts_of, is_of}
 use Rattle.rl_grade_report.specs.Grading.{Base, flaws_behind, judged_at, judged_from}
 use Rattle.rl_grade_report.specs.Groups.{groups_text}
-use Rattle.rl_grade_report.specs.Json.{count_json, counted_json}
+use Rattle.rl_grade_report.specs.Json.{counted_json}
 use Rattle.rl_grade_report.specs.Judging.{find_or, judged_by}
 use Rattle.rl_grade_report.specs.Kinds.{is_kind, kind_name}
 use Rattle.rl_grade_report.specs.Lines.{said_text, unfound_text}

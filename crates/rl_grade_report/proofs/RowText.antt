@@ -252,9 +252,6 @@ abbrev pub Rows : List ℕ → List Members → Type 0
 Rows text [] = text ≡ []
 Rows text (row ∷ rows) = (this : List ℕ) × (rest : List ℕ) × (text ≡ this ++ rest) × IsRow this row × Rows rest rows
 
-abbrev of_row : {text : List ℕ} {row : Members} → IsRow text row → List Expression
-of_row r = header ∷ map pair r.pairs
-
 abbrev of_rows : (rows : List Members) (text : List ℕ) → Rows text rows → List Expression
 of_rows [] text h = []
 of_rows (row ∷ rows) text h = (header ∷ map pair h.3.pairs) ++ of_rows rows h.1 h.4

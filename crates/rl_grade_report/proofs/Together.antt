@@ -1,8 +1,8 @@
 -- The sums of the shares of a grading are the totals of the whole.
-use Rattle.std.proofs.Common.{◌≡◌, ◌≢◌, inl, inr, ℕ, zero, suc, ◌+◌, ◌-◌, ◌^◌, ◌<◌, ◌≤◌, min, Bool, true, false, cond, eqb, not, ◌||◌, List, [], ◌∷◌, ◌++◌, length, map, All}
-use Rattle.std.proofs.Common.{Option, Some, None, Result, Ok, Err, get_or, refl, sym, ap, subst, ◌∙◌, zero-add, arith}
+use Rattle.std.proofs.Common.{◌≡◌, inl, inr, ℕ, zero, suc, ◌+◌, ◌-◌, ◌^◌, ◌<◌, ◌≤◌, min, Bool, true, false, cond, eqb, not, ◌||◌, List, [], ◌∷◌, ◌++◌, length, map, All}
+use Rattle.std.proofs.Common.{Option, Some, None, Ok, get_or, refl, sym, ap, ◌∙◌, zero-add, arith}
 use Rattle.std.specs.Prelude.{count_by, find, is_ok}
-use Rattle.std.specs.List.{list_any, range_with_len, sum_by}
+use Rattle.std.specs.List.{range_with_len, sum_by}
 use Rattle.std.proofs.lemmas.Bool.{and_parts, cases_Bool, cases_eq, eq-eqb, eqb-true, false≢true, ne_eqb, not-false, or_parts, true≢false}
 use Rattle.std.proofs.lemmas.List.Elements.{All-cons, All-head, All-nil, All-tail}
 use Rattle.std.proofs.lemmas.List.Sums.{sum_by-append, sum_by-cons}
@@ -17,7 +17,6 @@ use Rattle.rl_grade.specs.Share.{graded_by, is_in_share, share_of}
 use Rattle.rl_grade_report.specs.declared.asked.Asked.{Asked}
 use Rattle.rl_grade_report.specs.declared.said.Head.{Head}
 use Rattle.rl_grade_report.specs.declared.shares.Part.{Part}
-use Rattle.rl_grade_report.specs.declared.shares.Unfit.{Unfit}
 use Rattle.rl_grade_report.specs.declared.totals.Totals.{Totals}
 use Rattle.rl_grade_report.specs.declared.verdict.Judged.{Judged}
 use Rattle.rl_grade_report.specs.declared.verdict.Verdict.TheVariants.{Hidden, Waived}
@@ -25,7 +24,7 @@ use Rattle.rl_grade_report.specs.Asked.{whole}
 use Rattle.rl_grade_report.specs.Judging.{judged_by}
 use Rattle.rl_grade_report.specs.Grading.{Base, all_judged, flaws_behind, judged_at, judged_from}
 use Rattle.rl_grade_report.specs.Places.{places_of}
-use Rattle.rl_grade_report.specs.Sums.{has_share, is_of, lacking_in, other_in, sum_of, sums_from, sums_in, sums_unless, twice_in}
+use Rattle.rl_grade_report.specs.Sums.{has_share, is_of, lacking_in, other_in, sum_of, sums_from, sums_unless, twice_in}
 use Rattle.rl_grade_report.specs.Together.{IsCounted, SumsAreOfAll, share_totals}
 use Rattle.rl_grade_report.specs.Totals.{capped}
 use Rattle.rl_grade_report.specs.Verdict.{has_verdict, is_needless}

@@ -1,8 +1,8 @@
 -- The rows of a file of waivers, and whether they name flaws that are there.
-use Rattle.std.proofs.Common.{◌≡◌, ℕ, ◌+◌, ◌<◌, ◌≤◌, Bool, true, false, cond, not, ◌||◌, ◌&&◌, ◌==◌, inl, inr, List, [], ◌∷◌, ◌++◌, length, take, drop, get_or, append_assoc, append-nil, filter, Option, Some, None, refl, sym, ap, ◌∙◌, arith}
+use Rattle.std.proofs.Common.{◌≡◌, ℕ, ◌+◌, ◌<◌, ◌≤◌, Bool, true, false, cond, not, ◌||◌, ◌&&◌, inl, inr, List, [], ◌∷◌, ◌++◌, length, take, drop, get_or, append_assoc, append-nil, filter, Some, None, refl, sym, ap, ◌∙◌}
 use Rattle.std.specs.List.{list_any}
 use Rattle.std.specs.Str.{bytes_eq}
-use Rattle.std.proofs.lemmas.Bool.{cases_Bool, eqb-true}
+use Rattle.std.proofs.lemmas.Bool.{cases_Bool}
 use Rattle.std.proofs.lemmas.List.{drop_all, drop_more, take_more}
 use Rattle.std.proofs.lemmas.List.Folds.{list_any-append, list_any_more}
 use Rattle.rl_flaw.specs.declared.flaw.Flaw.{Flaw}
@@ -11,7 +11,7 @@ use Rattle.rl_grade.specs.declared.place.Place.{Place}
 use Rattle.rl_grade.specs.Place.{flaws_at}
 use Rattle.rl_grade_report.specs.Row.{flaw_row}
 use Rattle.rl_grade_report.specs.Waivers.{RowData, begun, ended, goes_on, has_text, row_text, rows_from}
-use Rattle.rl_grade_report.specs.Waiving.{fault_in, is_of, left_at, twice_behind, unknown_among, without}
+use Rattle.rl_grade_report.specs.Waiving.{is_of, left_at, twice_behind, unknown_among, without}
 use Rattle.rl_grade_report.specs.Whole.{flaws_over}
 use Rattle.rl_grade_report.proofs.Parts.{flat_more}
 
@@ -137,8 +137,3 @@ module _ (d : DescData) where
       unknown_both (flaws_over d items (take k places)) (flaws_at d items (get_or places k e)) rows
       ∙ ap (λ fs. unknown_among d fs rows)
       (sym (ap (flaws_over d items) (take_more places k e low) ∙ flat_more (flaws_at d items) (take k places) (get_or places k e)))
-
-  pub fault_none : (items : ℕ) (rows : List RowData) → (length rows == 0) ≡ true → fault_in d items rows ≡ None
-  unfolding twice_behind
-  fault_none items [] none = refl
-  fault_none items (row ∷ rows) none = absurd (omega (arith, eqb-true (length (row ∷ rows)) 0 none))

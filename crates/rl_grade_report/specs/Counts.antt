@@ -1,6 +1,8 @@
 -- How many flaws of each kind are found, missed, hidden and waived.
 use Rattle.std.specs.Prelude.{ℕ, ◌==◌, nat_lt, ◌&&◌, ◌||◌, Bool, if◌then◌else◌, List, [], ◌∷◌, ◌++◌, map, filter, flat_map, count_by, codes, decimal, is_ok}
 use Rattle.rl_report.specs.Pieces.{joined}
+use Rattle.rl_grade_report.specs.declared.counts.CountForm.{CountForm}
+use Rattle.rl_grade_report.specs.declared.counts.CountForm.TheVariants.{Words, Member}
 use Rattle.rl_grade_report.specs.declared.counts.Counts.{Counts}
 use Rattle.rl_grade_report.specs.declared.kind.Kind.{Kind}
 use Rattle.rl_grade_report.specs.declared.kind.TheConstants.{KINDS}
@@ -47,15 +49,25 @@ count_text kind counts =
     ∷ codes " missed" ∷ count_if (codes " ") counts.hidden (codes " hidden")
     ∷ count_if (codes " ") counts.waived (codes " waived") ∷ [])
 
+abbrev pub count_json : Kind → Counts → List ℕ
+count_json kind counts =
+    joined (codes "\"" ∷ kind_name kind ∷ codes "\": {\"found\": " ∷ decimal counts.found ∷ codes ", \"missed\": "
+    ∷ decimal counts.missed ∷ codes ", \"hidden\": " ∷ decimal counts.hidden
+    ∷ count_if (codes ", \"waived\": ") counts.waived [] ∷ codes "}" ∷ [])
+
+abbrev pub count_in : CountForm → Kind → Counts → List ℕ
+count_in Words kind counts = count_text kind counts
+count_in Member kind counts = count_json kind counts
+
 -- parts with commas between them, behind what leads to the first
 abbrev pub led : List ℕ → List (List ℕ) → List ℕ
 led lead [] = []
 led lead (part ∷ parts) = lead ++ part ++ flat_map (λ p. codes ", " ++ p) parts
 
 -- those of the kinds that are there
-abbrev pub counts_parts : List Judged → List Kind → List (List ℕ)
-counts_parts judged kinds =
-    map (λ kind. count_text kind (counts_of judged kind)) (filter (λ kind. is_told (counts_of judged kind)) kinds)
+abbrev pub counts_parts : CountForm → List Judged → List Kind → List (List ℕ)
+counts_parts form judged kinds =
+    map (λ kind. count_in form kind (counts_of judged kind)) (filter (λ kind. is_told (counts_of judged kind)) kinds)
 
 abbrev pub counts_text : List Judged → List ℕ
-counts_text judged = led (codes ": ") (counts_parts judged KINDS)
+counts_text judged = led (codes ": ") (counts_parts Words judged KINDS)

@@ -8,7 +8,9 @@ pub mod Grading
 pub mod Groups
 pub mod Json
 pub mod Judging
+pub mod Keys
 pub mod Kinds
+pub mod Leaves
 pub mod Lines
 pub mod Mark
 pub mod Members

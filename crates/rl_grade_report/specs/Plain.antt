@@ -10,9 +10,9 @@ use Rattle.rl_grade_report.specs.declared.kind.Kind.{Kind}
 use Rattle.rl_grade_report.specs.declared.totals.Totals.{Totals}
 use Rattle.rl_grade_report.specs.declared.verdict.Judged.{Judged}
 use Rattle.rl_grade_report.specs.declared.verdict.Verdict.TheVariants.{Missed, Hidden, Waived}
-use Rattle.rl_grade_report.specs.Counts.{count_if, count_text, counts_of}
+use Rattle.rl_grade_report.specs.Counts.{count_if, count_json, count_text, counts_of}
 use Rattle.rl_grade_report.specs.Grading.{Base, all_judged}
-use Rattle.rl_grade_report.specs.Json.{count_json, counted_json}
+use Rattle.rl_grade_report.specs.Json.{counted_json}
 use Rattle.rl_grade_report.specs.Kinds.{kind_name}
 use Rattle.rl_grade_report.specs.Lines.{said_text, unfound_text}
 use Rattle.rl_grade_report.specs.Totals.{end_text, share_text, totals_of}

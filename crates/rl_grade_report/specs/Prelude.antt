@@ -10,10 +10,11 @@ pub use Rattle.rl_grade_report.specs.Verdict.{AreJudged}
 pub use Rattle.rl_grade_report.specs.Asked.{status_at}
 pub use Rattle.rl_grade_report.specs.Grading.{all_judged, facts_of, graded_as, graded_over, grading_of, grading_with, head_text, judged_at, judged_from}
 pub use Rattle.rl_grade_report.specs.Grading.{last_text, part_text, place_text, places_text, reported, script_graded, share_line}
+pub use Rattle.rl_grade_report.specs.Leaves.{LeavesLog}
 pub use Rattle.rl_grade_report.specs.Mark.{mark_from, mark_of}
 pub use Rattle.rl_grade_report.specs.Opening.{unflawed}
 pub use Rattle.rl_grade_report.specs.Places.{mems_places, places_of, reg_places, regs_places}
-pub use Rattle.rl_grade_report.specs.Progress.{IsNext, TellsGraded, base_shown, desc_of, status_of}
+pub use Rattle.rl_grade_report.specs.Progress.{CanGrade, IsNext, TellsGraded, base_shown, desc_of, status_of}
 pub use Rattle.rl_grade_report.specs.Refusal.{EndsUnread}
 pub use Rattle.rl_grade_report.specs.Totals.{totals_of}
 pub use Rattle.rl_grade_report.specs.Waivers.{rows_of}

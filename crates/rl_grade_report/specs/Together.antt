@@ -1,5 +1,5 @@
 -- That the sums of the shares of a grading are the totals of the whole.
-use Rattle.std.specs.Prelude.{◌≡◌, ℕ, ◌<◌, ◌≤◌, List, All, Result, Ok}
+use Rattle.std.specs.Prelude.{◌≡◌, ◌<◌, ◌≤◌, List, All, Ok}
 use Rattle.rl_desc.specs.Data.{DescData}
 use Rattle.rl_grade.specs.declared.grade.Share.{Share}
 use Rattle.rl_grade_report.specs.declared.asked.Asked.{Asked}

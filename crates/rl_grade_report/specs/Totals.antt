@@ -1,5 +1,5 @@
 -- The last line of a grading.
-use Rattle.std.specs.Prelude.{ℕ, ◌+◌, ◌-◌, ◌*◌, ◌/◌, ◌%◌, ◌^◌, ◌==◌, nat_lt, min, Bool, false, if◌then◌else◌, List, [], ◌∷◌, length, count_by, codes, decimal, is_ok, Option, Some, None}
+use Rattle.std.specs.Prelude.{ℕ, ◌+◌, ◌-◌, ◌*◌, ◌/◌, ◌%◌, ◌^◌, ◌==◌, nat_lt, min, Bool, false, if◌then◌else◌, List, [], ◌∷◌, ◌++◌, length, count_by, codes, decimal, is_ok, Option, Some, None}
 use Rattle.rl_report.specs.Pieces.{joined}
 use Rattle.rl_grade_report.specs.declared.totals.Totals.{Totals}
 use Rattle.rl_grade_report.specs.declared.verdict.Judged.{Judged}
@@ -43,9 +43,11 @@ is_below (Some percent) t = nat_lt (t.found * 100) (percent * findable t)
 abbrev pub tenths : (found flaws : ℕ) → ℕ
 tenths found flaws = if flaws == 0 then 0 else found * 1000 / flaws
 
+abbrev pub tenths_text : (tenths : ℕ) → List ℕ
+tenths_text tenths = joined (decimal (tenths / 10) ∷ codes "." ∷ decimal (tenths % 10) ∷ [])
+
 abbrev pub percent_text : (tenths : ℕ) → (behind : List ℕ) → List ℕ
-percent_text tenths behind =
-    joined (codes ", " ∷ decimal (tenths / 10) ∷ codes "." ∷ decimal (tenths % 10) ∷ behind ∷ [])
+percent_text tenths behind = codes ", " ++ tenths_text tenths ++ behind
 
 -- none where there is no flaw
 abbrev pub share_text : (found flaws : ℕ) → (behind : List ℕ) → List ℕ

@@ -2,15 +2,12 @@
 use Rattle.std.specs.Prelude.{ℕ, not, Bool, if◌then◌else◌, List, [], ◌∷◌, ◌++◌, filter, codes, decimal, Option, Some, None}
 use Rattle.std.specs.List.{list_any}
 use Rattle.std.specs.Str.{bytes_eq}
-use Rattle.rl_model.specs.Rows.{ChipData}
-use Rattle.rl_map.specs.Layout.{LayoutData}
 use Rattle.rl_flaw.specs.declared.flaw.Flaw.{Flaw}
 use Rattle.rl_desc.specs.Data.{DescData}
 use Rattle.rl_grade.specs.declared.place.Place.{Place}
 use Rattle.rl_report.specs.Pieces.{joined}
 use Rattle.rl_grade_report.specs.declared.waiving.Unwaived.{Unwaived}
 use Rattle.rl_grade_report.specs.declared.waiving.Unwaived.TheVariants.{Twice, Unknown}
-use Rattle.rl_grade_report.specs.Places.{places_of}
 use Rattle.rl_grade_report.specs.Row.{flaw_row}
 use Rattle.rl_grade_report.specs.Waivers.{RowData, has_text}
 use Rattle.rl_grade_report.specs.Whole.{all_flaws, flaws_over}

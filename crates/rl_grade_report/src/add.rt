@@ -1,22 +1,21 @@
 // Shares of a grading that are added.
-ghost use Rattle.std.specs.Prelude.{◌≡◌, IfErr, IfOk, IfSome, OnOk, ◌++◌, false, true};
+ghost use Rattle.std.specs.Prelude.{◌≡◌, IfErr, IfOk, IfSome, OnOk, ◌++◌, true};
 ghost use Rattle.std.specs.Io.KnownBytes.{IsAtEnd};
 ghost use Rattle.rl_grade_report.specs.Added.{added_of, of_share, refusal_text, sums_of, sums_status, sums_told};
-ghost use Rattle.rl_grade_report.specs.Prelude.{IsCaused, LeavesEnded, Puts, Stays, TellsGraded, is_complete};
+ghost use Rattle.rl_grade_report.specs.Prelude.{LeavesEnded, LeavesLog, Puts, TellsGraded, is_complete};
 ghost use Rattle.rl_grade_report.specs.Shares.{refused_by};
 ghost use Rattle.rl_grade_report.specs.Totals.{end_text};
 
 use crate::grading::status_of;
+use crate::pieces::push_after;
 use crate::shares::{SharesFault, Unfit, shares_of};
 use crate::sums::sums_in;
 use crate::totals::{Totals, push_end};
 use crate::whole::read_all;
 use crate::writing::put_text;
-use itoa::Buffer;
 use rl_grade::Share;
 use rl_log::Status;
 use rl_report::{Sink, Source};
-use rl_session::push_pieces;
 use rl_session_run::end_log;
 use std::alloc::{AllocError, Global};
 
@@ -43,29 +42,19 @@ fn sums_of(alloc: Global, text: &[u8]) -> Result<Totals, SharesFault>
 fn push_of_share(text: &mut Vec<u8>, share: Share, said: &[u8]) -> Result<(), AllocError>
     ensures { OnOk result (text.new.items ≡ text.old.items ++ of_share share said.now) }
 {
-    let mut first = Buffer::new();
-    let mut every = Buffer::new();
-    let pieces: [&[u8]; 5] = [
-        b"refused shares: share ",
-        first.format(share.first).as_bytes(),
-        b"/",
-        every.format(share.every).as_bytes(),
-        said,
-    ];
-    push_pieces(text, &pieces)
+    push_after(text, b"refused shares: share ", share.first)?;
+    push_after(text, b"/", share.every)?;
+    text.extend_from_slice(said)?;
+    Ok(())
 }
 
 // Appends that no share begins in a line.
 fn push_no_head(text: &mut Vec<u8>, line: u64) -> Result<(), AllocError>
     ensures { OnOk result (text.new.items ≡ text.old.items ++ refusal_text (Unfit.NoHead line)) }
 {
-    let mut number = Buffer::new();
-    let pieces: [&[u8]; 3] = [
-        b"refused shares: line ",
-        number.format(line).as_bytes(),
-        b": no share begins here\n",
-    ];
-    push_pieces(text, &pieces)
+    push_after(text, b"refused shares: line ", line)?;
+    text.extend_from_slice(b": no share begins here\n")?;
+    Ok(())
 }
 
 // Appends why shares aren't added.
@@ -145,9 +134,7 @@ fn put_added<K: Sink>(
 ) -> Result<Status, Status>
     ensures bytes { Puts (K.written log.old) (K.written log.new) (added_of bound bytes.now).text result }
     ensures status { IfOk result (λ status. status ≡ (added_of bound bytes.now).status) }
-    ensures broken { IfErr result (λ status. is_complete status ≡ false) }
-    ensures cause { IfErr result (λ status. IsCaused status 0 0 (K.faults log.old) (K.faults log.new)) }
-    ensures stays { Stays K.faults K.ends K.target log.old log.new }
+    ensures leaves { LeavesLog K.Sink result log.old log.new }
 {
     let Ok(added) = added_of(alloc, bound, bytes) else {
         return Err(Status::Memory);

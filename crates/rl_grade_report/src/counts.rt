@@ -1,22 +1,30 @@
 // How many flaws of a kind are found, missed, hidden and waived.
 ghost use Rattle.std.specs.Prelude.{◌≡◌, ◌++◌, OnOk};
-ghost use Rattle.rl_grade_report.specs.Counts.{count_of, count_text, counts_of, counts_text, found_of};
-ghost use Rattle.rl_grade_report.specs.Counts.{is_found, is_of, is_told};
+ghost use Rattle.rl_grade_report.specs.declared.kind.TheConstants.{KINDS};
+ghost use Rattle.rl_grade_report.specs.Counts.{count_in, count_json, count_of, count_text, counts_of, counts_parts};
+ghost use Rattle.rl_grade_report.specs.Counts.{found_of, is_found, is_of, is_told, led};
 
 use crate::kind::{KINDS, Kind};
-use crate::pieces::{lead, push_count_if};
+use crate::pieces::{lead, push_after, push_count_if};
 use crate::verdict::{Judged, Verdict};
-use itoa::Buffer;
-use rl_session::push_pieces;
 use std::alloc::AllocError;
 
 // How many of some flaws are found, and how many missed, hidden and waived.
-#[derive(Clone, Copy, Debug, PartialEq, Eq)]
-pub(crate) struct Counts {
-    pub(crate) found: usize,
-    pub(crate) missed: usize,
-    pub(crate) hidden: usize,
-    pub(crate) waived: usize,
+#[derive(Clone, Copy)]
+struct Counts {
+    found: usize,
+    missed: usize,
+    hidden: usize,
+    waived: usize,
+}
+
+// How the counts of a kind are written.
+#[derive(Clone, Copy)]
+pub(crate) enum CountForm {
+    // In words, in the line of a place.
+    Words,
+    // As a member of an object in JSON.
+    Member,
 }
 
 // Whether it is a flaw of the kind that is found.
@@ -46,7 +54,7 @@ fn count_of(judged: &[Judged], kind: Kind, verdict: Verdict) -> usize
 }
 
 // Those of a kind.
-pub(crate) fn counts_of(judged: &[Judged], kind: Kind) -> Counts
+fn counts_of(judged: &[Judged], kind: Kind) -> Counts
     ensures { result ≡ counts_of judged.now kind }
 {
     Counts {
@@ -59,15 +67,15 @@ pub(crate) fn counts_of(judged: &[Judged], kind: Kind) -> Counts
 
 impl Counts {
     // Whether there are any.
-    pub(crate) fn is_told(self) -> bool
+    fn is_told(self) -> bool
         ensures { result ≡ is_told self }
     {
         self.found > 0 || (self.missed > 0 || (self.hidden > 0 || self.waived > 0))
     }
 }
 
-// Appends the counts of a kind behind what leads to them.
-fn push_count(
+// Appends the counts of a kind in words, behind what leads to them.
+fn push_words(
     text: &mut Vec<u8>,
     before: &[u8],
     kind: Kind,
@@ -75,31 +83,66 @@ fn push_count(
 ) -> Result<(), AllocError>
     ensures { OnOk result (text.new.items ≡ text.old.items ++ before.now ++ count_text kind counts) }
 {
-    let mut found = Buffer::new();
-    let mut missed = Buffer::new();
     text.extend_from_slice(before)?;
-    let pieces: [&[u8]; 6] = [
-        kind.name(),
-        b" ",
-        found.format(counts.found).as_bytes(),
-        b" found ",
-        missed.format(counts.missed).as_bytes(),
-        b" missed",
-    ];
-    push_pieces(text, &pieces)?;
+    text.extend_from_slice(kind.name())?;
+    push_after(text, b" ", counts.found as u64)?;
+    push_after(text, b" found ", counts.missed as u64)?;
+    text.extend_from_slice(b" missed")?;
     push_count_if(text, b" ", counts.hidden as u64, b" hidden")?;
-    push_count_if(text, b" ", counts.waived as u64, b" waived")
+    push_count_if(text, b" ", counts.waived as u64, b" waived")?;
+    Ok(())
 }
 
-// Appends the counts of the kinds that are there.
-pub(crate) fn push_counts(text: &mut Vec<u8>, judged: &[Judged]) -> Result<(), AllocError>
-    ensures { OnOk result (text.new.items ≡ text.old.items ++ counts_text judged.now) }
+// Appends the counts of a kind as a member, behind what leads to it.
+fn push_member(
+    text: &mut Vec<u8>,
+    before: &[u8],
+    kind: Kind,
+    counts: Counts,
+) -> Result<(), AllocError>
+    ensures { OnOk result (text.new.items ≡ text.old.items ++ before.now ++ count_json kind counts) }
+{
+    text.extend_from_slice(before)?;
+    text.extend_from_slice(b"\"")?;
+    text.extend_from_slice(kind.name())?;
+    push_after(text, b"\": {\"found\": ", counts.found as u64)?;
+    push_after(text, b", \"missed\": ", counts.missed as u64)?;
+    push_after(text, b", \"hidden\": ", counts.hidden as u64)?;
+    push_count_if(text, b", \"waived\": ", counts.waived as u64, b"")?;
+    text.extend_from_slice(b"}")?;
+    Ok(())
+}
+
+// Appends the counts of a kind behind what leads to them.
+fn push_count(
+    text: &mut Vec<u8>,
+    before: &[u8],
+    form: CountForm,
+    kind: Kind,
+    counts: Counts,
+) -> Result<(), AllocError>
+    ensures { OnOk result (text.new.items ≡ text.old.items ++ before.now ++ count_in form kind counts) }
+{
+    match form {
+        CountForm::Words => push_words(text, before, kind, counts),
+        CountForm::Member => push_member(text, before, kind, counts),
+    }
+}
+
+// Appends the counts of the kinds that are there, behind what leads to the first.
+pub(crate) fn push_counts(
+    text: &mut Vec<u8>,
+    judged: &[Judged],
+    first: &[u8],
+    form: CountForm,
+) -> Result<(), AllocError>
+    ensures { OnOk result (text.new.items ≡ text.old.items ++ led first.now (counts_parts form judged.now KINDS)) }
 {
     let mut told = false;
     for kind in KINDS {
         let counts = counts_of(judged, kind);
         if counts.is_told() {
-            push_count(text, lead(told, b": "), kind, counts)?;
+            push_count(text, lead(told, first), form, kind, counts)?;
             told = true;
         }
     }

@@ -2,10 +2,9 @@
 ghost use Rattle.std.specs.Prelude.{◌≡◌, ◌++◌, OnOk};
 ghost use Rattle.rl_grade_report.specs.Firsts.{finds_first, count_of, line_count, lines_text};
 
+use crate::pieces::push_after;
 use crate::verdict::Judged;
-use itoa::Buffer;
 use rl_grade::Task;
-use rl_session::push_pieces;
 use std::alloc::AllocError;
 
 // Whether the line of this number is the first that finds the flaw.
@@ -25,19 +24,14 @@ fn count_of(judged: &[Judged], line: u64) -> usize
 }
 
 // Appends how many of the flaws a line finds first.
+#[tactic(auto, unfolding(rl_report::specs::Pieces::joined))]
 fn push_count(text: &mut Vec<u8>, judged: &[Judged], line: u64) -> Result<(), AllocError>
     ensures { OnOk result (text.new.items ≡ text.old.items ++ line_count judged.now line) }
 {
-    let mut number = Buffer::new();
-    let mut count = Buffer::new();
-    let pieces: [&[u8]; 5] = [
-        b"line ",
-        number.format(line).as_bytes(),
-        b": ",
-        count.format(count_of(judged, line)).as_bytes(),
-        b" found\n",
-    ];
-    push_pieces(text, &pieces)
+    push_after(text, b"line ", line)?;
+    push_after(text, b": ", count_of(judged, line) as u64)?;
+    text.extend_from_slice(b" found\n")?;
+    Ok(())
 }
 
 /// Appends a line for each of these tasks: the number of its line in the script, and how many of the flaws it finds

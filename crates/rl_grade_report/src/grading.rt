@@ -1,10 +1,10 @@
 // A session that is graded.
-ghost use Rattle.std.specs.Prelude.{◌≡◌, ◌≢◌, ◌≤◌, ◌<◌, ◌^◌, ◌++◌, [], Some, None, true, false, map, length, All, IfErr, IfOk, IfSome};
-ghost use Rattle.rl_grade_report.specs.Prelude.{AreAnswers, AreJudged, AwaitsScript, IsBuiltWith, IsCaused, IsNext, IsPlaceIn};
-ghost use Rattle.rl_grade_report.specs.Prelude.{IsReady, IsShown, LeavesEnded, LeavesOpen, Puts, Stays, TasksFit, Tells, TellsGraded};
+ghost use Rattle.std.specs.Prelude.{◌≡◌, ◌<◌, [], Some, true, map, length, All, IfOk, IfSome};
+ghost use Rattle.rl_grade_report.specs.Prelude.{AreAnswers, AreJudged, AwaitsScript, CanGrade, IsNext, IsPlaceIn, IsReady};
+ghost use Rattle.rl_grade_report.specs.Prelude.{IsShown, LeavesEnded, LeavesLog, LeavesOpen, Puts, TasksFit, TellsGraded};
 ghost use Rattle.rl_grade_report.specs.Prelude.{all_judged, base_shown, bench_state, desc_of, facts_of, graded_as, graded_over};
-ghost use Rattle.rl_grade_report.specs.Prelude.{first_world, fresh_standings, judged_at, judged_from, grading_of, grading_with};
-ghost use Rattle.rl_grade_report.specs.Prelude.{heard_by, input_of, is_complete, kinds_of, lines_of, mark_from, mark_of};
+ghost use Rattle.rl_grade_report.specs.Prelude.{first_world, fresh_standings, grading_of, grading_with, heard_by, input_of};
+ghost use Rattle.rl_grade_report.specs.Prelude.{is_complete, judged_at, judged_from, kinds_of, lines_of, mark_from, mark_of};
 ghost use Rattle.rl_grade_report.specs.Prelude.{place_text, places_of, places_text, reported, rows_of, script_graded};
 ghost use Rattle.rl_grade_report.specs.Prelude.{status_at, status_of, totals_of, world};
 
@@ -25,13 +25,13 @@ use rl_bench::Bench;
 use rl_bus::{Adapter, Adapters};
 use rl_desc::Desc;
 use rl_grade::{
-    Known, Meter, Place, Shown, Task, grade_place_known, grade_together, read_script, show,
+    Known, Meter, Place, Shown, Task, Tries, grade_place_known, grade_together, read_script, show,
 };
 use rl_log::Status;
 use rl_report::{LineReader, Sink, Source};
 use rl_session::open;
 use rl_session_run::{end_log, open_checked};
-use std::alloc::Global;
+use std::alloc::{AllocError, Global};
 
 // How far the places are done.
 #[derive(Drop)]
@@ -45,6 +45,53 @@ struct Progress {
     known: Known,
 }
 
+// A place whose flaws were tried.
+#[derive(Drop)]
+struct Tried {
+    // Its flaws, each with what is said of it.
+    here: Vec<Judged>,
+    // How far the places are done behind it.
+    next: Progress,
+}
+
+// Tries the flaws of a place, and says of each what there is to say.
+fn try_place(
+    alloc: Global,
+    asked: Asked,
+    waivers: &[Row],
+    tasks: &[Task],
+    shown: &Shown,
+    place: Place,
+    progress: Progress,
+) -> Result<Tried, AllocError>
+    requires can_grade { CanGrade asked progress.desc tasks.now }
+    requires place { IsPlaceIn progress.desc.chip place }
+    requires each { AreJudged progress.desc.chip progress.desc.layout progress.judged.items }
+    requires known { AreAnswers progress.desc tasks.now shown.now.seen.items progress.known.graded.items }
+    ensures here { IfOk result (λ tried. tried.here.items
+        ≡ judged_at asked progress.desc (base_shown waivers.now tasks.now shown.now) progress.number place) }
+    ensures next { IfOk result (λ tried.
+        IsNext asked (base_shown waivers.now tasks.now shown.now) place progress tried.next) }
+{
+    let Progress {
+        desc,
+        number,
+        mut judged,
+        mut known,
+    } = progress;
+    let share = asked.share;
+    let grade = grade_place_known(alloc, desc, tasks, shown, place, number, share, &mut known)?;
+    let here = judge(alloc, &grade.desc, waivers, &grade.graded)?;
+    judged.extend_from_slice(&here)?;
+    let next = Progress {
+        desc: grade.desc,
+        number: number.saturating_add(grade.flaws),
+        judged,
+        known,
+    };
+    Ok(Tried { here, next })
+}
+
 // Tries the flaws of a place, and writes what was found.
 fn grade_next<K: Sink>(
     alloc: Global,
@@ -56,82 +103,54 @@ fn grade_next<K: Sink>(
     progress: Progress,
     log: &mut K,
 ) -> Result<Progress, Status>
-    requires built_with { IsBuiltWith progress.desc.layout progress.desc.chip }
-    requires kinds { progress.desc.layout.kinds ≡ kinds_of fresh_standings }
-    requires fits { TasksFit progress.desc.chip (length progress.desc.layout.maps) tasks.now }
+    requires can_grade { CanGrade asked progress.desc tasks.now }
     requires place { IsPlaceIn progress.desc.chip place }
-    requires every { 0 < asked.share.every }
     requires each { AreJudged progress.desc.chip progress.desc.layout progress.judged.items }
     requires known { AreAnswers progress.desc tasks.now shown.now.seen.items progress.known.graded.items }
     ensures bytes { Puts (K.written log.old) (K.written log.new) (place_text asked.tell progress.desc place
         (judged_at asked progress.desc (base_shown waivers.now tasks.now shown.now) progress.number place)) result }
-    ensures next { IfOk result (λ next. IsNext asked (base_shown waivers.now tasks.now shown.now) place
-        progress.desc progress.number progress.judged.items next.desc next.number next.judged.items) }
-    ensures each { IfOk result (λ next. AreJudged progress.desc.chip progress.desc.layout next.judged.items) }
-    ensures known { IfOk result (λ next. next.known.graded ≡ progress.known.graded) }
-    ensures broken { IfErr result (λ status. is_complete status ≡ false) }
-    ensures cause { IfErr result (λ status. IsCaused status 0 0 (K.faults log.old) (K.faults log.new)) }
-    ensures stays { Stays K.faults K.ends K.target log.old log.new }
+    ensures next { IfOk result (λ next.
+        IsNext asked (base_shown waivers.now tasks.now shown.now) place progress next) }
+    ensures leaves { LeavesLog K.Sink result log.old log.new }
 {
-    let Progress {
-        desc,
-        number,
-        mut judged,
-        mut known,
-    } = progress;
-    let share = asked.share;
-    let Ok(grade) = grade_place_known(alloc, desc, tasks, shown, place, number, share, &mut known)
-    else {
+    let Ok(tried) = try_place(alloc, asked, waivers, tasks, shown, place, progress) else {
         return Err(Status::Memory);
     };
-    let Ok(here) = judge(alloc, &grade.desc, waivers, &grade.graded) else {
-        return Err(Status::Memory);
-    };
-    let Ok(()) = judged.extend_from_slice(&here) else {
-        return Err(Status::Memory);
-    };
-    put_place(alloc, asked.tell, &grade.desc, place, &here, log)?;
-    Ok(Progress {
-        desc: grade.desc,
-        number: number.saturating_add(grade.flaws),
-        judged,
-        known,
-    })
+    let Tried { here, next } = tried;
+    put_place(alloc, asked.tell, &next.desc, place, &here, log)?;
+    Ok(next)
 }
 
-// Tries the flaws of the places, and writes what was found at each.
+// Tries the flaws of the places, where these answers are known, and writes what was found at each.
 fn grade_places<K: Sink>(
     alloc: Global,
     asked: Asked,
     waivers: &[Row],
-    desc: Desc,
+    tries: Tries,
     tasks: &[Task],
     shown: &Shown,
     places: &[Place],
-    known: Known,
     log: &mut K,
 ) -> Result<Progress, Status>
-    requires built_with { IsBuiltWith desc.layout desc.chip }
-    requires kinds { desc.layout.kinds ≡ kinds_of fresh_standings }
-    requires fits { TasksFit desc.chip (length desc.layout.maps) tasks.now }
-    requires places { All (IsPlaceIn desc.chip) places.now }
-    requires every { 0 < asked.share.every }
-    requires known { AreAnswers desc tasks.now shown.now.seen.items known.graded.items }
+    requires can_grade { CanGrade asked tries.desc tasks.now }
+    requires places { All (IsPlaceIn tries.desc.chip) places.now }
+    requires known { AreAnswers tries.desc tasks.now shown.now.seen.items tries.graded.items }
     ensures bytes { Puts (K.written log.old) (K.written log.new)
-        (places_text asked desc (base_shown waivers.now tasks.now shown.now) 0 places.now) result }
-    ensures desc { IfOk result (λ done. done.desc ≡ desc) }
-    ensures judged { IfOk result (λ done.
-        done.judged.items ≡ judged_from asked desc (base_shown waivers.now tasks.now shown.now) 0 places.now) }
-    ensures each { IfOk result (λ done. AreJudged desc.chip desc.layout done.judged.items) }
-    ensures broken { IfErr result (λ status. is_complete status ≡ false) }
-    ensures cause { IfErr result (λ status. IsCaused status 0 0 (K.faults log.old) (K.faults log.new)) }
-    ensures stays { Stays K.faults K.ends K.target log.old log.new }
+        (places_text asked tries.desc (base_shown waivers.now tasks.now shown.now) 0 places.now) result }
+    ensures desc { IfOk result (λ done. done.desc ≡ tries.desc) }
+    ensures judged { IfOk result (λ done. done.judged.items
+        ≡ judged_from asked tries.desc (base_shown waivers.now tasks.now shown.now) 0 places.now) }
+    ensures each { IfOk result (λ done. AreJudged tries.desc.chip tries.desc.layout done.judged.items) }
+    ensures leaves { LeavesLog K.Sink result log.old log.new }
 {
     let mut progress = Progress {
-        desc,
+        desc: tries.desc,
         number: 0,
         judged: Vec::new(alloc),
-        known,
+        known: Known {
+            graded: tries.graded,
+            next: 0,
+        },
     };
     for place in places {
         progress = grade_next(alloc, asked, waivers, tasks, shown, *place, progress, log)?;
@@ -164,19 +183,14 @@ fn grade_waived<K: Sink, M: Meter>(
     log: &mut K,
     meter: &mut M,
 ) -> Result<Status, Status>
-    requires built_with { IsBuiltWith desc.layout desc.chip }
-    requires kinds { desc.layout.kinds ≡ kinds_of fresh_standings }
-    requires fits { TasksFit desc.chip (length desc.layout.maps) tasks.now }
-    requires every { 0 < asked.share.every }
+    requires can_grade { CanGrade asked desc tasks.now }
     requires shown { IsShown desc tasks.now shown.now.seen.items }
     ensures bytes { Puts (K.written log.old) (K.written log.new)
         (reported asked mark desc (base_shown waivers.now tasks.now shown.now)) result }
     ensures status { IfOk result (λ status.
         status ≡ status_at asked (totals_of (all_judged asked desc (base_shown waivers.now tasks.now shown.now)))) }
     ensures whole { IfOk result (λ status. is_complete status ≡ true) }
-    ensures broken { IfErr result (λ status. is_complete status ≡ false) }
-    ensures cause { IfErr result (λ status. IsCaused status 0 0 (K.faults log.old) (K.faults log.new)) }
-    ensures stays { Stays K.faults K.ends K.target log.old log.new }
+    ensures leaves { LeavesLog K.Sink result log.old log.new }
 {
     let facts = facts_of(mark, tasks, shown);
     let Ok(places) = places_of(alloc, &desc.chip) else {
@@ -186,14 +200,8 @@ fn grade_waived<K: Sink, M: Meter>(
     let Ok(tries) = grade_together(alloc, desc, tasks, shown, &places, share, meter) else {
         return Err(Status::Memory);
     };
-    let known = Known {
-        graded: tries.graded,
-        next: 0,
-    };
     put_head(alloc, asked, facts, log)?;
-    let done = grade_places(
-        alloc, asked, waivers, tries.desc, tasks, shown, &places, known, log,
-    )?;
+    let done = grade_places(alloc, asked, waivers, tries, tasks, shown, &places, log)?;
     put_last(alloc, asked, facts, &done.desc, tasks, &done.judged, log)?;
     Ok(asked.status(Totals::NONE.with(&done.judged)))
 }
@@ -211,19 +219,14 @@ fn grade_shown<K: Sink, M: Meter>(
     log: &mut K,
     meter: &mut M,
 ) -> Result<Status, Status>
-    requires built_with { IsBuiltWith desc.layout desc.chip }
-    requires kinds { desc.layout.kinds ≡ kinds_of fresh_standings }
-    requires fits { TasksFit desc.chip (length desc.layout.maps) tasks.now }
-    requires every { 0 < asked.share.every }
+    requires can_grade { CanGrade asked desc tasks.now }
     requires shown { IsShown desc tasks.now shown.now.seen.items }
     ensures bytes { Puts (K.written log.old) (K.written log.new)
         (graded_over asked mark desc (base_shown (rows_of waivers.now) tasks.now shown.now)).text result }
     ensures status { IfOk result (λ status.
         status ≡ (graded_over asked mark desc (base_shown (rows_of waivers.now) tasks.now shown.now)).status) }
     ensures whole { IfOk result (λ status. is_complete status ≡ true) }
-    ensures broken { IfErr result (λ status. is_complete status ≡ false) }
-    ensures cause { IfErr result (λ status. IsCaused status 0 0 (K.faults log.old) (K.faults log.new)) }
-    ensures stays { Stays K.faults K.ends K.target log.old log.new }
+    ensures leaves { LeavesLog K.Sink result log.old log.new }
 {
     let Ok(rows) = rows_of(alloc, waivers) else {
         return Err(Status::Memory);
@@ -260,9 +263,7 @@ fn grade_tasks<K: Sink, M: Meter>(
     ensures status { IfOk result (λ status. status ≡ (graded_as asked mark waivers.now (desc_of model) tasks.now
         (heard_by (world model (map standing adapters.old.items) (bench_state bench)) tasks.now)).status) }
     ensures whole { IfOk result (λ status. is_complete status ≡ true) }
-    ensures broken { IfErr result (λ status. is_complete status ≡ false) }
-    ensures cause { IfErr result (λ status. IsCaused status 0 0 (K.faults log.old) (K.faults log.new)) }
-    ensures stays { Stays K.faults K.ends K.target log.old log.new }
+    ensures leaves { LeavesLog K.Sink result log.old log.new }
 {
     let mut model = model;
     let mut bench = bench;

@@ -5,7 +5,7 @@ ghost use Rattle.rl_grade_report.specs.Kinds.{kind_of, kind_name, is_kind};
 use rl_bench::Flaw;
 
 // What kind of flaw it is, as a report counts them.
-#[derive(Clone, Copy, Debug, PartialEq, Eq)]
+#[derive(Clone, Copy)]
 pub(crate) enum Kind {
     // A bit of a field is stuck.
     Stuck,

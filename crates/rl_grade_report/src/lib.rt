@@ -20,6 +20,7 @@ mod grading;
 mod groups;
 mod json;
 mod judging;
+mod keys;
 mod kind;
 pub mod law;
 mod line;

@@ -4,7 +4,7 @@ ghost use Rattle.rl_grade.specs.Place.{IsPlaceIn};
 ghost use Rattle.rl_grade_report.specs.Lines.{field_name, line_text, place_name, said_text, told_text, unfound_text};
 ghost use Rattle.rl_grade_report.specs.Verdict.{AreJudged};
 
-use crate::counts::push_counts;
+use crate::counts::{CountForm, push_counts};
 use crate::groups::push_groups;
 use crate::verdict::{Judged, VERDICTS, Verdict, flaws_with};
 use rl_grade::Place;
@@ -81,7 +81,7 @@ fn push_told(
     ensures { OnOk result (text.new.items ≡ text.old.items ++ told_text chip.now layout.now place judged.now) }
 {
     push_place(text, chip, place)?;
-    push_counts(text, judged)?;
+    push_counts(text, judged, b": ", CountForm::Words)?;
     push_unfound(alloc, text, chip, layout, judged)?;
     text.extend_from_slice(b"\n")
 }

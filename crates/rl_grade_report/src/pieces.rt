@@ -1,9 +1,8 @@
-// What stands between the parts of a text, and counts that are told where there are some.
-ghost use Rattle.std.specs.Prelude.{◌≡◌, ◌++◌, if◌then◌else◌, codes, OnOk};
+// What stands between the parts of a text, and numbers in it.
+ghost use Rattle.std.specs.Prelude.{◌≡◌, ◌++◌, if◌then◌else◌, codes, decimal, OnOk};
 ghost use Rattle.rl_grade_report.specs.Counts.{count_if};
 
 use itoa::Buffer;
-use rl_session::push_pieces;
 use std::alloc::AllocError;
 
 // What stands before a part: a comma behind another part, and else what leads to the first.
@@ -13,7 +12,24 @@ pub(crate) fn lead(told: bool, first: &[u8]) -> &[u8]
     if told { b", " } else { first }
 }
 
+// Appends a number in decimal.
+pub(crate) fn push_number(text: &mut Vec<u8>, number: u64) -> Result<(), AllocError>
+    ensures { OnOk result (text.new.items ≡ text.old.items ++ decimal number) }
+{
+    let mut digits = Buffer::new();
+    text.extend_from_slice(digits.format(number).as_bytes())
+}
+
+// Appends a text, and a number in decimal behind it.
+pub(crate) fn push_after(text: &mut Vec<u8>, before: &[u8], number: u64) -> Result<(), AllocError>
+    ensures { OnOk result (text.new.items ≡ text.old.items ++ before.now ++ decimal number) }
+{
+    text.extend_from_slice(before)?;
+    push_number(text, number)
+}
+
 // Appends a count between two texts, where it isn't 0.
+#[tactic(auto, unfolding(rl_report::specs::Pieces::joined))]
 pub(crate) fn push_count_if(
     text: &mut Vec<u8>,
     before: &[u8],
@@ -25,7 +41,7 @@ pub(crate) fn push_count_if(
     if count == 0 {
         return Ok(());
     }
-    let mut digits = Buffer::new();
-    let pieces: [&[u8]; 3] = [before, digits.format(count).as_bytes(), behind];
-    push_pieces(text, &pieces)
+    push_after(text, before, count)?;
+    text.extend_from_slice(behind)?;
+    Ok(())
 }

@@ -13,7 +13,7 @@ use rl_policy::read_number;
 use std::alloc::{AllocError, Global};
 
 /// Which share a text is, and of which session.
-#[derive(Clone, Copy, Debug, PartialEq, Eq)]
+#[derive(Clone, Copy)]
 pub(crate) struct Head {
     pub(crate) share: Share,
     /// The mark of the session.
@@ -21,7 +21,7 @@ pub(crate) struct Head {
 }
 
 /// What a line says.
-#[derive(Clone, Copy, Debug, PartialEq, Eq)]
+#[derive(Clone, Copy)]
 pub(crate) enum Said {
     /// That a share begins.
     Head(Head),

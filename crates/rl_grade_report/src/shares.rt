@@ -10,14 +10,14 @@ use rl_grade::Share;
 use std::alloc::Global;
 
 /// A share that came whole.
-#[derive(Clone, Copy, Debug, PartialEq, Eq)]
+#[derive(Clone, Copy)]
 pub(crate) struct Part {
     pub(crate) head: Head,
     pub(crate) totals: Totals,
 }
 
 /// Why shares aren't added.
-#[derive(Clone, Copy, Debug, PartialEq, Eq)]
+#[derive(Clone, Copy)]
 pub(crate) enum Unfit {
     /// There is none.
     NoShare,
@@ -34,7 +34,7 @@ pub(crate) enum Unfit {
 }
 
 /// Why nothing was added.
-#[derive(Clone, Copy, Debug, PartialEq, Eq)]
+#[derive(Clone, Copy)]
 pub(crate) enum SharesFault {
     Refused(Unfit),
     /// Memory ran out.

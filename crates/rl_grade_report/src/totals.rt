@@ -1,10 +1,10 @@
 // The last line of a grading.
 ghost use Rattle.std.specs.Prelude.{◌≡◌, ◌++◌, OnOk, count_by, is_ok};
 ghost use Rattle.rl_grade_report.specs.Totals.{end_text, findable, findable_text, is_below, left_out_text, missed_in};
-ghost use Rattle.rl_grade_report.specs.Totals.{percent_text, share_text, tenths, with_judged};
+ghost use Rattle.rl_grade_report.specs.Totals.{percent_text, share_text, tenths, tenths_text, with_judged};
 ghost use Rattle.rl_grade_report.specs.Verdict.{has_verdict, is_needless};
 
-use crate::pieces::push_count_if;
+use crate::pieces::{push_after, push_count_if};
 use crate::verdict::{Judged, Verdict};
 use itoa::Buffer;
 use rl_session::push_pieces;
@@ -112,20 +112,28 @@ pub(crate) fn tenths(found: u64, flaws: u64) -> u128
     u128::from(found) * 1000 / u128::from(flaws)
 }
 
-// Appends tenths of a per cent, and what stands behind them.
-fn push_percent(text: &mut Vec<u8>, tenths: u128, behind: &[u8]) -> Result<(), AllocError>
-    ensures { OnOk result (text.new.items ≡ text.old.items ++ percent_text tenths behind.now) }
+// Appends tenths of a per cent.
+pub(crate) fn push_tenths(text: &mut Vec<u8>, tenths: u128) -> Result<(), AllocError>
+    ensures { OnOk result (text.new.items ≡ text.old.items ++ tenths_text tenths) }
 {
     let mut whole = Buffer::new();
     let mut tenth = Buffer::new();
-    let pieces: [&[u8]; 5] = [
-        b", ",
+    let pieces: [&[u8]; 3] = [
         whole.format(tenths / 10).as_bytes(),
         b".",
         tenth.format(tenths % 10).as_bytes(),
-        behind,
     ];
     push_pieces(text, &pieces)
+}
+
+// Appends tenths of a per cent between a comma and what stands behind them.
+fn push_percent(text: &mut Vec<u8>, tenths: u128, behind: &[u8]) -> Result<(), AllocError>
+    ensures { OnOk result (text.new.items ≡ text.old.items ++ percent_text tenths behind.now) }
+{
+    text.extend_from_slice(b", ")?;
+    push_tenths(text, tenths)?;
+    text.extend_from_slice(behind)?;
+    Ok(())
 }
 
 // Appends a share, where there is a flaw.
@@ -171,21 +179,13 @@ fn push_left_out(text: &mut Vec<u8>, totals: Totals) -> Result<(), AllocError>
 pub fn push_end(text: &mut Vec<u8>, totals: Totals) -> Result<(), AllocError>
     ensures { OnOk result (text.new.items ≡ text.old.items ++ end_text totals) }
 {
-    let mut flaws = Buffer::new();
-    let mut found = Buffer::new();
-    let mut missed = Buffer::new();
-    let pieces: [&[u8]; 7] = [
-        b"end: ",
-        flaws.format(totals.flaws).as_bytes(),
-        b" flaws, ",
-        found.format(totals.found).as_bytes(),
-        b" found, ",
-        missed.format(totals.missed()).as_bytes(),
-        b" missed",
-    ];
-    push_pieces(text, &pieces)?;
+    push_after(text, b"end: ", totals.flaws)?;
+    push_after(text, b" flaws, ", totals.found)?;
+    push_after(text, b" found, ", totals.missed())?;
+    text.extend_from_slice(b" missed")?;
     push_left_out(text, totals)?;
     push_share(text, totals.found, totals.flaws, b" % found")?;
     push_findable(text, totals)?;
-    text.extend_from_slice(b"\n")
+    text.extend_from_slice(b"\n")?;
+    Ok(())
 }

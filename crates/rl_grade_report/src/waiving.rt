@@ -1,27 +1,26 @@
 // Whether waivers name flaws that are there, and each once.
-ghost use Rattle.std.specs.Prelude.{◌≡◌, true, false, All, IfErr, IfOk};
+ghost use Rattle.std.specs.Prelude.{◌≡◌, true, All, IfOk};
 ghost use Rattle.rl_flaw.specs.Flaws.{IsFlawOf};
-ghost use Rattle.rl_grade_report.specs.Prelude.{IsCaused, IsPlaceIn, Puts, Stays, is_complete};
+ghost use Rattle.rl_grade_report.specs.Prelude.{IsPlaceIn, LeavesLog, Puts, is_complete};
 ghost use Rattle.rl_grade_report.specs.Row.{flaw_row};
 ghost use Rattle.rl_grade_report.specs.Waivers.{has_text, rows_of};
 ghost use Rattle.rl_grade_report.specs.Waiving.{fault_in, first_line, left_at, twice_in, unknown_among, unwaived_at};
 ghost use Rattle.rl_grade_report.specs.Waiving.{unwaived_text, without};
 
+use crate::keys::{Form, push_flaw};
+use crate::pieces::push_after;
 use crate::places::places_of;
-use crate::row::push_row;
 use crate::waivers::{Row, has_text, rows_of};
 use crate::writing::put_text;
-use itoa::Buffer;
 use rl_bench::Flaw;
 use rl_desc::Desc;
 use rl_grade::{Place, flaws_at};
 use rl_log::Status;
 use rl_report::Sink;
-use rl_session::push_pieces;
 use std::alloc::{AllocError, Global};
 
 /// Why waivers are refused.
-#[derive(Clone, Copy, Debug, PartialEq, Eq)]
+#[derive(Clone, Copy)]
 pub(crate) enum Unwaived {
     /// The row of this line came before.
     Twice(u64),
@@ -65,7 +64,7 @@ pub(crate) fn flaw_row(alloc: Global, desc: &Desc, flaw: Flaw) -> Result<Vec<u8>
     ensures { IfOk result (λ text. text.items ≡ flaw_row desc.now.chip desc.now.layout flaw) }
 {
     let mut text = Vec::new(alloc);
-    push_row(&mut text, &desc.chip, &desc.layout, flaw)?;
+    push_flaw(&mut text, Form::Row, &desc.chip, &desc.layout, flaw)?;
     Ok(text)
 }
 
@@ -157,14 +156,9 @@ pub(crate) fn fault_in(
 fn unwaived_at(alloc: Global, line: u64, reason: &[u8]) -> Result<Vec<u8>, AllocError>
     ensures { IfOk result (λ text. text.items ≡ unwaived_at line reason.now) }
 {
-    let mut digits = Buffer::new();
-    let pieces: [&[u8]; 3] = [
-        b"refused waivers: line ",
-        digits.format(line).as_bytes(),
-        reason,
-    ];
     let mut text = Vec::new(alloc);
-    push_pieces(&mut text, &pieces)?;
+    push_after(&mut text, b"refused waivers: line ", line)?;
+    text.extend_from_slice(reason)?;
     Ok(text)
 }
 
@@ -189,9 +183,7 @@ pub(crate) fn put_unwaived<K: Sink>(
     ensures bytes { Puts (K.written log.old) (K.written log.new) (unwaived_text why) result }
     ensures status { IfOk result (λ status. status ≡ Status.Refused) }
     ensures whole { IfOk result (λ status. is_complete status ≡ true) }
-    ensures broken { IfErr result (λ status. is_complete status ≡ false) }
-    ensures cause { IfErr result (λ status. IsCaused status 0 0 (K.faults log.old) (K.faults log.new)) }
-    ensures stays { Stays K.faults K.ends K.target log.old log.new }
+    ensures leaves { LeavesLog K.Sink result log.old log.new }
 {
     let Ok(text) = unwaived_text(alloc, why) else {
         return Err(Status::Memory);

@@ -1,7 +1,7 @@
 // What is written before the places, of a place, and at the end.
-ghost use Rattle.std.specs.Prelude.{◌≡◌, ◌++◌, [], false, OnOk, IfOk, IfErr};
-ghost use Rattle.rl_grade_report.specs.Prelude.{AreJudged, IsCaused, IsPlaceIn, Puts, Stays};
-ghost use Rattle.rl_grade_report.specs.Prelude.{head_text, is_complete, last_text, part_text, place_text, share_line};
+ghost use Rattle.std.specs.Prelude.{◌≡◌, ◌++◌, OnOk, IfOk};
+ghost use Rattle.rl_grade_report.specs.Prelude.{AreJudged, IsPlaceIn, LeavesLog, Puts};
+ghost use Rattle.rl_grade_report.specs.Prelude.{head_text, last_text, part_text, place_text, share_line};
 
 use crate::asked::{Asked, Tell};
 use crate::facts::Facts;
@@ -118,9 +118,7 @@ fn last_text(
 // Writes a text.
 pub(crate) fn put_text<K: Sink>(text: &[u8], log: &mut K) -> Result<(), Status>
     ensures bytes { Puts (K.written log.old) (K.written log.new) text.now result }
-    ensures broken { IfErr result (λ status. is_complete status ≡ false) }
-    ensures cause { IfErr result (λ status. IsCaused status 0 0 (K.faults log.old) (K.faults log.new)) }
-    ensures stays { Stays K.faults K.ends K.target log.old log.new }
+    ensures leaves { LeavesLog K.Sink result log.old log.new }
 {
     match put_all(log, text) {
         Ok(()) => Ok(()),
@@ -136,9 +134,7 @@ pub(crate) fn put_head<K: Sink>(
     log: &mut K,
 ) -> Result<(), Status>
     ensures bytes { Puts (K.written log.old) (K.written log.new) (head_text asked facts) result }
-    ensures broken { IfErr result (λ status. is_complete status ≡ false) }
-    ensures cause { IfErr result (λ status. IsCaused status 0 0 (K.faults log.old) (K.faults log.new)) }
-    ensures stays { Stays K.faults K.ends K.target log.old log.new }
+    ensures leaves { LeavesLog K.Sink result log.old log.new }
 {
     let Ok(text) = head_text(alloc, asked, facts) else {
         return Err(Status::Memory);
@@ -158,9 +154,7 @@ pub(crate) fn put_place<K: Sink>(
     requires place { IsPlaceIn desc.now.chip place }
     requires flaws { AreJudged desc.now.chip desc.now.layout judged.now }
     ensures bytes { Puts (K.written log.old) (K.written log.new) (place_text tell desc.now place judged.now) result }
-    ensures broken { IfErr result (λ status. is_complete status ≡ false) }
-    ensures cause { IfErr result (λ status. IsCaused status 0 0 (K.faults log.old) (K.faults log.new)) }
-    ensures stays { Stays K.faults K.ends K.target log.old log.new }
+    ensures leaves { LeavesLog K.Sink result log.old log.new }
 {
     let Ok(text) = place_text(alloc, tell, desc, place, judged) else {
         return Err(Status::Memory);
@@ -181,9 +175,7 @@ pub(crate) fn put_last<K: Sink>(
     requires { AreJudged desc.now.chip desc.now.layout judged.now }
     ensures bytes { Puts (K.written log.old) (K.written log.new)
         (last_text asked facts desc.now tasks.now judged.now) result }
-    ensures broken { IfErr result (λ status. is_complete status ≡ false) }
-    ensures cause { IfErr result (λ status. IsCaused status 0 0 (K.faults log.old) (K.faults log.new)) }
-    ensures stays { Stays K.faults K.ends K.target log.old log.new }
+    ensures leaves { LeavesLog K.Sink result log.old log.new }
 {
     let Ok(text) = last_text(alloc, asked, facts, desc, tasks, judged) else {
         return Err(Status::Memory);

@@ -14,12 +14,12 @@ returns-clause-tells g c =
     let p = c.put_added.ensures in
     let f = c.end_log.ensures in
     added_told c.args.bound c.in-Ok.bytes.items c.put_added.result c.status_of-status.result _ c.status_of-status.ensures
-    (rw c.deref.ensures.value at p.status) f.kept _ _ _ _ c.in-Ok.ensures.bytes (rw c.deref.ensures.value at p.bytes) p.broken f.told
+    (rw c.deref.ensures.value at p.status) f.kept _ _ _ _ c.in-Ok.ensures.bytes (rw c.deref.ensures.value at p.bytes) p.leaves.broken f.told
 
 pub returns-clause-leaves : goal.returns-clause-leaves
 returns-clause-leaves g c =
     let p = c.put_added.ensures in
     let f = c.end_log.ensures in
     added_leaves c.args.bound c.in-Ok.bytes.items c.put_added.result c.status_of-status.result _ c.status_of-status.ensures
-    (rw c.deref.ensures.value at p.status) f.kept g.K.Sink _ _ _ _ _ c.read_all.ensures.later (rw c.deref.ensures.value at p.bytes) p.cause
-    p.stays f.told f.later f.cause f.ended f.not_ended
+    (rw c.deref.ensures.value at p.status) f.kept g.K.Sink _ _ _ _ _ c.read_all.ensures.later (rw c.deref.ensures.value at p.bytes) p.leaves.cause
+    p.leaves.stays f.told f.later f.cause f.ended f.not_ended

@@ -3,14 +3,8 @@ use Rattle.rl_grade_report.specs.Progress.{base_shown}
 use Rattle.rl_grade_report.proofs.Placed.{all_done, judged_done, place_done, place_stopped, places_done}
 use Rattle.rl_grade_report.proofs.grading.grade_places.Goals as goal
 
-pub grade_next-requires-clause-built_with : goal.grade_next-requires-clause-built_with
-grade_next-requires-clause-built_with g c = rw c.loop-place.invariant.desc_is c.requires.built_with
-
-pub grade_next-requires-clause-kinds : goal.grade_next-requires-clause-kinds
-grade_next-requires-clause-kinds g c = rw c.loop-place.invariant.desc_is c.requires.kinds
-
-pub grade_next-requires-clause-fits : goal.grade_next-requires-clause-fits
-grade_next-requires-clause-fits g c = rw c.loop-place.invariant.desc_is c.requires.fits
+pub grade_next-requires-clause-can_grade : goal.grade_next-requires-clause-can_grade
+grade_next-requires-clause-can_grade g c = rw c.loop-place.invariant.desc_is c.requires.can_grade
 
 pub grade_next-requires-clause-place : goal.grade_next-requires-clause-place
 grade_next-requires-clause-place g c =
@@ -29,29 +23,29 @@ loop-place-preserved g c =
     let base = base_shown c.args.waivers.now c.args.tasks.now c.args.shown.now in
     record {
       desc_is = e.next.desc_is ∙ i.desc_is;
-      put = place_done c.args.asked base c.args.desc _ _ _ _ _ _ _ _ _ _ c.args.places.now
+      put = place_done c.args.asked base c.args.tries.desc _ _ _ _ _ _ c.args.places.now
           c.loop-place.place-index _ c.loop-place-test.true i.desc_is i.put e.bytes.whole e.next;
-      judged = judged_done c.args.asked base c.args.desc _ _ _ _ _ _ _ c.args.places.now
+      judged = judged_done c.args.asked base c.args.tries.desc _ _ _ c.args.places.now
           c.loop-place.place-index _ c.loop-place-test.true i.desc_is i.judged e.next;
-      each = rw i.desc_is at e.each;
-      known_is = e.known ∙ i.known_is;
-      later = omega (arith, i.later, e.stays.later);
-      ends_kept = e.stays.ends_kept ∙ i.ends_kept;
-      same_target = e.stays.same_target ∙ i.same_target;
+      each = rw i.desc_is at e.next.each;
+      known_is = e.next.known_is ∙ i.known_is;
+      later = omega (arith, i.later, e.leaves.stays.later);
+      ends_kept = e.leaves.stays.ends_kept ∙ i.ends_kept;
+      same_target = e.leaves.stays.same_target ∙ i.same_target;
     }
 
 pub returns-in_err-progress-clause-bytes : goal.returns-in_err-progress-clause-bytes
 returns-in_err-progress-clause-bytes g c =
     let i = c.loop-place.invariant in
-    place_stopped c.args.asked (base_shown c.args.waivers.now c.args.tasks.now c.args.shown.now) c.args.desc _ _ _ _ _ _ c.args.places.now
+    place_stopped c.args.asked (base_shown c.args.waivers.now c.args.tasks.now c.args.shown.now) c.args.tries.desc _ _ _ _ _ _ c.args.places.now
     c.loop-place.place-index _ _ c.loop-place-test.true i.desc_is i.put c.from_residual.ensures.0 c.in_err-progress.ensures.bytes.part
 
 pub returns-clause-bytes : goal.returns-clause-bytes
 returns-clause-bytes g c =
-    places_done c.args.asked (base_shown c.args.waivers.now c.args.tasks.now c.args.shown.now) c.args.desc _ _ _ _ c.args.places.now
+    places_done c.args.asked (base_shown c.args.waivers.now c.args.tasks.now c.args.shown.now) c.args.tries.desc _ _ _ _ c.args.places.now
     c.loop-place.place-index _ (omega arith) c.loop-place.invariant.put
 
 pub returns-clause-judged : goal.returns-clause-judged
 returns-clause-judged g c =
-    all_done c.args.asked (base_shown c.args.waivers.now c.args.tasks.now c.args.shown.now) c.args.desc _ _ _ c.args.places.now
+    all_done c.args.asked (base_shown c.args.waivers.now c.args.tasks.now c.args.shown.now) c.args.tries.desc _ _ _ c.args.places.now
     c.loop-place.place-index (omega arith) c.loop-place.invariant.judged

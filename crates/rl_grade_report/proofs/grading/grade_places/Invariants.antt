@@ -10,14 +10,15 @@ abbrev pub invariant-loop-place : goal.invariant-loop-place
 invariant-loop-place g l =
     let written = g.K.Sink.written in
     let base = base_shown l.waivers l.tasks l.shown in
+    let d = l.fn.tries.desc in
     record {
-      desc_is : l.progress.desc ≡ l.fn.desc;
-      put : IsLeft (written l.initial.log) (written l.log) (places_text l.asked l.fn.desc base 0 l.places)
-          (places_text l.asked l.fn.desc base l.progress.number (drop l.place-index l.places));
-      judged : l.progress.judged.items ++ judged_from l.asked l.fn.desc base l.progress.number (drop l.place-index l.places)
-          ≡ judged_from l.asked l.fn.desc base 0 l.places;
-      each : AreJudged l.fn.desc.chip l.fn.desc.layout l.progress.judged.items;
-      known_is : l.progress.known.graded ≡ l.fn.known.graded;
+      desc_is : l.progress.desc ≡ d;
+      put : IsLeft (written l.initial.log) (written l.log) (places_text l.asked d base 0 l.places)
+          (places_text l.asked d base l.progress.number (drop l.place-index l.places));
+      judged : l.progress.judged.items ++ judged_from l.asked d base l.progress.number (drop l.place-index l.places)
+          ≡ judged_from l.asked d base 0 l.places;
+      each : AreJudged d.chip d.layout l.progress.judged.items;
+      known_is : l.progress.known.graded ≡ l.fn.tries.graded;
       later : g.K.Sink.faults l.initial.log ≤ g.K.Sink.faults l.log;
       ends_kept : g.K.Sink.ends l.log ≡ g.K.Sink.ends l.initial.log;
       same_target : g.K.Sink.target l.log ≡ g.K.Sink.target l.initial.log;

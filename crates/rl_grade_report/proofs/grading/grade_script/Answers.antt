@@ -19,13 +19,13 @@ returns-in-Ok-read_script-clause-tells g c =
     let bytes = rw c.deref.ensures.value at c.grade_tasks.ensures.bytes in
     let status = rw c.deref.ensures.value at c.grade_tasks.ensures.status in
     rw c.status_of.ensures (script_told c.args.asked c.args.mark c.args.waivers.now _ c.args.desc _ _ _ _ _ _ _ c.requires.fresh (c.in-Ok.ensures.first _)
-    c.requires.none c.in-Ok-read_script.ensures.tasks bytes status c.grade_tasks.ensures.broken)
+    c.requires.none c.in-Ok-read_script.ensures.tasks bytes status c.grade_tasks.ensures.leaves.broken)
 
 pub returns-in-Ok-read_script-clause-leaves : goal.returns-in-Ok-read_script-clause-leaves
 returns-in-Ok-read_script-clause-leaves g c =
     let t = c.grade_tasks.ensures in
-    let stays = stays_open _ _ _ _ _ _ (earlier_put _ _ _ _ t.bytes) t.stays in
-    rw c.status_of.ensures (leaves_graded g.K.Sink _ _ _ _ _ c.read_script.ensures.source_later t.whole t.cause stays)
+    let stays = stays_open _ _ _ _ _ _ (earlier_put _ _ _ _ t.bytes) t.leaves.stays in
+    rw c.status_of.ensures (leaves_graded g.K.Sink _ _ _ _ _ c.read_script.ensures.source_later t.whole t.leaves.cause stays)
 
 pub returns-in-Err-clause-leaves : goal.returns-in-Err-clause-leaves
 returns-in-Err-clause-leaves g c =

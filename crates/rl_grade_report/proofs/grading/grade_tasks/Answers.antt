@@ -1,4 +1,4 @@
-use Rattle.std.proofs.Common.{◌≡◌, List, IfOk, subst, ◌∙◌}
+use Rattle.std.proofs.Common.{◌≡◌, List, IfOk, subst, ◌∙◌, rules}
 use Rattle.std.proofs.KnownBytes.{Keeps-refl}
 use Rattle.rl_model.specs.Rows.{ChipData}
 use Rattle.rl_map.specs.Layout.{LayoutData}
@@ -16,6 +16,10 @@ returns-in_default-clause-bytes g c = record { whole = tt; part = front_none _ _
 same_desc : (a b : ChipData) (l k : LayoutData) (flaws none : List Flaw) → a ≡ b → l ≡ k → flaws ≡ none
     → (let d : DescData = record { chip = a; layout = l; flaws = flaws } in d) ≡ record { chip = b; layout = k; flaws = none }
 same_desc a b l k flaws none chip layout empty = cc
+
+pub grade_shown-requires-clause-can_grade : goal.grade_shown-requires-clause-can_grade
+grade_shown-requires-clause-can_grade g c =
+    record { built_with = search rules; kinds = search rules; fits = search rules; every = c.requires.every }
 
 pub grade_shown-requires-clause-shown : goal.grade_shown-requires-clause-shown
 grade_shown-requires-clause-shown g c =

@@ -8,6 +8,9 @@ use Rattle.rl_grade_report.specs.Places.{places_of}
 use Rattle.rl_grade_report.specs.Progress.{base_shown}
 use Rattle.rl_grade_report.proofs.grading.grade_waived.Goals as goal
 
+pub grade_places-requires-clause-can_grade : goal.grade_places-requires-clause-can_grade
+grade_places-requires-clause-can_grade g c = rw c.in-Ok-grade_together.ensures.desc c.requires.can_grade
+
 pub returns-in_default-clause-bytes : goal.returns-in_default-clause-bytes
 returns-in_default-clause-bytes g c = record { whole = tt; part = front_none _ _ _ (Keeps-refl _) }
 

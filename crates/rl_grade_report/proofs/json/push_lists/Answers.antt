@@ -12,7 +12,7 @@ returns c =
     let a = codes "\"by_kind\": {" in
     let b = codes "},\n\"missed_flaws\": [" in
     let end = codes "]}\n" in
-    let one = pushed_twice first _ _ a kinds c.in_ok-extend_from_slice.ensures.items c.in_ok-push_kinds.ensures in
+    let one = pushed_twice first _ _ a kinds c.in_ok-extend_from_slice.ensures.items c.in_ok-push_counts.ensures in
     let two = pushed_twice first _ _ (a ++ kinds) b one c.in_ok-extend_from_slice-2.ensures.items in
     let three = pushed_twice first _ _ ((a ++ kinds) ++ b) missed two c.in_ok-push_missed.ensures in
     then_pushed _ first _ _ end (((a ++ kinds) ++ b) ++ missed) _ three (five_parts a kinds b missed end)

@@ -3,7 +3,8 @@ use Rattle.std.proofs.lemmas.List.{take_more}
 use Rattle.rl_grade_report.specs.declared.verdict.Judged.{Judged}
 use Rattle.rl_grade_report.specs.declared.verdict.Verdict.TheVariants.{Missed}
 use Rattle.rl_grade_report.specs.Counts.{led}
-use Rattle.rl_grade_report.specs.Json.{flaw_json}
+use Rattle.rl_grade_report.specs.declared.keys.Form.TheVariants.{Object}
+use Rattle.rl_grade_report.specs.Keys.{flaw_text}
 use Rattle.rl_grade_report.specs.Verdict.{has_verdict}
 use Rattle.rl_grade_report.proofs.Parts.{is_some_part, passed, some_told, told_more}
 use Rattle.rl_grade_report.proofs.json.push_missed.Goals as goal
@@ -12,7 +13,7 @@ use Rattle.rl_grade_report.proofs.json.push_missed.Goals.{then-has+in_ok-extend_
 pub loop-it-preserved : goal.loop-it-preserved
 loop-it-preserved c =
     let judged = c.args.judged.now in
-    let text = λ (j : Judged). flaw_json c.args.chip.now c.args.layout.now j.flaw in
+    let text = λ (j : Judged). flaw_text Object c.args.chip.now c.args.layout.now j.flaw in
     let test = λ (j : Judged). has_verdict Missed j in
     let i = c.loop-it.invariant in
     let some = take c.loop-it.it-index judged in

@@ -1,4 +1,4 @@
-use Rattle.std.proofs.Common.{◌≡◌, true, false, Some, length, take, get_or, sym, ap, ◌∙◌, arith}
+use Rattle.std.proofs.Common.{◌≡◌, true, false, Some, take, get_or, sym, ap, ◌∙◌, arith}
 use Rattle.rl_grade_report.specs.Waivers.{RowData, has_text}
 use Rattle.rl_grade_report.proofs.WaiverLemmas.{none_twice, row_once, row_twice}
 use Rattle.rl_grade_report.proofs.waiving.twice_in.Goals as goal

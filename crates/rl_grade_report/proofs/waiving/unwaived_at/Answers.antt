@@ -1,4 +1,12 @@
+use Rattle.std.proofs.Common.{append_assoc, append-nil}
+use Rattle.rl_report.specs.Pieces.{joined}
 use Rattle.rl_grade_report.proofs.waiving.unwaived_at.Goals as goal
 
 pub returns : goal.returns
-returns c = rw (c.as_bytes.ensures.value, c.format.ensures.text, c.new-text.ensures.items) at c.in_ok-push_pieces.ensures
+unfolding joined
+returns c =
+    rw (
+      c.in_ok-extend_from_slice.ensures.items,
+      c.in_ok-push_after.ensures,
+      c.new-text.ensures.items,
+    ) (simp (append_assoc, append-nil))

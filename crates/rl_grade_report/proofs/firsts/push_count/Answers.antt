@@ -1,6 +1,0 @@
-use Rattle.rl_grade_report.proofs.firsts.push_count.Goals as goal
-
-pub returns : goal.returns
-returns c =
-    rw (c.as_bytes.ensures.value, c.format.ensures.text, c.as_bytes-2.ensures.value, c.format-2.ensures.text, c.count_of.ensures) at
-    c.push_pieces.ensures

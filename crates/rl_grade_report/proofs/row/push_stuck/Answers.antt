@@ -1,9 +1,0 @@
-use Rattle.std.proofs.Common.{codes, refl}
-use Rattle.rl_session.proofs.ListingLemmas.{then_pushed}
-use Rattle.rl_grade_report.specs.Row.{of_field}
-use Rattle.rl_grade_report.proofs.row.push_stuck.Goals as goal
-
-pub returns : goal.returns
-returns c =
-    let pieces = rw (c.as_bytes.ensures.value, c.format.ensures.text, c.value_line.ensures) at c.push_pieces.ensures in
-    then_pushed _ c.args.text.now.items _ _ _ (of_field c.args.chip.now (codes "stuck") c.args.field) _ c.in_ok-push_of_field.ensures refl pieces

@@ -1,5 +1,0 @@
-use Rattle.rl_grade_report.proofs.totals.push_percent.Goals as goal
-
-pub returns : goal.returns
-returns c =
-    rw (c.as_bytes.ensures.value, c.format.ensures.text, c.as_bytes-2.ensures.value, c.format-2.ensures.text) at c.push_pieces.ensures
