@@ -25,7 +25,7 @@ use Rattle.rl_grade.specs.Reading.{refused_line}
 use Rattle.rl_grade.specs.Script.{tasks_from}
 use Rattle.rl_plan.specs.declared.asked.Asked.{Asked}
 use Rattle.rl_plan.specs.Adding.{added_of, added_text, needed_text, opened_added, script_added, tasks_added}
-use Rattle.rl_plan.specs.Needed.{needed}
+use Rattle.rl_plan.specs.Enough.{added_items}
 use Rattle.rl_plan.specs.Opening.{unflawed}
 use Rattle.rl_plan.specs.Refusal.{EndsUnread}
 use Rattle.rl_plan.specs.Run.{Planned, TellsPlan, desc_of, model_of}
@@ -34,7 +34,7 @@ use Rattle.rl_plan.proofs.BehindLemmas.{desc_back}
 -- ---- the text
 
 pub text_needed : {T E : Type 0} (text : T → List ℕ) (r : Result T E) (d again : DescData) (m : ModelData) (asked : Asked)
-    (script : List Task) (items : List Item) → m ≡ model_of again → again ≡ d → items ≡ needed d asked script
+    (script : List Task) (items : List Item) → m ≡ model_of again → again ≡ d → items ≡ added_items d asked script
     → IfOk r (λ t. text t ≡ added_text m asked items) → IfOk r (λ t. text t ≡ needed_text d asked script)
 text_needed text (Ok t) d again m asked script items is same chosen h =
     h ∙ ap (λ m. added_text m asked items) is ∙ ap (λ d. added_text (model_of d) asked items) same

@@ -1,5 +1,6 @@
--- The lines of an item as tasks behind those of a script, and the device without a flaw.
-use Rattle.std.proofs.Common.{◌≡◌, ℕ, true, List, [], ◌∷◌, ◌++◌, length, map, All, Some, refl, sym, ap, subst, ◌∙◌}
+-- The lines of items as tasks behind those of a script, and the device without a flaw.
+use Rattle.std.proofs.Common.{◌≡◌, ℕ, Bool, true, false, if◌then◌else◌, List, [], ◌∷◌, ◌++◌, length, map, flat_map, All, Some, refl, sym, ap, subst, ◌∙◌}
+use Rattle.std.specs.List.{list_any}
 use Rattle.std.proofs.lemmas.List.Elements.{All-append, All-cons, All-map, All-nil}
 use Rattle.rl_model.specs.declared.rows.Item.{Item}
 use Rattle.rl_model.specs.declared.rows.Item.TheVariants.{Reg, Mem}
@@ -21,9 +22,13 @@ use Rattle.rl_grade.specs.declared.job.Task.{Task}
 use Rattle.rl_grade.specs.Adapters.{fresh_standings}
 use Rattle.rl_grade.specs.Job.{JobFits, TasksFit}
 use Rattle.rl_plan.specs.declared.asked.Asked.{Asked}
-use Rattle.rl_plan.specs.Needed.{added_task, added_walk, item_tasks}
+use Rattle.rl_plan.specs.declared.lines.Part.{Part}
+use Rattle.rl_plan.specs.declared.lines.Part.TheVariants.{First, Further, Memory}
+use Rattle.rl_plan.specs.Behind.{added_task, added_walk, behind, lines_tasks, part_tasks, walk_tasks}
 use Rattle.rl_plan.specs.Run.{desc_of, model_of}
-use Rattle.rl_plan.specs.Text.{is_planned, planned_for, planned_further, planned_in}
+use Rattle.rl_plan.specs.Text.{is_memory, is_planned, planned_for, planned_further, planned_in}
+use Rattle.rl_plan.specs.Trial.{CanTry}
+use Rattle.rl_plan.proofs.Pushed.{all_flat}
 use Rattle.rl_plan.proofs.Planned.{Fits, further_fits, mem_fits, of_all, reg_fits}
 
 -- ---- the numbers in the tasks are in range
@@ -41,36 +46,64 @@ ops_fit c maps ops fit =
     All-map (λ (t : Task). JobFits c maps t.job) added_task ops
     (of_all (Fits c maps) (λ o. JobFits c maps (added_task o).job) ops (task_fits c maps) fit)
 
-item_fits : (m : ModelData) (asked : Asked) (i : Item) → IsModel m → HasItem m.chip i
-    → TasksFit m.chip (length m.layout.maps) (item_tasks m asked i)
-item_fits m asked (Reg reg) model there =
-    let maps = length m.layout.maps in
-    All-append (λ (t : Task). JobFits m.chip maps t.job) (map added_task (planned_for m asked reg)) (map added_task (planned_further m asked reg))
-    (ops_fit m.chip maps (planned_for m asked reg) (reg_fits m asked reg model there))
-    (ops_fit m.chip maps (planned_further m asked reg) (further_fits m asked reg model there))
-item_fits m asked (Mem mem) model there =
-    let maps = length m.layout.maps in
-    All-cons (λ (t : Task). JobFits m.chip maps t.job) added_walk (map added_task (planned_in m mem)) tt
-    (ops_fit m.chip maps (planned_in m mem) (mem_fits m mem model there))
+module _ (m : ModelData) (asked : Asked) (model : IsModel m) where
+  -- each of these tasks is in range
+  abbrev AllFit : List Task → Type 0
+  AllFit tasks = TasksFit m.chip (length m.layout.maps) tasks
 
-module _ (d : DescData) (asked : Asked) (i : Item) (m : ModelData) (is : m ≡ model_of d) where
-  pub there_is : HasItem d.chip i → HasItem m.chip i
-  there_is there = subst (λ (m : ModelData). HasItem m.chip i) (sym is) there
+  part_fits : (part : Part) (i : Item) → HasItem m.chip i → AllFit (part_tasks m asked part i)
+  part_fits First (Reg reg) there = ops_fit m.chip (length m.layout.maps) (planned_for m asked reg) (reg_fits m asked reg model there)
+  part_fits Further (Reg reg) there =
+      ops_fit m.chip (length m.layout.maps) (planned_further m asked reg) (further_fits m asked reg model there)
+  part_fits Memory (Reg reg) there = All-nil (λ (t : Task). JobFits m.chip (length m.layout.maps) t.job)
+  part_fits First (Mem mem) there = All-nil (λ (t : Task). JobFits m.chip (length m.layout.maps) t.job)
+  part_fits Further (Mem mem) there = All-nil (λ (t : Task). JobFits m.chip (length m.layout.maps) t.job)
+  part_fits Memory (Mem mem) there = ops_fit m.chip (length m.layout.maps) (planned_in m mem) (mem_fits m mem model there)
 
-  pub tasks_are : (script tasks : List Task) → tasks ≡ script ++ item_tasks m asked i → tasks ≡ script ++ item_tasks (model_of d) asked i
-  tasks_are script tasks pushed = pushed ∙ ap (λ m. script ++ item_tasks m asked i) is
+  parts_fit : (part : Part) (items : List Item) → All (HasItem m.chip) items → AllFit (flat_map (part_tasks m asked part) items)
+  parts_fit part items there =
+      all_flat (λ (t : Task). JobFits m.chip (length m.layout.maps) t.job) (part_tasks m asked part) items
+      (of_all (HasItem m.chip) (λ i. AllFit (part_tasks m asked part i)) items (part_fits part) there)
 
-  pub tasks_fit : (script tasks : List Task) → IsModel m → HasItem d.chip i → TasksFit d.chip (length d.layout.maps) script
-      → tasks ≡ script ++ item_tasks m asked i → TasksFit d.chip (length d.layout.maps) tasks
+  walk_fits : (b : Bool) → AllFit (if b then added_walk ∷ [] else [])
+  walk_fits true =
+      All-cons (λ (t : Task). JobFits m.chip (length m.layout.maps) t.job) added_walk [] tt
+      (All-nil (λ (t : Task). JobFits m.chip (length m.layout.maps) t.job))
+  walk_fits false = All-nil (λ (t : Task). JobFits m.chip (length m.layout.maps) t.job)
+
+  lines_fit : (items : List Item) → All (HasItem m.chip) items → AllFit (lines_tasks m asked items)
+  unfolding lines_tasks
+  lines_fit items there =
+      let fit : Task → Type 0 = λ t. JobFits m.chip (length m.layout.maps) t.job in
+      let of : Part → List Task = λ part. flat_map (part_tasks m asked part) items in
+      let firsts = All-append fit (of First) (of Further) (parts_fit First items there) (parts_fit Further items there) in
+      let walked = All-append fit (of First ++ of Further) (walk_tasks items) firsts (walk_fits (list_any is_memory items)) in
+      All-append fit (of First ++ of Further ++ walk_tasks items) (of Memory) walked (parts_fit Memory items there)
+
+module _ (d : DescData) (asked : Asked) (items : List Item) (m : ModelData) (is : m ≡ model_of d) where
+  pub there_are : All (HasItem d.chip) items → All (HasItem m.chip) items
+  there_are there = subst (λ (m : ModelData). All (HasItem m.chip) items) (sym is) there
+
+  pub tasks_are : (script tasks : List Task) → tasks ≡ script ++ lines_tasks m asked items → tasks ≡ behind d asked script items
+  tasks_are script tasks pushed = pushed ∙ ap (λ m. script ++ lines_tasks m asked items) is
+
+  pub tasks_fit : (script tasks : List Task) → IsModel m → All (HasItem d.chip) items → TasksFit d.chip (length d.layout.maps) script
+      → tasks ≡ script ++ lines_tasks m asked items → TasksFit d.chip (length d.layout.maps) tasks
   tasks_fit script tasks model there fits pushed =
       let sound = subst IsModel is model in
       subst (TasksFit d.chip (length d.layout.maps)) (sym (tasks_are script tasks pushed))
-      (All-append (λ (t : Task). JobFits d.chip (length d.layout.maps) t.job) script (item_tasks (model_of d) asked i) fits
-      (item_fits (model_of d) asked i sound there))
+      (All-append (λ (t : Task). JobFits d.chip (length d.layout.maps) t.job) script (lines_tasks (model_of d) asked items) fits
+      (lines_fit (model_of d) asked sound items there))
+
+-- the description again can be tried with tasks that fit
+pub can_try_behind : (d again : DescData) (script tasks : List Task) → again ≡ d → CanTry d script
+    → TasksFit d.chip (length d.layout.maps) tasks → CanTry again tasks
+can_try_behind d again script tasks same can fits =
+    subst (λ d. CanTry d tasks) (sym same) (record { built_with = can.built_with; kinds = can.kinds; fits = fits })
 
 -- ---- the description again
 
-desc_again : (d : DescData) → d.flaws ≡ [] → desc_of (model_of d) ≡ d
+pub desc_again : (d : DescData) → d.flaws ≡ [] → desc_of (model_of d) ≡ d
 desc_again d none =
     let with_flaws : List Flaw → DescData = λ flaws. record { chip = d.chip; layout = d.layout; flaws = flaws } in
     ap with_flaws (sym none)

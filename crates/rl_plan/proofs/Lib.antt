@@ -1,6 +1,7 @@
 mod AddingLemmas
 mod BehindLemmas
 mod Each
+mod EnoughLemmas
 mod Few
 mod Fields
 mod ItemLemmas

@@ -26,7 +26,7 @@ use Rattle.rl_plan.specs.declared.visit.Visit.TheVariants as visit
 use Rattle.rl_plan.specs.declared.way.Way.{Way}
 use Rattle.rl_plan.specs.Plan.{check_by, is_filled, is_gone, further_ops_as, further_steps, location_ops, ones_of, only_if, op_of, ops_as, some_op}
 use Rattle.rl_plan.specs.Plan.{touch_op, visit_op, way_at, ways_of, write_by}
-use Rattle.rl_plan.specs.Text.{is_planned, mem_ways, planned_for, planned_further, planned_in, reg_target, reg_ways}
+use Rattle.rl_plan.specs.Text.{HasLine, is_planned, mem_ways, planned_for, planned_further, planned_in, reg_target, reg_ways}
 use Rattle.rl_plan.specs.Steps.{steps_of}
 use Rattle.rl_plan.proofs.Pushed.{of_one}
 
@@ -80,26 +80,18 @@ ways_in l i (suc k) sound few =
 
 -- ---- sizes
 
+at_most : {R : Type 0} (o : Option R) (size : R → ℕ) (most : ℕ) → ((r : R) → o ≡ Some r → size r ≤ most) → option_map_or size o 0 ≤ most
+at_most None size most each = omega arith
+at_most (Some r) size most each = each r refl
+
 bytes_of_reg : (c : ChipData) (reg : ℕ) → IsChip c → size_of c reg ≤ 8
-bytes_of_reg c reg sound =
-    elim (slice_get c.regs reg) as (λ o. slice_get c.regs reg ≡ o → option_map_or (λ r. r.bytes) o 0 ≤ 8) [
-      | None ↦ λ e. omega arith
-      | Some r ↦ λ e. (sound.each_reg reg r e).1
-    ] refl
+bytes_of_reg c reg sound = at_most (slice_get c.regs reg) (λ r. r.bytes) 8 (λ r e. (sound.each_reg reg r e).1)
 
 bytes_of_mem : (c : ChipData) (mem : ℕ) → IsChip c → location_size c mem ≤ 8
-bytes_of_mem c mem sound =
-    elim (slice_get c.mems mem) as (λ o. slice_get c.mems mem ≡ o → option_map_or (λ m. m.bytes) o 0 ≤ 8) [
-      | None ↦ λ e. omega arith
-      | Some r ↦ λ e. (sound.each_mem mem r e).1
-    ] refl
+bytes_of_mem c mem sound = at_most (slice_get c.mems mem) (λ m. m.bytes) 8 (λ m e. (sound.each_mem mem m e).1)
 
 size_most : (c : ChipData) (mem : ℕ) → IsChip c → memory_size c mem ≤ 65536
-size_most c mem sound =
-    elim (slice_get c.mems mem) as (λ o. slice_get c.mems mem ≡ o → option_map_or (λ m. m.size) o 0 ≤ 65536) [
-      | None ↦ λ e. omega arith
-      | Some r ↦ λ e. (size_fits c sound mem r e).1
-    ] refl
+size_most c mem sound = at_most (slice_get c.mems mem) (λ m. m.size) 65536 (λ m e. (size_fits c sound mem m e).1)
 
 ones_fit : (bytes : ℕ) → bytes ≤ 8 → ones_of bytes < 2 ^ 64
 ones_fit bytes few =
@@ -226,10 +218,7 @@ mem_fits m mem model there =
     (location_fits m.chip maps mem there ways filled value 0 (omega arith, word) each)
     (last_fits m.chip maps mem there ways filled value (size - 1) (nat_lt 1 size) (omega (arith, few), word) each)
 
--- ---- one fact and the other
+-- ---- each has a line
 
-pub each_planned : (c : ChipData) (maps : ℕ) (ops : List Op) → All (Fits c maps) ops → All (λ o. is_planned o ≡ true) ops
-each_planned c maps ops each = of_all (Fits c maps) (λ o. is_planned o ≡ true) ops (λ o fits. fits.0) each
-
-pub each_numbered : (c : ChipData) (maps : ℕ) (ops : List Op) → All (Fits c maps) ops → All (HasNumbers c maps) ops
-each_numbered c maps ops each = of_all (Fits c maps) (HasNumbers c maps) ops (λ o fits. fits.1) each
+pub have_lines : (m : ModelData) (ops : List Op) → All (Fits m.chip (length m.layout.maps)) ops → All (HasLine m) ops
+have_lines m ops each = of_all (Fits m.chip (length m.layout.maps)) (HasLine m) ops (λ o fits. (fits.0, fits.1)) each

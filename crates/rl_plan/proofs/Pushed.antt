@@ -1,7 +1,7 @@
 -- What was appended, with one more.
-use Rattle.std.proofs.Common.{◌≡◌, ℕ, ◌+◌, ◌<◌, List, [], ◌∷◌, ◌++◌, length, take, map, filter_map, flat_map, get_or, Option, Some, None, refl, sym, ap, ◌∙◌, append_assoc}
+use Rattle.std.proofs.Common.{◌≡◌, ℕ, zero, suc, ◌+◌, ◌<◌, List, [], ◌∷◌, ◌++◌, length, take, map, filter_map, flat_map, get_or, All, Option, Some, None, refl, sym, ap, ◌∙◌, append_assoc, arith}
 use Rattle.std.proofs.lemmas.List.{flat_map_more, map-append, take_more}
-use Rattle.std.proofs.lemmas.List.Elements.{filter_map-append}
+use Rattle.std.proofs.lemmas.List.Elements.{All-append, All-nil, filter_map-append}
 use Rattle.rl_access.specs.declared.event.Op.{Op}
 use Rattle.rl_plan.specs.Plan.{some_op}
 
@@ -19,7 +19,7 @@ one_more h first now next xs i d low so pushed =
     ∙ ap (λ l. first ++ l) (sym (filter_map-append h (take i xs) (x ∷ [])))
     ∙ ap (λ l. first ++ filter_map h l) (sym (take_more xs i d low))
 
-pub text_more : {X : Type 0} (f : X → List ℕ) (first now next : List ℕ) (xs : List X) (i : ℕ) (d : X) → i < length xs
+pub text_more : {X Y : Type 0} (f : X → List Y) (first now next : List Y) (xs : List X) (i : ℕ) (d : X) → i < length xs
     → now ≡ first ++ flat_map f (take i xs) → next ≡ now ++ f (get_or xs i d)
     → next ≡ first ++ flat_map f (take (i + 1) xs)
 text_more f first now next xs i d low so pushed =
@@ -35,3 +35,9 @@ map_more f first now next xs i d low so pushed =
     pushed ∙ ap (λ l. l ++ f x ∷ []) so ∙ append_assoc first (map f (take i xs)) (f x ∷ [])
     ∙ ap (λ l. first ++ l) (sym (map-append f (take i xs) (x ∷ [])))
     ∙ ap (λ l. first ++ map f l) (sym (take_more xs i d low))
+
+-- what holds of the pieces holds of all
+pub all_flat : {X Y : Type 0} (P : Y → Type 0) (f : X → List Y) (xs : List X) → All (λ x. All P (f x)) xs → All P (flat_map f xs)
+all_flat P f [] each = All-nil P
+all_flat P f (x ∷ xs) each =
+    All-append P (f x) (flat_map f xs) (each zero x (omega arith)) (all_flat P f xs (λ k d low. each (suc k) d (omega arith)))

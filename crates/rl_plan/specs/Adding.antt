@@ -11,7 +11,7 @@ use Rattle.rl_grade.specs.declared.job.Task.{Task}
 use Rattle.rl_grade.specs.Adapters.{fresh_standings}
 use Rattle.rl_grade.specs.Script.{RefusedLine, tasks_from}
 use Rattle.rl_plan.specs.declared.asked.Asked.{Asked}
-use Rattle.rl_plan.specs.Needed.{needed}
+use Rattle.rl_plan.specs.Enough.{added_items}
 use Rattle.rl_plan.specs.Opening.{unflawed}
 use Rattle.rl_plan.specs.Run.{Planned, model_of}
 use Rattle.rl_plan.specs.Text.{lines_text}
@@ -25,7 +25,7 @@ added_text m asked items = if length items == 0 then nothing_text else lines_tex
 
 -- what a script of these tasks needs
 abbrev pub needed_text : DescData → Asked → (script : List Task) → List ℕ
-needed_text d asked script = added_text (model_of d) asked (needed d asked script)
+needed_text d asked script = added_text (model_of d) asked (added_items d asked script)
 
 -- a script, or its first line that is refused
 abbrev pub tasks_added : Asked → DescData → Result (List Task) RefusedLine → Planned

@@ -1,6 +1,8 @@
 pub mod Adding
 pub mod Asked
+pub mod Behind
 pub mod Bits
+pub mod Enough
 pub mod Laws
 pub mod Needed
 pub mod Opening
@@ -9,3 +11,4 @@ pub mod Refusal
 pub mod Run
 pub mod Steps
 pub mod Text
+pub mod Trial

@@ -1,18 +1,14 @@
 -- The registers and memories of which a script needs the lines: put after the script, these find a flaw of it first.
-use Rattle.std.specs.Prelude.{ℕ, ◌==◌, Bool, false, List, [], ◌∷◌, ◌++◌, map, filter, slice_get, Option, Some, None}
+use Rattle.std.specs.Prelude.{ℕ, ◌==◌, Bool, false, List, [], ◌∷◌, map, filter, flat_map, slice_get, Option, Some, None}
 use Rattle.std.specs.List.{list_any, range_with_len}
 use Rattle.std.specs.Option.{option_map_or}
 use Rattle.rl_model.specs.declared.rows.Item.{Item}
 use Rattle.rl_model.specs.declared.rows.Item.TheVariants as item
 use Rattle.rl_model.specs.declared.rows.RegRow.{RegRow}
 use Rattle.rl_model.specs.Rows.{ChipData}
-use Rattle.rl_access.specs.declared.event.Op.{Op}
-use Rattle.rl_access.specs.Model.{ModelData}
 use Rattle.rl_desc.specs.Data.{DescData}
-use Rattle.rl_script.specs.declared.line.Sequence.TheVariants.{MemWalk}
 use Rattle.rl_session.specs.Judged.{first_world}
 use Rattle.rl_grade.specs.declared.grade.Graded.{Graded}
-use Rattle.rl_grade.specs.declared.job.Job.TheVariants as job
 use Rattle.rl_grade.specs.declared.job.Task.{Task}
 use Rattle.rl_grade.specs.declared.place.Place.{Place}
 use Rattle.rl_grade.specs.declared.place.Place.TheVariants.{OfItem, OfField}
@@ -26,28 +22,10 @@ use Rattle.rl_grade.specs.Place.{flaws_at}
 use Rattle.rl_grade.specs.Record.{items_from}
 use Rattle.rl_grade.specs.Share.{grades_of}
 use Rattle.rl_plan.specs.declared.asked.Asked.{Asked}
-use Rattle.rl_plan.specs.Run.{model_of}
-use Rattle.rl_plan.specs.Text.{items_of, planned_for, planned_further, planned_in}
+use Rattle.rl_plan.specs.Behind.{added, behind}
+use Rattle.rl_plan.specs.Text.{items_of}
 
--- ---- the lines of an item as tasks
-
--- the number of a line that is none of the script's, which count from 1
-abbrev pub added : ℕ
-added = 0
-
-abbrev pub added_task : Op → Task
-added_task o = record { line = added; job = job.One o }
-
-abbrev pub added_walk : Task
-added_walk = record { line = added; job = job.Sequence MemWalk None }
-
--- what its lines ask for; of a memory behind the walk over all memories
-abbrev pub item_tasks : ModelData → Asked → Item → List Task
-item_tasks m asked (item.Reg reg) =
-    map added_task (planned_for m asked reg) ++ map added_task (planned_further m asked reg)
-item_tasks m asked (item.Mem mem) = added_walk ∷ map added_task (planned_in m mem)
-
--- ---- the places at which its flaws are told
+-- ---- the places at which the flaws of an item are told
 
 abbrev pub fields_of : Option RegRow → List Place
 fields_of None = []
@@ -60,6 +38,10 @@ own_fields c (item.Mem mem) = []
 -- its own, and those of a register's fields
 abbrev pub places_of : ChipData → Item → List Place
 places_of c i = OfItem i ∷ own_fields c i
+
+-- those of all items
+abbrev pub all_places : ChipData → List Place
+all_places c = flat_map (places_of c) (items_of c)
 
 -- ---- a flaw that is found first in an added line
 
@@ -87,7 +69,7 @@ finds_in d tasks places = finds_by d tasks (heard_of d tasks) places
 
 -- the lines of the item, put behind the script, find a flaw of it first
 unfoldable pub is_needed : DescData → Asked → (script : List Task) → Item → Bool
-is_needed d asked script i = finds_in d (script ++ item_tasks (model_of d) asked i) (places_of d.chip i)
+is_needed d asked script i = finds_in d (behind d asked script (i ∷ [])) (places_of d.chip i)
 
 -- those of a description, in order
 abbrev pub needed : DescData → Asked → (script : List Task) → List Item

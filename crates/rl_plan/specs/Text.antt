@@ -1,5 +1,5 @@
 -- The text of a plan.
-use Rattle.std.specs.Prelude.{ℕ, ◌==◌, Bool, true, false, if◌then◌else◌, List, [], ◌++◌, length, map, flat_map, codes, Option}
+use Rattle.std.specs.Prelude.{◌≡◌, ℕ, ◌==◌, Bool, true, false, if◌then◌else◌, List, [], ◌++◌, length, map, flat_map, codes, Option}
 use Rattle.std.specs.List.{list_any, range_with_len}
 use Rattle.rl_model.specs.declared.rows.Item.{Item}
 use Rattle.rl_model.specs.declared.rows.Item.TheVariants as item
@@ -8,9 +8,11 @@ use Rattle.rl_model.specs.Rows.{ChipData}
 use Rattle.rl_access.specs.declared.event.Op.{Op}
 use Rattle.rl_access.specs.declared.event.Op.TheVariants as op
 use Rattle.rl_access.specs.Model.{ModelData}
-use Rattle.rl_access.specs.Operation.{is_on_memory}
+use Rattle.rl_access.specs.Operation.{HasNumbers, is_on_memory}
 use Rattle.rl_report.specs.Operation.{map_text, number_text, op_text}
 use Rattle.rl_plan.specs.declared.asked.Asked.{Asked}
+use Rattle.rl_plan.specs.declared.lines.Part.{Part}
+use Rattle.rl_plan.specs.declared.lines.Part.TheVariants.{First, Further, Memory}
 use Rattle.rl_plan.specs.declared.target.Target.{Target}
 use Rattle.rl_plan.specs.declared.way.Way.{Way}
 use Rattle.rl_plan.specs.Plan.{further_ops, mem_ops, reg_ops, sort_of, target_of, ways_of}
@@ -26,6 +28,10 @@ is_planned (op.BackCheck reg) = true
 is_planned (op.Write reg map value) = true
 is_planned (op.Poke reg value) = true
 is_planned o = is_on_memory o
+
+-- it is one of these, and its numbers are in range
+abbrev pub HasLine : ModelData → Op → Type 0
+HasLine m o = (is_planned o ≡ true) × HasNumbers m.chip (length m.layout.maps) o
 
 -- the line of an operation, in its canonical spelling
 abbrev pub op_line : ModelData → Op → List ℕ
@@ -87,20 +93,14 @@ mem_text m mem = block_text m (item.Mem mem) (codes "its first and its last loca
 
 -- ---- items, which are registers and memories
 
--- of a register its lines with the reset HARD
-abbrev pub first_part : ModelData → Asked → Item → List ℕ
-first_part m asked (item.Reg reg) = reg_text m asked reg
-first_part m asked (item.Mem mem) = []
-
--- of a register those with its other resets
-abbrev pub further_part : ModelData → Asked → Item → List ℕ
-further_part m asked (item.Reg reg) = further_text m asked reg
-further_part m asked (item.Mem mem) = []
-
--- of a memory its lines
-abbrev pub mem_part : ModelData → Item → List ℕ
-mem_part m (item.Reg reg) = []
-mem_part m (item.Mem mem) = mem_text m mem
+-- the lines of an item in a part of all lines: of a register in two, of a memory in the last
+abbrev pub part_text : ModelData → Asked → Part → Item → List ℕ
+part_text m asked First (item.Reg reg) = reg_text m asked reg
+part_text m asked Further (item.Reg reg) = further_text m asked reg
+part_text m asked Memory (item.Reg reg) = []
+part_text m asked First (item.Mem mem) = []
+part_text m asked Further (item.Mem mem) = []
+part_text m asked Memory (item.Mem mem) = mem_text m mem
 
 abbrev pub is_memory : Item → Bool
 is_memory (item.Reg reg) = false
@@ -117,8 +117,8 @@ walked_text items =
 -- values behind; the walk, and the memories.
 unfoldable pub lines_text : ModelData → Asked → List Item → List ℕ
 lines_text m asked items =
-    flat_map (first_part m asked) items ++ flat_map (further_part m asked) items
-    ++ walked_text items ++ flat_map (mem_part m) items
+    flat_map (part_text m asked First) items ++ flat_map (part_text m asked Further) items
+    ++ walked_text items ++ flat_map (part_text m asked Memory) items
 
 -- ---- a chip
 

@@ -4,16 +4,18 @@ ghost use Rattle.rl_log.specs.declared.status.Status.TheVariants.{Passed};
 ghost use Rattle.rl_log.specs.Telling.{Tells};
 ghost use Rattle.rl_model.specs.Chip.{HasItem};
 ghost use Rattle.rl_report.specs.Lines.{lines_of};
-ghost use Rattle.rl_session_run.specs.Prelude.{AwaitsScript, IsBuiltWith, IsCaused, LeavesEnded, LeavesOpen, StaysOpen};
+ghost use Rattle.rl_session_run.specs.Prelude.{AwaitsScript, IsCaused, LeavesEnded, LeavesOpen, StaysOpen};
 ghost use Rattle.rl_session_run.specs.Prelude.{input_of, kinds_of};
 ghost use Rattle.rl_grade.specs.Prelude.{TasksFit, fresh_standings};
 ghost use Rattle.rl_plan.specs.Adding.{added_of, added_text, needed_text, nothing_text, script_added};
 ghost use Rattle.rl_plan.specs.Run.{TellsPlan, desc_of};
+ghost use Rattle.rl_plan.specs.Trial.{CanTry};
 
 use crate::asked::Asked;
 use crate::behind::unflawed_desc;
+use crate::enough::added_items;
 use crate::lines::lines_text;
-use crate::needed::{Needs, needs_of};
+use crate::needed::Needs;
 use crate::refusal::{Unflawed, end_unread};
 use crate::run::status_of;
 use rl_access::Model;
@@ -58,13 +60,11 @@ fn needed_text(
     desc: Desc,
     script: Vec<Task>,
 ) -> Result<Vec<u8>, AllocError>
-    requires built_with { IsBuiltWith desc.layout desc.chip }
-    requires kinds { desc.layout.kinds ≡ kinds_of fresh_standings }
+    requires can_try { CanTry desc script.items }
     requires none { desc.flaws ≡ [] }
-    requires fits { TasksFit desc.chip (length desc.layout.maps) script.items }
     ensures { IfOk result (λ text. text.items ≡ needed_text desc asked script.items) }
 {
-    let Needs { desc, items } = needs_of(alloc, asked, desc, script)?;
+    let Needs { desc, items } = added_items(alloc, asked, desc, script)?;
     let model = model_of(alloc, desc)?;
     added_text(alloc, &model, asked, &items)
 }
@@ -115,8 +115,9 @@ fn put_script<S: Source, K: Sink>(
 }
 
 /// Writes those lines of the plan that a session's script needs: the lines of each register and memory that find a flaw
-/// of it first, where they are after the script. Where there is none, one comment line says so. The adapters are a
-/// plain and an APB adapter that have sent nothing; nothing is sent over them.
+/// of it first, where they are after the script. Where there is none, one comment line says so. Where these lines miss
+/// a flaw that the lines of all registers and memories find after the script, it writes the lines of all. The adapters
+/// are a plain and an APB adapter that have sent nothing; nothing is sent over them.
 ///
 /// The log is finished once, where its last line was written.
 pub fn run_added<S: Source, K: Sink>(

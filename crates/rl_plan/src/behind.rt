@@ -1,11 +1,14 @@
-// The lines of an item as tasks behind those of a script, and what the device without a flaw shows by all of them.
-ghost use Rattle.std.specs.Prelude.{◌≡◌, ◌++◌, ◌∷◌, [], ◌<◌, IfOk, OnOk, length, map};
+// The lines of items as tasks behind those of a script, and what the device without a flaw shows by all of them.
+ghost use Rattle.std.specs.Prelude.{◌≡◌, ◌++◌, [], All, IfOk, OnOk, flat_map, length, map};
 ghost use Rattle.rl_model.specs.Chip.{HasItem};
-ghost use Rattle.rl_grade.specs.Prelude.{IsBuiltWith, TasksFit, all_seen, fresh_standings, items_from, kinds_of};
-ghost use Rattle.rl_plan.specs.Needed.{added_task, added_walk, heard_of, item_tasks};
+ghost use Rattle.rl_grade.specs.Prelude.{IsBuiltWith, TasksFit, all_seen, fresh_standings, items_from};
+ghost use Rattle.rl_plan.specs.Behind.{added_task, behind, lines_tasks, part_ops, part_tasks, walk_tasks};
+ghost use Rattle.rl_plan.specs.Needed.{heard_of};
 ghost use Rattle.rl_plan.specs.Run.{desc_of, model_of};
+ghost use Rattle.rl_plan.specs.Trial.{CanTry};
 
 use crate::asked::Asked;
+use crate::lines::{Part, has_memory};
 use crate::plan::{planned_for, planned_further, planned_in};
 use rl_access::{Model, Op};
 use rl_apb::fresh_adapters;
@@ -53,80 +56,96 @@ fn push_ops(tasks: &mut Vec<Task>, ops: &[Op]) -> Result<(), AllocError>
     Ok(())
 }
 
-// Appends what the lines of a register ask for.
-fn push_reg_tasks(
+// The operations of an item in a part of the lines.
+fn part_ops(
     alloc: Global,
     model: &Model,
     asked: Asked,
-    reg: u32,
-    tasks: &mut Vec<Task>,
-) -> Result<(), AllocError>
-    requires { reg < length model.now.chip.regs }
-    ensures { OnOk result (tasks.new.items ≡ tasks.old.items ++ item_tasks model.now asked (Item.Reg reg)) }
+    part: Part,
+    item: Item,
+) -> Result<Vec<Op>, AllocError>
+    requires { HasItem model.now.chip item }
+    ensures { IfOk result (λ ops. ops.items ≡ part_ops model.now asked part item) }
 {
-    let ops = planned_for(alloc, model, asked, reg)?;
-    push_ops(tasks, &ops)?;
-    let further = planned_further(alloc, model, asked, reg)?;
-    push_ops(tasks, &further)
+    match (part, item) {
+        (Part::First, Item::Reg(reg)) => planned_for(alloc, model, asked, reg),
+        (Part::Further, Item::Reg(reg)) => planned_further(alloc, model, asked, reg),
+        (Part::Memory, Item::Mem(mem)) => planned_in(alloc, model, mem),
+        _ => Ok(Vec::new(alloc)),
+    }
 }
 
-// Appends what the lines of a memory ask for, behind the walk over all memories.
-fn push_mem_tasks(
+// Appends what a part of the lines asks for.
+fn push_part(
     alloc: Global,
     model: &Model,
     asked: Asked,
-    mem: u32,
+    part: Part,
+    items: &[Item],
     tasks: &mut Vec<Task>,
 ) -> Result<(), AllocError>
-    requires { mem < length model.now.chip.mems }
-    ensures { OnOk result (tasks.new.items ≡ tasks.old.items ++ item_tasks model.now asked (Item.Mem mem)) }
+    requires { All (HasItem model.now.chip) items.now }
+    ensures { OnOk result (tasks.new.items ≡ tasks.old.items ++ flat_map (part_tasks model.now asked part) items.now) }
 {
-    tasks.push(Task {
-        line: ADDED,
-        job: Job::Sequence {
-            which: Sequence::MemWalk,
-            block: None,
-        },
-    })?;
-    let ops = planned_in(alloc, model, mem)?;
-    push_ops(tasks, &ops)
+    for item in items {
+        let ops = part_ops(alloc, model, asked, part, *item)?;
+        push_ops(tasks, &ops)?;
+    }
+    Ok(())
 }
 
-// Appends what the lines of an item ask for.
+// Appends the walk over all memories, where one of the items is a memory.
+fn push_walk(tasks: &mut Vec<Task>, items: &[Item]) -> Result<(), AllocError>
+    ensures { OnOk result (tasks.new.items ≡ tasks.old.items ++ walk_tasks items.now) }
+{
+    if has_memory(items) {
+        tasks.push(Task {
+            line: ADDED,
+            job: Job::Sequence {
+                which: Sequence::MemWalk,
+                block: None,
+            },
+        })?;
+    }
+    Ok(())
+}
+
+// Appends what the lines for some items ask for, in the order of their text.
+#[tactic(auto, unfolding(crate::specs::Behind::lines_tasks))]
 fn push_tasks(
     alloc: Global,
     model: &Model,
     asked: Asked,
-    item: Item,
+    items: &[Item],
     tasks: &mut Vec<Task>,
 ) -> Result<(), AllocError>
-    requires { HasItem model.now.chip item }
-    ensures { OnOk result (tasks.new.items ≡ tasks.old.items ++ item_tasks model.now asked item) }
+    requires { All (HasItem model.now.chip) items.now }
+    ensures { OnOk result (tasks.new.items ≡ tasks.old.items ++ lines_tasks model.now asked items.now) }
 {
-    match item {
-        Item::Reg(reg) => push_reg_tasks(alloc, model, asked, reg, tasks),
-        Item::Mem(mem) => push_mem_tasks(alloc, model, asked, mem, tasks),
-    }
+    push_part(alloc, model, asked, Part::First, items, tasks)?;
+    push_part(alloc, model, asked, Part::Further, items, tasks)?;
+    push_walk(tasks, items)?;
+    push_part(alloc, model, asked, Part::Memory, items, tasks)
 }
 
-// Appends the lines of an item of a description to the tasks of its script. The description comes back.
+// Appends the lines for some items of a description to the tasks of its script. The description comes back.
 pub(crate) fn push_lines(
     alloc: Global,
     asked: Asked,
     desc: Desc,
-    item: Item,
+    items: &[Item],
     tasks: &mut Vec<Task>,
 ) -> Result<Desc, AllocError>
     requires built_with { IsBuiltWith desc.layout desc.chip }
     requires none { desc.flaws ≡ [] }
-    requires item { HasItem desc.chip item }
+    requires items { All (HasItem desc.chip) items.now }
     requires fits { TasksFit desc.chip (length desc.layout.maps) tasks.old.items }
     ensures desc { IfOk result (λ again. again ≡ desc) }
-    ensures tasks { OnOk result (tasks.new.items ≡ tasks.old.items ++ item_tasks (model_of desc) asked item) }
+    ensures tasks { OnOk result (tasks.new.items ≡ behind desc asked tasks.old.items items.now) }
     ensures fits { OnOk result (TasksFit desc.chip (length desc.layout.maps) tasks.new.items) }
 {
     let model = model_of(alloc, desc)?;
-    push_tasks(alloc, &model, asked, item, tasks)?;
+    push_tasks(alloc, &model, asked, items, tasks)?;
     Ok(unflawed_desc(alloc, model))
 }
 
@@ -137,10 +156,8 @@ fn show_over(
     tasks: &[Task],
     adapters: &mut Adapters,
 ) -> Result<Showing, AllocError>
-    requires built_with { IsBuiltWith desc.layout desc.chip }
-    requires kinds { desc.layout.kinds ≡ kinds_of fresh_standings }
+    requires can_try { CanTry desc tasks.now }
     requires none { desc.flaws ≡ [] }
-    requires fits { TasksFit desc.chip (length desc.layout.maps) tasks.now }
     requires fresh { map standing adapters.old.items ≡ fresh_standings }
     ensures desc { IfOk result (λ showing. showing.desc ≡ desc) }
     ensures seen { IfOk result (λ showing. showing.shown.seen.items ≡ all_seen (heard_of desc tasks.now)) }
@@ -156,10 +173,8 @@ fn show_over(
 
 // What tasks show from the first state of a description without flaws, as by a program that was just started.
 pub(crate) fn show_afresh(alloc: Global, desc: Desc, tasks: &[Task]) -> Result<Showing, AllocError>
-    requires built_with { IsBuiltWith desc.layout desc.chip }
-    requires kinds { desc.layout.kinds ≡ kinds_of fresh_standings }
+    requires can_try { CanTry desc tasks.now }
     requires none { desc.flaws ≡ [] }
-    requires fits { TasksFit desc.chip (length desc.layout.maps) tasks.now }
     ensures desc { IfOk result (λ showing. showing.desc ≡ desc) }
     ensures seen { IfOk result (λ showing. showing.shown.seen.items ≡ all_seen (heard_of desc tasks.now)) }
     ensures items { IfOk result (λ showing. showing.shown.items ≡ items_from 0 (heard_of desc tasks.now)) }

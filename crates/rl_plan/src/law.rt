@@ -1,7 +1,8 @@
-//! What holds of the lines of every plan, and what the steps by bus and backdoor show of one bit. Each function does
-//! nothing; its contract is the law.
+//! What holds of the lines of every plan and of those that are added to a script, and what the steps by bus and
+//! backdoor show of one bit. Each function does nothing; its contract is the law.
 ghost use Rattle.rl_plan.specs.Bits.{ForgetsAtReset, ShowsDeafOnes, ShowsStuckBits, ShowsWrongResets};
 ghost use Rattle.rl_plan.specs.Bits.{TellsPoliciesApart};
+ghost use Rattle.rl_plan.specs.Enough.{AddedLinesAreEnough};
 ghost use Rattle.rl_plan.specs.Laws.{LinesAreFew, LinesReadBack};
 
 /// The steps distinguish any two of the 25 policies, from each reset value on and where there is none: some check
@@ -41,4 +42,10 @@ pub fn lines_read_back()
 /// the kinds HARD and SOFT only and at most 8 places it has at most 40.
 pub fn lines_are_few()
     ensures { LinesAreFew }
+{}
+
+/// No flaw of a register, a memory or a field that the lines of all items find after a script is missed there with the
+/// lines that are added to it.
+pub fn added_lines_are_enough()
+    ensures { AddedLinesAreEnough }
 {}

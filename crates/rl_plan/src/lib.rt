@@ -4,12 +4,13 @@
 //! apart any two access policies, bit by bit. Which words and which texts these are is this project's own.
 //!
 //! Of a session with a script those lines are found that the script needs: of each register and memory, where its lines
-//! after the script find a flaw first.
+//! after the script find a flaw first; or of all, where those lines miss one that the lines of all find.
 #![tactic(auto)]
 
 mod adding;
 mod asked;
 mod behind;
+mod enough;
 pub mod law;
 mod lines;
 mod memory;

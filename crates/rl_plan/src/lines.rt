@@ -2,14 +2,24 @@
 ghost use Rattle.std.specs.Prelude.{◌≡◌, ◌++◌, All, IfOk, OnOk, flat_map, length, map};
 ghost use Rattle.std.specs.List.{list_any, range_with_len};
 ghost use Rattle.rl_model.specs.Chip.{HasItem};
-ghost use Rattle.rl_plan.specs.Text.{first_part, further_part, is_memory, items_of, lines_text, mem_part};
-ghost use Rattle.rl_plan.specs.Text.{plan_text, walked_text};
+ghost use Rattle.rl_plan.specs.Text.{is_memory, items_of, lines_text, part_text, plan_text, walked_text};
 
 use crate::asked::Asked;
 use crate::plan::{push_further, push_mem, push_reg};
 use rl_access::Model;
 use rl_model::{Chip, Item};
 use std::alloc::{AllocError, Global};
+
+// A part of the lines for some items; the parts come one after another, each of all items.
+#[derive(Clone, Copy)]
+pub(crate) enum Part {
+    // Of registers, those with the reset HARD.
+    First,
+    // Of registers, those with their other resets.
+    Further,
+    // Of memories, those behind the walk over all memories.
+    Memory,
+}
 
 // ---- the items of a chip
 
@@ -42,100 +52,42 @@ pub fn items_of(alloc: Global, chip: &Chip) -> Result<Vec<Item>, AllocError>
     Ok(items)
 }
 
-// ---- an item
+// ---- the parts of the lines
 
-fn push_first_part(
+// Appends the lines of an item in a part of all lines.
+fn push_item(
     alloc: Global,
     text: &mut Vec<u8>,
     model: &Model,
     asked: Asked,
+    part: Part,
     item: Item,
 ) -> Result<(), AllocError>
     requires { HasItem model.now.chip item }
-    ensures { OnOk result (text.new.items ≡ text.old.items ++ first_part model.now asked item) }
+    ensures { OnOk result (text.new.items ≡ text.old.items ++ part_text model.now asked part item) }
 {
-    match item {
-        Item::Reg(reg) => push_reg(alloc, text, model, asked, reg),
-        Item::Mem(_) => Ok(()),
+    match (part, item) {
+        (Part::First, Item::Reg(reg)) => push_reg(alloc, text, model, asked, reg),
+        (Part::Further, Item::Reg(reg)) => push_further(alloc, text, model, asked, reg),
+        (Part::Memory, Item::Mem(mem)) => push_mem(alloc, text, model, mem),
+        _ => Ok(()),
     }
 }
 
-fn push_further_part(
+// Appends a part of the lines.
+fn push_part(
     alloc: Global,
     text: &mut Vec<u8>,
     model: &Model,
     asked: Asked,
-    item: Item,
-) -> Result<(), AllocError>
-    requires { HasItem model.now.chip item }
-    ensures { OnOk result (text.new.items ≡ text.old.items ++ further_part model.now asked item) }
-{
-    match item {
-        Item::Reg(reg) => push_further(alloc, text, model, asked, reg),
-        Item::Mem(_) => Ok(()),
-    }
-}
-
-fn push_mem_part(
-    alloc: Global,
-    text: &mut Vec<u8>,
-    model: &Model,
-    item: Item,
-) -> Result<(), AllocError>
-    requires { HasItem model.now.chip item }
-    ensures { OnOk result (text.new.items ≡ text.old.items ++ mem_part model.now item) }
-{
-    match item {
-        Item::Reg(_) => Ok(()),
-        Item::Mem(mem) => push_mem(alloc, text, model, mem),
-    }
-}
-
-// ---- one item after another
-
-fn push_firsts(
-    alloc: Global,
-    text: &mut Vec<u8>,
-    model: &Model,
-    asked: Asked,
+    part: Part,
     items: &[Item],
 ) -> Result<(), AllocError>
     requires { All (HasItem model.now.chip) items.now }
-    ensures { OnOk result (text.new.items ≡ text.old.items ++ flat_map (first_part model.now asked) items.now) }
+    ensures { OnOk result (text.new.items ≡ text.old.items ++ flat_map (part_text model.now asked part) items.now) }
 {
     for item in items {
-        push_first_part(alloc, text, model, asked, *item)?;
-    }
-    Ok(())
-}
-
-fn push_furthers(
-    alloc: Global,
-    text: &mut Vec<u8>,
-    model: &Model,
-    asked: Asked,
-    items: &[Item],
-) -> Result<(), AllocError>
-    requires { All (HasItem model.now.chip) items.now }
-    ensures { OnOk result (text.new.items ≡ text.old.items ++ flat_map (further_part model.now asked) items.now) }
-{
-    for item in items {
-        push_further_part(alloc, text, model, asked, *item)?;
-    }
-    Ok(())
-}
-
-fn push_mems(
-    alloc: Global,
-    text: &mut Vec<u8>,
-    model: &Model,
-    items: &[Item],
-) -> Result<(), AllocError>
-    requires { All (HasItem model.now.chip) items.now }
-    ensures { OnOk result (text.new.items ≡ text.old.items ++ flat_map (mem_part model.now) items.now) }
-{
-    for item in items {
-        push_mem_part(alloc, text, model, *item)?;
+        push_item(alloc, text, model, asked, part, *item)?;
     }
     Ok(())
 }
@@ -146,7 +98,8 @@ fn is_memory(item: Item) -> bool
     matches!(item, Item::Mem(_))
 }
 
-fn has_memory(items: &[Item]) -> bool
+// Whether one of the items is a memory.
+pub(crate) fn has_memory(items: &[Item]) -> bool
     ensures { result ≡ list_any is_memory items.now }
 {
     items.iter().any(|item| is_memory(*item))
@@ -178,10 +131,10 @@ pub fn lines_text(
     ensures { IfOk result (λ text. text.items ≡ lines_text model.now asked items.now) }
 {
     let mut text = Vec::new(alloc);
-    push_firsts(alloc, &mut text, model, asked, items)?;
-    push_furthers(alloc, &mut text, model, asked, items)?;
+    push_part(alloc, &mut text, model, asked, Part::First, items)?;
+    push_part(alloc, &mut text, model, asked, Part::Further, items)?;
     push_walk(&mut text, items)?;
-    push_mems(alloc, &mut text, model, items)?;
+    push_part(alloc, &mut text, model, asked, Part::Memory, items)?;
     Ok(text)
 }
 

@@ -3,8 +3,9 @@ ghost use Rattle.std.specs.Prelude.{◌≡◌, ◌++◌, ◌+◌, ◌^◌, ◌<�
 ghost use Rattle.std.specs.List.{range_with_len};
 ghost use Rattle.rl_model.specs.Chip.{HasItem};
 ghost use Rattle.rl_grade.specs.Prelude.{IsPlaceIn};
-ghost use Rattle.rl_plan.specs.Needed.{own_fields, places_of};
+ghost use Rattle.rl_plan.specs.Needed.{all_places, own_fields, places_of};
 
+use crate::lines::items_of;
 use rl_grade::Place;
 use rl_model::{Chip, Item};
 use std::alloc::{AllocError, Global};
@@ -45,5 +46,19 @@ pub(crate) fn places_of(alloc: Global, chip: &Chip, item: Item) -> Result<Vec<Pl
     let mut places = Vec::new(alloc);
     places.push(Place::OfItem(item))?;
     push_own_fields(&mut places, chip, item)?;
+    Ok(places)
+}
+
+// The items of a chip, each with its fields.
+pub(crate) fn all_places(alloc: Global, chip: &Chip) -> Result<Vec<Place>, AllocError>
+    ensures places { IfOk result (λ places. places.items ≡ all_places chip.now) }
+    ensures each { IfOk result (λ places. All (IsPlaceIn chip.now) places.items) }
+{
+    let items = items_of(alloc, chip)?;
+    let mut places = Vec::new(alloc);
+    for item in &items {
+        let own = places_of(alloc, chip, *item)?;
+        places.extend_from_slice(&own)?;
+    }
     Ok(places)
 }

@@ -1,9 +1,8 @@
 // The plan of a register or of a memory.
-ghost use Rattle.std.specs.Prelude.{◌≡◌, ◌++◌, ◌<◌, All, length, true, IfOk, OnOk};
+ghost use Rattle.std.specs.Prelude.{◌≡◌, ◌++◌, ◌<◌, All, length, IfOk, OnOk};
 ghost use Rattle.rl_access.specs.Model.{IsModel};
-ghost use Rattle.rl_access.specs.Operation.{HasNumbers};
 ghost use Rattle.rl_model.specs.Chip.{HasItem};
-ghost use Rattle.rl_plan.specs.Text.{block_text, comment_text, further_text, is_planned, mem_text, planned_for};
+ghost use Rattle.rl_plan.specs.Text.{HasLine, block_text, comment_text, further_text, mem_text, planned_for};
 ghost use Rattle.rl_plan.specs.Text.{planned_further, planned_in, reg_target, reg_text, some_block_text};
 
 use crate::asked::Asked;
@@ -88,8 +87,7 @@ fn push_block(
     ops: &[Op],
 ) -> Result<(), AllocError>
     requires item { HasItem model.now.chip item }
-    requires planned { All (λ op. is_planned op ≡ true) ops.now }
-    requires numbers { All (HasNumbers model.now.chip (length model.now.layout.maps)) ops.now }
+    requires ops { All (HasLine model.now) ops.now }
     ensures { OnOk result (text.new.items ≡ text.old.items ++ block_text model.now item purpose.now ops.now) }
 {
     push_comment(text, model.chip().path(item), purpose)?;
@@ -105,8 +103,7 @@ fn push_some_block(
     ops: &[Op],
 ) -> Result<(), AllocError>
     requires item { HasItem model.now.chip item }
-    requires planned { All (λ op. is_planned op ≡ true) ops.now }
-    requires numbers { All (HasNumbers model.now.chip (length model.now.layout.maps)) ops.now }
+    requires ops { All (HasLine model.now) ops.now }
     ensures { OnOk result
         (text.new.items ≡ text.old.items ++ some_block_text model.now item purpose.now ops.now) }
 {

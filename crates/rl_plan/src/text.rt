@@ -1,11 +1,11 @@
 // The text of operations.
-ghost use Rattle.std.specs.Prelude.{◌≡◌, ◌++◌, ◌<◌, ◌≤◌, [], ◌∷◌, All, codes, flat_map, length, map, true, OnOk};
+ghost use Rattle.std.specs.Prelude.{◌≡◌, ◌++◌, ◌<◌, All, codes, flat_map, length, true, OnOk};
 ghost use Rattle.rl_policy.specs.Numbers.{spelled};
 ghost use Rattle.rl_access.specs.Operation.{HasNumbers, IsMapIn, is_on_memory};
 ghost use Rattle.rl_model.specs.Chip.{HasItem, path_of_item};
 ghost use Rattle.rl_report.specs.Operation.{kind_text, map_text, number_text};
 ghost use Rattle.rl_script.specs.Commands.{item_name};
-ghost use Rattle.rl_plan.specs.Text.{is_planned, item_text, op_line};
+ghost use Rattle.rl_plan.specs.Text.{HasLine, is_planned, item_text, op_line};
 
 use rl_access::{Model, Op};
 use rl_model::Item;
@@ -175,8 +175,7 @@ fn push_on_memory(text: &mut Vec<u8>, model: &Model, op: Op) -> Result<(), Alloc
 
 /// Appends the lines of operations that a plan has.
 pub(crate) fn push_ops(text: &mut Vec<u8>, model: &Model, ops: &[Op]) -> Result<(), AllocError>
-    requires planned { All (λ op. is_planned op ≡ true) ops.now }
-    requires numbers { All (HasNumbers model.now.chip (length model.now.layout.maps)) ops.now }
+    requires { All (HasLine model.now) ops.now }
     ensures { OnOk result (text.new.items ≡ text.old.items ++ flat_map (op_line model.now) ops.now) }
 {
     for op in ops {

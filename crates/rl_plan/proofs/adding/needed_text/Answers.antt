@@ -3,7 +3,7 @@ use Rattle.rl_plan.proofs.AddingLemmas.{items_have, text_needed}
 use Rattle.rl_plan.proofs.adding.needed_text.Goals as goal
 
 pub model_of-requires : goal.model_of-requires
-model_of-requires c = record { built_with = rw c.in_ok-desc.ensures.desc c.requires.built_with }
+model_of-requires c = record { built_with = rw c.in_ok-desc.ensures.desc c.requires.can_try.built_with }
 
 pub added_text-requires : goal.added_text-requires
 added_text-requires c =

@@ -4,6 +4,11 @@ use Rattle.rl_plan.specs.Adding.{needed_text}
 use Rattle.rl_plan.proofs.SessionLemmas.{text_caused, text_told}
 use Rattle.rl_plan.proofs.adding.put_needed.Goals as goal
 
+pub needed_text-requires-clause-can_try : goal.needed_text-requires-clause-can_try
+needed_text-requires-clause-can_try g c =
+    let e = c.unflawed_desc.ensures in
+    record { built_with = e.built_with; kinds = rw e.desc c.requires.kinds; fits = rw e.desc c.requires.fits }
+
 pub returns-in-Ok-clause-tells : goal.returns-in-Ok-clause-tells
 returns-in-Ok-clause-tells g c =
     rw c.status_of.ensures

@@ -1,4 +1,4 @@
-use Rattle.rl_plan.specs.Needed.{added_task}
+use Rattle.rl_plan.specs.Behind.{added_task}
 use Rattle.rl_plan.proofs.Pushed.{map_more}
 use Rattle.rl_plan.proofs.behind.push_ops.Goals as goal
 

@@ -14,12 +14,12 @@ pub show-requires-clause-ready : goal.show-requires-clause-ready
 show-requires-clause-ready g c =
     let opened = c.in_ok-model.ensures.opened in
     record {
-      kinds = ap kinds_of c.requires.fresh ∙ sym c.requires.kinds ∙ ap (λ (l : LayoutData). l.kinds) (sym opened.layout);
+      kinds = ap kinds_of c.requires.fresh ∙ sym c.requires.can_try.kinds ∙ ap (λ (l : LayoutData). l.kinds) (sym opened.layout);
       device = opened.device;
     }
 
 pub show-requires-clause-fits : goal.show-requires-clause-fits
-show-requires-clause-fits g c = fits_again c.args.desc _ (c.in_ok-model.ensures.first []).model_is _ c.requires.fits
+show-requires-clause-fits g c = fits_again c.args.desc _ (c.in_ok-model.ensures.first []).model_is _ c.requires.can_try.fits
 
 pub returns-clause-desc : goal.returns-clause-desc
 returns-clause-desc g c =

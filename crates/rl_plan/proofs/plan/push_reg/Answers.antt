@@ -1,13 +1,7 @@
-use Rattle.std.proofs.Common.{length}
-use Rattle.rl_plan.proofs.Planned.{each_numbered, each_planned, reg_fits}
+use Rattle.rl_plan.proofs.Planned.{have_lines, reg_fits}
 use Rattle.rl_plan.proofs.plan.push_reg.Goals as goal
 
-pub push_block-requires-clause-planned : goal.push_block-requires-clause-planned
-push_block-requires-clause-planned c =
+pub push_block-requires-clause-ops : goal.push_block-requires-clause-ops
+push_block-requires-clause-ops c =
     let m = c.args.model.now in
-    rw (c.deref.ensures.value, c.in_ok-ops.ensures.exact) (each_planned m.chip (length m.layout.maps) _ (reg_fits m c.args.asked c.args.reg c.planned_for.ensures.sound c.requires))
-
-pub push_block-requires-clause-numbers : goal.push_block-requires-clause-numbers
-push_block-requires-clause-numbers c =
-    let m = c.args.model.now in
-    rw (c.deref.ensures.value, c.in_ok-ops.ensures.exact) (each_numbered m.chip (length m.layout.maps) _ (reg_fits m c.args.asked c.args.reg c.planned_for.ensures.sound c.requires))
+    rw (c.deref.ensures.value, c.in_ok-ops.ensures.exact) (have_lines m _ (reg_fits m c.args.asked c.args.reg c.planned_for.ensures.sound c.requires))

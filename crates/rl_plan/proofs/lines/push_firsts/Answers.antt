@@ -1,8 +1,0 @@
-use Rattle.rl_plan.specs.Text.{first_part}
-use Rattle.rl_plan.proofs.Pushed.{text_more}
-use Rattle.rl_plan.proofs.lines.push_firsts.Goals as goal
-
-pub loop-item-preserved : goal.loop-item-preserved
-loop-item-preserved c =
-    text_more (first_part c.args.model.now c.args.asked) _ _ _ c.args.items.now c.loop-item.item-index _ c.loop-item-test.true c.loop-item.invariant
-    c.in_ok-push_first_part.ensures
