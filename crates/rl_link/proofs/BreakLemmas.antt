@@ -40,14 +40,18 @@ spoken held here skips line says =
 -- ---- why it broke
 
 module _ {S K A : Type 0} (s : Source S) (k : Sink K) (answer : Said → Result A Cause) (old new : Talk S K) where
+  -- what the call that asked answered
+  abbrev gave : Cause → Result Said Cause
+  gave cause = Err cause
+
   -- no answer came
   pub unanswered : (cause : Cause) → IsCauseOfAsking cause
-      → (cause ≡ Unasked → HoldsAnswer old.held)
-      → (cause ≡ Unsent → Rose (k.faults old.sink) (k.faults new.sink))
-      → (cause ≡ Unread → Rose (s.faults old.source) (s.faults new.source))
-      → (cause ≡ Closed → IfSome (coming new.held (s.left new.source)) (λ bytes. first_line bytes ≡ bytes))
-      → (cause ≡ TooLong → IfSome (coming new.held (s.left new.source)) (λ bytes. 4096 < length (first_line bytes)))
-      → (cause ≡ TooMany → min (old.lines + 10000) (2 ^ 64 - 1) ≤ new.lines)
+      → (gave cause ≡ gave Unasked → HoldsAnswer old.held)
+      → (gave cause ≡ gave Unsent → Rose (k.faults old.sink) (k.faults new.sink))
+      → (gave cause ≡ gave Unread → Rose (s.faults old.source) (s.faults new.source))
+      → (gave cause ≡ gave Closed → IfSome (coming new.held (s.left new.source)) (λ bytes. first_line bytes ≡ bytes))
+      → (gave cause ≡ gave TooLong → IfSome (coming new.held (s.left new.source)) (λ bytes. 4096 < length (first_line bytes)))
+      → (gave cause ≡ gave TooMany → min (old.lines + 10000) (2 ^ 64 - 1) ≤ new.lines)
       → IsCauseOfBreak s k answer old new cause
   unanswered Unsent is held unsent unread closed long many = unsent refl
   unanswered Unread is held unsent unread closed long many = unread refl

@@ -14,7 +14,7 @@ use Rattle.rl_link.specs.declared.link.Break.{Break}
 use Rattle.rl_link.specs.Account.{account_of, answer_of, done_answer, reply_in, talk_of, with_rest}
 use Rattle.rl_link.specs.Answers.{done_by, failure, said_in, success}
 use Rattle.rl_link.specs.Coming.{Answers, IsDone, answer_from}
-use Rattle.rl_link.specs.Peer.{OnlyTalks, TakesAnswer, TakesDone, coming_to, counted}
+use Rattle.rl_link.specs.Peer.{OnlyTalks, TakesAnswer, TakesDone, broken_off, coming_to, counted}
 use Rattle.rl_link.specs.Requests.{request_of}
 use Rattle.rl_link.proofs.SentLemmas.{front_whole}
 
@@ -131,13 +131,7 @@ module _ {S K N M : Type 0} (left : S → Option (List ℕ)) (written : K → Op
       → OnOk r (IsNone old.broken) → Puts (written old.talk.sink) (written mid.talk.sink) (request_of old.names asked) r
       → IfOk r (TakesDone left old.talk mid.talk) → OnlyTalks left old mid
       → IfOk r (λ is. new ≡ record mid { undone = counted mid.undone is })
-      → IfErr r (λ cause. new ≡ record mid {
-        errors = min (mid.errors + 1) (2 ^ 64 - 1);
-        broken = (if is_some mid.broken then mid.broken
-            else Some (record { cause = cause; line = min (mid.talk.lines + 1) (2 ^ 64 - 1) }));
-        notes = new.notes;
-        messages = new.messages;
-      })
+      → IfErr r (λ cause. new ≡ broken_off mid cause new)
       → Speaks (talk_of left written old) (talk_of left written new) asked
   settled (Ok is) heard going sent done only same broke =
       let talk : new.talk ≡ mid.talk = ap (λ l. l.talk) same in
@@ -159,13 +153,7 @@ module _ {S K N M : Type 0} (left : S → Option (List ℕ)) (written : K → Op
       → OnOk r (IsNone old.broken) → Puts (written old.talk.sink) (written mid.talk.sink) (request_of old.names asked) r
       → IfOk r (TakesDone left old.talk mid.talk) → OnlyTalks left old mid → mid.errors ≤ new.errors
       → IfOk r (λ is. new ≡ record mid { undone = counted mid.undone is })
-      → IfErr r (λ cause. new ≡ record mid {
-        errors = min (mid.errors + 1) (2 ^ 64 - 1);
-        broken = (if is_some mid.broken then mid.broken
-            else Some (record { cause = cause; line = min (mid.talk.lines + 1) (2 ^ 64 - 1) }));
-        notes = new.notes;
-        messages = new.messages;
-      })
+      → IfErr r (λ cause. new ≡ broken_off mid cause new)
       → Asks (account_of left written old) (account_of left written new) asked
   settled_asks r none heard going sent done only later same broke = record {
     cause = record {

@@ -20,21 +20,14 @@ IsCauseOfLine _ = ⊥
 
 -- a line that answers wasn't read
 abbrev pub IsCauseOfReading : Cause → Type 0
-IsCauseOfReading Unread = Unit {0}
-IsCauseOfReading Closed = Unit {0}
-IsCauseOfReading TooLong = Unit {0}
 IsCauseOfReading TooMany = Unit {0}
-IsCauseOfReading _ = ⊥
+IsCauseOfReading cause = IsCauseOfLine cause
 
 -- a request wasn't sent, or the line that answers wasn't read
 abbrev pub IsCauseOfAsking : Cause → Type 0
 IsCauseOfAsking Unsent = Unit {0}
 IsCauseOfAsking Unasked = Unit {0}
-IsCauseOfAsking Unread = Unit {0}
-IsCauseOfAsking Closed = Unit {0}
-IsCauseOfAsking TooLong = Unit {0}
-IsCauseOfAsking TooMany = Unit {0}
-IsCauseOfAsking _ = ⊥
+IsCauseOfAsking cause = IsCauseOfReading cause
 
 -- The answer came, and is none that the request can have.
 pub record Misanswers {A : Type 0} (answer : Said → Result A Cause) (bytes : List ℕ) (cause : Cause)

@@ -1,11 +1,12 @@
 -- What a talk takes from its peer.
-use Rattle.std.specs.Prelude.{◌≡◌, ℕ, ◌+◌, ◌-◌, ◌^◌, ◌≤◌, Bool, true, false, List, codes, Option, IfSome, IsNone, IsSome, min}
+use Rattle.std.specs.Prelude.{◌≡◌, ℕ, ◌+◌, ◌-◌, ◌^◌, ◌≤◌, Bool, true, false, if◌then◌else◌, List, codes, Option, Some, IfSome, IsNone, IsSome, is_some, min}
 use Rattle.std.specs.Io.KnownBytes.{Appends}
 use Rattle.rl_bus.specs.Causes.{Rose}
 use Rattle.rl_bus.specs.declared.op.Answer.{Answer}
 use Rattle.rl_bus.specs.declared.op.BusOp.{BusOp}
 use Rattle.rl_report.specs.declared.sink.Sink.{Ghosts as Sink}
 use Rattle.rl_report.specs.Pieces.{AppendsFront}
+use Rattle.rl_link.specs.declared.answer.Cause.{Cause}
 use Rattle.rl_link.specs.declared.link.Break.{Break}
 use Rattle.rl_link.specs.declared.link.Link.{Link}
 use Rattle.rl_link.specs.declared.talk.Talk.{Talk}
@@ -33,6 +34,19 @@ TakesDone left old new done = IfSome (coming_to left old) (λ bytes. IsDone byte
 abbrev pub counted : ℕ → (done : Bool) → ℕ
 counted undone true = undone
 counted undone false = min (undone + 1) (2 ^ 64 - 1)
+
+-- a link that breaks for a cause: the first one is remembered, with its line; what is told of it stands in `new`
+abbrev pub broken_for : {S K N M : Type 0} → (old : Link S K N M) → Cause → (new : Link S K N M) → Link S K N M
+broken_for old cause new = record old {
+  broken = if is_some old.broken then old.broken
+      else Some (record { cause = cause; line = min (old.talk.lines + 1) (2 ^ 64 - 1) });
+  notes = new.notes;
+  messages = new.messages;
+}
+
+-- and whose failure counts
+abbrev pub broken_off : {S K N M : Type 0} → (old : Link S K N M) → Cause → (new : Link S K N M) → Link S K N M
+broken_off old cause new = broken_for (record old { errors = min (old.errors + 1) (2 ^ 64 - 1) }) cause new
 
 -- Where a link is broken, it broke at the line behind these.
 abbrev pub BrokeBehind : (lines : ℕ) → Option Break → Type 0

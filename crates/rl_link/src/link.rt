@@ -8,7 +8,7 @@ ghost use Rattle.rl_link.specs.Causes.{IsCauseOfBreak};
 ghost use Rattle.rl_link.specs.Coming.{HoldsAnswer};
 ghost use Rattle.rl_link.specs.Message.{break_text, unknown_text};
 ghost use Rattle.rl_link.specs.Peer.{CountsLines, TakesAnswer, TakesDone, BrokeBehind, KeepsOn, OnlyTalks};
-ghost use Rattle.rl_link.specs.Peer.{Tells, TellsBreak, TellsDone, counted};
+ghost use Rattle.rl_link.specs.Peer.{Tells, TellsBreak, TellsDone, broken_for, broken_off, counted};
 ghost use Rattle.rl_link.specs.Prelude.{Appends, Asks, IsStep, IsPortOf, IsCellOf, IsFieldOf, IsWidth, poked};
 ghost use Rattle.rl_link.specs.Prelude.{reset_by, hw_set, carried_by, tag_of, IsWellFormed, IsReplyTo, answered_by};
 ghost use Rattle.rl_link.specs.Prelude.{AppendsFront, Puts};
@@ -223,12 +223,7 @@ impl<S: Source, K: Sink, N: Sink, M: Sink> Link<S, K, N, M> {
 
     // Breaks it. The first time is remembered, and told.
     fn break_for(&mut self, cause: Cause)
-        ensures broken { self.new ≡ record self.old {
-          broken = (if is_some self.old.broken then self.old.broken
-              else Some (record { cause = cause; line = min (self.old.talk.lines + 1) (2 ^ 64 - 1) }));
-          notes = self.new.notes;
-          messages = self.new.messages;
-        } }
+        ensures broken { self.new ≡ broken_for self.old cause self.new }
         ensures told { TellsBreak N.Sink self.old self.new }
         ensures messages { IsNone self.old.broken → IfSome self.new.broken (λ broken. Tells M.Sink
             self.old.messages self.new.messages
@@ -245,13 +240,7 @@ impl<S: Source, K: Sink, N: Sink, M: Sink> Link<S, K, N, M> {
     // Counts a failure of the link itself, which breaks it.
     fn break_off(&mut self, cause: Cause)
         ensures later { self.old.errors ≤ self.new.errors }
-        ensures broken { self.new ≡ record self.old {
-          errors = min (self.old.errors + 1) (2 ^ 64 - 1);
-          broken = (if is_some self.old.broken then self.old.broken
-              else Some (record { cause = cause; line = min (self.old.talk.lines + 1) (2 ^ 64 - 1) }));
-          notes = self.new.notes;
-          messages = self.new.messages;
-        } }
+        ensures broken { self.new ≡ broken_off self.old cause self.new }
         ensures line { IsNone self.old.broken → BrokeBehind self.new.talk.lines self.new.broken }
         ensures told { TellsBreak N.Sink self.old self.new }
     {
@@ -335,13 +324,7 @@ impl<S: Source, K: Sink, N: Sink, M: Sink> Link<S, K, N, M> {
     fn settle(&mut self, done: Result<bool, Cause>)
         ensures later { self.old.errors ≤ self.new.errors }
         ensures done { IfOk done (λ is. self.new ≡ record self.old { undone = counted self.old.undone is }) }
-        ensures broken { IfErr done (λ cause. self.new ≡ record self.old {
-          errors = min (self.old.errors + 1) (2 ^ 64 - 1);
-          broken = (if is_some self.old.broken then self.old.broken
-              else Some (record { cause = cause; line = min (self.old.talk.lines + 1) (2 ^ 64 - 1) }));
-          notes = self.new.notes;
-          messages = self.new.messages;
-        }) }
+        ensures broken { IfErr done (λ cause. self.new ≡ broken_off self.old cause self.new) }
         ensures line { IsNone self.old.broken → BrokeBehind self.new.talk.lines self.new.broken }
         ensures told { OnErr done (TellsBreak N.Sink self.old self.new) }
     {

@@ -6,4 +6,5 @@ mod NotedLemmas
 mod RecordLemmas
 mod RunLemmas
 mod ScriptLemmas
+mod SessionLemmas
 mod TextLemmas

@@ -1,7 +1,6 @@
 -- A line, as its events were drawn, written and counted.
-use Rattle.std.proofs.Common.{◌≡◌, ℕ, false, List, [], ◌∷◌, ◌++◌, Option, Some, None, Result, Ok, Err, IsErr, OnOk, OnErr, option_map, refl, sym, ap, subst, ◌∙◌, append-nil, inl, inr}
+use Rattle.std.proofs.Common.{◌≡◌, ℕ, false, List, [], ◌∷◌, ◌++◌, Option, Some, None, Result, Ok, Err, IsErr, OnOk, OnErr, refl, sym, ap, subst, ◌∙◌, append-nil, inl, inr}
 use Rattle.std.specs.Io.KnownBytes.{Appends}
-use Rattle.std.specs.Option.{ok_or}
 use Rattle.std.proofs.KnownBytes.{Appends-nil, Appends-trans, Keeps-refl}
 use Rattle.std.proofs.lemmas.Bool.{true≢false}
 use Rattle.rl_access.specs.declared.event.Event.{Event}
@@ -9,24 +8,22 @@ use Rattle.rl_access.specs.declared.event.Op.{Op}
 use Rattle.rl_access.specs.declared.event.Tally.{Tally}
 use Rattle.rl_access.specs.Call.{Scene, Performs}
 use Rattle.rl_access.specs.Model.{ModelData}
+use Rattle.rl_access.specs.Rules.{Grant}
 use Rattle.rl_access.specs.Runs.{no_tally, counted_all}
 use Rattle.rl_bus.specs.declared.device.Failed.{Failed}
 use Rattle.rl_log.specs.declared.counts.Counts.{Counts}
 use Rattle.rl_log.specs.declared.refusal.LineRefusal.{LineRefusal}
-use Rattle.rl_log.specs.declared.refusal.LineRefusal.TheVariants.{NoSuchName}
 use Rattle.rl_log.specs.declared.status.Status.{Status}
 use Rattle.rl_log.specs.declared.status.Status.TheVariants.{SinkFault, Refused}
-use Rattle.rl_log.specs.Entry.{with_both, begin_text, closing_text, closed_text}
+use Rattle.rl_log.specs.Entry.{begin_text, closing_text, closed_text}
 use Rattle.rl_log.specs.Recording.{events_text}
 use Rattle.rl_log.specs.Statuses.{is_complete}
 use Rattle.rl_log.specs.Telling.{Tells}
 use Rattle.rl_log.specs.Texts.{refused_text}
 use Rattle.rl_log.proofs.KnownLemmas.{front_none}
-use Rattle.rl_play.specs.AnyDevice.{Point, Turns, refused, broken, unwritten, cut}
+use Rattle.rl_play.specs.AnyDevice.{Point, refused, broken, unwritten, cut}
 use Rattle.rl_play.specs.Recording.{IsWritten, IsBegun}
-use Rattle.rl_play.specs.Work.{Work, planned, sequence, single, asked, text_of, begun_text}
-use Rattle.rl_play.specs.declared.playing.Turn.{Turn}
-use Rattle.rl_play.specs.declared.playing.Turn.TheVariants.{Next, Stop}
+use Rattle.rl_play.specs.Work.{Work, burst, planned, sequence, single, asked}
 use Rattle.rl_play.proofs.LineLemmas.{GoesAs}
 use Rattle.rl_report.specs.Pieces.{AppendsFront, Puts, joined}
 use Rattle.rl_report.specs.declared.sink.Sink.{Ghosts as Sink}
@@ -36,7 +33,7 @@ use Rattle.rl_script.specs.declared.line.Line.TheVariants as say
 use Rattle.rl_script.specs.declared.line.Sequence.{Sequence}
 use Rattle.rl_seq.specs.Plan.{Plan, stop}
 use Rattle.rl_vcd.specs.declared.dump.Dump.{Dump}
-use Rattle.rl_vcd.specs.Lines.{DrawsOn, DrawsStop, DrawsTallied, DrawsTurn, DrawsWhole}
+use Rattle.rl_vcd.specs.Lines.{DrawsOn, DrawsStop, DrawsTallied, DrawsWhole}
 use Rattle.rl_vcd.specs.Noted.{Notes}
 
 one_text : (text : List ℕ) → text ≡ text ++ []
@@ -72,59 +69,40 @@ module _ {K : Type 0} (sink : Sink K) where
   failed_line given before after old new (Ok (Some why)) e b = absurd (true≢false (sym e))
   failed_line given before after old new (Err failed) e b = b
 
-  -- ---- a line that writes the text of its events alone
+  -- ---- a line that is a burst, of which the text of its events alone is written
 
-  -- after the first of its events
-  broken_at : {F : Type 0} (number : ℕ) (given : Result Work LineRefusal) (work : Work) (before after : Point)
-      (old new : Dump K) (failed : F) → given ≡ Ok work
-      → (d : DrawsTallied sink work before after old new (Err failed))
-      → AppendsFront before.text after.text (begun_text work d.logs.logs.told)
-      → DrawsStop sink number given before after SinkFault old new
-  broken_at number given work before after old new failed is d part =
+  pub burst_ran : (given : Result Work LineRefusal) (granted : Grant) (op : Op) (ops : List Op) (before after : Point) (old new : Dump K)
+      (went : Result Tally Failed) (r : Result (Option LineRefusal) Failed) → given ≡ Ok (burst granted op ops) → GoesAs went r
+      → DrawsTallied sink (burst granted op ops) before after old new went → DrawsOn sink given before after old new r
+  burst_ran given granted op ops before after old new (Ok x) r is so d =
       let l = d.logs.logs in
-      record {
+      subst (DrawsOn sink given before after old new) (sym so) (record {
+        ran = record { work = burst granted op ops; told = l.told; is = is; does = l.run; text = l.whole; counted = l.counted };
+        drawn = d.drawn;
+      })
+  burst_ran given granted op ops before after old new (Err failed) r is so d =
+      let l = d.logs.logs in
+      subst (DrawsOn sink given before after old new) (sym so) (λ number. record {
         stops = record {
-          close = broken work l.told;
+          close = broken (burst granted op ops) l.told;
           closes = (is, inr l.run);
           counted = l.counted;
           status_is = refl;
           whole = λ c. absurd (true≢false (sym c));
-          part = part;
-        };
-        drawn = d.drawn;
-      }
-
-  pub plain_drawn : (given : Result Work LineRefusal) (work : Work) (before after : Point) (old new : Dump K)
-      (went : Result Tally Failed) (r : Result (Option LineRefusal) Failed) → given ≡ Ok work
-      → ((told : _) → text_of work told ≡ events_text told) → ((told : _) → begun_text work told ≡ events_text told)
-      → GoesAs went r → DrawsTallied sink work before after old new went → DrawsOn sink given before after old new r
-  plain_drawn given work before after old new (Ok x) r is text begun so d =
-      let l = d.logs.logs in
-      subst (DrawsOn sink given before after old new) (sym so) (record {
-        ran = record {
-          work = work;
-          told = l.told;
-          is = is;
-          does = l.run;
-          text = subst (Appends before.text after.text) (sym (text l.told)) l.whole;
-          counted = l.counted;
+          part = l.part;
         };
         drawn = d.drawn;
       })
-  plain_drawn given work before after old new (Err failed) r is text begun so d =
-      subst (DrawsOn sink given before after old new) (sym so) (λ number.
-      broken_at number given work before after old new failed is d
-      (subst (AppendsFront before.text after.text) (sym (begun d.logs.logs.told)) d.logs.logs.part))
 
   -- ---- a line that is one operation
 
   pub op_drawn : {T : Type 0} (given : Result Work LineRefusal) (s t : Scene) (op : Op) (e : Event) (text now : Option (List ℕ))
       (counts after : Counts) (old new : Dump K) (went : Result T Failed) (r : Result (Option LineRefusal) Failed)
-      → given ≡ Ok (single op) → Performs s t op e → OnOk went (IsWritten text now counts after t.model e)
-      → OnErr went (IsBegun text now counts after t.model e) → Notes sink old t.model e new → GoesAs went r
+      → given ≡ Ok (single op) → Performs s t op e → OnOk went (IsWritten text now counts after t.model e × Notes sink old t.model e new)
+      → OnErr went (IsBegun text now counts after t.model e × Notes sink old t.model e new) → GoesAs went r
       → DrawsOn sink given (record { scene = s; text = text; counts = counts }) (record { scene = t; text = now; counts = after })
       old new r
-  op_drawn given s t op e text now counts after old new (Ok x) r is performs whole part notes so =
+  op_drawn given s t op e text now counts after old new (Ok x) r is performs whole part so =
       subst (DrawsOn sink given (record { scene = s; text = text; counts = counts })
       (record { scene = t; text = now; counts = after }) old new) (sym so) (record {
         ran = record {
@@ -132,23 +110,23 @@ module _ {K : Type 0} (sink : Sink K) where
           told = record { model = t.model; event = e } ∷ [];
           is = is;
           does = (t, record { performs = performs; model = refl }, refl);
-          text = subst (Appends text now) (one_text _) whole.text;
-          counted = whole.counted;
+          text = subst (Appends text now) (one_text _) whole.0.text;
+          counted = whole.0.counted;
         };
-        drawn = (new, notes, refl);
+        drawn = (new, whole.1, refl);
       })
-  op_drawn given s t op e text now counts after old new (Err x) r is performs whole part notes so =
+  op_drawn given s t op e text now counts after old new (Err x) r is performs whole part so =
       subst (DrawsOn sink given (record { scene = s; text = text; counts = counts })
       (record { scene = t; text = now; counts = after }) old new) (sym so) (λ number. record {
         stops = record {
           close = broken (single op) (record { model = t.model; event = e } ∷ []);
           closes = (is, inr (record { performs = performs; model = refl }));
-          counted = part.counted;
+          counted = part.0.counted;
           status_is = refl;
           whole = λ c. absurd (true≢false (sym c));
-          part = subst (AppendsFront text now) (one_text _) part.text;
+          part = subst (AppendsFront text now) (one_text _) part.0.text;
         };
-        drawn = (new, notes, refl);
+        drawn = (new, part.1, refl);
       })
 
   -- ---- a sequence
@@ -253,35 +231,6 @@ module _ {K : Type 0} (sink : Sink K) where
       subst (DrawsOn sink given before (record later { text = text }) old new) (sym so)
       (closing_failed F given which over p before mid later text old new line tally (Err e) refl is first d of put.part)
 
-  -- ---- names that aren't there
-
-  pub name_missing : {A : Type 0} (named : Option A) (make : A → Work) (p : Point) (d : Dump K) → named ≡ None
-      → DrawsOn sink (ok_or (option_map make named) NoSuchName) p p d d (Ok (Some NoSuchName))
-  name_missing named make p d none = (ap (λ o. ok_or (option_map make o) NoSuchName) none, refl, refl)
-
-  pub number_missing : (number : Option ℕ) (map : Option (Option ℕ)) (make : ℕ → Option ℕ → Work) (p : Point) (d : Dump K)
-      → number ≡ None → DrawsOn sink (ok_or (with_both number map make) NoSuchName) p p d d (Ok (Some NoSuchName))
-  number_missing number map make p d none = (ap (λ o. ok_or (with_both o map make) NoSuchName) none, refl, refl)
-
-  pub map_missing : (number : Option ℕ) (map : Option (Option ℕ)) (make : ℕ → Option ℕ → Work) (p : Point) (d : Dump K) (i : ℕ)
-      → number ≡ Some i → map ≡ None → DrawsOn sink (ok_or (with_both number map make) NoSuchName) p p d d (Ok (Some NoSuchName))
-  map_missing number map make p d i some none =
-      (ap (λ o. ok_or (with_both o map make) NoSuchName) some ∙ ap (λ o. ok_or (option_map (make i) o) NoSuchName) none, refl, refl)
-
-  -- ---- what the line asks for
-
-  pub draws_as : (given other : Result Work LineRefusal) (before after : Point) (old new : Dump K)
-      (r : Result (Option LineRefusal) Failed) → given ≡ other → DrawsOn sink other before after old new r
-      → DrawsOn sink given before after old new r
-  draws_as given other before after old new r same h =
-      subst (λ given. DrawsOn sink given before after old new r) (sym same) h
-
-  pub turn_as : (number : ℕ) (given other : Result Work LineRefusal) (before after : Point) (old new : Dump K) (turn : Turn)
-      → given ≡ other → DrawsTurn sink number given before after old new turn
-      → DrawsTurn sink number other before after old new turn
-  turn_as number given other before after old new turn same h =
-      subst (λ given. DrawsTurn sink number given before after old new turn) same h
-
   -- ---- a line that is refused, or on which nothing was done
 
   stops_refused : (number : ℕ) (given : Result Work LineRefusal) (why : LineRefusal) (status : Status) (before mid : Point)
@@ -343,10 +292,3 @@ module _ {K : Type 0} (sink : Sink K) where
     };
     drawn = refl;
   }
-
-  -- ---- what `play` of `rl_play` tells of it
-
-  pub turned : (number : ℕ) (given : Result Work LineRefusal) (before after : Point) (old new : Dump K) (turn : Turn)
-      → DrawsTurn sink number given before after old new turn → Turns number given before after turn
-  turned number given before after old new Next h = h.ran
-  turned number given before after old new (Stop s) h = h.stops

@@ -18,28 +18,32 @@ use Rattle.rl_log.specs.declared.status.Status.{Status}
 use Rattle.rl_log.specs.declared.status.Status.TheVariants.{Memory, Refused, SinkFault, SourceFault}
 use Rattle.rl_log.proofs.KnownLemmas.{front_none, front_written}
 use Rattle.rl_log.proofs.TellingLemmas.{tells_written}
-use Rattle.rl_play.specs.AnyDevice.{Point, told_by}
+use Rattle.rl_play.specs.AnyDevice.{Point, cut, told_by}
 use Rattle.rl_play.specs.Leaves.{Leaves}
 use Rattle.rl_play.specs.Played.{LinesBreak}
+use Rattle.rl_play.proofs.AnyLemmas.{written_on}
 use Rattle.rl_play.proofs.FaultLemmas.{same_status}
-use Rattle.rl_report.specs.Lines.{lines_of}
+use Rattle.rl_report.specs.Lines.{lines_of, whole_lines}
+use Rattle.rl_report.specs.Opening.{TakesNoHead, separator_at}
 use Rattle.rl_report.specs.Reading.{Reading, input_of}
 use Rattle.rl_report.specs.declared.sink.Sink.{Ghosts as Sink}
 use Rattle.rl_report.specs.declared.source.Source.{Ghosts as Source}
 use Rattle.rl_session.specs.Judged.{first_world, script_judged}
-use Rattle.rl_session.specs.Session.{opening_of, script_of}
+use Rattle.rl_session.specs.Session.{behind, opening_of, script_of}
 use Rattle.rl_session_run.specs.Opening.{OpensAs, OpensWith}
 use Rattle.rl_session_run.specs.Output.{IsJudged, run_lines}
 use Rattle.rl_session_run.specs.Running.{RunsScript}
+use Rattle.rl_session_run.specs.Script.{whole_script}
 use Rattle.rl_session_run.specs.Telling.{Stops}
 use Rattle.rl_session_run.proofs.RunLemmas.{runs_memory}
+use Rattle.rl_session_run.proofs.TakenLemmas.{none_run, script_run}
 use Rattle.rl_vcd.specs.declared.dump.Dump.{Dump}
 use Rattle.rl_vcd.specs.declared.dump.Fault.{Fault}
 use Rattle.rl_vcd.specs.Lines.{DrawsInput, DrawsLines}
 use Rattle.rl_vcd.specs.Noted.{Closes}
 use Rattle.rl_vcd.specs.Session.{DrawsFrom, DrawsRest, DrawsScriptOf, DrawsSession, HasBegun, first_point}
 use Rattle.rl_vcd.proofs.NotedLemmas.{begun, ended_all, noted_all}
-use Rattle.rl_vcd.proofs.ScriptLemmas.{draws_cut, plays_on}
+use Rattle.rl_vcd.proofs.ScriptLemmas.{draws_cut}
 
 -- ---- from the first state
 
@@ -108,15 +112,15 @@ kept_on old told new kept keeps held h =
 module _ {K : Type 0} (sink : Sink K) where
   -- ---- a script
 
-  from_lines : (desc : DescData) (lines : List (List ℕ)) (status result : Status) (account : Account) (p last : Point)
+  from_lines : (desc : DescData) (bytes : List ℕ) (left : Option (List ℕ)) (status result : Status) (account : Account) (p last : Point)
       (old : Option (List ℕ)) (adapters : List Standing) (d new : Dump K) (fault : Option Fault) (now : K) → result ≡ status
       → p ≡ first_point desc adapters account old → HasBegun desc.layout d → Closes sink new fault now
-      → DrawsLines sink 1 p lines last status d new
-      → DrawsFrom sink desc lines old last.text adapters d.sink result fault now
-  from_lines desc lines status result account p last old adapters d new fault now same here b closed drawn =
-      let first = subst (λ p. DrawsLines sink 1 p lines last status d new) here drawn in
-      let all : DrawsLines sink 1 (first_point desc adapters account old) lines last result d new =
-      subst (λ s. DrawsLines sink 1 (first_point desc adapters account old) lines last s d new) (sym same) first in
+      → DrawsLines sink 1 p bytes left last status d new
+      → DrawsFrom sink desc lines_of whole_lines bytes left old last.text adapters d.sink result fault now
+  from_lines desc bytes left status result account p last old adapters d new fault now same here b closed drawn =
+      let first = subst (λ p. DrawsLines sink 1 p bytes left last status d new) here drawn in
+      let all : DrawsLines sink 1 (first_point desc adapters account old) bytes left last result d new =
+      subst (λ s. DrawsLines sink 1 (first_point desc adapters account old) bytes left last s d new) (sym same) first in
       let events = told_by all.plays.done all.plays.close in
       record {
         account = account;
@@ -125,39 +129,53 @@ module _ {K : Type 0} (sink : Sink K) where
         text_is = refl;
         dump = ended_all sink desc.layout d.sink events new fault now closed
             (noted_all sink desc.layout d.sink events [] d new all.drawn (begun sink desc.layout d b.text b.first b.sound));
+        at_fault = all.at_fault;
       }
 
   -- the lines that are left were run and drawn
-  pub rest_drawn : (desc : DescData) (input : Option (List ℕ)) (status result : Status) (m : ModelData) (account : Account) (state : State)
-      (counts : Counts) (adapters : List Standing) (old : Option (List ℕ)) (after : Point) (d new : Dump K) (fault : Option Fault) (now : K)
-      → counts ≡ no_counts → IsAt m adapters (Some state) (first_world desc adapters) → result ≡ status
+  rest_drawn : (desc : DescData) (input left : Option (List ℕ)) (status result : Status) (m : ModelData) (account : Account) (state : State)
+      (counts : Counts) (adapters : List Standing) (old : Option (List ℕ)) (after : Point) (before : K) (d new : Dump K) (fault : Option Fault)
+      (now : K) → d.sink ≡ before → counts ≡ no_counts → IsAt m adapters (Some state) (first_world desc adapters) → result ≡ status
       → HasBegun desc.layout d → Closes sink new fault now
-      → DrawsInput sink 1 (point_of m adapters account state old counts) input after status d new
-      → DrawsRest sink desc input old after.text adapters d.sink result fault now
-  rest_drawn desc None status result m account state counts adapters old after d new fault now none here same b closed drawn = tt
-  rest_drawn desc (Some bytes) status result m account state counts adapters old after d new fault now none here same b closed drawn =
-      inr (from_lines desc (lines_of bytes) status result account (point_of m adapters account state old counts) after old adapters
-      d new fault now same (first_is desc m account state adapters old counts none here) b closed drawn)
+      → DrawsInput sink 1 (point_of m adapters account state old counts) input left after status d new
+      → DrawsRest sink desc input left old after.text adapters before result fault now
+  rest_drawn desc None left status result m account state counts adapters old after before d new fault now from none here same b closed drawn = tt
+  rest_drawn desc (Some bytes) left status result m account state counts adapters old after before d new fault now from none here same b closed drawn =
+      subst (λ k. DrawsScriptOf sink desc lines_of whole_lines bytes left old after.text adapters k result fault now) from
+      (inr (from_lines desc bytes left status result account (point_of m adapters account state old counts) after old adapters
+      d new fault now same (first_is desc m account state adapters old counts none here) b closed drawn))
+
+  -- its dump was ended as it came out of the session
+  pub rest_drawn_behind : (desc : DescData) (input left : Option (List ℕ)) (status result : Status) (m : ModelData) (account : Account)
+      (state : State) (counts : Counts) (adapters : List Standing) (old : Option (List ℕ)) (after : Point) (before : K) (d new end : Dump K)
+      (fault : Option Fault) (now : K) → end ≡ new → d.sink ≡ before → counts ≡ no_counts
+      → IsAt m adapters (Some state) (first_world desc adapters) → result ≡ status → HasBegun desc.layout d → Closes sink end fault now
+      → DrawsInput sink 1 (point_of m adapters account state old counts) input left after status d new
+      → DrawsRest sink desc input left old after.text adapters before result fault now
+  rest_drawn_behind desc input left status result m account state counts adapters old after before d new end fault now is from none here same b closed drawn =
+      rest_drawn desc input left status result m account state counts adapters old after before d new fault now from none here same b
+      (subst (λ d. Closes sink d fault now) is closed) drawn
 
   -- memory ran out before the first of them
-  pub rest_cut : (desc : DescData) (input : Option (List ℕ)) (status : Status) (adapters : List Standing) (old : Option (List ℕ))
-      (d : Dump K) (fault : Option Fault) (now : K) → is_complete status ≡ false → HasBegun desc.layout d → Closes sink d fault now
-      → DrawsRest sink desc input old old adapters d.sink status fault now
-  rest_cut desc None status adapters old d fault now early b closed = tt
-  rest_cut desc (Some bytes) status adapters old d fault now early b closed =
+  pub rest_cut : (desc : DescData) (input left : Option (List ℕ)) (status : Status) (adapters : List Standing) (old : Option (List ℕ))
+      (before : K) (d : Dump K) (fault : Option Fault) (now : K) → d.sink ≡ before → status ≡ Memory → HasBegun desc.layout d
+      → Closes sink d fault now → DrawsRest sink desc input left old old adapters before status fault now
+  rest_cut desc None left status adapters old before d fault now from out b closed = tt
+  rest_cut desc (Some bytes) left status adapters old before d fault now from out b closed =
       let p = first_point desc adapters (without_peer 0) old in
-      inr (from_lines desc (lines_of bytes) status status (without_peer 0) p p old adapters d d fault now refl refl b closed
-      (draws_cut sink 1 p old (Some bytes) status status d refl early (Keeps-refl old)))
+      subst (λ k. DrawsScriptOf sink desc lines_of whole_lines bytes left old old adapters k status fault now) from
+      (inr (from_lines desc bytes left Memory status (without_peer 0) p p old adapters d d fault now out refl b closed
+      (draws_cut sink 1 p old (Some bytes) left Memory Memory d refl refl (Keeps-refl old) (λ is. absurd (cc)))))
 
   -- and before its dump
-  pub rest_unreached : (desc : DescData) (input : Option (List ℕ)) (status : Status) (adapters : List Standing) (old : Option (List ℕ))
-      (before now : K) → is_complete status ≡ false → now ≡ before
-      → DrawsRest sink desc input old old adapters before status None now
-  rest_unreached desc None status adapters old before now early same = tt
-  rest_unreached desc (Some bytes) status adapters old before now early same = inl (record {
-    broken = early;
+  pub rest_unreached : (desc : DescData) (input left : Option (List ℕ)) (adapters : List Standing) (old : Option (List ℕ))
+      (before now : K) → now ≡ before → DrawsRest sink desc input left old old adapters before Memory None now
+  rest_unreached desc None left adapters old before now same = tt
+  rest_unreached desc (Some bytes) left adapters old before now same = inl (record {
+    broken = refl;
     unwritten = Keeps-refl old;
     undrawn = record { sound = refl; untouched = same };
+    at_fault = λ is. absurd (cc);
   })
 
   -- ---- a session
@@ -168,91 +186,122 @@ module _ {K : Type 0} (sink : Sink K) where
   same_ok : {X E : Type 0} {x y : X} (r : Result X E) → r ≡ Ok x → r ≡ Ok y → x ≡ y
   same_ok r a b = cc
 
-  abbrev DrawsAs : Result DescData (List ℕ) → List ℕ → (old new : Option (List ℕ)) → List Standing → (before : K) → Status
+  abbrev DrawsAs : Result DescData (List ℕ) → List ℕ → (left old new : Option (List ℕ)) → List Standing → (before : K) → Status
       → Option Fault → (now : K) → Type 0
-  DrawsAs opening bytes old new adapters before status fault now =
-      DrawsSession sink opening bytes old new adapters before status fault now
+  DrawsAs opening bytes left old new adapters before status fault now =
+      DrawsSession sink opening bytes left old new adapters before status fault now
 
   -- it ended before its script
-  stopped_as : (opening : Result DescData (List ℕ)) (bytes : List ℕ) (status : Status) (old new : Option (List ℕ))
-      (adapters : List Standing) (vcd : K) → Stops opening status old new → DrawsAs opening bytes old new adapters vcd status None vcd
-  stopped_as opening bytes status old new adapters vcd s = record {
+  stopped_as : (opening : Result DescData (List ℕ)) (bytes : List ℕ) (left : Option (List ℕ)) (status : Status) (old new : Option (List ℕ))
+      (adapters : List Standing) (vcd : K) → Stops opening status old new → (status ≡ SourceFault → TakesNoHead bytes left)
+      → DrawsAs opening bytes left old new adapters vcd status None vcd
+  stopped_as opening bytes left status old new adapters vcd s none = record {
     refused = λ line e. (subst (λ o. Stops o status old new) e s, record { sound = refl; untouched = refl });
-    drawn = λ desc e. let cut = subst (λ o. Stops o status old new) e s in
-        inl (record { broken = cut.0; unwritten = cut.1; undrawn = record { sound = refl; untouched = refl } });
+    drawn = λ desc e. let cut = subst (λ o. Stops o status old new) e s in inl (record {
+      broken = cut.0;
+      unwritten = cut.1;
+      undrawn = record { sound = refl; untouched = refl };
+      at_fault = λ is. none_run bytes left (none is);
+    });
   }
 
-  pub session_stopped : (input : Option (List ℕ)) (opening : List ℕ → Result DescData (List ℕ)) (status : Status)
+  pub session_stopped : (input left : Option (List ℕ)) (opening : List ℕ → Result DescData (List ℕ)) (status : Status)
       (old new : Option (List ℕ)) (adapters : List Standing) (vcd : K) → IfSome input (λ bytes. Stops (opening bytes) status old new)
-      → IfSome input (λ bytes. DrawsAs (opening bytes) bytes old new adapters vcd status None vcd)
-  session_stopped None opening status old new adapters vcd s = tt
-  session_stopped (Some bytes) opening status old new adapters vcd s = stopped_as (opening bytes) bytes status old new adapters vcd s
+      → (status ≡ SourceFault → IfSome input (λ bytes. TakesNoHead bytes left))
+      → IfSome input (λ bytes. DrawsAs (opening bytes) bytes left old new adapters vcd status None vcd)
+  session_stopped None left opening status old new adapters vcd s none = tt
+  session_stopped (Some bytes) left opening status old new adapters vcd s none =
+      stopped_as (opening bytes) bytes left status old new adapters vcd s none
+
+  -- the lines behind the separator are those of the session
+  session_lines : (desc : DescData) (bytes : List ℕ) (left old new : Option (List ℕ)) (adapters : List Standing) (before : K)
+      (status : Status) (fault : Option Fault) (now : K)
+      → DrawsScriptOf sink desc lines_of whole_lines (behind (separator_at bytes) bytes) left old new adapters before status fault now
+      → DrawsScriptOf sink desc script_of whole_script bytes left old new adapters before status fault now
+  session_lines desc bytes left old new adapters before status fault now (inl u) = inl (record {
+    broken = u.broken;
+    unwritten = u.unwritten;
+    undrawn = u.undrawn;
+    at_fault = λ is. script_run bytes left [] cut (u.at_fault is);
+  })
+  session_lines desc bytes left old new adapters before status fault now (inr d) = inr (record {
+    account = d.account;
+    last = d.last;
+    plays = d.plays;
+    text_is = d.text_is;
+    dump = d.dump;
+    at_fault = λ is. script_run bytes left d.plays.done d.plays.close (d.at_fault is);
+  })
 
   -- its script was run
   opened_as : {L : Type 0} (written : L → Option (List ℕ)) (opening : Result DescData (List ℕ)) (bytes : List ℕ) (desc : DescData)
-      (lines : Reading) (left : Option (List ℕ)) (status : Status) (old mid new : L) (adapters : List Standing) (vcd : K)
-      (fault : Option Fault) (now : K) → OpensAs opening bytes desc lines left → mid ≡ old
-      → DrawsRest sink desc (input_of lines left) (written mid) (written new) adapters vcd status fault now
-      → DrawsAs opening bytes (written old) (written new) adapters vcd status fault now
-  opened_as written opening bytes desc lines left status old mid new adapters vcd fault now opens same rest =
-      let script : DrawsScriptOf sink desc (script_of bytes) (written mid) (written new) adapters vcd status fault now =
-      subst (λ i. DrawsRest sink desc i (written mid) (written new) adapters vcd status fault now) opens.rest rest in
-      let here : DrawsScriptOf sink desc (script_of bytes) (written old) (written new) adapters vcd status fault now =
-      subst (λ k. DrawsScriptOf sink desc (script_of bytes) (written k) (written new) adapters vcd status fault now) same script in
+      (lines : Reading) (reached left : Option (List ℕ)) (status : Status) (old mid new : L) (adapters : List Standing) (vcd : K)
+      (fault : Option Fault) (now : K) → OpensAs opening bytes desc lines reached → mid ≡ old
+      → DrawsRest sink desc (input_of lines reached) left (written mid) (written new) adapters vcd status fault now
+      → DrawsAs opening bytes left (written old) (written new) adapters vcd status fault now
+  opened_as written opening bytes desc lines reached left status old mid new adapters vcd fault now opens same rest =
+      let script = session_lines desc bytes left (written mid) (written new) adapters vcd status fault now
+      (subst (λ i. DrawsRest sink desc i left (written mid) (written new) adapters vcd status fault now) opens.rest rest) in
+      let here : DrawsScriptOf sink desc script_of whole_script bytes left (written old) (written new) adapters vcd status fault now =
+      subst (λ k. DrawsScriptOf sink desc script_of whole_script bytes left (written k) (written new) adapters vcd status fault now) same script in
       record {
         refused = λ line e. absurd (ok-err opening opens.opening e);
-        drawn = λ d e. subst (λ d. DrawsScriptOf sink d (script_of bytes) (written old) (written new) adapters vcd status fault now)
+        drawn = λ d e. subst (λ d. DrawsScriptOf sink d script_of whole_script bytes left (written old) (written new) adapters vcd status fault now)
             (same_ok opening opens.opening e) here;
       }
 
   pub session_opened : {L : Type 0} (written : L → Option (List ℕ)) (input : Option (List ℕ)) (opening : List ℕ → Result DescData (List ℕ))
-      (desc : DescData) (lines : Reading) (left : Option (List ℕ)) (status : Status) (old mid new : L) (adapters : List Standing) (vcd : K)
-      (fault : Option Fault) (now : K) → IfSome input (λ bytes. OpensAs (opening bytes) bytes desc lines left) → mid ≡ old
-      → DrawsRest sink desc (input_of lines left) (written mid) (written new) adapters vcd status fault now
-      → IfSome input (λ bytes. DrawsAs (opening bytes) bytes (written old) (written new) adapters vcd status fault now)
-  session_opened written None opening desc lines left status old mid new adapters vcd fault now opens same rest = tt
-  session_opened written (Some bytes) opening desc lines left status old mid new adapters vcd fault now opens same rest =
-      opened_as written (opening bytes) bytes desc lines left status old mid new adapters vcd fault now opens same rest
+      (desc : DescData) (lines : Reading) (reached left : Option (List ℕ)) (status : Status) (old mid new : L) (adapters : List Standing)
+      (vcd : K) (fault : Option Fault) (now : K) → IfSome input (λ bytes. OpensAs (opening bytes) bytes desc lines reached) → mid ≡ old
+      → DrawsRest sink desc (input_of lines reached) left (written mid) (written new) adapters vcd status fault now
+      → IfSome input (λ bytes. DrawsAs (opening bytes) bytes left (written old) (written new) adapters vcd status fault now)
+  session_opened written None opening desc lines reached left status old mid new adapters vcd fault now opens same rest = tt
+  session_opened written (Some bytes) opening desc lines reached left status old mid new adapters vcd fault now opens same rest =
+      opened_as written (opening bytes) bytes desc lines reached left status old mid new adapters vcd fault now opens same rest
 
   -- ---- what is written in the end
 
-  module _ (status result : Status) (old told new : Option (List ℕ)) (kept : List ℕ) (adapters : List Standing) (before : K)
+  module _ (status result : Status) (left old told new : Option (List ℕ)) (kept : List ℕ) (adapters : List Standing) (before : K)
       (fault : Option Fault) (now : K) (same : result ≢ SinkFault → result ≡ status) (given_up : is_complete status ≡ false → result ≡ status)
       (keeps : KeepsEarlier old new) (held : Keeps told (append_known new kept)) (whole : is_complete result ≡ true → Keeps told new)
       (at_fault : status ≡ SourceFault → Keeps told new) where
-    script_written : (desc : DescData) (lines : List (List ℕ)) → DrawsFrom sink desc lines old told adapters before status fault now
-        → DrawsFrom sink desc lines old new adapters before result fault now
-    script_written desc lines d = record {
+    script_written : (desc : DescData) (bytes : List ℕ) → DrawsFrom sink desc script_of whole_script bytes left old told adapters before status fault now
+        → DrawsFrom sink desc script_of whole_script bytes left old new adapters before result fault now
+    unfolding written_on
+    script_written desc bytes d = record {
       account = d.account;
       last = record d.last { text = new };
-      plays = plays_on 1 (first_point desc adapters d.account old) lines d.last new kept status result same keeps
+      plays = written_on 1 (first_point desc adapters d.account old) (script_of bytes) d.last new kept status result same keeps
           (subst (λ t. Keeps t (append_known new kept)) (sym d.text_is) held)
           (λ c. subst (λ t. Keeps t new) (sym d.text_is) (whole c))
           (λ f. subst (λ t. Keeps t new) (sym d.text_is) (at_fault (same_status status result same f))) d.plays;
       text_is = refl;
       dump = d.dump;
+      at_fault = λ f. d.at_fault (same_status status result same f);
     }
 
-    of_script_written : (desc : DescData) (lines : List (List ℕ))
-        → DrawsScriptOf sink desc lines old told adapters before status fault now
-        → DrawsScriptOf sink desc lines old new adapters before result fault now
-    of_script_written desc lines (inl u) = inl (record {
+    of_script_written : (desc : DescData) (bytes : List ℕ)
+        → DrawsScriptOf sink desc script_of whole_script bytes left old told adapters before status fault now
+        → DrawsScriptOf sink desc script_of whole_script bytes left old new adapters before result fault now
+    of_script_written desc bytes (inl u) = inl (record {
       broken = ap is_complete (given_up u.broken) ∙ u.broken;
       unwritten = kept_on old told new kept keeps held u.unwritten;
       undrawn = u.undrawn;
+      at_fault = λ f. u.at_fault (same_status status result same f);
     })
-    of_script_written desc lines (inr d) = inr (script_written desc lines d)
+    of_script_written desc bytes (inr d) = inr (script_written desc bytes d)
 
-    written_as : (opening : Result DescData (List ℕ)) (bytes : List ℕ) → DrawsAs opening bytes old told adapters before status fault now
-        → DrawsAs opening bytes old new adapters before result fault now
+    written_as : (opening : Result DescData (List ℕ)) (bytes : List ℕ)
+        → DrawsAs opening bytes left old told adapters before status fault now
+        → DrawsAs opening bytes left old new adapters before result fault now
     written_as opening bytes d = record {
       refused = λ line e. let r = d.refused line e in
           (tells_written status result Refused old told new kept line same keeps held whole r.0, r.1);
-      drawn = λ desc e. of_script_written desc (script_of bytes) (d.drawn desc e);
+      drawn = λ desc e. of_script_written desc bytes (d.drawn desc e);
     }
 
     pub session_written : (input : Option (List ℕ)) (opening : List ℕ → Result DescData (List ℕ))
-        → IfSome input (λ bytes. DrawsAs (opening bytes) bytes old told adapters before status fault now)
-        → IfSome input (λ bytes. DrawsAs (opening bytes) bytes old new adapters before result fault now)
+        → IfSome input (λ bytes. DrawsAs (opening bytes) bytes left old told adapters before status fault now)
+        → IfSome input (λ bytes. DrawsAs (opening bytes) bytes left old new adapters before result fault now)
     session_written None opening d = tt
     session_written (Some bytes) opening d = written_as (opening bytes) bytes d

@@ -1,42 +1,39 @@
 -- A script, line by line, as its events were drawn.
-use Rattle.std.proofs.Common.{◌≡◌, ◌≢◌, ℕ, ◌+◌, ◌<◌, ◌≤◌, true, false, List, [], ◌∷◌, ◌++◌, length, Option, Some, None, IfSome, Result, refl, sym, ap, subst, ◌∙◌}
-use Rattle.std.specs.Io.KnownBytes.{Appends, Keeps, append_known}
-use Rattle.std.proofs.KnownBytes.{Appends-kept, Appends-trans}
-use Rattle.std.proofs.lemmas.Bool.{true≢false}
-use Rattle.rl_access.specs.Call.{Scene}
+use Rattle.std.proofs.Common.{◌≡◌, ◌≢◌, ℕ, suc, ◌+◌, ◌<◌, ◌≤◌, false, if◌then◌else◌, List, [], ◌∷◌, ◌++◌, length, Option, Some, None, IfSome, Result, refl, sym, ap, subst, ◌∙◌, append_assoc}
+use Rattle.std.specs.Io.KnownBytes.{Appends, Keeps, prepend_known}
+use Rattle.std.proofs.KnownBytes.{Appends-trans}
 use Rattle.rl_access.specs.HandsOver.{Told, TakesAll}
 use Rattle.rl_log.specs.declared.counts.Counts.{Counts}
 use Rattle.rl_log.specs.declared.refusal.LineRefusal.{LineRefusal}
 use Rattle.rl_log.specs.declared.status.Status.{Status}
-use Rattle.rl_log.specs.declared.status.Status.TheVariants.{SourceFault, SinkFault}
+use Rattle.rl_log.specs.declared.status.Status.TheVariants.{SourceFault}
 use Rattle.rl_log.specs.Causes.{IsCaused}
-use Rattle.rl_log.specs.Earlier.{KeepsEarlier}
 use Rattle.rl_log.specs.Endings.{end_status, IsCounted}
 use Rattle.rl_log.specs.Log.{said}
 use Rattle.rl_log.specs.Recording.{with_event, with_events}
 use Rattle.rl_log.specs.Statuses.{is_complete}
 use Rattle.rl_log.specs.Telling.{Tells}
 use Rattle.rl_log.specs.Texts.{end_text}
-use Rattle.rl_log.proofs.KnownLemmas.{front_later, front_none, front_written, keeps_nothing, keeps_then_appends}
-use Rattle.rl_log.proofs.TellingLemmas.{not_sink_fault}
-use Rattle.rl_play.specs.AnyDevice.{ClosesAt, DoneLine, Happens, Plays, Point, at_end, cut, text_by, told_by}
+use Rattle.rl_log.proofs.KnownLemmas.{front_later, keeps_then_appends}
+use Rattle.rl_play.specs.AnyDevice.{Close, ClosesAt, DoneLine, Happens, Point, RunsTaken, at_end, cut, text_by, told_by}
 use Rattle.rl_play.specs.Heard.{heard}
 use Rattle.rl_play.specs.Leaves.{CutsLine, NotByCounts, stop_of}
 use Rattle.rl_play.specs.Work.{asked, text_of}
 use Rattle.rl_play.specs.declared.playing.TheConstants.{MOST_LINES}
 use Rattle.rl_play.specs.declared.playing.Turn.{Turn}
 use Rattle.rl_play.specs.declared.playing.Turn.TheVariants.{Next, Stop}
-use Rattle.rl_play.proofs.AnyLemmas.{status_on}
-use Rattle.rl_play.proofs.FaultLemmas.{no_source, same_status}
+use Rattle.rl_play.proofs.AnyLemmas.{plays_cut}
+use Rattle.rl_play.proofs.FaultLemmas.{no_source}
 use Rattle.rl_play.proofs.LeavesLemmas.{stop_is_no_next, stopped}
 use Rattle.rl_play.proofs.PlayLemmas.{heard_said, hands_some, lines_more}
 use Rattle.rl_play.proofs.TurnLemmas.{line_ended, line_taken, line_untaken}
 use Rattle.rl_report.specs.Got.{Hands}
-use Rattle.rl_report.specs.Lines.{first_line, after_line, lines_of}
+use Rattle.rl_report.specs.Lines.{first_line, after_line, lines_of, whole_lines}
 use Rattle.rl_report.specs.Reading.{Reading, input_of}
 use Rattle.rl_report.specs.declared.lines.Got.{Got}
 use Rattle.rl_report.specs.declared.lines.Got.TheVariants as got
 use Rattle.rl_report.specs.declared.sink.Sink.{Ghosts as Sink}
+use Rattle.rl_report.proofs.LineLemmas.{whole_first, whole_none}
 use Rattle.rl_report.proofs.PieceLemmas.{front_after}
 use Rattle.rl_script.specs.declared.line.Line.{Line}
 use Rattle.rl_vcd.specs.declared.dump.Dump.{Dump}
@@ -49,9 +46,40 @@ with_append : (counts : Counts) (told more : List Told)
 with_append counts [] more = refl
 with_append counts (t ∷ told) more = with_append (with_event counts t.event) told more
 
-cut_here : (number : ℕ) (s : Scene) (lines : List (List ℕ)) → Happens number s lines [] cut s
-cut_here number s [] = refl
-cut_here number s (line ∷ lines) = refl
+-- ---- the lines that were taken whole of a source that failed
+
+taken_more : (bytes : List ℕ) (left : Option (List ℕ)) (line : DoneLine) (done : List DoneLine) (close : Close)
+    → bytes ≡ first_line bytes ++ 10 ∷ after_line bytes → RunsTaken whole_lines (after_line bytes) left done close
+    → RunsTaken whole_lines bytes left (line ∷ done) close
+taken_more bytes left line done close whole r = record {
+  taken = first_line bytes ++ 10 ∷ r.taken;
+  others = r.others;
+  split = append_assoc (first_line bytes) (10 ∷ r.taken) r.others ∙ ap (λ l. first_line bytes ++ 10 ∷ l) r.split ∙ sym whole;
+  is_left = r.is_left;
+  every = ap suc r.every ∙ sym (ap length (whole_first bytes r.taken));
+  no_more = r.no_more;
+}
+
+taken_none : (bytes pending : List ℕ) (left : Option (List ℕ)) → Keeps (Some bytes) (prepend_known pending left)
+    → first_line pending ≡ pending → RunsTaken whole_lines bytes left [] cut
+taken_none bytes pending None held none = absurd held
+taken_none bytes pending (Some others) held none = record {
+  taken = pending;
+  others = others;
+  split = held;
+  is_left = refl;
+  every = sym (ap length (whole_none pending none));
+  no_more = refl;
+}
+
+-- the source failed in the midst of a line
+cut_taken : (input left : Option (List ℕ)) (old reading : Reading) (before : Option (List ℕ)) (is_out : Type 0) → input ≡ input_of old before
+    → CutsLine old before reading left is_out → IfSome input (λ bytes. RunsTaken whole_lines bytes left [] cut)
+cut_taken None left old reading before is_out is c = tt
+cut_taken (Some bytes) left old reading before is_out is c =
+    let held : Keeps (Some bytes) (input_of reading left) = subst (λ i. Keeps i (input_of reading left)) (sym is) c.none_lost in
+    taken_none bytes reading.pending left
+    (subst (λ b. Keeps (Some bytes) (if b then Some reading.pending else prepend_known reading.pending left)) c.still held) c.none_whole
 
 module _ {K : Type 0} (sink : Sink K) where
   -- events, and then others
@@ -64,12 +92,13 @@ module _ {K : Type 0} (sink : Sink K) where
   -- ---- a line, and the others behind it
 
   lines_behind : (number : ℕ) (before : Point) (flushed : Option (List ℕ)) (mid last : Point) (bytes : List ℕ)
-      (s : Result Line LineRefusal) (status : Status) (old then new : Dump K) → 0 < length bytes
+      (left : Option (List ℕ)) (s : Result Line LineRefusal) (status : Status) (old between new : Dump K) → 0 < length bytes
+      → (status ≡ SourceFault → bytes ≡ first_line bytes ++ 10 ∷ after_line bytes)
       → s ≡ said number (first_line bytes) → Keeps before.text flushed
-      → DrawsWhole sink (asked before.scene.model s) (record before { text = flushed }) mid old then
-      → DrawsLines sink (number + 1) mid (lines_of (after_line bytes)) last status then new
-      → DrawsLines sink number before (lines_of bytes) last status old new
-  lines_behind number before flushed mid last bytes s status old then new some is same d rest =
+      → DrawsWhole sink (asked before.scene.model s) (record before { text = flushed }) mid old between
+      → DrawsLines sink (number + 1) mid (after_line bytes) left last status between new
+      → DrawsLines sink number before bytes left last status old new
+  lines_behind number before flushed mid last bytes left s status old between new some whole is same d rest =
       let r = d.ran in
       let p = rest.plays in
       let first : DoneLine = record { work = r.work; told = r.told; scene = mid.scene } in
@@ -89,24 +118,26 @@ module _ {K : Type 0} (sink : Sink K) where
           at_fault = λ f. Appends-trans before.text mid.text last.text text more written (p.at_fault f);
           part = front_after before.text mid.text last.text text more written p.part;
         };
-        drawn = drawn_then r.told (told_by p.done p.close) old then new d.drawn rest.drawn;
+        drawn = drawn_then r.told (told_by p.done p.close) old between new d.drawn rest.drawn;
+        at_fault = λ f. taken_more bytes left first p.done p.close (whole f) (rest.at_fault f);
       }
 
   draws_next : (number : ℕ) (before : Point) (flushed : Option (List ℕ)) (mid last : Point) (input : Option (List ℕ)) (g : Got)
-      (line : List ℕ) (reading : Reading) (left : Option (List ℕ)) (s : Result Line LineRefusal) (status : Status)
-      (old then new : Dump K) → g ≢ got.End → g ≢ got.TooLong → IfSome input (λ bytes. Hands bytes g reading left)
+      (line : List ℕ) (reading : Reading) (reached left : Option (List ℕ)) (s : Result Line LineRefusal) (status : Status)
+      (old between new : Dump K) → g ≢ got.End → g ≢ got.TooLong → IfSome input (λ bytes. Hands bytes g reading reached)
       → line ≡ reading.line → s ≡ heard number g line → Keeps before.text flushed
-      → DrawsWhole sink (asked before.scene.model s) (record before { text = flushed }) mid old then
-      → DrawsInput sink (number + 1) mid (input_of reading left) last status then new
-      → DrawsInput sink number before input last status old new
-  draws_next number before flushed mid last None g line reading left s status old then new not_end not_long h is says same d p = tt
-  draws_next number before flushed mid last (Some bytes) got.Line line reading left s status old then new not_end not_long h is says same d p =
-      lines_behind number before flushed mid last bytes s status old then new h.some
-      (says ∙ heard_said number bytes line got.Line reading left not_end h is) same d
-      (subst (λ i. DrawsInput sink (number + 1) mid i last status then new) h.rest p)
-  draws_next number before flushed mid last (Some bytes) got.TooLong line reading left s status old then new not_end not_long h is says same d p =
+      → DrawsWhole sink (asked before.scene.model s) (record before { text = flushed }) mid old between
+      → (status ≡ SourceFault → reading.ended ≡ false)
+      → DrawsInput sink (number + 1) mid (input_of reading reached) left last status between new
+      → DrawsInput sink number before input left last status old new
+  draws_next number before flushed mid last None g line reading reached left s status old between new not_end not_long h is says same d going p = tt
+  draws_next number before flushed mid last (Some bytes) got.Line line reading reached left s status old between new not_end not_long h is says same d going p =
+      lines_behind number before flushed mid last bytes left s status old between new h.some (λ f. h.whole (going f))
+      (says ∙ heard_said number bytes line got.Line reading reached not_end h is) same d
+      (subst (λ i. DrawsInput sink (number + 1) mid i left last status between new) h.rest p)
+  draws_next number before flushed mid last (Some bytes) got.TooLong line reading reached left s status old between new not_end not_long h is says same d going p =
       absurd (not_long refl)
-  draws_next number before flushed mid last (Some bytes) got.End line reading left s status old then new not_end not_long h is says same d p =
+  draws_next number before flushed mid last (Some bytes) got.End line reading reached left s status old between new not_end not_long h is says same d going p =
       absurd (not_end refl)
 
   -- ---- the end of a script
@@ -117,7 +148,7 @@ module _ {K : Type 0} (sink : Sink K) where
       (old new : Dump K) → g ≢ got.End → IfSome input (λ bytes. Hands bytes g reading left) → line ≡ reading.line
       → s ≡ heard number g line → Keeps before.text flushed → status ≢ SourceFault
       → DrawsStop sink number (asked before.scene.model s) (record before { text = flushed }) after status old new
-      → DrawsInput sink number before input after status old new
+      → DrawsInput sink number before input left after status old new
   draws_stop number before flushed after None g line reading left s status old new not_end h is says same other d = tt
   draws_stop number before flushed after (Some bytes) g line reading left s status old new not_end h is says same other d =
       let t = d.stops in
@@ -136,6 +167,7 @@ module _ {K : Type 0} (sink : Sink K) where
           part = front_later before.text flushed after.text _ same t.part;
         };
         drawn = d.drawn;
+        at_fault = λ f. absurd (other f);
       }
 
   -- behind its last line
@@ -143,12 +175,12 @@ module _ {K : Type 0} (sink : Sink K) where
       (left : Option (List ℕ)) (result status : Status) (d : Dump K) → g ≡ got.End → result ≡ status
       → IfSome input (λ bytes. Hands bytes g reading left) → Keeps p.text flushed → result ≢ SourceFault
       → Tells result (end_status p.counts) flushed text (end_text p.counts)
-      → DrawsInput sink number p input (record p { text = text }) status d d
+      → DrawsInput sink number p input left (record p { text = text }) status d d
   draws_end number p flushed text None g reading left result status d is same h kept other t = tt
   draws_end number p flushed text (Some bytes) g reading left result status d is same h kept other t =
       let none : (bytes ≡ []) × (input_of reading left ≡ Some []) = subst (λ g. Hands bytes g reading left) is h in
-      subst (λ s. DrawsLines sink number p (lines_of bytes) (record p { text = text }) s d d) same
-      (subst (λ b. DrawsLines sink number p (lines_of b) (record p { text = text }) result d d) (sym none.0) (record {
+      subst (λ s. DrawsLines sink number p bytes left (record p { text = text }) s d d) same
+      (subst (λ b. DrawsLines sink number p b left (record p { text = text }) result d d) (sym none.0) (record {
         plays = record {
           done = [];
           close = at_end;
@@ -160,26 +192,21 @@ module _ {K : Type 0} (sink : Sink K) where
           part = front_later p.text flushed text (end_text p.counts) kept t.part;
         };
         drawn = refl;
+        at_fault = λ f. absurd (other f);
       }))
 
   -- with nothing more
-  pub draws_cut : (number : ℕ) (p : Point) (text : Option (List ℕ)) (input : Option (List ℕ)) (result status : Status) (d : Dump K)
+  pub draws_cut : (number : ℕ) (p : Point) (text : Option (List ℕ)) (input left : Option (List ℕ)) (result status : Status) (d : Dump K)
       → result ≡ status → is_complete result ≡ false → Keeps p.text text
-      → DrawsInput sink number p input (record p { text = text }) status d d
-  draws_cut number p text None result status d same early kept = tt
-  draws_cut number p text (Some bytes) result status d same early kept =
-      subst (λ s. DrawsLines sink number p (lines_of bytes) (record p { text = text }) s d d) same (record {
-        plays = record {
-          done = [];
-          close = cut;
-          happens = cut_here number p.scene (lines_of bytes);
-          counted = refl;
-          status_is = early;
-          whole = λ c. absurd (true≢false (sym c ∙ early));
-          at_fault = λ f. keeps_nothing p.text text kept;
-          part = front_none p.text text [] kept;
-        };
+      → (result ≡ SourceFault → IfSome input (λ bytes. RunsTaken whole_lines bytes left [] cut))
+      → DrawsInput sink number p input left (record p { text = text }) status d d
+  unfolding plays_cut
+  draws_cut number p text None left result status d same early kept taken = tt
+  draws_cut number p text (Some bytes) left result status d same early kept taken =
+      subst (λ s. DrawsLines sink number p bytes left (record p { text = text }) s d d) same (record {
+        plays = plays_cut number p text (Some bytes) result result refl early kept;
         drawn = refl;
+        at_fault = taken;
       })
 
   -- ---- the next line
@@ -192,7 +219,8 @@ module _ {K : Type 0} (sink : Sink K) where
   line_cut number p text old reading before left is_out status d early kept cuts = record {
     plays = line_untaken number p text old reading before left is_out status early kept cuts;
     draws_next = λ is. absurd (stop_is_no_next status is);
-    draws_stop = λ last is. draws_cut number p text (input_of old before) status last d (stopped status last is) early kept;
+    draws_stop = λ last is. draws_cut number p text (input_of old before) left status last d (stopped status last is) early kept
+        (λ f. cut_taken (input_of old before) left old reading before is_out refl (cuts f));
   }
 
   -- there was no further line
@@ -220,8 +248,8 @@ module _ {K : Type 0} (sink : Sink K) where
       record {
         plays = line_taken number before flushed after input g line reading left a b Next not_end short handed is kept
             d.ran cause counted last;
-        draws_next = λ e final status dump rest. draws_next number before flushed after final input g line reading left
-            (heard number g line) status old new dump not_end (short e) handed is refl kept d rest;
+        draws_next = λ e rest final status dump going p. draws_next number before flushed after final input g line reading left rest
+            (heard number g line) status old new dump not_end (short e) handed is refl kept d going p;
         draws_stop = λ status e. absurd (stop_is_no_next status (sym e));
       }
   line_drawn number before flushed after input g line reading left a b (Stop status) old new not_end short handed is kept d cause counted last =
@@ -229,28 +257,7 @@ module _ {K : Type 0} (sink : Sink K) where
         plays = line_taken number before flushed after input g line reading left a b (Stop status) not_end short handed is kept
             d.stops cause counted last;
         draws_next = λ e. absurd (stop_is_no_next status e);
-        draws_stop = λ final e. subst (λ s. DrawsInput sink number before input after s old new) (stopped status final e)
+        draws_stop = λ final e. subst (λ s. DrawsInput sink number before input left after s old new) (stopped status final e)
             (draws_stop number before flushed after input g line reading left (heard number g line) status old new not_end handed
             is refl kept (no_source status a b cause) d);
       }
-
--- ---- what is written in the end
-
--- the same lines, whose events were drawn, with what was written in the end
-abbrev pub plays_on : (number : ℕ) (before : Point) (lines : List (List ℕ)) (told : Point) (text : Option (List ℕ))
-    (kept : List ℕ) (status result : Status) → (result ≢ SinkFault → result ≡ status) → KeepsEarlier before.text text
-    → Keeps told.text (append_known text kept) → (is_complete result ≡ true → Keeps told.text text)
-    → (result ≡ SourceFault → Keeps told.text text) → Plays number before lines told status
-    → Plays number before lines (record told { text = text }) result
-plays_on number before lines told text kept status result same keeps held whole fault p = record {
-  done = p.done;
-  close = p.close;
-  happens = p.happens;
-  counted = p.counted;
-  status_is = status_on told.counts p.close status result same p.status_is;
-  whole = λ c. Appends-kept before.text told.text text (text_by told.counts p.done p.close)
-      (p.whole (sym (ap is_complete (same (not_sink_fault result c))) ∙ c)) (whole c);
-  at_fault = λ f. Appends-kept before.text told.text text (text_by told.counts p.done p.close)
-      (p.at_fault (same_status status result same f)) (fault f);
-  part = front_written before.text told.text text kept (text_by told.counts p.done p.close) keeps held p.part;
-}

@@ -1,16 +1,16 @@
 -- What was drawn of lines, against what their log has.
-use Rattle.std.specs.Prelude.{◌≡◌, ℕ, ◌+◌, List, Option, Some, None, IfSome, Result, Ok, Err}
+use Rattle.std.specs.Prelude.{◌≡◌, ℕ, ◌+◌, List, Bool, false, Option, Some, None, IfSome, Result, Ok, Err}
 use Rattle.rl_access.specs.declared.event.Tally.{Tally}
 use Rattle.rl_access.specs.HandsOver.{TakesAll}
 use Rattle.rl_bus.specs.declared.device.Failed.{Failed}
 use Rattle.rl_log.specs.declared.refusal.LineRefusal.{LineRefusal}
 use Rattle.rl_log.specs.declared.status.Status.{Status}
-use Rattle.rl_log.specs.declared.status.Status.TheVariants.{SinkFault}
-use Rattle.rl_play.specs.AnyDevice.{LogsTallied, Plays, Point, RanWhole, StopsAt, told_at, told_by}
+use Rattle.rl_log.specs.declared.status.Status.TheVariants.{SinkFault, SourceFault}
+use Rattle.rl_play.specs.AnyDevice.{LogsTallied, Plays, Point, RanWhole, RunsTaken, StopsAt, told_at, told_by}
 use Rattle.rl_play.specs.Work.{Work}
 use Rattle.rl_play.specs.declared.playing.Turn.{Turn}
 use Rattle.rl_play.specs.declared.playing.Turn.TheVariants.{Next, Stop}
-use Rattle.rl_report.specs.Lines.{lines_of}
+use Rattle.rl_report.specs.Lines.{lines_of, whole_lines}
 use Rattle.rl_report.specs.declared.sink.Sink.{Ghosts as Sink}
 use Rattle.rl_vcd.specs.declared.dump.Dump.{Dump}
 use Rattle.rl_vcd.specs.Noted.{Notes}
@@ -51,23 +51,25 @@ DrawsTurn sink number given before after old new (Stop s) = DrawsStop sink numbe
 
 -- ---- a script
 
--- Lines were played: what was written is the text of their events, or a front of it where the log failed; and what was
--- drawn are exactly these events, in order.
-pub record DrawsLines {K : Type 0} (sink : Sink K) (number : ℕ) (before : Point) (lines : List (List ℕ)) (after : Point)
-    (status : Status) (old new : Dump K) : Type 0 where
-  pub plays : Plays number before lines after status
+-- The lines of some bytes were played, of which the source has this left: what was written is the text of their events,
+-- or a front of it where the log failed; and what was drawn are exactly these events, in order.
+pub record DrawsLines {K : Type 0} (sink : Sink K) (number : ℕ) (before : Point) (bytes : List ℕ)
+    (left : Option (List ℕ)) (after : Point) (status : Status) (old new : Dump K) : Type 0 where
+  pub plays : Plays number before (lines_of bytes) after status
   pub drawn : TakesAll (Notes sink) old (told_by plays.done plays.close) new
+  -- after a source that failed these are exactly the lines that were taken whole
+  pub at_fault : status ≡ SourceFault → RunsTaken whole_lines bytes left plays.done plays.close
 
 -- the lines of an input, where the source tells its bytes
-abbrev pub DrawsInput : {K : Type 0} → Sink K → (number : ℕ) → (before : Point) → (input : Option (List ℕ))
+abbrev pub DrawsInput : {K : Type 0} → Sink K → (number : ℕ) → (before : Point) → (input left : Option (List ℕ))
     → (after : Point) → Status → (old new : Dump K) → Type 0
-DrawsInput sink number before input after s old new =
-    IfSome input (λ bytes. DrawsLines sink number before (lines_of bytes) after s old new)
+DrawsInput sink number before input left after s old new =
+    IfSome input (λ bytes. DrawsLines sink number before bytes left after s old new)
 
--- as what is left of it behind a line is drawn, the whole is
+-- As what is left of it behind a line is drawn, the whole is. Where the source fails later, it had not ended before.
 abbrev pub DrawsWithRest : {K : Type 0} → Sink K → (number : ℕ) → (before : Point) → (input : Option (List ℕ))
-    → (after : Point) → (rest : Option (List ℕ)) → (old mid : Dump K) → Type 0
-DrawsWithRest {K} sink number before input after rest old mid =
-    (last : Point) (status : Status) (new : Dump K)
-    → DrawsInput sink (number + 1) after rest last status mid new
-    → DrawsInput sink number before input last status old new
+    → (after : Point) → (rest : Option (List ℕ)) → (ended : Bool) → (old mid : Dump K) → Type 0
+DrawsWithRest {K} sink number before input after rest ended old mid =
+    (left : Option (List ℕ)) (last : Point) (status : Status) (new : Dump K) → (status ≡ SourceFault → ended ≡ false)
+    → DrawsInput sink (number + 1) after rest left last status mid new
+    → DrawsInput sink number before input left last status old new

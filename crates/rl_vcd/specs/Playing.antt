@@ -1,48 +1,54 @@
 -- A session while its script is played.
-use Rattle.std.specs.Prelude.{◌≡◌, ℕ, List, [], ◌∷◌, Option, Some, Result}
-use Rattle.rl_access.specs.declared.event.Tally.{Tally}
+use Rattle.std.specs.Prelude.{◌≡◌, ℕ, List, Option, Some, Result}
 use Rattle.rl_access.specs.Call.{scene}
-use Rattle.rl_access.specs.Model.{ModelData, IsReady, IsSameChip}
+use Rattle.rl_access.specs.Model.{IsReady}
 use Rattle.rl_bench.specs.State.{bench_state, failures_of}
-use Rattle.rl_bench.specs.declared.bench.Bench.{Bench}
-use Rattle.rl_bus.specs.Account.{Account, without_peer}
-use Rattle.rl_bus.specs.Causes.{HasCause}
+use Rattle.rl_bus.specs.Account.{without_peer}
 use Rattle.rl_bus.specs.Standing.{Standing}
-use Rattle.rl_bus.specs.State.{State}
-use Rattle.rl_log.specs.declared.counts.Counts.{Counts}
-use Rattle.rl_play.specs.AnyDevice.{Point, spot}
+use Rattle.rl_bus.specs.declared.device.Failed.{Failed}
+use Rattle.rl_log.specs.declared.refusal.LineRefusal.{LineRefusal}
+use Rattle.rl_play.specs.AnyDevice.{Point}
+use Rattle.rl_play.specs.Leaves.{Leaves, NotByCounts, StaysReady, stop_of}
 use Rattle.rl_play.specs.Work.{Work}
+use Rattle.rl_play.specs.declared.playing.Turn.{Turn}
+use Rattle.rl_report.specs.Pieces.{SinkStays}
 use Rattle.rl_report.specs.declared.sink.Sink.{Ghosts as Sink}
-use Rattle.rl_vcd.specs.Lines.{DrawsTallied}
+use Rattle.rl_vcd.specs.Lines.{DrawsOn, DrawsTurn}
 use Rattle.rl_vcd.specs.declared.recorder.Drawing.{Drawing}
 use Rattle.rl_vcd.specs.declared.session.Session.{Session}
 
--- where a run stands on the device model, with this text written and these counts
-abbrev pub point_at : ModelData → Bench → (adapters : List Standing) → (text : Option (List ℕ)) → Counts → Point
-point_at model bench adapters text counts = record {
-  scene = scene model adapters (without_peer (failures_of bench)) (Some (bench_state bench));
-  text = text;
-  counts = counts;
+-- where a session stands on the device model, with the adapters as their callers see them
+abbrev pub spot_of : {L K : Type 0} → Sink L → Session L K → (adapters : List Standing) → Point
+spot_of log s adapters = record {
+  scene = scene s.model.now adapters (without_peer (failures_of s.bench.now)) (Some (bench_state s.bench.now));
+  text = log.written s.pen.log.now;
+  counts = s.pen.counts;
 }
 
--- where a session stands
-abbrev pub spot_of : {K : Type 0} → Session K → (adapters : List Standing) → (text : Option (List ℕ)) → Point
-spot_of s adapters text = point_at s.model s.bench adapters text s.counts
+-- adapters and device belong to the model
+abbrev pub CanRun : {L K : Type 0} → (adapters : List Standing) → Session L K → Type 0
+CanRun adapters s = IsReady s.model.now adapters (Some (bench_state s.bench.now))
 
--- where a run stands while a recorder writes and counts
-abbrev pub recorded : {A D L K : Type 0} → (A → Standing) → (D → Account) → (D → Option State) → (L → Option (List ℕ))
-    → ModelData → List A → D → Drawing L K → Point
-recorded standing account state written model adapters device rec =
-    spot standing account state written model adapters device rec.log.now rec.counts
+-- its log and its dump are the same
+pub record IsSamePen {L K : Type 0} (old new : Drawing L K) : Type 0 where
+  pub log : new.log.ghost_name ≡ old.log.ghost_name
+  pub dump : new.dump.ghost_name ≡ old.dump.ghost_name
 
--- A recorder was told of the events of some work: each was written, drawn and counted, and the next call may follow. It
--- failed only where the log has failed once more. Log and dump are the same, and the log was ended as often, and its
--- bytes go where they went.
-pub record IsHandedOver {L K E : Type 0} (log : Sink L) (sink : Sink K) (work : Work) (before after : Point)
-    (old new : Drawing L K) (result : Result Tally E) : Type 0 where
-  pub draws : DrawsTallied sink work before after old.dump.now new.dump.now result
-  pub ready : IsReady after.scene.model after.scene.adapters after.scene.device
-  pub parts : IsSameChip before.scene.model after.scene.model
-  pub cause : HasCause (log.faults old.log.now) (log.faults new.log.now) result
-  pub steady : new.log.ghost_name ∷ log.ends new.log.now ∷ log.target new.log.now ∷ new.dump.ghost_name ∷ []
-      ≡ old.log.ghost_name ∷ log.ends old.log.now ∷ log.target old.log.now ∷ old.dump.ghost_name ∷ []
+-- A line that asks for this was run and drawn, or a name of it isn't there, or the log failed; and the next call may
+-- follow, with the same log and dump. `adapters` stood before, and `now` do after.
+pub record RunsLine {L K : Type 0} (log : Sink L) (sink : Sink K) (given : Result Work LineRefusal)
+    (adapters now : List Standing) (old new : Session L K) (result : Result (Option LineRefusal) Failed) : Type 0 where
+  pub draws : DrawsOn sink given (spot_of log old adapters) (spot_of log new now) old.pen.dump.now new.pen.dump.now result
+  pub ready : StaysReady old.model.now new.model.now now (Some (bench_state new.bench.now))
+  pub stays : SinkStays log old.pen.log.now new.pen.log.now result
+  pub same : IsSamePen old.pen new.pen
+
+-- A line of that number, which asks for this, was run and drawn, or the script ended at it; so the session is left.
+pub record RunsTurn {L K : Type 0} (log : Sink L) (sink : Sink K) (number : ℕ) (given : Result Work LineRefusal)
+    (adapters now : List Standing) (old new : Session L K) (turn : Turn) : Type 0 where
+  pub draws : DrawsTurn sink number given (spot_of log old adapters) (spot_of log new now)
+      old.pen.dump.now new.pen.dump.now turn
+  pub counted : NotByCounts (stop_of turn)
+  pub ready : StaysReady old.model.now new.model.now now (Some (bench_state new.bench.now))
+  pub leaves : Leaves log 0 0 old.pen.log.now new.pen.log.now (stop_of turn)
+  pub same : IsSamePen old.pen new.pen

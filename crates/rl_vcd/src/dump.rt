@@ -173,23 +173,6 @@ impl<K: Sink> Dump<K> {
         Ok(())
     }
 
-    // Writes the text that is kept back, where it is long.
-    fn spill(&mut self) -> Result<(), Fault>
-        ensures told { OnOk result (Keeps (told K.written self.old) (told K.written self.new)) }
-        ensures front { AppendsFront (K.written self.old.sink) (K.written self.new.sink) self.old.wave.text.items }
-        ensures cycle { self.new.wave.cycle ≡ self.old.wave.cycle }
-        ensures fault { self.new.fault ≡ self.old.fault }
-        ensures only { OnErr result (result ≡ Err Fault.Sink) }
-        ensures cause { result ≡ Err Fault.Sink → Rose (K.faults self.old.sink) (K.faults self.new.sink) }
-        ensures later { K.faults self.old.sink ≤ K.faults self.new.sink }
-        ensures ends_kept { K.ends self.new.sink ≡ K.ends self.old.sink }
-    {
-        if self.wave.text.len() < ROOM {
-            return Ok(());
-        }
-        self.write_out()
-    }
-
     #[tactic(auto, using(crate::proofs::DumpLemmas::told_more))]
     fn try_note(&mut self, model: &Model, event: &Event) -> Result<(), Fault>
         requires { EventFits model.now event.now }
@@ -210,7 +193,10 @@ impl<K: Sink> Dump<K> {
     {
         self.label.take_event(model, event);
         draw_items(&mut self.wave, self.label.line(), model.layout(), event)?;
-        self.spill()
+        if self.wave.text.len() < ROOM {
+            return Ok(());
+        }
+        self.write_out()
     }
 
     /// Draws the items of an event: each transfer with the event's line beside it.

@@ -1,5 +1,5 @@
 // A whole session on the device model, with its log and its dump.
-ghost use Rattle.std.specs.Prelude.{◌≡◌, ◌≤◌, ◌<◌, ◌^◌, map, length, true, false, Some, IfSome};
+ghost use Rattle.std.specs.Prelude.{◌≡◌, ◌≤◌, ◌<◌, ◌^◌, map, length, true, false, None, Some, IfSome};
 ghost use Rattle.rl_play.specs.Leaves.{Leaves};
 ghost use Rattle.rl_report.specs.Reading.{input_of};
 ghost use Rattle.rl_session.specs.Judged.{judged, script_judged};
@@ -7,9 +7,10 @@ ghost use Rattle.rl_session_run.specs.Output.{IsJudged};
 ghost use Rattle.rl_session_run.specs.Prelude.{AwaitsScript, EndedOnce, IsCaused, KeepsEarlier, RunsScript, is_complete};
 ghost use Rattle.rl_session_run.specs.Prelude.{kinds_of, opening_of, run_lines};
 ghost use Rattle.rl_vcd.specs.Noted.{Closes};
-ghost use Rattle.rl_vcd.specs.Session.{DrawsRest, DrawsSession, HasBegun};
+ghost use Rattle.rl_vcd.specs.Session.{DrawsRest, DrawsSession};
 
 use crate::dump::{Dump, Fault};
+use crate::recorder::Drawing;
 use crate::session::Session;
 use rl_bus::{Adapter, Adapters};
 use rl_desc::Desc;
@@ -32,6 +33,17 @@ pub struct Ran<K> {
     pub vcd: K,
 }
 
+// A session that ended before its dump began.
+fn undrawn<K>(status: Status, vcd: K) -> Ran<K>
+    ensures { result ≡ record { status = status; fault = None; vcd = vcd } }
+{
+    Ran {
+        status,
+        fault: None,
+        vcd,
+    }
+}
+
 // Ends the dump of a session that ended so.
 fn end_dump<K: Sink + Drop>(status: Status, mut dump: Dump<K>) -> Ran<K>
     ensures status { result.status ≡ status }
@@ -45,40 +57,7 @@ fn end_dump<K: Sink + Drop>(status: Status, mut dump: Dump<K>) -> Ran<K>
     }
 }
 
-// Runs the lines that are left of a session whose dump has begun, and ends the dump.
-fn run_begun<S: Source, L: Log, K: Sink + Drop>(
-    alloc: Global,
-    desc: Desc,
-    lines: &mut LineReader,
-    source: &mut S,
-    log: &mut L,
-    dump: Dump<K>,
-    adapters: &mut Adapters,
-) -> Ran<K>
-    requires awaits { AwaitsScript desc lines.old (kinds_of (map standing adapters.old.items)) }
-    requires begun { HasBegun desc.layout dump }
-    ensures draws { DrawsRest K.Sink desc (input_of lines.old (S.left source.old))
-        (L.written log.old) (L.written log.new) (map standing adapters.old.items) dump.sink
-        result.status result.fault result.vcd }
-    ensures runs { RunsScript S.Source L.Sink L.is_out (script_judged desc) (run_lines desc) lines.old
-        source.old source.new log.old log.new
-        (map standing adapters.old.items) (map standing adapters.new.items) result.status }
-    ensures kinds { kinds_of (map standing adapters.new.items) ≡ kinds_of (map standing adapters.old.items) }
-{
-    let Ok((model, bench)) = open(alloc, desc) else {
-        return end_dump(Status::Memory, dump);
-    };
-    let mut session = Session {
-        model,
-        bench,
-        counts: Counts::new(),
-        dump,
-    };
-    let status = session.run_script(alloc, adapters, lines, source, log);
-    end_dump(status, session.dump)
-}
-
-// Runs the lines that are left of a session that was opened.
+// Runs the lines that are left of a session that was opened, and draws and ends its dump.
 fn run_opened<S: Source, L: Log, K: Sink + Drop>(
     alloc: Global,
     desc: Desc,
@@ -89,7 +68,7 @@ fn run_opened<S: Source, L: Log, K: Sink + Drop>(
     adapters: &mut Adapters,
 ) -> Ran<K>
     requires awaits { AwaitsScript desc lines.old (kinds_of (map standing adapters.old.items)) }
-    ensures draws { DrawsRest K.Sink desc (input_of lines.old (S.left source.old))
+    ensures draws { DrawsRest K.Sink desc (input_of lines.old (S.left source.old)) (S.left source.new)
         (L.written log.old) (L.written log.new) (map standing adapters.old.items) vcd
         result.status result.fault result.vcd }
     ensures runs { RunsScript S.Source L.Sink L.is_out (script_judged desc) (run_lines desc) lines.old
@@ -97,14 +76,25 @@ fn run_opened<S: Source, L: Log, K: Sink + Drop>(
         (map standing adapters.old.items) (map standing adapters.new.items) result.status }
     ensures kinds { kinds_of (map standing adapters.new.items) ≡ kinds_of (map standing adapters.old.items) }
 {
-    match Dump::build(alloc, &desc.layout, vcd) {
-        Ok(dump) => run_begun(alloc, desc, lines, source, log, dump, adapters),
-        Err(vcd) => Ran {
-            status: Status::Memory,
-            fault: None,
-            vcd,
-        },
-    }
+    let mut dump = match Dump::build(alloc, &desc.layout, vcd) {
+        Ok(dump) => dump,
+        Err(vcd) => return undrawn(Status::Memory, vcd),
+    };
+    let Ok((mut model, mut bench)) = open(alloc, desc) else {
+        return end_dump(Status::Memory, dump);
+    };
+    let pen = Drawing {
+        log,
+        dump: &mut dump,
+        counts: Counts::new(),
+    };
+    let mut session = Session {
+        model: &mut model,
+        bench: &mut bench,
+        pen,
+    };
+    let status = session.run_script(alloc, adapters, lines, source);
+    end_dump(status, dump)
 }
 
 // Runs a session, draws its events and writes its log. The log isn't ended.
@@ -119,7 +109,7 @@ fn run_open<P: Source, L: Log, K: Sink + Drop>(
     ensures judged { IfSome (P.left session.old) (λ bytes. IsJudged (judged bytes (map standing adapters.old.items))
         result.status (L.written log.old) (L.written log.new) (map standing adapters.new.items)) }
     ensures draws { IfSome (P.left session.old) (λ bytes.
-        DrawsSession K.Sink (opening_of bytes (kinds_of (map standing adapters.old.items))) bytes
+        DrawsSession K.Sink (opening_of bytes (kinds_of (map standing adapters.old.items))) bytes (P.left session.new)
         (L.written log.old) (L.written log.new) (map standing adapters.old.items) vcd
         result.status result.fault result.vcd) }
     ensures flushed { result.status ≡ Status.SourceFault → L.is_out log.old → L.is_out log.new }
@@ -128,11 +118,7 @@ fn run_open<P: Source, L: Log, K: Sink + Drop>(
 {
     match open_session(alloc, session, log, adapters) {
         Ok((desc, mut lines)) => run_opened(alloc, desc, &mut lines, session, log, vcd, adapters),
-        Err(status) => Ran {
-            status,
-            fault: None,
-            vcd,
-        },
+        Err(status) => undrawn(status, vcd),
     }
 }
 
@@ -149,7 +135,7 @@ fn run_through<P: Source, Q: Sink, K: Sink + Drop, E: Earlier>(
     ensures judged { IfSome (P.left session.old) (λ bytes. IsJudged (judged bytes (map standing adapters.old.items))
         result.status (Q.written log.old) (Q.written log.new) (map standing adapters.new.items)) }
     ensures draws { IfSome (P.left session.old) (λ bytes.
-        DrawsSession K.Sink (opening_of bytes (kinds_of (map standing adapters.old.items))) bytes
+        DrawsSession K.Sink (opening_of bytes (kinds_of (map standing adapters.old.items))) bytes (P.left session.new)
         (Q.written log.old) (Q.written log.new) (map standing adapters.old.items) vcd
         result.status result.fault result.vcd) }
     ensures kinds { kinds_of (map standing adapters.new.items) ≡ kinds_of (map standing adapters.old.items) }
@@ -189,9 +175,10 @@ pub fn run_waves<P: Source, Q: Sink, K: Sink + Drop>(
         result.status (Q.written log.old) (Q.written log.new) (map standing adapters.new.items)) }
 
     // Which sessions are refused and in what words; and of the others the dump: exactly its header, and behind it the
-    // text of exactly the transfers of the events that the log tells, in order.
+    // text of exactly the transfers of the events that the log tells, in order. After a source that failed these are
+    // the events of exactly the lines that were taken whole.
     ensures draws { IfSome (P.left session.old) (λ bytes.
-        DrawsSession K.Sink (opening_of bytes (kinds_of (map standing adapters.old.items))) bytes
+        DrawsSession K.Sink (opening_of bytes (kinds_of (map standing adapters.old.items))) bytes (P.left session.new)
         (Q.written log.old) (Q.written log.new) (map standing adapters.old.items) vcd
         result.status result.fault result.vcd) }
     ensures kinds { kinds_of (map standing adapters.new.items) ≡ kinds_of (map standing adapters.old.items) }

@@ -21,8 +21,7 @@ pub returns-in_err-said-clause-cause : goal.returns-in_err-said-clause-cause
 returns-in_err-said-clause-cause g c =
     let e = c.in_err-said.ensures in
     handed_on _ _ _ c.from_residual.ensures
-    (unanswered g.S.Source g.K.Sink _ _ _ _ e.cause (λ is. e.held (ap Err is)) (λ is. e.unsent (ap Err is)) (λ is. e.unread (ap Err is))
-    (λ is. e.closed (ap Err is)) (λ is. e.too_long (ap Err is)) (λ is. e.too_many (ap Err is)))
+    (unanswered g.S.Source g.K.Sink _ _ _ _ e.cause e.held e.unsent e.unread e.closed e.too_long e.too_many)
 
 pub returns-in_err-done-clause-cause : goal.returns-in_err-done-clause-cause
 returns-in_err-done-clause-cause g c =

@@ -17,7 +17,7 @@ returns-in-Ok-clause-judged g c =
 
 pub returns-in-Ok-clause-draws : goal.returns-in-Ok-clause-draws
 returns-in-Ok-clause-draws g c =
-    session_opened g.K.Sink g.L.Sink.written _ (λ bytes. opening_of bytes _) c.in-Ok.desc _ _ _ _ _ _ _ _ _ _
+    session_opened g.K.Sink g.L.Sink.written _ (λ bytes. opening_of bytes _) c.in-Ok.desc _ _ _ _ _ _ _ _ _ _ _
     (opens_script _ _ _ _ _ c.in-Ok.ensures.opens) c.in-Ok.ensures.unwritten c.run_opened.ensures.draws
 
 pub returns-in-Ok-clause-flushed : goal.returns-in-Ok-clause-flushed
@@ -30,16 +30,18 @@ returns-in-Ok-clause-leaves g c =
 
 pub returns-in-Err-clause-judged : goal.returns-in-Err-clause-judged
 returns-in-Err-clause-judged g c =
-    stopped_told judged_by script_judged (λ line bytes adapters. refl) _ _ _ _ _ c.in-Err.ensures.stops
+    rw c.undrawn.ensures (stopped_told judged_by script_judged (λ line bytes adapters. refl) _ _ _ _ _ c.in-Err.ensures.stops)
 
 pub returns-in-Err-clause-draws : goal.returns-in-Err-clause-draws
-returns-in-Err-clause-draws g c = session_stopped g.K.Sink _ (λ bytes. opening_of bytes _) _ _ _ _ _ c.in-Err.ensures.stops
+returns-in-Err-clause-draws g c =
+    rw c.undrawn.ensures (session_stopped g.K.Sink _ _ (λ bytes. opening_of bytes _) _ _ _ _ _ c.in-Err.ensures.stops
+    (λ is. c.open_session.ensures.at_fault (c.in-Err.is ∙ ap Err is)))
 
 pub returns-in-Err-clause-flushed : goal.returns-in-Err-clause-flushed
-returns-in-Err-clause-flushed g c = λ is out.
-    still_out g.L.Log.is_out _ _ (c.open_session.ensures.unwritten_at_fault (c.in-Err.is ∙ ap Err is)) out
+returns-in-Err-clause-flushed g c =
+    rw c.undrawn.ensures (λ is out. still_out g.L.Log.is_out _ _ (c.open_session.ensures.unwritten_at_fault (c.in-Err.is ∙ ap Err is)) out)
 
 pub returns-in-Err-clause-leaves : goal.returns-in-Err-clause-leaves
 returns-in-Err-clause-leaves g c =
     let e = c.open_session.ensures in
-    ended_leaves g.L.Sink _ _ _ _ _ e.source_later c.in-Err.ensures.cause e.stays
+    rw c.undrawn.ensures (ended_leaves g.L.Sink _ _ _ _ _ e.source_later c.in-Err.ensures.cause e.stays)

@@ -23,7 +23,7 @@ returns-clause-draws g c =
     let f = c.end_buffered.ensures in
     let p = c.run_open-ran.ensures in
     let keeps = rw (← c.requires.earlier) at c.end_buffered.new.log.keeps_earlier in
-    let w = session_written g.K.Sink _ _ _ _ _ _ _ _ _ _ f.kept f.given_up keeps f.told f.whole
+    let w = session_written g.K.Sink _ _ _ _ _ _ _ _ _ _ _ f.kept f.given_up keeps f.told f.whole
     (λ fault. f.at_fault fault (p.flushed fault c.new-out.ensures.empty)) _ (λ bytes. opening_of bytes _)
     (rw c.new-out.ensures.told at p.draws) in
     search (rules, w)

@@ -19,8 +19,8 @@ pub returns-clause-leaves : goal.returns-clause-leaves
 returns-clause-leaves g c =
     let e = c.take_line.ensures in
     let r = c.run_taken.ensures in
-    leaves_taken g.L.Sink _ _ _ _ _ _ _ _ _ c.run_taken.result e.found (λ is. c.in-Ok.ensures.going (r.short is)) e.ended
-    c.in-Ok.ensures.leaves r.leaves
+    leaves_taken g.L.Sink _ _ _ _ _ _ _ _ _ c.run_taken.result e.found (λ is. c.in-Ok.ensures.going (r.next is).0) e.ended
+    c.in-Ok.ensures.leaves r.runs.leaves
 
 pub returns-in-Err-clause-draws : goal.returns-in-Err-clause-draws
 returns-in-Err-clause-draws g c =
@@ -36,8 +36,8 @@ pub returns-clause-draws : goal.returns-clause-draws
 returns-clause-draws g c =
     let r = c.run_taken.ensures in
     line_drawn g.K.Sink c.args.number _ _ _ _ c.in-Ok.got _ c.take_line.new.lines _ _ _ c.run_taken.result _ _
-    (c.is_end.ensures.more c.if-is_end.false) r.short c.in-Ok.ensures.handed c.line-line.ensures c.take_line.ensures.told
-    r.draws r.leaves.cause r.counted r.last
+    (c.is_end.ensures.more c.if-is_end.false) (λ is. (r.next is).0) c.in-Ok.ensures.handed c.line-line.ensures c.take_line.ensures.told
+    r.runs.draws r.runs.leaves.cause r.runs.counted (λ is. (r.next is).1)
 
 pub returns-in-Err-clause-ready : goal.returns-in-Err-clause-ready
 returns-in-Err-clause-ready g c = ready_still _ _ _ c.requires.ready
@@ -46,4 +46,9 @@ pub returns-then-is_end-clause-ready : goal.returns-then-is_end-clause-ready
 returns-then-is_end-clause-ready g c = ready_still _ _ _ c.requires.ready
 
 pub returns-clause-ready : goal.returns-clause-ready
-returns-clause-ready g c = c.run_taken.ensures.ready
+returns-clause-ready g c = c.run_taken.ensures.runs.ready
+
+pub returns-clause-same : goal.returns-clause-same
+returns-clause-same g c =
+    let same = c.run_taken.ensures.runs.same in
+    record { log = same.log; dump = same.dump }

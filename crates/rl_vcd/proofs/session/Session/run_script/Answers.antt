@@ -17,7 +17,8 @@ loop-number-init g c = record {
   leaves = leaves_none g.L.Sink _ _;
   going_on = passes_first _ _ _ (Appends-nil _);
   breaking = λ ended left last h. h;
-  drawing = λ last status dump d. d;
+  same = record { log = refl; dump = refl };
+  drawing = λ left last status dump going d. d;
 }
 
 pub loop-number-preserved : goal.loop-number-preserved
@@ -37,7 +38,9 @@ loop-number-preserved g c =
       going_on = passes_both _ _ _ _ _ _ i.going_on (p.next c.in-Next.is);
       breaking = λ ended left last h. i.breaking (still_going _ _ e.leaves.reads.ended ended) left last
           (p.later_fault c.in-Next.is ended left last h);
-      drawing = λ last status dump d. i.drawing last status dump (e.draws.draws_next c.in-Next.is last status dump d);
+      same = record { log = e.same.log ∙ i.same.log; dump = e.same.dump ∙ i.same.dump };
+      drawing = λ left last status dump going d. i.drawing left last status dump
+          (λ f. still_going _ _ e.leaves.reads.ended (going f)) (e.draws.draws_next c.in-Next.is left last status dump going d);
     }
 
 pub returns-in-Stop-clause-draws : goal.returns-in-Stop-clause-draws
@@ -46,7 +49,7 @@ returns-in-Stop-clause-draws g c =
     let e = c.run_next.ensures in
     let p = e.draws.plays in
     record {
-      draws = i.drawing _ _ _ (e.draws.draws_stop _ c.in-Stop.is);
+      draws = i.drawing _ _ _ _ (λ is. (e.leaves.goes_on (c.in-Stop.is ∙ ap Stop is)).unended) (e.draws.draws_stop _ c.in-Stop.is);
       log = ends_both _ _ _ _ _ _ _ _ _ _ i.going_on (p.stop _ c.in-Stop.is);
       at_fault = λ is. let stop = c.in-Stop.is ∙ ap Stop is in
           i.breaking (e.leaves.goes_on stop).unended _ _ (p.at_fault stop);
@@ -65,6 +68,12 @@ returns-in-Stop-clause-parts g c =
     let first = c.loop-number.invariant.parts in
     let last = c.run_next.ensures.ready.parts in
     record { chip = last.chip ∙ first.chip; layout = last.layout ∙ first.layout }
+
+pub returns-in-Stop-clause-same : goal.returns-in-Stop-clause-same
+returns-in-Stop-clause-same g c =
+    let i = c.loop-number.invariant.same in
+    let e = c.run_next.ensures.same in
+    record { log = e.log ∙ i.log; dump = e.dump ∙ i.dump }
 
 pub loop-number-smaller : goal.loop-number-smaller
 loop-number-smaller g c = omega (arith, c.run_next.ensures.draws.plays.last c.in-Next.is)
