@@ -9,6 +9,7 @@ use Rattle.rl_model.specs.Rows.{ChipData}
 use Rattle.rl_model.specs.Fields.{field_of, first_of}
 use Rattle.rl_map.specs.Layout.{LayoutData}
 use Rattle.rl_map.specs.Tables.{setup_of}
+use Rattle.rl_split.specs.Law.{no_flaws}
 use Rattle.rl_mirror.specs.Mirror.{is_spent}
 use Rattle.rl_mirror.proofs.FieldLemmas.{seated}
 use Rattle.rl_mirror.proofs.MirrorLemmas.{place_of}
@@ -19,18 +20,19 @@ use Rattle.rl_seq.specs.declared.sequence.Sequence.{Sequence}
 use Rattle.rl_seq.specs.declared.sequence.Sequence.TheVariants.{HwReset, BitBash, Access, Shared, MemWalk}
 use Rattle.rl_seq.specs.Plan.{Runs}
 use Rattle.rl_seq.specs.Sequences.{walk}
-use Rattle.rl_detect_laws.specs.BitFlaws.{HasFlaw, IsShown, BitFlawIsNamed}
+use Rattle.rl_detect_laws.specs.BitFlaws.{HasFlaw, IsComparedAt, IsShown, BitFlawIsNamed, only_flaw}
 use Rattle.rl_detect_laws.specs.Deaf.{deaf_items}
 use Rattle.rl_detect_laws.specs.Resets.{IsNamedBy}
 use Rattle.rl_detect_laws.specs.Sides.{Sides, BitFlaw, sticks, hears_nothing, goes_by}
-use Rattle.rl_detect_laws.specs.Stuck.{stuck_bit, IsComparedBit}
+use Rattle.rl_detect_laws.specs.Stuck.{IsComparedBit}
 use Rattle.rl_detect_laws.specs.Visited.{RunsAll, HasEvent}
 use Rattle.rl_detect_laws.proofs.Bashing.{holding_first}
 use Rattle.rl_detect_laws.proofs.BitBash.{IsBit, the_bit, is_compared_bit, stuck_there, stuck_setup}
 use Rattle.rl_detect_laws.proofs.BitWalk.{ActsSo, finds_by}
 use Rattle.rl_detect_laws.proofs.DeafRegister.{none_stuck, without_them}
-use Rattle.rl_detect_laws.proofs.FirmBit.{SeenFirm, firm_acts}
+use Rattle.rl_detect_laws.proofs.FirmBit.{IsFirmBy, SeenFirm, firm_acts}
 use Rattle.rl_detect_laws.proofs.PolicyBit.{SeenOther, policy_acts}
+use Rattle.rl_detect_laws.proofs.StuckBit.{unstuck}
 
 deaf_alone : (c : ChipData) (l : LayoutData) (reg : ℕ) → is_deaf (setup_of c l (deaf_items (Deaf reg ∷ []))) (cell.Reg reg) ≡ true
 unfolding setup_of
@@ -65,9 +67,29 @@ bit_flaw_is_named s new d which block told field i place flaw x ok told_d has at
         finds_by s.model field ((field_of s.model.chip field).shape.lsb + i) flaw Seen ok seat.reg (omega (arith, seat.inside, has.bit_in)) acts which x block place compared at shown
         s new told seen (runs_walk which block s new told (reg_of c field) b place flaw (field_of c field).shape.policy x shown run)
 
-    own : IsComparedBit s.model.chip (row false)
+    own : IsComparedAt s.model.chip field i
         → IsBit s.model.chip field (reg_of s.model.chip field) (field - first_of s.model.chip (reg_of s.model.chip field)) ((field_of s.model.chip field).shape.lsb + i) i
-    own is = the_bit s.model.chip (row false) ok.chip is
+    own is = the_bit s.model.chip (row false) ok.chip (record { field_in = is.field_in; bit_in = is.bit_in; compared = is.compared })
+
+    -- it keeps what it holds
+    firm : (flaw : BitFlaw) → HasFlaw s.model.chip s.model.layout d s.model.mirror field i flaw x
+        → unstuck (setup_of s.model.chip s.model.layout (only_flaw s.model.chip field i flaw)) ≡ setup_of s.model.chip s.model.layout no_flaws
+        → IsFirmBy flaw (setup_of s.model.chip s.model.layout (only_flaw s.model.chip field i flaw)) (reg_of s.model.chip field) ((field_of s.model.chip field).shape.lsb + i)
+        → IsShown which s.model.chip s.model.layout (reg_of s.model.chip field) ((field_of s.model.chip field).shape.lsb + i) place flaw (field_of s.model.chip field).shape.policy x
+        → HasEvent (IsNamedBy s.model.chip field) told
+    firm flaw has plain stands shown =
+        let c = s.model.chip in
+        let l = s.model.layout in
+        let t = setup_of c l (only_flaw c field i flaw) in
+        let number = (place_of c field ok.chip has.field_in).number in
+        finds flaw (SeenFirm c l t (reg_of c field) (field - first_of c (reg_of c field)) b flaw) has
+        (firm_acts c l t field b i flaw ok.chip (own has.own) plain stands)
+        (record {
+          holding = holding_first t (reg_of c field) b x.held s d ok told_d has.set_up has.held;
+          stuck = has.stuck;
+          believed = has.believed;
+          spent = ap (is_spent s.model.mirror) number ∙ has.spent;
+        }) shown
 
     by : (flaw : BitFlaw) → HasFlaw s.model.chip s.model.layout d s.model.mirror field i flaw x
         → IsShown which s.model.chip s.model.layout (reg_of s.model.chip field) ((field_of s.model.chip field).shape.lsb + i) place flaw (field_of s.model.chip field).shape.policy x
@@ -76,37 +98,17 @@ bit_flaw_is_named s new d which block told field i place flaw x ok told_d has at
         let c = s.model.chip in
         let l = s.model.layout in
         let is : IsComparedBit c (row v) = record { field_in = has.field_in; bit_in = has.bit_in; compared = has.compared } in
-        let t = setup_of c l (stuck_bit (row v)) in
         let setup = stuck_setup c l (row v) ok.chip is in
-        let number = (place_of c field ok.chip has.field_in).number in
-        finds (sticks v) (SeenFirm c l t (reg_of c field) (field - first_of c (reg_of c field)) b (sticks v)) has
-        (firm_acts c l t field b i (sticks v) ok.chip (own (record { field_in = has.field_in; bit_in = has.bit_in; compared = has.compared })) setup.plain
-        (stuck_there c l (row v) has.field_in, setup.alone.others))
-        (record {
-          holding = holding_first t (reg_of c field) b x.held s d ok told_d has.set_up has.held;
-          stuck = has.stuck;
-          believed = has.believed;
-          spent = ap (is_spent s.model.mirror) number ∙ has.spent;
-        }) shown
+        firm (sticks v) has setup.plain (stuck_there c l (row v) has.field_in, setup.alone.others) shown
     by hears_nothing has shown =
         let c = s.model.chip in
         let l = s.model.layout in
         let items = Deaf (reg_of c field) ∷ [] in
-        let t = setup_of c l (deaf_items items) in
-        let number = (place_of c field ok.chip has.field_in).number in
-        finds hears_nothing (SeenFirm c l t (reg_of c field) (field - first_of c (reg_of c field)) b hears_nothing) has
-        (firm_acts c l t field b i hears_nothing ok.chip (own (record { field_in = has.field_in; bit_in = has.bit_in; compared = has.compared })) (without_them c l items)
-        (none_stuck c l items, deaf_alone c l (reg_of c field)))
-        (record {
-          holding = holding_first t (reg_of c field) b x.held s d ok told_d has.set_up has.held;
-          stuck = has.stuck;
-          believed = has.believed;
-          spent = ap (is_spent s.model.mirror) number ∙ has.spent;
-        }) shown
+        firm hears_nothing has (without_them c l items) (none_stuck c l items, deaf_alone c l (reg_of c field)) shown
     by (goes_by q) has shown =
         let c = s.model.chip in
         let l = s.model.layout in
-        let bit_own = own (record { field_in = has.field_in; bit_in = has.bit_in; compared = has.compared }) in
+        let bit_own = own has.own in
         let number = (place_of c field ok.chip has.field_in).number in
         let k = field - first_of c (reg_of c field) in
         finds (goes_by q) (SeenOther c l field q (reg_of c field) k b) has (policy_acts c l field b i q ok.chip has.field_in bit_own)

@@ -302,36 +302,36 @@ session_finds_error bytes adapters desc before which block number place index pl
 
 -- ---- a stuck bit
 
-stuck_first : (desc : DescData) (adapters : List Standing) (stuck : StuckRow) → IsModel (first_world desc adapters).model → IsOnlyStuck desc stuck
-    → IsComparedBit desc.chip stuck → HasStuckBit desc.chip desc.layout (first_world desc adapters).device stuck
-stuck_first desc adapters stuck sound only is =
-    subst (λ fs. HasStuckBit desc.chip desc.layout (first_of desc.chip desc.layout fs) stuck) (sym only)
-    (new_one_has_stuck_bit desc.chip desc.layout stuck (locations_of desc.chip) sound.chip is.field_in is.bit_in)
+-- what a sequence names of the one bit that is stuck, the first line of a session finds
+stuck_found : (bytes : List ℕ) (adapters : List Standing) (desc : DescData) (which : Sequence) (block : Option ℕ) (stuck : StuckRow)
+    → IsPlayed bytes adapters desc → HasSequence bytes adapters desc [] which block → IsOnlyStuck desc stuck → IsComparedBit desc.chip stuck
+    → (IsModel (first_world desc adapters).model → HasStuckBit desc.chip desc.layout (first_world desc adapters).device stuck
+    → (told : List Told) (new : Scene) → RunsAll which block (scene_at (first_world desc adapters) (without_peer 0)) told new
+    → HasEvent (IsNamedBy desc.chip stuck.field) told)
+    → IsFound bytes adapters (IsNamedBy desc.chip stuck.field)
+stuck_found bytes adapters desc which block stuck played has only is finds =
+    let sound = model_of bytes adapters desc played in
+    found_first bytes adapters desc which block (IsNamedBy desc.chip stuck.field) played has (named_shows desc.chip stuck.field)
+    (finds sound (subst (λ fs. HasStuckBit desc.chip desc.layout (first_of desc.chip desc.layout fs) stuck) (sym only)
+    (new_one_has_stuck_bit desc.chip desc.layout stuck (locations_of desc.chip) sound.chip is.field_in is.bit_in)))
 
 pub session_finds_stuck_bit : SessionFindsStuckBit
 session_finds_stuck_bit bytes adapters desc block stuck place played has only is shown at =
     let w = first_world desc adapters in
-    let sound = model_of bytes adapters desc played in
-    found_first bytes adapters desc BitBashOf block (IsNamedBy desc.chip stuck.field) played has (named_shows desc.chip stuck.field)
-    (λ told new run.
-    stuck_bit_is_named (scene_at w (without_peer 0)) new w.device block told stuck place sound refl (stuck_first desc adapters stuck sound only is) is shown at run)
+    stuck_found bytes adapters desc BitBashOf block stuck played has only is (λ sound there told new run.
+    stuck_bit_is_named (scene_at w (without_peer 0)) new w.device block told stuck place sound refl there is shown at run)
 
 pub session_finds_stuck_bit_beside : SessionFindsStuckBitBeside
 session_finds_stuck_bit_beside bytes adapters desc block stuck beside place played has only is shown other at =
     let w = first_world desc adapters in
-    let sound = model_of bytes adapters desc played in
-    found_first bytes adapters desc BitBashOf block (IsNamedBy desc.chip stuck.field) played has (named_shows desc.chip stuck.field)
-    (λ told new run.
-    stuck_bit_beside_is_named (scene_at w (without_peer 0)) new w.device block told stuck beside place sound refl
-    (stuck_first desc adapters stuck sound only is) is shown other at run)
+    stuck_found bytes adapters desc BitBashOf block stuck played has only is (λ sound there told new run.
+    stuck_bit_beside_is_named (scene_at w (without_peer 0)) new w.device block told stuck beside place sound refl there is shown other at run)
 
 pub session_finds_stuck_reset : SessionFindsStuckReset
 session_finds_stuck_reset bytes adapters desc block stuck place played has only is other at =
     let w = first_world desc adapters in
-    let sound = model_of bytes adapters desc played in
-    found_first bytes adapters desc HwResetOf block (IsNamedBy desc.chip stuck.field) played has (named_shows desc.chip stuck.field)
-    (λ told new run.
-    stuck_reset_is_named (scene_at w (without_peer 0)) new w.device block told stuck place sound refl (stuck_first desc adapters stuck sound only is) is other at run)
+    stuck_found bytes adapters desc HwResetOf block stuck played has only is (λ sound there told new run.
+    stuck_reset_is_named (scene_at w (without_peer 0)) new w.device block told stuck place sound refl there is other at run)
 
 -- ---- a deaf item
 
