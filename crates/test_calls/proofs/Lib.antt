@@ -1,2 +1,1 @@
-pub mod Weaves
-pub mod Readies
+mod Readies

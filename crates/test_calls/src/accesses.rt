@@ -3,9 +3,5 @@
 mod each;
 mod fixture;
 mod indexed;
-mod quiet;
 mod regions;
-mod registers;
 mod stand;
-mod words;
-mod woven;

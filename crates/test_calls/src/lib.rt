@@ -1,11 +1,12 @@
-//! Tests of what no clause says, apart from the crates that they test, since a crate with tests is proved twice:
+//! Tests of what no clause says and no session of a command shows, apart from the crates that they test, since a crate
+//! with tests is proved twice. What a session shows is in `crates/test_rows/data`.
 //!
-//! - `units`: worked numbers and texts of the crates up to the accesses, a module each.
-//! - `parts`: the public calls over parts that a caller brings: an adapter, a device, sources and sinks that fail or
-//!   wait, a predictor by itself. What a command can show is in `crates/test_rows/data`.
-//! - `accesses`: calls that no command makes by themselves. Accesses by index and words that are sent alone are over
-//!   the device model with and without flaws, and over a device that doesn't report its state. Then there are values that
-//!   are adopted, accesses through regions of a memory, and woven accesses.
+//! - `units`: worked values of definitions: the policies, the trail of an operation, the pins of APB, the spelling of a
+//!   line, the texts of faults.
+//! - `parts`: whole sessions: sources and sinks that fail at each call, the order in which a source, a device and a sink
+//!   are used, descriptions of too many rows, and the soak session beside a plain loop.
+//! - `accesses`: calls that no command makes: those of one operation, accesses by index, and accesses through regions of
+//!   a memory.
 #![tactic(auto)]
 
 #[cfg(test)]

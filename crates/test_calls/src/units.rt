@@ -1,13 +1,7 @@
-// Worked numbers and texts that no clause has, a file for each crate up to the accesses, and what they share.
+// Worked values of definitions, a file for each crate.
 
 mod apb;
 mod bus;
-mod desc;
-mod fixture;
-mod map;
-mod mirror;
-mod model;
+mod faults;
 mod policy;
-mod report;
 mod script;
-mod script_bounds;

@@ -1,7 +1,8 @@
 // Runs each row of data/rows.txt through the command, and compares its status and its log with those that stand beside
-// it.
+// it. Then it runs the sessions of data/sessions.txt, whose log is one line each.
 //
-// A row that fails is told by its name and by what differs first. The last line is 'N passed, M failed'.
+// A row that fails is told by its name and by what differs first, a session by itself. The last line is
+// 'N passed, M failed'.
 #![tactic(auto)]
 
 use regrun::regrun;
@@ -13,6 +14,8 @@ use std::process::ExitCode;
 use std::{fs, io};
 
 const ROWS: &str = "rows.txt";
+
+const SESSIONS: &str = "sessions.txt";
 
 // The most that a log has.
 const ROOM: usize = 65_536;
@@ -111,9 +114,49 @@ fn run_rows(rt: &HostRuntime, rows: &str) -> io::Result<(u64, u64)> {
     Ok((passed, failed))
 }
 
+// The log of a session in which `|` ends a line.
+fn log_of(alloc: Global, session: &str) -> Result<Vec<u8>, AllocError> {
+    let session = session.replace(alloc, '|', "\n")?;
+    let words = vec![in alloc; String::from_str(alloc, "run")?]?;
+    let (_, log) = ran(alloc, &words, session.as_bytes().to_vec(alloc)?)?;
+    Ok(log)
+}
+
+// Whether the log of a session is a line. Where it isn't, a line says so.
+fn comes_to(rt: &HostRuntime, session: &str, line: &str) -> io::Result<bool> {
+    let log = log_of(rt.alloc(), session)?;
+    let is = log.strip_suffix(b"\n") == Some(line.as_bytes());
+    if !is {
+        println!(rt; "{session}: the log isn't: {line}")?;
+    }
+    Ok(is)
+}
+
+// Runs the sessions: how many pass and how many fail.
+fn run_sessions(rt: &HostRuntime, sessions: &str) -> io::Result<(u64, u64)> {
+    let (mut passed, mut failed) = (0u64, 0u64);
+    for row in sessions.lines() {
+        let Some((session, line)) = row.split_once(" => ") else {
+            continue;
+        };
+        if comes_to(rt, session, line)? {
+            passed = passed.saturating_add(1);
+        } else {
+            failed = failed.saturating_add(1);
+        }
+    }
+    Ok((passed, failed))
+}
+
 fn run(rt: &HostRuntime) -> io::Result<u8> {
     let rows = fs::read_to_string(rt, ROWS)?;
     let (passed, failed) = run_rows(rt, rows.as_str())?;
+    let sessions = fs::read_to_string(rt, SESSIONS)?;
+    let (more_passed, more_failed) = run_sessions(rt, sessions.as_str())?;
+    let (passed, failed) = (
+        passed.saturating_add(more_passed),
+        failed.saturating_add(more_failed),
+    );
     println!(rt; "{passed} passed, {failed} failed")?;
     Ok(u8::from(failed > 0))
 }

@@ -36,7 +36,6 @@ place = [
 }
 
 // A call, of the register `a`, one of its fields, the field of `s` or the third location of `m`.
-#[derive(Clone, Copy, Debug)]
 enum Call {
     FrontRead,
     FieldWrite(u64),
@@ -126,24 +125,24 @@ fn have_all(model: &Model) -> Result<(), Fail>
 }
 
 // Makes a call that goes over the bus; none where it doesn't.
-fn made_on_bus<D: Device>(on: &mut Stand<'_, D>, call: Call) -> Result<Option<Seen>, Fail>
+fn made_on_bus<D: Device>(on: &mut Stand<'_, D>, call: &Call) -> Result<Option<Seen>, Fail>
     requires ready { IsReady on.old.model.now (map standing on.old.adapters.now.items) (D.state on.old.device.now) }
     ensures ready { IsReady on.new.model.now (map standing on.new.adapters.now.items) (D.state on.new.device.now) }
 {
     have_all(on.model)?;
     match call {
         FrontRead => told(&front_read(on.model, on.device, on.adapters, 0, None)),
-        FieldWrite(value) => told(&field_write(on.model, on.device, on.adapters, 0, None, value)),
+        FieldWrite(value) => told(&field_write(on.model, on.device, on.adapters, 0, None, *value)),
         FieldRead => told(&field_read(on.model, on.device, on.adapters, 0, None)),
         Update => told(&update(on.model, on.device, on.adapters, 0, None)),
-        MemCheck(value) => told(&mem_check(on.model, on.device, on.adapters, 0, None, 2, value)),
+        MemCheck(value) => told(&mem_check(on.model, on.device, on.adapters, 0, None, 2, *value)),
         OtherWrite(value) => told(&other_write(
             on.model,
             on.device,
             on.adapters,
             0,
             Some(1),
-            value,
+            *value,
         )),
         OtherRead => told(&other_read(on.model, on.device, on.adapters, 0, Some(1))),
         _ => Ok(None),
@@ -154,7 +153,7 @@ fn made_on_bus<D: Device>(on: &mut Stand<'_, D>, call: Call) -> Result<Option<Se
 fn made_off_bus<D: Device>(
     model: &mut Model,
     device: &mut D,
-    call: Call,
+    call: &Call,
 ) -> Result<Option<Seen>, Fail>
     requires device { IsDeviceOf model.old (D.state device.old) }
     ensures device { IsDeviceOf model.new (D.state device.new) }
@@ -162,13 +161,13 @@ fn made_off_bus<D: Device>(
 {
     have_all(model)?;
     let event = match call {
-        BackWrite(value) => back_write(model, device, 0, value),
+        BackWrite(value) => back_write(model, device, 0, *value),
         BackRead => back_read(model, device, 0, false),
         Peek => peek(model, device, 0),
-        Poke(value) => poke(model, device, 0, value),
-        MemPoke(value) => mem_poke(model, device, 0, 2, value),
+        Poke(value) => poke(model, device, 0, *value),
+        MemPoke(value) => mem_poke(model, device, 0, 2, *value),
         MemPeek => mem_peek(model, device, 0, 2),
-        Hw(value) => hw(model, device, 2, value),
+        Hw(value) => hw(model, device, 2, *value),
         Reset => reset(model, device, 0),
         _ => return Ok(None),
     };
@@ -176,12 +175,12 @@ fn made_off_bus<D: Device>(
 }
 
 // Makes one of the model alone.
-fn made_alone(model: &mut Model, call: Call) -> Result<Seen, Fail>
+fn made_alone(model: &mut Model, call: &Call) -> Result<Seen, Fail>
     ensures { IsSameChip model.old model.new }
 {
     have_all(model)?;
     match call {
-        Set(value) => Ok(seen(&set(model, 1, value))),
+        Set(value) => Ok(seen(&set(model, 1, *value))),
         Show => Ok(seen(&show(model, 0))),
         _ => Err("no such call".into()),
     }
@@ -189,7 +188,7 @@ fn made_alone(model: &mut Model, call: Call) -> Result<Seen, Fail>
 
 // Makes a call.
 #[tactic(auto, using(crate::proofs::Readies::ready_again, crate::proofs::Readies::ready_alone))]
-fn made<D: Device>(on: &mut Stand<'_, D>, call: Call) -> Result<Seen, Fail>
+fn made<D: Device>(on: &mut Stand<'_, D>, call: &Call) -> Result<Seen, Fail>
     requires ready { IsReady on.old.model.now (map standing on.old.adapters.now.items) (D.state on.old.device.now) }
     ensures ready { IsReady on.new.model.now (map standing on.new.adapters.now.items) (D.state on.new.device.now) }
 {
@@ -207,7 +206,7 @@ pub(crate) fn all_made<D: Device>(rt: &impl Abort, on: &mut Stand<'_, D>) -> Res
     requires ready { IsReady on.old.model.now (map standing on.old.adapters.now.items) (D.state on.old.device.now) }
 {
     for (call, want) in calls() {
-        assert_eq!(rt; made(on, *call)?, *want, "{call:?}");
+        assert_eq!(rt; made(on, call)?, *want);
     }
     Ok(())
 }

@@ -5,7 +5,6 @@ ghost use Rattle.rl_mam.specs.Mam.{IsManagerOf};
 
 use self::Made::{Ended, Steps};
 use crate::accesses::fixture::{Task, performed};
-use crate::accesses::registers::registers;
 use crate::accesses::stand::Stand;
 use rl_access::{End, Event, Model, Recorder, Refused};
 use rl_bus::{Adapter, Device, Failed};
@@ -206,8 +205,16 @@ pub(crate) fn regions_accessed<D: Device>(
     Ok(())
 }
 
+// A memory of 10 locations.
+fn chip() -> &'static str {
+    "
+mem = [{name = 'm', bytes = 1, size = 10}]
+map = [{name = 'bus', bytes = 1}]
+place = [{map = 'bus', item = 'm'}]
+"
+}
+
 #[test]
 fn regions_are_given_out_and_accessed(rt: HostRuntime) -> Result<(), Fail> {
-    let text = registers(rt.alloc(), "")?;
-    performed(&rt, text.as_str(), &Task::Regions)
+    performed(&rt, chip(), &Task::Regions)
 }

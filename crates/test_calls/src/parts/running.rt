@@ -1,11 +1,25 @@
 // What the command does with its words, over parts in memory.
-use crate::parts::fixture::adapters;
+ghost use Rattle.std.specs.Prelude.{◌<◌, ◌^◌, IfOk, length, map};
+
 use regrun::{Status, regrun};
-use rl_report::{MemSink, MemSource, Sink};
-use std::alloc::Global;
+use rl_apb::fresh_adapters;
+use rl_bus::{Adapter, Adapters};
+use rl_report::{MemSink, MemSource};
+use std::alloc::{AllocError, Global};
 use std::test::Fail;
 
-fn owned(alloc: Global, words: &[&str]) -> Result<Vec<String>, Fail> {
+/// An adapter of each kind.
+pub(crate) fn adapters(alloc: Global) -> Result<Adapters, AllocError>
+    ensures { IfOk result (λ adapters. length (map standing adapters.items) < 2 ^ 32) }
+{
+    let (plain, apb) = fresh_adapters();
+    let mut adapters: Adapters = Vec::new(alloc);
+    adapters.push(Box::new(alloc, plain)?)?;
+    adapters.push(Box::new(alloc, apb)?)?;
+    Ok(adapters)
+}
+
+fn owned(alloc: Global, words: &[&str]) -> Result<Vec<String>, AllocError> {
     let mut owned = Vec::new(alloc);
     for word in words {
         owned.push(String::from_str(alloc, word)?)?;
@@ -13,20 +27,18 @@ fn owned(alloc: Global, words: &[&str]) -> Result<Vec<String>, Fail> {
     Ok(owned)
 }
 
-/// What the command does.
-pub(crate) fn regrun_on<K: Sink>(
+fn run_over(
     alloc: Global,
-    words: &[&str],
+    words: &[String],
     source: &mut MemSource,
-    sink: &mut K,
-) -> Result<Status, Fail> {
-    let words = owned(alloc, words)?;
+    sink: &mut MemSink,
+) -> Result<Status, AllocError> {
     let mut adapters = adapters(alloc)?;
-    Ok(regrun(alloc, &words, source, sink, &mut adapters))
+    Ok(regrun(alloc, words, source, sink, &mut adapters))
 }
 
-/// The status, and what was written to a sink that takes three bytes at a call. The source and the sink fail at these
-/// calls.
+/// The status, and what was written to a sink that takes three bytes at a call. The source gives pieces of so many bytes,
+/// and the source and the sink fail at these calls.
 pub(crate) fn ran(
     alloc: Global,
     words: &[&str],
@@ -35,8 +47,9 @@ pub(crate) fn ran(
     source_fails: &[u64],
     sink_fails: &[u64],
 ) -> Result<(Status, Vec<u8>), Fail> {
+    let words = owned(alloc, words)?;
     let mut source = MemSource::new(session.to_vec(alloc)?, piece, source_fails.to_vec(alloc)?);
     let mut sink = MemSink::new(alloc, 3, 4096, sink_fails.to_vec(alloc)?)?;
-    let status = regrun_on(alloc, words, &mut source, &mut sink)?;
+    let status = run_over(alloc, &words, &mut source, &mut sink)?;
     Ok((status, sink.written().to_vec(alloc)?))
 }

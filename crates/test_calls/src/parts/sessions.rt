@@ -1,15 +1,12 @@
 // Whole sessions, from sources and into sinks that fail or take pieces.
-use crate::parts::running::{ran, regrun_on};
-use crate::parts::sink::Unending;
+use crate::parts::running::ran;
 use regrun::Status;
-use rl_report::MemSource;
-use std::alloc::Global;
+use std::alloc::{AllocGlobal, Global};
 use std::process::Abort;
 use std::test::Fail;
 
-/// The smallest use of the command.
-pub(crate) fn session() -> &'static [u8] {
-    b"\
+// The smallest use of the command.
+const PLAIN: &[u8] = b"\
 [[reg]]
 name = \"a\"
 bytes = 4
@@ -23,64 +20,112 @@ item = \"a\"
 ---
 write a 0x5
 read a
-"
-}
+";
 
-/// Its log.
-pub(crate) fn log() -> &'static [u8] {
-    b"\
+const PLAIN_LOG: &[u8] = b"\
 write a 0x5 @bus: ok mirror 0x00000005
   bus w 0x0 0x00000005 1111 #0 ok
 read a @bus: ok 0x00000005 mirror 0x00000005
   bus r 0x0 0x00000005 1111 #1 ok
 end: 2 events, 0 differences, 0 bus errors
-"
-}
+";
 
-// An adapter without byte enables. One lane of the last word has no byte.
-fn partial() -> &'static [u8] {
-    b"\
+// A group of two writes, and one of a read, which the end of the input closes.
+const WOVEN: &[u8] = b"\
 [[reg]]
 name = 'a'
-bytes = 3
-field = [{name = 'v', lsb = 0, width = 24, policy = 'RW'}]
+bytes = 2
+field = [{name = 'v', lsb = 0, width = 16, policy = 'RW'}]
+[[reg]]
+name = 'b'
+bytes = 2
+field = [{name = 'v', lsb = 0, width = 16, policy = 'RW'}]
 [[map]]
 name = 'bus'
-bytes = 2
-adapter = 'third'
+bytes = 1
+predict = 'explicit'
 [[place]]
 map = 'bus'
 item = 'a'
+[[place]]
+map = 'bus'
+item = 'b'
+offset = 2
 ---
-write a 0xabcdef
-"
+other-write a 0x1122
+other-write b 0x3344
+
+other-read a
+";
+
+const WOVEN_LOG: &[u8] = b"  bus w 0x0 0x22 1 #0 ok
+  bus w 0x2 0x44 1 #1 ok
+  bus w 0x1 0x11 1 #2 ok
+other-write a 0x1122 @bus: ok mirror 0x1122
+  bus w 0x3 0x33 1 #3 ok
+other-write b 0x3344 @bus: ok mirror 0x3344
+  bus r 0x0 0x22 1 #4 ok
+  bus r 0x1 0x11 1 #5 ok
+other-read a @bus: ok 0x1122 mirror 0x1122
+end: 3 events, 0 differences, 0 bus errors
+";
+
+// The words of the command, a session and its log. The log has a part for each line or group: the bytes of the input that
+// are read before it is written, with the end of the input as one more, and how long it is.
+struct Case {
+    words: &'static [&'static str],
+    session: &'static [u8],
+    log: &'static [u8],
+    parts: &'static [(u64, u64)],
 }
 
-fn partial_log() -> &'static [u8] {
-    b"\
-write a 0xabcdef @bus: ok mirror 0xabcdef
-  bus w 0x0 0xcdef 11 #100 ok
-  bus w 0x2 0x00ab 11 #101 ok
-end: 1 events, 0 differences, 0 bus errors
-"
+static CASES: [Case; 2] = [
+    Case {
+        words: &["run"],
+        session: PLAIN,
+        log: PLAIN_LOG,
+        parts: &[(168, 73), (175, 79), (176, 43)],
+    },
+    Case {
+        words: &["weave", "1"],
+        session: WOVEN,
+        log: WOVEN_LOG,
+        parts: &[(352, 188), (366, 136)],
+    },
+];
+
+// By a function, so that no proof reads it.
+fn cases() -> &'static [Case] {
+    &CASES
 }
 
 // A status, how long the log is, and whether that is a front of the whole one.
-type Seen = (Status, usize, bool);
+type Seen = (Status, u64, bool);
 
-// Of the session in pieces of so many bytes.
 fn seen(
     alloc: Global,
+    case: &Case,
     piece: usize,
     source_fails: &[u64],
     sink_fails: &[u64],
 ) -> Result<Seen, Fail> {
-    let (status, written) = ran(alloc, &["run"], session(), piece, source_fails, sink_fails)?;
-    Ok((status, written.len(), log().starts_with(written.as_slice())))
+    let (status, log) = ran(
+        alloc,
+        case.words,
+        case.session,
+        piece,
+        source_fails,
+        sink_fails,
+    )?;
+    Ok((
+        status,
+        log.len() as u64,
+        case.log.starts_with(log.as_slice()),
+    ))
 }
 
-fn expect(rt: &impl Abort, at: u64, got: Seen, want: Seen) {
-    assert_eq!(rt; got, want, "at {at}");
+fn expect(rt: &impl Abort, case: &Case, at: u64, got: Seen, want: Seen) {
+    assert_eq!(rt; got, want, "{:?} at {at}", case.words);
 }
 
 fn pieces() -> &'static [usize] {
@@ -89,127 +134,137 @@ fn pieces() -> &'static [usize] {
 
 #[test]
 fn runs_in_any_pieces(rt: HostRuntime) -> Result<(), Fail> {
-    for piece in pieces() {
-        let got = seen(rt.alloc(), *piece, &[], &[])?;
-        expect(&rt, *piece as u64, got, (Status::Passed, log().len(), true));
+    for case in cases() {
+        for piece in pieces() {
+            let got = seen(rt.alloc(), case, *piece, &[], &[])?;
+            let whole = (Status::Passed, case.log.len() as u64, true);
+            expect(&rt, case, *piece as u64, got, whole);
+        }
     }
     Ok(())
 }
 
-// How much is written of the lines whose end was read before the call that fails.
-fn taken_before(call: u64) -> usize {
-    match call {
-        0..168 => 0,
-        168..175 => 73,
-        _ => 152,
+// How much of the log is written where so many bytes are read.
+fn taken_of(parts: &[(u64, u64)], bytes: u64) -> u64 {
+    let mut taken = 0u64;
+    for (read, len) in parts {
+        if *read <= bytes {
+            taken = taken.saturating_add(*len);
+        }
     }
+    taken
 }
 
-// One byte is read at a call.
+// The source gives a byte at a call, and fails at one.
+fn fails_at_each_read(rt: &(impl Abort + AllocGlobal), case: &Case) -> Result<(), Fail> {
+    for call in 0..=case.session.len() as u64 {
+        let got = seen(rt.alloc(), case, 1, &[call], &[])?;
+        let want = (Status::SourceFault, taken_of(case.parts, call), true);
+        expect(rt, case, call, got, want);
+    }
+    Ok(())
+}
+
 #[test]
 fn source_fails_at_each_call(rt: HostRuntime) -> Result<(), Fail> {
-    for call in 0..176u64 {
-        let got = seen(rt.alloc(), 1, &[call], &[])?;
-        expect(
-            &rt,
-            call,
-            got,
-            (Status::SourceFault, taken_before(call), true),
-        );
+    for case in cases() {
+        fails_at_each_read(&rt, case)?;
     }
     Ok(())
 }
 
-// How much is out before a call of the sink. What one line logs is written before the next one is read, three bytes at
-// a call: 73 bytes, 79 bytes, and the 43 bytes of the counts.
-fn out_before(call: u64) -> u64 {
-    match call {
-        0..25 => 3 * call,
-        25..52 => 73 + 3 * (call - 25),
-        52..67 => 152 + 3 * (call - 52),
-        _ => 195,
+// How much of the log is out before a call of the sink. Each part is written before more is read, three bytes at a call.
+fn out_before(parts: &[(u64, u64)], call: u64) -> u64 {
+    let mut left = call;
+    let mut out = 0u64;
+    for (_, len) in parts {
+        let calls = len.div_ceil(3).min(left);
+        out = out.saturating_add(calls.saturating_mul(3).min(*len));
+        left -= calls;
     }
+    out
 }
 
-// The source gives a byte at a call.
+// The source gives a byte at a call, and the sink fails at one.
+fn fails_at_each_write(rt: &(impl Abort + AllocGlobal), case: &Case) -> Result<(), Fail> {
+    for call in 0..u64::MAX {
+        let out = out_before(case.parts, call);
+        if out >= case.log.len() as u64 {
+            break;
+        }
+        let got = seen(rt.alloc(), case, 1, &[], &[call])?;
+        expect(rt, case, call, got, (Status::SinkFault, out, true));
+    }
+    Ok(())
+}
+
 #[test]
 fn sink_fails_at_each_call(rt: HostRuntime) -> Result<(), Fail> {
-    for call in 0..67u64 {
-        let got = seen(rt.alloc(), 1, &[], &[call])?;
-        expect(
-            &rt,
-            call,
-            got,
-            (Status::SinkFault, out_before(call) as usize, true),
-        );
+    for case in cases() {
+        fails_at_each_write(&rt, case)?;
     }
-    let got = seen(rt.alloc(), 1, &[], &[67])?;
-    expect(&rt, 67, got, (Status::Passed, 195, true));
     Ok(())
 }
 
-// The source gives all at once, or fails at once; or the sink does.
-#[test]
-fn nothing_is_out_where_the_first_call_fails(rt: HostRuntime) -> Result<(), Fail> {
-    let got = seen(rt.alloc(), 4096, &[0], &[])?;
-    expect(&rt, 0, got, (Status::SourceFault, 0, true));
-    let got = seen(rt.alloc(), 4096, &[], &[0])?;
-    expect(&rt, 0, got, (Status::SinkFault, 0, true));
-    Ok(())
+// The cuts of the smallest session. A session of fewer bytes than a row says, and of no fewer than the row before it
+// says, has the status and the last line that stand beside them.
+static CUTS: [(usize, Status, &str); 10] = [
+    (155, Status::Refused, "refused session: no separator\n"),
+    (
+        157,
+        Status::Passed,
+        "end: 0 events, 0 differences, 0 bus errors\n",
+    ),
+    (161, Status::Refused, "refused line 1: no such command\n"),
+    (165, Status::Refused, "refused line 1: wrong count\n"),
+    (
+        166,
+        Status::Passed,
+        "end: 1 events, 0 differences, 0 bus errors\n",
+    ),
+    (167, Status::Refused, "refused line 1: bad number\n"),
+    (
+        169,
+        Status::Passed,
+        "end: 1 events, 0 differences, 0 bus errors\n",
+    ),
+    (172, Status::Refused, "refused line 2: no such command\n"),
+    (174, Status::Refused, "refused line 2: wrong count\n"),
+    (
+        176,
+        Status::Passed,
+        "end: 2 events, 0 differences, 0 bus errors\n",
+    ),
+];
+
+fn cuts() -> &'static [(usize, Status, &'static str)] {
+    &CUTS
 }
 
-// Into a sink that can't be finished: the status, how often it failed and was finished, and whether it took the whole
-// log.
-fn unfinished(alloc: Global) -> Result<(Status, u64, u64, bool), Fail> {
-    let mut source = MemSource::new(session().to_vec(alloc)?, 64, Vec::new(alloc));
-    let mut sink = Unending::new(alloc);
-    let status = regrun_on(alloc, &["run"], &mut source, &mut sink)?;
-    Ok((status, sink.faults(), sink.ends(), sink.taken() == log()))
-}
-
-// The whole log is written, and the output isn't ended.
-#[test]
-fn finish_fails(rt: HostRuntime) -> Result<(), Fail> {
-    assert_eq!(rt; unfinished(rt.alloc())?, (Status::SinkFault, 1, 0, true));
-    Ok(())
-}
-
-// The last line of the log of a session of so many bytes, where that isn't the counts.
-fn refusal_at(cut: usize) -> Option<&'static str> {
-    match cut {
-        0..155 => Some("refused session: no separator\n"),
-        157..161 => Some("refused line 1: no such command\n"),
-        161..165 => Some("refused line 1: wrong count\n"),
-        166 => Some("refused line 1: bad number\n"),
-        169..172 => Some("refused line 2: no such command\n"),
-        172..174 => Some("refused line 2: wrong count\n"),
-        _ => None,
+// How a session of so many bytes ends.
+fn end_at(cut: usize) -> (Status, &'static str) {
+    for (past, status, last) in cuts() {
+        if cut < *past {
+            return (*status, *last);
+        }
     }
+    (Status::Passed, "")
 }
 
-// Whether a session of so many bytes ends as it should.
-fn ends_cut_at(alloc: Global, cut: usize) -> Result<bool, Fail> {
-    let front = session().get(..cut).ok_or("a shorter session")?;
-    let (status, log) = ran(alloc, &["run"], front, 0, &[], &[])?;
-    match refusal_at(cut) {
-        Some(last) => Ok(status == Status::Refused && log.ends_with(last.as_bytes())),
-        None => Ok(status == Status::Passed),
-    }
+fn plain_cut(cut: usize) -> &'static [u8] {
+    PLAIN.get(..cut).unwrap_or(PLAIN)
 }
 
 #[test]
 fn a_session_cut_anywhere_ends(rt: HostRuntime) -> Result<(), Fail> {
-    for cut in 0..session().len() {
-        assert!(rt; ends_cut_at(rt.alloc(), cut)?, "at {cut}");
+    for cut in 0..176usize {
+        let (want, last) = end_at(cut);
+        let (status, log) = ran(rt.alloc(), &["run"], plain_cut(cut), 0, &[], &[])?;
+        assert_eq!(rt;
+            (status, log.ends_with(last.as_bytes())),
+            (want, true),
+            "{cut}"
+        );
     }
-    Ok(())
-}
-
-// The first adapter of the map's name is used, and an adapter without enables enables the lane without a byte too.
-#[test]
-fn an_adapter_is_used_by_its_name(rt: HostRuntime) -> Result<(), Fail> {
-    let (status, log) = ran(rt.alloc(), &["run"], partial(), 64, &[], &[])?;
-    assert_eq!(rt; status, Status::Passed);
-    assert_eq!(rt; log.as_slice(), partial_log());
     Ok(())
 }

@@ -1,4 +1,4 @@
-// The worked rows, the first and the last entry, what a device with a flaw shows, and what one that fails an item does.
+// The worked rows, the first and the last entry, policies and rights, and what a device with a flaw shows.
 use super::calls::{Call, Case, NO_SUCH_ENTRY, Seen, WRITTEN};
 use rl_access::{End, Refused};
 
@@ -166,63 +166,20 @@ const FIFTH: Case = Case {
     ),
 };
 
-// The second byte of the data register fails: its first byte is written, and the model isn't told.
-static HALF: Case = Case {
-    flaws: "",
-    index: "ix",
-    data: "rw",
-    rows: &[
-        (
-            Call::Write(1, 0x1234),
-            (Some(End::Done), Some(End::BusError { word: 1 }), 0, 3),
-        ),
-        (Call::Read(0), brought!(0x0000, 0)),
-    ],
-    entries: ([0, 0x0034, 0, 0], [0; 4]),
-};
+// By a function, so that no proof reads it.
 
-// The index of the second access fails, and both sides stay at the entry of the first one.
-static ONCE: Case = Case {
-    flaws: "",
-    index: "ix",
-    data: "rw",
-    rows: &[
-        (Call::Write(1, 0x1234), WRITTEN),
-        (Call::Write(2, 0x5678), FAILED),
-        (Call::Check(1), brought!(0x1234, 0)),
-    ],
-    entries: ([0, 0x1234, 0, 0], [0, 0x1234, 0, 0]),
-};
+static CASES: [Case; 9] = [
+    TWO_ENTRIES,
+    AT_THE_ENDS,
+    CLEARED_BY_ONE,
+    CLEARED_BY_READING,
+    LOCKED,
+    STUCK,
+    DEAF,
+    UNHEARD,
+    FIFTH,
+];
 
-// The tables by functions, so that no proof reads them.
-
-static ANYWHERE: [Case; 2] = [TWO_ENTRIES, AT_THE_ENDS];
-
-static BY_POLICY: [Case; 3] = [CLEARED_BY_ONE, CLEARED_BY_READING, LOCKED];
-
-/// What goes over any device.
-pub(crate) fn anywhere() -> &'static [Case] {
-    &ANYWHERE
-}
-
-/// What shows the policy and the rights of a register.
-pub(crate) fn by_policy() -> &'static [Case] {
-    &BY_POLICY
-}
-
-static FLAWED: [Case; 4] = [STUCK, DEAF, UNHEARD, FIFTH];
-
-/// What a flaw shows.
-pub(crate) fn flawed() -> &'static [Case] {
-    &FLAWED
-}
-
-/// Over a device that fails its third item.
-pub(crate) fn half() -> &'static Case {
-    &HALF
-}
-
-/// Over a device that fails its fourth item.
-pub(crate) fn once() -> &'static Case {
-    &ONCE
+pub(crate) fn cases() -> &'static [Case] {
+    &CASES
 }
