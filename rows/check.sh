@@ -1,11 +1,13 @@
 #!/usr/bin/env bash
-# rows/check.sh BIN [sessions|limits]: runs a regrun on every row, and on each example and its log as a
-# script; and on the largest sessions, which are made here, and on faults of input and output; or on one of these two alone.
+# rows/check.sh BIN [sessions|limits|crowds]: runs a regrun on every row, and on each example and its log as a script; on the
+# largest sessions, which are made here, and on faults of input and output; and on descriptions with the most rows of each kind;
+# or on one of these three alone.
 # It compares the whole output and the status. The last line is 'N passed, M failed'.
 #
 # The rows stand in crates/test_rows/data, where a proved program runs them too: rows.txt has for each its name, its status and
-# the command's words; NAME.session is standard input, and NAME.log the output that it must give. An example NAME.regrun has
-# its log as NAME.log, its status as NAME.status (absent: 0) and its words, one a line, as NAME.words (absent: run).
+# the command's words; NAME.session is standard input, and NAME.log the output that it must give. sessions.txt has sessions and
+# their logs of one line. An example NAME.regrun has its log as NAME.log, its status as NAME.status (absent: 0) and its words,
+# one a line, as NAME.words (absent: run).
 set -u
 bin=$(realpath "$1")
 if [ ! -x "$bin" ]; then
@@ -19,10 +21,10 @@ tmp=$(mktemp -d)
 trap 'rm -rf "$tmp"' EXIT
 passed=0
 failed=0
-beside='^regrun: (line [0-9]+|note|[a-z]+ [0-9]+ .*): '
+beside='^regrun: ((line [0-9]+|note|[a-z]+ [0-9]+( .*)?): |the (input|output) couldn.t be |`run` or `map` is asked for)'
 
 # check NAME INPUT LOG STATUS WORD..: one run over the file INPUT; its output must be LOG, and on standard error nothing may stand
-# but what is said of a refusal, or a note.
+# but what is said of a refusal, of wrong words, of a fault, or a note.
 check() {
     local name=$1 input=$2 log=$3 status=$4
     shift 4
@@ -55,6 +57,16 @@ sessions() {
         echo "$name: rows.txt doesn't name it"
     done
 
+    # Those whose log is one line.
+    while IFS= read -r session <&3; do
+        case $session in *' => '*) ;; *) continue ;; esac
+        printf '%s\n' "${session%% => *}" | tr '|' '\n' > "$tmp/in"
+        printf '%s\n' "${session##* => }" > "$tmp/want"
+        status=0
+        grep -q '^refused' "$tmp/want" && status=2
+        check "$session" "$tmp/in" "$tmp/want" "$status" run
+    done 3< "$rows/sessions.txt"
+
     for session in "$here"/../examples/*.regrun; do
         name=${session%.*}
         words=(run)
@@ -85,6 +97,39 @@ padded() {
     printf '\n---\nread a\n'
 }
 
+# crowd COUNT ROW: the row so many times, each with its number, from 0, for `#`.
+crowd() {
+    awk -v count="$1" -v row="$2" 'BEGIN { for (i = 0; i < count; i++) { it = row; gsub("#", i, it); print it } }'
+}
+
+# most KIND COUNT ROW: so many rows of a kind are taken, and one more isn't.
+most() {
+    printf 'end: 0 events, 0 differences, 0 bus errors\n' > "$tmp/want"
+    { crowd "$2" "$3"; echo ---; } > "$tmp/in"
+    check "most rows $1" "$tmp/in" "$tmp/want" 0 run
+    printf 'refused description %s %s: too many\n' "$1" "$(($2 + 1))" > "$tmp/want"
+    { crowd "$(($2 + 1))" "$3"; echo ---; } > "$tmp/in"
+    check "too many rows $1" "$tmp/in" "$tmp/want" 2 run
+}
+
+# crowds: as many rows of each kind as a description may have, and one more; and texts that are deep, or wide, of which a trial
+# (TRIAL in the environment) takes a tenth.
+crowds() {
+    local wide=349000
+    [ -z "${TRIAL:-}" ] || wide=34900
+    most block 256 '[[block]]\nname = "b#"'
+    most file 256 '[[file]]\nname = "f#"'
+    most reg 1024 '[[reg]]\nname = "r#"\nbytes = 1'
+    most mem 64 '[[mem]]\nname = "m#"\nbytes = 1\nsize = 1024'
+    most map 64 '[[map]]\nname = "m#"\nbytes = 1'
+    printf 'refused description: not toml\n' > "$tmp/want"
+    { echo 'reg = '; yes '[[' | head -n 349000; echo ---; } > "$tmp/in"
+    check deep-text "$tmp/in" "$tmp/want" 2 run
+    printf 'refused description: wrong type of reg\n' > "$tmp/want"
+    { echo 'reg = ['; yes '1,' | head -n "$wide"; printf ']\n---\n'; } > "$tmp/in"
+    check wide-array "$tmp/in" "$tmp/want" 2 run
+}
+
 # limits: those of a session, met and passed by one; an input that can't be read, and an output that is full.
 limits() {
     smallest=$rows/rows/smallest-session.session
@@ -113,10 +158,11 @@ limits() {
 }
 
 case ${2:-} in
-    sessions | limits) "$2" ;;
+    sessions | limits | crowds) "$2" ;;
     *)
         sessions
         limits
+        crowds
         ;;
 esac
 echo "$passed passed, $failed failed"

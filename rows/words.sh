@@ -1,6 +1,6 @@
 #!/usr/bin/env bash
-# words.sh REGRUN LINK WAVES GRADE: what the programs say on standard error of sessions that are refused, and of some that aren't
-# meant so. Each case changes one session; what is said was written by hand from its text. The last line is 'N passed, M failed'.
+# words.sh REGRUN LINK WAVES GRADE PLAN: what the programs say on standard error of sessions that are refused, of some that aren't
+# meant so, and where input and output fail. Each case changes one session; what is said was written by hand from its text. The last line is 'N passed, M failed'.
 # shellcheck disable=SC2016 # what is said has backticks
 set -u
 programs=("$@")
@@ -205,6 +205,31 @@ with subprocess.Popen([sys.argv[1], "run"], bufsize=0, **streams) as it:
 P
 then : > "$tmp/said"; fi
 judge 'by hand' ''
+
+# fault STATUS EXPECTED COMMAND..: where the log can't say how the call ended.
+fault() {
+    "${@:3}" 2> "$tmp/said"
+    local status=$?
+    [ "$status" = "$1" ] || echo "status $status" >> "$tmp/said"
+    judge "${*:3}" "$2"
+}
+{ cat "$tmp/chip" && echo 'read uart.ctrl'; } > "$tmp/session"
+regrun=${programs[0]} link=${programs[1]} waves=${programs[2]} grade=${programs[3]} plan=${programs[4]}
+fault 3 "regrun: the input couldn't be read" "$regrun" run < /
+fault 4 "regrun: the output couldn't be written" "$regrun" run < "$tmp/session" > /dev/full
+fault 4 "regrun: the output couldn't be written" "$regrun" soak 1 < /dev/null > /dev/full
+fault 3 "regrun-grade: the input couldn't be read" "$grade" run < /
+fault 4 "regrun-grade: the output couldn't be written" "$grade" run < "$tmp/session" > /dev/full
+fault 3 "regrun-grade: the input couldn't be read" "$grade" add < /
+fault 3 "regrun-plan: the input couldn't be read" "$plan" < /
+fault 4 "regrun-plan: the output couldn't be written" "$plan" < "$tmp/session" > /dev/full
+fault 3 "regrun-waves: the input couldn't be read" "$waves" / "$tmp/vcd"
+fault 4 "regrun-waves: the output couldn't be written" "$waves" "$tmp/session" "$tmp/vcd" > /dev/full
+fault 3 "regrun-link: the input couldn't be read" "$link" / "$tmp/log" < /dev/null
+too_large='regrun: `run` or `map` is asked for, or `soak N` or `weave N` with N below 2^64, and a session on standard input'
+fault 6 "$too_large" "$regrun" soak 18446744073709551616
+fault 6 "$too_large" "$regrun" weave 0x10000000000000000 < "$tmp/session"
+fault 6 "regrun: a word isn't UTF-8" "$regrun" run $'\xff'
 
 echo "$passed passed, $failed failed"
 [ "$failed" = 0 ]

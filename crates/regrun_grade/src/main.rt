@@ -7,7 +7,7 @@ ghost use Rattle.std.specs.Prelude.{◌<◌};
 
 use rl_apb::fresh_adapters;
 use rl_bus::Adapters;
-use rl_cli::{KeptSink, KeptSource, advise, code_of, open_file, words};
+use rl_cli::{KeptSink, KeptSource, advise, code_of, open_file, tell_fault, words};
 use rl_grade_report::{Asked, Call, Meter, call_by, exit_code, read_all, run_add, run_grade};
 use rl_log::Status;
 use rl_report::{StdSink, StdSource};
@@ -74,6 +74,7 @@ fn grade(rt: &HostRuntime, asked: Asked, waivers: &[u8]) -> Result<Status, Alloc
         &log,
         &mut StdSink::new(rt.stderr()),
     );
+    tell_fault(rt, PROGRAM, status);
     Ok(status)
 }
 
@@ -83,8 +84,12 @@ fn read_file(rt: &HostRuntime, path: &str) -> Result<Vec<u8>, Status> {
         return Err(Status::SourceFault);
     };
     let bytes = read_all(rt.alloc(), &mut StdSource::new(file));
-    if let Err(Status::SourceFault) = bytes {
-        let _ = eprintln!(rt; "{PROGRAM}: {path}: the waivers couldn't be read");
+    match bytes {
+        Err(Status::SourceFault) => {
+            let _ = eprintln!(rt; "{PROGRAM}: {path}: the waivers couldn't be read");
+        }
+        Err(status) => tell_fault(rt, PROGRAM, status),
+        Ok(_) => {}
     }
     bytes
 }
@@ -103,7 +108,9 @@ fn grade_waived(rt: &HostRuntime, asked: Asked, path: &str) -> Result<Status, Al
 fn add(rt: &HostRuntime, bound: Option<u64>) -> Status {
     let mut source = StdSource::new(rt.reader());
     let mut log = StdSink::new(io::writer(rt));
-    run_add(rt.alloc(), bound, &mut source, &mut log)
+    let status = run_add(rt.alloc(), bound, &mut source, &mut log);
+    tell_fault(rt, PROGRAM, status);
+    status
 }
 
 // Says what can be asked for. Answers the exit status.
@@ -139,5 +146,5 @@ fn run(rt: &HostRuntime) -> io::Result<u8> {
 }
 
 fn main(rt: HostRuntime) -> ExitCode {
-    code_of(run(&rt), Status::Memory.code(), Status::Words.code())
+    code_of(&rt, PROGRAM, run(&rt))
 }

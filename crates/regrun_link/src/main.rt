@@ -3,7 +3,7 @@
 
 use rl_apb::fresh_adapters;
 use rl_bus::Adapters;
-use rl_cli::{KeptSink, KeptSource, advise, code_of, create_file, open_file, words};
+use rl_cli::{KeptSink, KeptSource, advise, code_of, create_file, open_file, tell_fault, words};
 use rl_link::{ByLine, Streams, run_linked};
 use rl_log::Status;
 use rl_report::{StdSink, StdSource};
@@ -59,6 +59,7 @@ fn run_files(rt: &HostRuntime, session: &str, path: &str) -> Result<u8, AllocErr
         &log,
         &mut StdSink::new(rt.stderr()),
     );
+    tell_fault(rt, PROGRAM, ran.status);
     Ok(ran.code())
 }
 
@@ -75,5 +76,5 @@ fn run(rt: &HostRuntime) -> io::Result<u8> {
 }
 
 fn main(rt: HostRuntime) -> ExitCode {
-    code_of(run(&rt), Status::Memory.code(), Status::Words.code())
+    code_of(&rt, PROGRAM, run(&rt))
 }

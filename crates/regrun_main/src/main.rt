@@ -4,12 +4,19 @@
 use regrun::{Status, regrun};
 use rl_apb::fresh_adapters;
 use rl_bus::Adapters;
-use rl_cli::{KeptSink, KeptSource, advise, code_of, words};
+use rl_cli::{KeptSink, KeptSource, advise, code_of, tell_fault, words};
 use rl_report::{StdSink, StdSource};
 use std::io;
 use std::process::ExitCode;
 
 const PROGRAM: &str = "regrun";
+
+// Says what can be asked for.
+fn tell_words(rt: &HostRuntime) {
+    let _ = eprintln!(rt;
+        "regrun: `run` or `map` is asked for, or `soak N` or `weave N` with N below 2^64, and a session on standard input"
+    );
+}
 
 // Runs what the words ask for, with a plain and an APB adapter for the root maps.
 fn run(rt: &HostRuntime) -> io::Result<u8> {
@@ -29,9 +36,13 @@ fn run(rt: &HostRuntime) -> io::Result<u8> {
         &sink,
         &mut StdSink::new(rt.stderr()),
     );
+    if status == Status::Words {
+        tell_words(rt);
+    }
+    tell_fault(rt, PROGRAM, status);
     Ok(status.code())
 }
 
 fn main(rt: HostRuntime) -> ExitCode {
-    code_of(run(&rt), Status::Memory.code(), Status::Words.code())
+    code_of(&rt, PROGRAM, run(&rt))
 }

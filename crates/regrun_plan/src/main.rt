@@ -5,13 +5,15 @@
 
 use rl_apb::fresh_adapters;
 use rl_bus::Adapters;
-use rl_cli::{code_of, words};
+use rl_cli::{code_of, tell_fault, words};
 use rl_log::Status;
 use rl_plan::{Wanted, asked_by, run_added, run_plan};
 use rl_report::{StdSink, StdSource};
 use std::alloc::AllocError;
 use std::io;
 use std::process::ExitCode;
+
+const PROGRAM: &str = "regrun-plan";
 
 // Writes what is wanted of the session on standard input, with a plain and an APB adapter for the root maps.
 fn write(rt: &HostRuntime, wanted: Wanted) -> Result<Status, AllocError> {
@@ -22,10 +24,12 @@ fn write(rt: &HostRuntime, wanted: Wanted) -> Result<Status, AllocError> {
     adapters.push(Box::new(alloc, apb)?)?;
     let mut source = StdSource::new(rt.reader());
     let mut log = StdSink::new(io::writer(rt));
-    Ok(match wanted {
+    let status = match wanted {
         Wanted::Plan(asked) => run_plan(alloc, asked, &mut source, &mut log, &adapters),
         Wanted::Added(asked) => run_added(alloc, asked, &mut source, &mut log, &adapters),
-    })
+    };
+    tell_fault(rt, PROGRAM, status);
+    Ok(status)
 }
 
 // Says what can be asked for. Answers the exit status.
@@ -46,5 +50,5 @@ fn run(rt: &HostRuntime) -> io::Result<u8> {
 }
 
 fn main(rt: HostRuntime) -> ExitCode {
-    code_of(run(&rt), Status::Memory.code(), Status::Words.code())
+    code_of(&rt, PROGRAM, run(&rt))
 }

@@ -3,7 +3,7 @@
 
 use rl_apb::fresh_adapters;
 use rl_bus::Adapters;
-use rl_cli::{KeptSink, KeptSource, advise, code_of, create_file, open_file, words};
+use rl_cli::{KeptSink, KeptSource, advise, code_of, create_file, open_file, tell_fault, words};
 use rl_log::Status;
 use rl_report::{StdSink, StdSource};
 use rl_vcd::{Fault, Ran, run_waves};
@@ -66,6 +66,7 @@ fn run_files(rt: &HostRuntime, path: &str, waves: &str) -> Result<u8, AllocError
         &log,
         &mut StdSink::new(rt.stderr()),
     );
+    tell_fault(rt, PROGRAM, ran.status);
     Ok(code_of_dump(rt, waves, &ran))
 }
 
@@ -82,5 +83,5 @@ fn run(rt: &HostRuntime) -> io::Result<u8> {
 }
 
 fn main(rt: HostRuntime) -> ExitCode {
-    code_of(run(&rt), Status::Memory.code(), Status::Words.code())
+    code_of(&rt, PROGRAM, run(&rt))
 }

@@ -1,65 +1,14 @@
 // What a program says of a session on standard error.
 use crate::description::put_refused;
 use crate::kept_sink::{Heard, KeptSink};
-use crate::kept_source::{Kept, KeptSource};
+use crate::kept_source::{Kept, KeptSource, Parts};
+use crate::lines::{is_line_end, line_number};
 use crate::message::Message;
 use crate::script::{Lines, put_refused_line};
 use crate::unread::put_unread;
-use memchr::{memchr, memchr_iter, memchr2_iter, memmem, memrchr};
-use rl_report::{Sink, Source, put_all};
+use memchr::{memchr, memrchr};
+use rl_report::{Sink, Source};
 use std::alloc::Global;
-
-/// A session cut at its separator.
-#[derive(Clone, Copy)]
-struct Parts<'a> {
-    description: &'a [u8],
-    /// Where the script begins.
-    script: usize,
-}
-
-// How long the separator is with its line end, where the bytes begin with it, as a line of its own.
-fn separator_len(bytes: &[u8]) -> Option<usize> {
-    match bytes {
-        b"---" | b"---\r" => Some(bytes.len()),
-        [b'-', b'-', b'-', b'\n', ..] => Some(4),
-        [b'-', b'-', b'-', b'\r', b'\n', ..] => Some(5),
-        _ => None,
-    }
-}
-
-// The parts of a session, if it has a separator.
-fn parts_of(bytes: &[u8]) -> Option<Parts<'_>> {
-    for place in memmem::find_iter(bytes, b"---") {
-        let (description, rest) = bytes.split_at_checked(place)?;
-        let starts = description.is_empty() || description.ends_with(b"\n");
-        if let (true, Some(len)) = (starts, separator_len(rest)) {
-            return Some(Parts {
-                description,
-                script: place.saturating_add(len),
-            });
-        }
-    }
-    None
-}
-
-// How many lines end in these bytes.
-fn line_ends(bytes: &[u8]) -> usize {
-    memchr_iter(b'\n', bytes).count()
-}
-
-// The lines of a script that begins at this place of the input, of the last bytes, before which so many came.
-fn script_lines(last: &[u8], before: usize, script: usize) -> Lines<'_> {
-    match script.checked_sub(before) {
-        Some(from) => Lines {
-            bytes: last.get(from..).unwrap_or(&[]),
-            first: true,
-        },
-        None => Lines {
-            bytes: last,
-            first: false,
-        },
-    }
-}
 
 // Puts what is wrong with a refused line, where it is at hand.
 fn put_wrong_word(
@@ -70,8 +19,12 @@ fn put_wrong_word(
     number: usize,
 ) -> Option<()> {
     let description = str::from_utf8(parts.description).ok()?;
+    let from = parts.script.checked_sub(kept.before_last());
     let last = kept.last(alloc)?;
-    let lines = script_lines(&last, kept.before_last(), parts.script);
+    let lines = Lines {
+        bytes: last.get(from.unwrap_or(0)..).unwrap_or(&[]),
+        first: from.is_some(),
+    };
     put_refused_line(alloc, message, description, lines, number)
 }
 
@@ -79,10 +32,10 @@ fn put_wrong_word(
 fn put_line_refusal(alloc: Global, message: &mut Message, kept: &Kept, told: &str) -> Option<()> {
     let (number, reason) = told.split_once(": ")?;
     let number = number.parse::<usize>().ok()?;
-    let parts = parts_of(kept.front()?)?;
-    let before = line_ends(parts.description).saturating_add(1);
-    message.put_line(before.saturating_add(number))?;
-    message.put(reason)?;
+    let parts = kept.parts()?;
+    let separator = line_number(parts.description, usize::MAX);
+    message.put_line(separator.saturating_add(number));
+    message.put(reason);
     // Where no more can be told, the line and the reason are.
     let _ = put_wrong_word(alloc, message, kept, parts, number);
     Some(())
@@ -95,53 +48,60 @@ fn put_description_refusal(
     kept: &Kept,
     told: &str,
 ) -> Option<()> {
-    let parts = parts_of(kept.front()?)?;
+    let description = kept.parts()?.description;
     if told == ": not toml" {
-        return put_unread(alloc, message, parts.description);
+        return put_unread(alloc, message, description);
     }
     put_refused(
         alloc,
         message,
-        str::from_utf8(parts.description).ok()?,
+        str::from_utf8(description).ok()?,
         told.trim_start(),
     )
 }
 
 // The line of a session with no separator that looks like one.
 fn put_no_separator(message: &mut Message, kept: &Kept) -> Option<()> {
-    for (number, line) in kept.front()?.split(|byte| *byte == b'\n').enumerate() {
+    for (number, line) in kept.front()?.split(is_line_end).enumerate() {
         if line.trim_ascii().starts_with(b"---") {
-            message.put_line(number.saturating_add(1))?;
-            return message.put("no separator: this line isn't exactly `---`");
+            message.put_line(number.saturating_add(1));
+            message.put("no separator: this line isn't exactly `---`");
+            return Some(());
         }
     }
     None
 }
 
-// What there is to tell of a refusal, from the last line of the log.
-fn refusal_advice(alloc: Global, program: &str, kept: &Kept, last: &str) -> Option<String> {
+// Puts what there is to tell of a refusal, from the last line of the log.
+fn put_refusal(alloc: Global, message: &mut Message, kept: &Kept, last: &str) -> Option<()> {
     let told = last.strip_prefix("refused ")?;
-    let mut message = Message::of(alloc, program)?;
     if let Some(told) = told.strip_prefix("line ") {
-        put_line_refusal(alloc, &mut message, kept, told)?;
+        put_line_refusal(alloc, message, kept, told)
     } else if let Some(told) = told.strip_prefix("description") {
-        put_description_refusal(alloc, &mut message, kept, told)?;
+        put_description_refusal(alloc, message, kept, told)
     } else if told == "session: no separator" {
-        put_no_separator(&mut message, kept)?;
+        put_no_separator(message, kept)
     } else {
-        return None;
+        None
     }
-    message.line()
 }
 
-// A note that a part of the session did nothing.
-fn idle_note(alloc: Global, program: &str, part: &str, name: &str, text: &str) -> Option<String> {
-    let mut message = Message::of(alloc, program)?;
-    message.put("note: ")?;
-    message.put(part)?;
-    message.put_word(name)?;
-    message.put(text)?;
-    message.line()
+// Says what there is to tell of a refusal.
+fn tell_refusal<W: Sink>(alloc: Global, program: &str, messages: &mut W, kept: &Kept, last: &str) {
+    let mut message = Message::of(alloc, program);
+    if put_refusal(alloc, &mut message, kept, last).is_some() {
+        message.tell(messages);
+    }
+}
+
+// A note on what did nothing.
+fn tell_note<W: Sink>(alloc: Global, program: &str, messages: &mut W, words: &[&str]) {
+    let mut message = Message::of(alloc, program);
+    message.put("note: ");
+    for word in words {
+        message.put_word(word);
+    }
+    message.tell(messages);
 }
 
 // Whether a line of a script says nothing.
@@ -151,13 +111,16 @@ fn is_blank(line: &[u8]) -> bool {
 }
 
 // Whether the whole script is at hand, and has no operation.
-fn has_no_operation(kept: &Kept, parts: &Parts<'_>) -> bool {
-    let script = kept.front().and_then(|front| front.get(parts.script..));
-    let script = script.unwrap_or(&[]);
-    kept.is_whole()
-        && script
-            .split(|byte| *byte == b'\n')
-            .all(|line| is_blank(line))
+fn has_no_operation(kept: &Kept, parts: Parts<'_>) -> bool {
+    let Some(script) = kept.script(parts) else {
+        return false;
+    };
+    for line in script.split(is_line_end) {
+        if !is_blank(line) {
+            return false;
+        }
+    }
+    true
 }
 
 // Whether a key begins behind these bytes: no letter is right before it, and no `#` in its line.
@@ -166,9 +129,10 @@ fn begins_key(before: &[u8]) -> bool {
         Some(end) => before.get(end..).unwrap_or(before),
         None => before,
     };
-    let joins = before
-        .last()
-        .is_some_and(|byte| byte.is_ascii_alphanumeric() || *byte == b'_');
+    let joins = match before {
+        [.., byte] => byte.is_ascii_alphanumeric() || *byte == b'_',
+        [] => false,
+    };
     !joins && memchr(b'#', line).is_none()
 }
 
@@ -178,77 +142,60 @@ fn ends_key(rest: &[u8]) -> bool {
     rest.trim_ascii_start().starts_with(b"=")
 }
 
-// The key at a place, where it is HARD in other letters.
-fn other_hard(text: &[u8], place: usize) -> Option<&[u8]> {
-    let (before, from) = text.split_at_checked(place)?;
-    let (word, rest) = from.split_at_checked(4)?;
-    let is_other = word.eq_ignore_ascii_case(b"HARD") && word != b"HARD".as_slice();
-    if is_other && begins_key(before) && ends_key(rest) {
-        return Some(word);
-    }
-    None
+// Whether a key stands between these bytes.
+fn is_key(before: Option<&[u8]>, rest: Option<&[u8]>) -> bool {
+    begins_key(before.unwrap_or(&[])) && ends_key(rest.unwrap_or(&[]))
 }
 
-// Puts that a reset kind is HARD in other letters.
-fn put_kind(message: &mut Message, text: &[u8], place: usize, word: &[u8]) -> Option<()> {
-    message.put("note: ")?;
-    message.put_line(line_ends(text.get(..place)?).saturating_add(1))?;
-    message.put("the reset kind ")?;
-    message.put_word(str::from_utf8(word).ok()?)?;
-    message.put(" is another one than HARD")
-}
-
-// A note on the first reset kind that is HARD in other letters.
-fn note_kind(alloc: Global, program: &str, text: &[u8]) -> Option<String> {
-    for place in memchr2_iter(b'h', b'H', text) {
-        if let Some(word) = other_hard(text, place) {
-            let mut message = Message::of(alloc, program)?;
-            put_kind(&mut message, text, place, word)?;
-            return message.line();
+// The first key of a text that is HARD in other letters, and its place.
+fn other_hard(text: &[u8]) -> Option<(usize, &[u8])> {
+    for (place, word) in text.windows(4).enumerate() {
+        let end = place.saturating_add(4);
+        if word.eq_ignore_ascii_case(b"HARD")
+            && word != b"HARD".as_slice()
+            && is_key(text.get(..place), text.get(end..))
+        {
+            return Some((place, word));
         }
     }
     None
 }
 
-fn tell<W: Sink>(messages: &mut W, line: Option<String>) {
-    if let Some(line) = line {
-        let _ = put_all(messages, line.as_str().as_bytes());
-    }
+// A note on the first reset kind that is HARD in other letters.
+fn tell_kind<W: Sink>(alloc: Global, program: &str, messages: &mut W, text: &[u8]) {
+    let Some((place, word)) = other_hard(text) else {
+        return;
+    };
+    let mut message = Message::of(alloc, program);
+    message.put("note: ");
+    message.put_line(line_number(text, place));
+    message.put("the reset kind ");
+    message.put_word(str::from_utf8(word).unwrap_or(""));
+    message.put(" is another one than HARD");
+    message.tell(messages);
 }
 
 const NO_STEP: &str = " made no step";
 
 // The notes on sequences that made no step.
-fn tell_idle<W: Sink>(alloc: Global, program: &str, heard: &Heard, messages: &mut W) {
+fn tell_idle<W: Sink>(alloc: Global, program: &str, messages: &mut W, heard: &Heard) {
     let (idle, more) = heard.idle();
     for name in str::from_utf8(idle).unwrap_or("").lines() {
-        tell(messages, idle_note(alloc, program, "seq ", name, NO_STEP));
+        tell_note(alloc, program, messages, &["seq ", name, NO_STEP]);
     }
     if more > 0 {
-        tell(
-            messages,
-            idle_note(alloc, program, "further sequences", "", NO_STEP),
-        );
+        tell_note(alloc, program, messages, &["further sequences", NO_STEP]);
     }
 }
 
-// The notes on a session that was run.
-fn tell_notes<W: Sink>(
-    alloc: Global,
-    program: &str,
-    kept: &Kept,
-    has_script: bool,
-    messages: &mut W,
-) {
-    let Some(parts) = kept.front().and_then(|front| parts_of(front)) else {
+// The notes on a session that was run, of which the log's last line gives these counts.
+fn tell_notes<W: Sink>(alloc: Global, program: &str, messages: &mut W, kept: &Kept, counts: &str) {
+    let Some(parts) = kept.parts() else {
         return;
     };
-    tell(messages, note_kind(alloc, program, parts.description));
-    if has_script && has_no_operation(kept, &parts) {
-        tell(
-            messages,
-            idle_note(alloc, program, "the script", "", " has no operation"),
-        );
+    tell_kind(alloc, program, messages, parts.description);
+    if !counts.ends_with(" places") && has_no_operation(kept, parts) {
+        tell_note(alloc, program, messages, &["the script has no operation"]);
     }
 }
 
@@ -272,13 +219,9 @@ pub fn advise<S: Source + Drop, K: Sink + Drop, W: Sink>(
     messages: &mut W,
 ) {
     let last = str::from_utf8(sink.heard().last()).unwrap_or("");
-    tell(
-        messages,
-        refusal_advice(alloc, program, source.kept(), last),
-    );
-    tell_idle(alloc, program, sink.heard(), messages);
+    tell_refusal(alloc, program, messages, source.kept(), last);
+    tell_idle(alloc, program, messages, sink.heard());
     if let Some(counts) = last.strip_prefix("end: ") {
-        let has_script = !counts.ends_with(" places");
-        tell_notes(alloc, program, source.kept(), has_script, messages);
+        tell_notes(alloc, program, messages, source.kept(), counts);
     }
 }

@@ -1,6 +1,7 @@
 // A source that keeps some of what it gives.
 ghost use Rattle.std.specs.Prelude.{◌≡◌, ◌<◌, length};
 
+use crate::lines::{is_line_end, without_return};
 use memchr::memmem;
 use rl_report::{Failed, Source};
 use std::alloc::Global;
@@ -9,6 +10,14 @@ use std::mem;
 const MOST_FRONT: usize = 1_081_344;
 
 const LEAST_LAST: usize = 8_192;
+
+/// A session cut at its separator.
+#[derive(Clone, Copy)]
+pub(crate) struct Parts<'a> {
+    pub(crate) description: &'a [u8],
+    /// Where the script begins.
+    pub(crate) script: usize,
+}
 
 /// What is kept of the bytes of a session.
 #[derive(Drop)]
@@ -71,9 +80,17 @@ impl Kept {
         Some(&self.front)
     }
 
-    /// Whether the front is all that came.
-    pub(crate) fn is_whole(&self) -> bool {
-        !self.lost && self.count == self.front.len()
+    /// The parts of the session, where its separator is in the front.
+    pub(crate) fn parts(&self) -> Option<Parts<'_>> {
+        parts_of(self.front()?)
+    }
+
+    /// The whole script, where the front is all that came.
+    pub(crate) fn script(&self, parts: Parts<'_>) -> Option<&[u8]> {
+        if self.lost || self.count != self.front.len() {
+            return None;
+        }
+        Some(self.front.get(parts.script..).unwrap_or(&[]))
     }
 
     /// The last bytes that came. None where some are lost, or there is no memory.
@@ -100,6 +117,22 @@ fn may_separate(front: &[u8], from: usize) -> bool {
         return false;
     };
     (from == 0 && bytes.starts_with(b"---")) || memmem::find(bytes, b"\n---").is_some()
+}
+
+// The parts of a session, if it has a separator.
+fn parts_of(bytes: &[u8]) -> Option<Parts<'_>> {
+    let mut from = 0usize;
+    for line in bytes.split(is_line_end) {
+        let end = from.saturating_add(line.len());
+        if without_return(line) == b"---".as_slice() {
+            return Some(Parts {
+                description: bytes.get(..from)?,
+                script: end.saturating_add(1),
+            });
+        }
+        from = end.saturating_add(1);
+    }
+    None
 }
 
 /// A source that gives exactly what another one gives, read for read, and keeps the description and the last lines for

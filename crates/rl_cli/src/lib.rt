@@ -4,9 +4,11 @@
 
 mod advice;
 mod description;
+mod fault;
 mod files;
 mod kept_sink;
 mod kept_source;
+mod lines;
 mod message;
 mod names;
 mod near;
@@ -17,6 +19,7 @@ mod unread;
 mod words_of_script;
 
 pub use advice::advise;
+pub use fault::tell_fault;
 pub use files::{create_file, open_file};
 pub use kept_sink::KeptSink;
 pub use kept_source::KeptSource;

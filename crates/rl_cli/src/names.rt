@@ -1,10 +1,9 @@
 // The names that a description has.
-use crate::near::Nearest;
 use std::alloc::Global;
 use toml::{Table, Value};
 
 /// What a name of a description is of.
-#[derive(Clone, Copy, PartialEq, Eq)]
+#[derive(Clone, Copy)]
 pub(crate) enum Sort {
     Block,
     File,
@@ -62,37 +61,39 @@ pub(crate) fn text_at<'a>(row: &'a Value, key: &str) -> Option<&'a str> {
     row.get(key)?.as_str()
 }
 
-// The path of a row: the one that it is of, and its name.
-fn path_of(alloc: Global, row: &Value) -> Option<String> {
-    let mut path = String::new(alloc);
-    if let Some(of) = text_at(row, "of") {
-        path.push_str(of).ok()?;
-        path.push('.').ok()?;
+// Adds the path that these names make.
+fn add(alloc: Global, names: &mut Vec<String>, path: &[&str]) -> Option<()> {
+    names.push(path.join(alloc, ".").ok()?).ok()
+}
+
+// Adds the path of a row: the one that it is of, and its name.
+fn add_row(alloc: Global, names: &mut Vec<String>, row: &Value) -> Option<()> {
+    let name = text_at(row, "name")?;
+    match text_at(row, "of") {
+        Some(of) => add(alloc, names, &[of, name]),
+        None => add(alloc, names, &[name]),
     }
-    path.push_str(text_at(row, "name")?).ok()?;
-    Some(path)
 }
 
 // Adds the paths of a register's fields.
 fn add_fields(alloc: Global, names: &mut Vec<String>, reg: &Value) -> Option<()> {
     for field in fields_of(reg) {
-        let mut path = path_of(alloc, reg)?;
-        path.push('.').ok()?;
-        path.push_str(text_at(field, "name")?).ok()?;
-        names.push(path).ok()?;
+        let reg_name = text_at(reg, "name")?;
+        let name = text_at(field, "name")?;
+        match text_at(reg, "of") {
+            Some(of) => add(alloc, names, &[of, reg_name, name])?,
+            None => add(alloc, names, &[reg_name, name])?,
+        }
     }
     Some(())
 }
 
 // Adds the reset kinds of a field.
 fn add_kinds(alloc: Global, names: &mut Vec<String>, field: &Value) -> Option<()> {
-    let Some(Value::Table(kinds)) = field.get("reset") else {
-        return Some(());
-    };
-    for (name, _) in kinds.iter() {
-        names
-            .push(String::from_str(alloc, name.as_str()).ok()?)
-            .ok()?;
+    if let Some(Value::Table(kinds)) = field.get("reset") {
+        for (name, _) in kinds.iter() {
+            add(alloc, names, &[name.as_str()])?;
+        }
     }
     Some(())
 }
@@ -105,33 +106,39 @@ fn add_kinds_of(alloc: Global, names: &mut Vec<String>, reg: &Value) -> Option<(
     Some(())
 }
 
-// Adds the names that a row gives.
-fn add_row(alloc: Global, names: &mut Vec<String>, sort: Sort, row: &Value) -> Option<()> {
-    match sort {
-        Sort::Field => add_fields(alloc, names, row),
-        Sort::Kind => add_kinds_of(alloc, names, row),
-        _ => {
-            names.push(path_of(alloc, row)?).ok()?;
-            Some(())
-        }
-    }
-}
-
-/// All names of a sort. None where a row has no name, or there is no memory.
-pub(crate) fn names_of(alloc: Global, table: &Table, sort: Sort) -> Option<Vec<String>> {
-    let mut names = Vec::new(alloc);
-    if sort == Sort::Kind {
-        names.push(String::from_str(alloc, "HARD").ok()?).ok()?;
-        names.push(String::from_str(alloc, "SOFT").ok()?).ok()?;
+// Adds all names of a sort.
+fn add_names(alloc: Global, names: &mut Vec<String>, table: &Table, sort: Sort) -> Option<()> {
+    if matches!(sort, Sort::Kind) {
+        add(alloc, names, &["HARD"])?;
+        add(alloc, names, &["SOFT"])?;
     }
     for row in rows_of(table, sort.array()) {
-        add_row(alloc, &mut names, sort, row)?;
+        match sort {
+            Sort::Field => add_fields(alloc, names, row)?,
+            Sort::Kind => add_kinds_of(alloc, names, row)?,
+            _ => add_row(alloc, names, row)?,
+        }
     }
+    Some(())
+}
+
+// Adds all names of these sorts.
+fn add_all(alloc: Global, names: &mut Vec<String>, table: &Table, sorts: &[Sort]) -> Option<()> {
+    for sort in sorts {
+        add_names(alloc, names, table, *sort)?;
+    }
+    Some(())
+}
+
+/// All names of these sorts. None where a row has no name, or there is no memory.
+pub(crate) fn names_of(alloc: Global, table: &Table, sorts: &[Sort]) -> Option<Vec<String>> {
+    let mut names = Vec::new(alloc);
+    add_all(alloc, &mut names, table, sorts)?;
     Some(names)
 }
 
-/// Whether a word is one of the names.
-pub(crate) fn has(names: &[String], word: &str) -> bool {
+// Whether a word is one of the names.
+fn has(names: &[String], word: &str) -> bool {
     for name in names {
         if name.as_str() == word {
             return true;
@@ -140,9 +147,7 @@ pub(crate) fn has(names: &[String], word: &str) -> bool {
     false
 }
 
-/// Offers each name.
-pub(crate) fn offer_names<'a>(nearest: &mut Nearest<'a>, names: &'a [String]) {
-    for name in names {
-        nearest.offer(name.as_str());
-    }
+/// Whether a word is a name of these sorts. None where a row has no name, or there is no memory.
+pub(crate) fn is_name(alloc: Global, table: &Table, sorts: &[Sort], word: &str) -> Option<bool> {
+    Some(has(&names_of(alloc, table, sorts)?, word))
 }

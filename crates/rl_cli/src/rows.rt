@@ -32,7 +32,7 @@ fn header_line(text: &str, name: &str, row: usize, from: usize) -> Option<usize>
 // The first line from `from` on that begins a row of another array than `reg.field`, or a number past all lines.
 fn rows_end(text: &str, from: usize) -> usize {
     for (number, line) in text.lines().enumerate().skip(from) {
-        if header(line).is_some_and(|name| !name.contains('.')) {
+        if !header(line).unwrap_or(".").contains('.') {
             return number;
         }
     }
@@ -53,12 +53,16 @@ fn find_line(text: &str, from: usize, to: usize, marks: (&str, &str)) -> Option<
 }
 
 // The line where a field of the row between two lines begins, by its header or its name.
-fn field_line(text: &str, from: usize, to: usize, field: usize, name: Option<&str>) -> usize {
+fn field_line(
+    text: &str,
+    from: usize,
+    to: usize,
+    field: usize,
+    name: Option<&str>,
+) -> Option<usize> {
     match header_line(text, "reg.field", field, from) {
-        Some(line) if line < to => line,
-        _ => name
-            .and_then(|name| find_line(text, from, to, ("name", name)))
-            .unwrap_or(from),
+        Some(line) if line < to => Some(line),
+        _ => find_line(text, from, to, ("name", name?)),
     }
 }
 
@@ -73,7 +77,7 @@ pub(crate) fn line_of(
     let row = header_line(text, spot.array, spot.row, 0)?;
     let to = rows_end(text, row.saturating_add(1));
     let from = match spot.field {
-        Some(field) => field_line(text, row, to, field, name),
+        Some(field) => field_line(text, row, to, field, name).unwrap_or(row),
         None => row,
     };
     let line = find_line(text, from, to, marks)

@@ -1,6 +1,7 @@
 // What is wrong with a line of a script.
+use crate::lines::{is_line_end, without_return};
 use crate::message::Message;
-use crate::names::{Sort, has, names_of, offer_names};
+use crate::names::{Sort, is_name, names_of};
 use crate::near::Nearest;
 use crate::words_of_script::{FORMS, Form, SEQUENCES, form_of};
 use rl_policy::{NumberText, read_number};
@@ -8,52 +9,47 @@ use rl_script::{IdentRef, LineFault, PathRef, read_line_ref};
 use std::alloc::Global;
 use toml::Table;
 
-// The words of a line, up to a comment.
-fn words_of(alloc: Global, line: &str) -> Option<Vec<&str>> {
-    let mut words = Vec::new(alloc);
+// Adds the words of a line, up to a comment.
+fn add_words<'a>(words: &mut Vec<&'a str>, line: &'a str) -> Option<()> {
     for word in line.split_ascii_whitespace() {
         if word.starts_with('#') {
             break;
         }
         words.push(word).ok()?;
     }
+    Some(())
+}
+
+// The words of a line, up to a comment.
+fn words_of(alloc: Global, line: &[u8]) -> Option<Vec<&str>> {
+    let line = str::from_utf8(line).ok()?;
+    let mut words = Vec::new(alloc);
+    add_words(&mut words, line)?;
     Some(words)
 }
 
 // Puts a word that is no command, or no sequence behind `seq`.
 fn put_command(message: &mut Message, words: &[&str]) -> Option<()> {
-    let first = words.first()?;
-    if *first == "seq" {
-        let Some(name) = words.get(1) else {
-            return put_form(message, form_of(first)?);
-        };
-        let mut nearest = Nearest::to(name);
-        nearest.offer_all(&SEQUENCES);
-        return message.put_wrong(name, &nearest);
+    match words {
+        ["seq"] => put_form(message, form_of("seq")?),
+        ["seq", name, ..] => message.put_wrong(Nearest::to(name).among(&SEQUENCES)),
+        [first, ..] => message.put_wrong(Nearest::to(first).among(&FORMS)),
+        [] => {}
     }
-    let mut nearest = Nearest::to(first);
-    for form in FORMS {
-        nearest.offer(form.name);
-    }
-    message.put_wrong(first, &nearest)
+    Some(())
 }
 
 // Puts what the command takes.
-fn put_form(message: &mut Message, form: Form) -> Option<()> {
-    message.put(": ")?;
-    message.put(form.name)?;
-    message.put(" takes ")?;
-    message.put(form.operands)
-}
-
-// The map that a word names, behind its `@`.
-fn map_in(word: &str) -> Option<&str> {
-    word.strip_prefix('@')
+fn put_form(message: &mut Message, form: Form) {
+    message.put(": ");
+    message.put(form.name);
+    message.put(" takes ");
+    message.put(form.operands);
 }
 
 // Whether an operand isn't spelled as the name or path that it should be.
 fn is_misspelled(form: Form, place: usize, word: &str) -> bool {
-    if let Some(map) = map_in(word) {
+    if let Some(map) = word.strip_prefix('@') {
         return IdentRef::of(map.as_bytes()).is_none();
     }
     match form.sort {
@@ -85,61 +81,80 @@ fn unread_number<'a>(words: &[&'a str], fault: LineFault) -> Option<&'a str> {
     None
 }
 
-fn put_plain(message: &mut Message, word: Option<&str>) -> Option<()> {
-    let Some(word) = word else {
-        return Some(());
-    };
-    message.put(": ")?;
-    message.put_word(word)
+fn put_plain(message: &mut Message, word: &str) {
+    message.put(": ");
+    message.put_word(word);
+}
+
+// The word of a line that makes it one that doesn't read, where it is a single one.
+fn wrong_word<'a>(form: Form, words: &[&'a str], fault: LineFault) -> Option<&'a str> {
+    match fault {
+        LineFault::BadName => misspelled(form, words),
+        LineFault::BadNumber | LineFault::NumberTooLarge => unread_number(words, fault),
+        LineFault::CountOutOfRange if form.name == "burst-read" => words.get(3).copied(),
+        _ => None,
+    }
 }
 
 // Puts what is wrong with a line that doesn't read.
 fn put_unread(message: &mut Message, words: &[&str], fault: LineFault) -> Option<()> {
-    if fault == LineFault::NoSuchCommand {
+    if matches!(fault, LineFault::NoSuchCommand) {
         return put_command(message, words);
     }
     let form = form_of(words.first()?)?;
-    match fault {
-        LineFault::WrongCount => put_form(message, form),
-        LineFault::BadName => put_plain(message, misspelled(form, words)),
-        LineFault::BadNumber | LineFault::NumberTooLarge => put_plain(
-            message,
-            unread_number(words, fault),
-        ),
-        LineFault::CountOutOfRange if form.name == "burst-read" => put_plain(
-            message,
-            words.get(3).copied(),
-        ),
-        _ => Some(()),
+    if matches!(fault, LineFault::WrongCount) {
+        put_form(message, form);
+    } else if let Some(word) = wrong_word(form, words, fault) {
+        put_plain(message, word);
     }
+    Some(())
 }
 
-/// A name of a line that the description doesn't have, and what it should name.
+/// A name of a line, and what it should name.
 #[derive(Clone, Copy)]
-struct Stranger<'a> {
+struct Named<'a> {
     word: &'a str,
     sort: Sort,
 }
 
-// The first name of a line that the description doesn't have: a path or a reset kind, and then a map.
-fn first_stranger<'a>(alloc: Global, table: &Table, words: &[&'a str]) -> Option<Stranger<'a>> {
-    let form = form_of(words.first()?)?;
-    let at = if form.sort == Sort::Block { 2 } else { 1 };
+// The word that names a map, behind its `@`; `*` where there is none.
+fn map_of<'a>(words: &[&'a str]) -> &'a str {
+    match words {
+        [.., word] => word.strip_prefix('@').unwrap_or("*"),
+        [] => "*",
+    }
+}
+
+// The names of a line: a path or a reset kind, and a map.
+fn names_in<'a>(words: &[&'a str]) -> Option<(Named<'a>, Named<'a>)> {
+    let sort = form_of(words.first()?)?.sort;
+    let at = if matches!(sort, Sort::Block) { 2 } else { 1 };
     let word = *words.get(at)?;
-    if word != "*" && !has(&names_of(alloc, table, form.sort)?, word) {
-        return Some(Stranger {
-            word,
-            sort: form.sort,
-        });
-    }
-    let word = map_in(words.last()?)?;
-    if has(&names_of(alloc, table, Sort::Map)?, word) {
-        return None;
-    }
-    Some(Stranger {
-        word,
+    let map = Named {
+        word: map_of(words),
         sort: Sort::Map,
-    })
+    };
+    Some((Named { word, sort }, map))
+}
+
+// Whether the description doesn't have a name.
+fn is_strange(alloc: Global, table: &Table, named: Named<'_>) -> Option<bool> {
+    if named.word == "*" {
+        return Some(false);
+    }
+    Some(!is_name(alloc, table, &[named.sort], named.word)?)
+}
+
+// The first name of a line that the description doesn't have.
+fn first_stranger<'a>(alloc: Global, table: &Table, words: &[&'a str]) -> Option<Named<'a>> {
+    let (operand, map) = names_in(words)?;
+    if is_strange(alloc, table, operand)? {
+        return Some(operand);
+    }
+    if is_strange(alloc, table, map)? {
+        return Some(map);
+    }
+    None
 }
 
 const OTHERS: [Sort; 5] = [
@@ -151,13 +166,13 @@ const OTHERS: [Sort; 5] = [
 ];
 
 // What else a word names.
-fn other_sort(alloc: Global, table: &Table, stranger: Stranger<'_>) -> Option<Sort> {
+fn other_sort(alloc: Global, table: &Table, stranger: Named<'_>) -> Option<Sort> {
     if matches!(stranger.sort, Sort::Map | Sort::Kind) {
         return None;
     }
-    for sort in OTHERS {
-        if has(&names_of(alloc, table, sort)?, stranger.word) {
-            return Some(sort);
+    for sort in &OTHERS {
+        if is_name(alloc, table, &[*sort], stranger.word)? {
+            return Some(*sort);
         }
     }
     None
@@ -168,63 +183,59 @@ fn put_stranger(
     alloc: Global,
     message: &mut Message,
     table: &Table,
-    stranger: Stranger<'_>,
+    stranger: Named<'_>,
 ) -> Option<()> {
     if let Some(sort) = other_sort(alloc, table, stranger) {
-        put_plain(message, Some(stranger.word))?;
-        message.put(" is ")?;
-        message.put(sort.name())?;
-        message.put(", and ")?;
-        message.put(stranger.sort.name())?;
-        return message.put(" is asked for");
+        put_plain(message, stranger.word);
+        message.put(" is ");
+        message.put(sort.name());
+        message.put(", and ");
+        message.put(stranger.sort.name());
+        message.put(" is asked for");
+    } else {
+        let names = names_of(alloc, table, &[stranger.sort])?;
+        message.put_wrong(Nearest::to(stranger.word).among(&names));
     }
-    let names = names_of(alloc, table, stranger.sort)?;
-    let mut nearest = Nearest::to(stranger.word);
-    offer_names(&mut nearest, &names);
-    message.put_wrong(stranger.word, &nearest)
+    Some(())
 }
 
 // Puts which byte of a line is no printable ASCII.
-fn put_byte(message: &mut Message, line: &[u8]) -> Option<()> {
-    let place = line
-        .iter()
-        .position(|byte| *byte != b'\t' && !(*byte >= b' ' && *byte <= b'~'))?;
-    message.put(": byte ")?;
-    message.put_number(place.saturating_add(1) as u64)?;
-    message.put(" is ")?;
-    message.put_hex(u64::from(*line.get(place)?))
+fn put_byte(message: &mut Message, line: &[u8]) {
+    for (place, byte) in line.iter().enumerate() {
+        if !matches!(*byte, b'\t' | b' '..=b'~') {
+            message.put(": byte ");
+            message.put_number(place.saturating_add(1));
+            message.put(" is ");
+            return message.put_hex(*byte);
+        }
+    }
 }
 
-/// What there is to say of a line.
+// The name of a line that reads which the description doesn't have.
+fn stranger_in<'a>(alloc: Global, table: &Table, line: &'a [u8]) -> Option<Named<'a>> {
+    first_stranger(alloc, table, &words_of(alloc, line)?)
+}
+
+// Why a line doesn't read, if it doesn't.
+fn fault_of(alloc: Global, line: &[u8]) -> Option<LineFault> {
+    read_line_ref(alloc, line).err()
+}
+
+// Puts what there is to say of a line.
 fn put_line(alloc: Global, message: &mut Message, table: &Table, line: &[u8]) -> Option<()> {
-    let fault = read_line_ref(alloc, line).err();
-    if matches!(fault, Some(LineFault::NotAscii)) {
-        return put_byte(message, line);
-    }
-    let words = words_of(alloc, str::from_utf8(line).ok()?)?;
-    match fault {
-        Some(fault) => put_unread(message, &words, fault),
-        None => put_stranger(alloc, message, table, first_stranger(alloc, table, &words)?),
+    match fault_of(alloc, line) {
+        None => put_stranger(alloc, message, table, stranger_in(alloc, table, line)?),
+        Some(LineFault::NotAscii) => {
+            put_byte(message, line);
+            Some(())
+        }
+        Some(fault) => put_unread(message, &words_of(alloc, line)?, fault),
     }
 }
 
 // Whether a line is one that is refused in a script of any kind.
 fn is_refused(alloc: Global, table: &Table, line: &[u8]) -> bool {
-    if read_line_ref(alloc, line).is_err() {
-        return true;
-    }
-    let words = str::from_utf8(line)
-        .ok()
-        .and_then(|line| words_of(alloc, line));
-    words.is_some_and(|words| first_stranger(alloc, table, &words).is_some())
-}
-
-// A line without the carriage return at its end.
-fn without_return(line: &[u8]) -> &[u8] {
-    match line {
-        [front @ .., b'\r'] => front,
-        _ => line,
-    }
+    fault_of(alloc, line).is_some() || stranger_in(alloc, table, line).is_some()
 }
 
 /// The lines of a script that are at hand.
@@ -238,7 +249,7 @@ pub(crate) struct Lines<'a> {
 impl<'a> Lines<'a> {
     // The line of a number, from 1, or else the first that is refused.
     fn refused(self, alloc: Global, table: &Table, number: usize) -> Option<&'a [u8]> {
-        for (place, line) in self.bytes.split(|byte| *byte == b'\n').enumerate() {
+        for (place, line) in self.bytes.split(is_line_end).enumerate() {
             let line = without_return(line);
             let is_it = if self.first {
                 place.saturating_add(1) == number
@@ -253,6 +264,17 @@ impl<'a> Lines<'a> {
     }
 }
 
+// Puts what there is to say of the line that was refused, with the description's table.
+fn put_refused(
+    alloc: Global,
+    message: &mut Message,
+    table: &Table,
+    lines: Lines<'_>,
+    number: usize,
+) -> Option<()> {
+    put_line(alloc, message, table, lines.refused(alloc, table, number)?)
+}
+
 /// Puts what there is to say of the line that was refused.
 pub(crate) fn put_refused_line(
     alloc: Global,
@@ -262,6 +284,5 @@ pub(crate) fn put_refused_line(
     number: usize,
 ) -> Option<()> {
     let table = toml::table_from_str(alloc, description).ok()?;
-    let line = lines.refused(alloc, &table, number)?;
-    put_line(alloc, message, &table, line)
+    put_refused(alloc, message, &table, lines, number)
 }

@@ -1,5 +1,6 @@
 // The words of a script, with what each command is on and takes.
 use crate::names::Sort;
+use std::convert::AsStr;
 
 /// A command of a script.
 #[derive(Clone, Copy)]
@@ -50,11 +51,19 @@ pub(crate) const FORMS: [Form; 26] = forms! {
 
 pub(crate) const SEQUENCES: [&str; 5] = ["hw-reset", "bit-bash", "access", "shared", "mem-walk"];
 
+impl AsStr for Form {
+    ghost text = { λ form. form.name.now };
+
+    fn as_str(&self) -> &str {
+        self.name
+    }
+}
+
 /// The command of this name.
 pub(crate) fn form_of(name: &str) -> Option<Form> {
-    for form in FORMS {
+    for form in &FORMS {
         if form.name == name {
-            return Some(form);
+            return Some(*form);
         }
     }
     None
