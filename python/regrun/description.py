@@ -39,13 +39,13 @@ Resets = Union[None, int, Mapping[str, Number]]
 
 
 class Origin(NamedTuple):
-    """Where a thing was made."""
+    """Where a thing was made; the line is 0 where it isn't known."""
 
     file: str
     line: int
 
     def __str__(self) -> str:
-        return f"{self.file}:{self.line}"
+        return f"{self.file}:{self.line}" if self.line else self.file
 
 
 def caller() -> Optional[Origin]:
@@ -543,27 +543,45 @@ class Description:
             text_of(notes)[0] if notes is not None else ""
         )
 
+    @classmethod
+    def outline(cls, source: Union[str, Path]) -> "Description":
+        """The rows by line and name alone, as far as the source is TOML: enough to name one that is refused."""
+        from .toml_rows import Reader
+
+        try:
+            text, file = text_of(source)
+            return Reader(text, file or "<text>").outline()
+        except DescriptionError:
+            return cls()
+
     def check(self, program: Optional[str] = None) -> None:
         """Has the program judge it, without a session. Raises DescriptionRefused, which names the line of Python."""
         from .program import mapped
 
         self.refusal(mapped(self.to_toml(), program)[-1])
 
-    def refusal(self, line: str) -> None:
-        """Raises DescriptionRefused where a line of the log refuses the description or the session."""
+    def refusal(self, line: str, said: str = "", file: str = "") -> None:
+        """Raises DescriptionRefused where a line of the log refuses the description or the session.
+
+        `said` is what the program wrote to standard error: its word that is wrong, and its line in `file`.
+        """
         found = re.match(r"refused (?:description ?|session)([^:]*): (.*)", line)
         if not found:
             return
         where, reason = found[1], found[2]
         words = where.split()
         origin, name = None, ""
-        if len(words) >= 2:
+        if len(words) >= 2 and int(words[1]) <= len(self.rows[words[0]]):
             row = self.rows[words[0]][int(words[1]) - 1]
             origin, name = row.origin, row.path
-            if len(words) == 4:
+            if len(words) == 4 and row.what is not None:
                 field = row.what.fields[int(words[3]) - 1]
                 origin, name = field.origin, f"{row.path}.{field.name}"
-        raise DescriptionRefused(where, reason, str(origin) if origin else None, name)
+        told = re.findall(rf"line (\d+): (?:.*: )?{re.escape(reason)}(?:: (.*))?$", said, re.M)
+        line_of, detail = told[-1] if told else ("0", "")
+        if origin is None and file:
+            origin = Origin(file, int(line_of))
+        raise DescriptionRefused(where, reason, str(origin) if origin else None, name, detail)
 
 
 def notes_path(path: Path) -> Path:
@@ -572,12 +590,19 @@ def notes_path(path: Path) -> Path:
 
 
 def text_of(source: Union[str, Path]) -> Tuple[str, str]:
-    """The description in a file or text, and the name of the file. Of a session it is the part above its separator."""
+    """The description in a file or text, and the name of the file. Of a session it is the part above its separator.
+
+    Raises DescriptionError where a file isn't UTF-8, and OSError.
+    """
     if isinstance(source, str) and "\n" in source:
         text, file = source, ""
     else:
         file = str(source)
-        text = Path(source).read_text(encoding="utf-8")
+        try:
+            text = Path(source).read_text(encoding="utf-8-sig")
+        except UnicodeDecodeError as error:
+            line = error.object.count(b"\n", 0, error.start) + 1
+            raise DescriptionError(f"{file}:{line}: not UTF-8") from None
     lines = text.split("\n")
     cut = next((at for at, line in enumerate(lines) if line in ("---", "---\r")), None)
     return (text if cut is None else "".join(f"{it}\n" for it in lines[:cut])), file

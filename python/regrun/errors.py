@@ -62,16 +62,20 @@ class DescriptionRefused(DescriptionError):
     """The program refused the description.
 
     `where` is the place as the program tells it (`reg 3 field 2`, or empty), `reason` its reason, and `origin` the file and
-    line of that row, where they are known.
+    line of that row, where they are known. The text ends with the wrong word, where the program names it.
     """
 
     def __init__(
-        self, where: str, reason: str, origin: Optional[str] = None, name: str = ""
+        self,
+        where: str,
+        reason: str,
+        origin: Optional[str] = None,
+        name: str = "",
+        detail: str = "",
     ) -> None:
         place = " ".join(it for it in (where, f"({name})" if name else "") if it)
-        super().__init__(
-            ": ".join(it for it in (origin, "the description is refused", place, reason) if it)
-        )
+        parts = (origin, "the description is refused", place, reason, detail)
+        super().__init__(": ".join(it for it in parts if it))
         self.where, self.reason, self.origin = where, reason, origin
 
 

@@ -17,6 +17,7 @@ from .compare import fields_of, table
 from .description import Description, Field, text_of
 from .errors import (
     BusError,
+    DescriptionError,
     Difference,
     LineRefused,
     LinkBroken,
@@ -157,17 +158,19 @@ class Session:
         told = self._program.begin(f"{self._text}\n---\n".encode("utf-8"))
         self._sync_script()
         if told:
-            self._chip_or_empty().refusal(told[-1])
+            self._refuse(told[-1])
             raise ProtocolError(f"before the first line the program said: {told[0]!r}")
 
-    def _chip_or_empty(self) -> Description:
-        """The description, as far as its rows can be named."""
+    def _refuse(self, line: str) -> None:
+        """Raises DescriptionRefused where a line refuses the description, also where Python can't read its rows."""
+        said, source = self._program.said(), self._read_from
         if self._given is not None:
-            return self._given
+            self._given.refusal(line, said)
         try:
-            return self.chip
-        except ValueError:
-            return Description()
+            chip = self.chip
+        except DescriptionError:
+            chip = Description.outline(source)
+        chip.refusal(line, said, "<text>" if "\n" in source else source)
 
     # The session itself.
 
@@ -177,18 +180,21 @@ class Session:
         return self._known.chip
 
     @property
+    def _read_from(self) -> str:
+        """The path of the description's file, or else its text, which has several lines."""
+        path = isinstance(self._source, (str, os.PathLike)) and "\n" not in str(self._source)
+        return str(self._source) if path else f"{self._text}\n"
+
+    @property
     def _known(self) -> Names:
         names = self._names
         if names is None:
             chip = self._given
-            if (
-                chip is None
-                and isinstance(self._source, (str, os.PathLike))
-                and "\n" not in str(self._source)
-            ):
-                chip = _read_file(str(self._source), str(self._notes) if self._notes else None)
+            notes = str(self._notes) if self._notes else None
+            if chip is None and "\n" not in self._read_from:
+                chip = _read_file(self._read_from, notes)
             elif chip is None:
-                chip = _read(self._text, str(self._notes) if self._notes else None)
+                chip = _read(self._text, notes)
             self._names = names = Names(chip)
             names.reset("HARD", self._mirrored)
         return names

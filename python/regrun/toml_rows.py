@@ -171,6 +171,15 @@ class Reader:
         for at, row in enumerate(rows):
             yield self.origin(key, at), dict(row)
 
+    def outline(self) -> Description:
+        """The rows by line and name alone. Raises DescriptionError where they are no rows."""
+        made = Description()
+        for key in KEYS:
+            made.rows[key] = [
+                Row(str(row.get("name", "")), None, origin) for origin, row in self.rows(key)
+            ]
+        return made
+
     def description(self, notes: str) -> Description:
         made = Description()
         unknown = [key for key in self.data if key not in KEYS]
@@ -258,6 +267,5 @@ def _at(origin: Origin, error: Exception) -> str:
         r".*\.__init__\(\) got an unexpected keyword argument '(\w+)'", r"unknown key \1", text
     )
     text = re.sub(r".*\.__init__\(\) missing \d+ required .*?: '(\w+)'.*", r"missing key \1", text)
-    place = str(origin) if origin.line else origin.file
     own = re.match(r"(?:None|[^\s:]*\.py:\d+): ", text)
-    return f"{place}: {text[own.end():] if own else text}"
+    return f"{origin}: {text[own.end():] if own else text}"

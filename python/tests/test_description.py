@@ -171,13 +171,49 @@ def test_what_the_program_refuses_names_the_line(program):
         )
 
 
-def test_what_is_refused_in_a_file_names_its_line(program, tmp_path):
+# What stands in a file, and what its refusal says after the file's name: also where Python can't read its rows.
+REFUSED = [
+    (
+        '[[reg]]\nname = "a"\nbytes = 4\n\n[[reg]]\nname = "a"\nbytes = 4\n',
+        ":5: the description is refused: reg 2 (a): duplicate name: a",
+    ),
+    (
+        '[[reg]]\nname = "a"\nbyte = 4\n',
+        ":1: the description is refused: reg 1 (a): unknown key: byte (bytes?)",
+    ),
+    (
+        '[[reg]]\nname = "a"\nbytes = 4\nfield = [{ name = "f", lsb = 0, width = 1, policy = "rw" }]\n',
+        ":1: the description is refused: reg 1 field 1 (a): bad value of policy: rw (RW?)",
+    ),
+    (
+        '[[reg]]\nname = "a"\nbytes = 4\n[[reg]\n',
+        ":4: the description is refused: not toml: unclosed array table, expected `]]`",
+    ),
+    ('[[register]]\nname = "a"\n', ":1: the description is refused: unknown key: register"),
+    ('reg = [{ name = "a", bits = 8 }]\n', ": the description is refused: reg 1 (a): unknown key"),
+]
+
+
+@pytest.mark.parametrize("text, said", REFUSED, ids=[said for _, said in REFUSED])
+def test_what_is_refused_in_a_file_names_its_line(program, tmp_path, text, said):
     path = tmp_path / "chip.toml"
-    path.write_text('[[reg]]\nname = "a"\nbytes = 4\n\n[[reg]]\nname = "a"\nbytes = 4\n')
-    with pytest.raises(
-        regrun.DescriptionRefused, match=r"chip\.toml:5: .*reg 2 \(a\): duplicate name"
-    ):
+    path.write_text(text)
+    with pytest.raises(regrun.DescriptionRefused) as raised:
         regrun.Session(path, program=program)
+    assert str(raised.value) == f"{path}{said}"
+
+
+def test_a_byte_order_mark_is_taken_and_another_encoding_is_not(program, tmp_path):
+    path = tmp_path / "chip.toml"
+    text = '[[reg]]\nname = "a"\nbytes = 1\n# 5 \u00b5s\n'
+    path.write_text(text, encoding="utf-8-sig")
+    with regrun.Session(path, program=program) as s:
+        assert list(s.chip.registers) == ["a"]
+        s.show("a")
+    path.write_text(text, encoding="latin-1")
+    with pytest.raises(regrun.DescriptionError) as raised:
+        regrun.Session(path, program=program)
+    assert str(raised.value) == f"{path}:4: not UTF-8"
 
 
 NAMES = st.from_regex(r"[a-z][a-z0-9_]{0,6}", fullmatch=True)

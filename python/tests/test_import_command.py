@@ -195,6 +195,8 @@ TABLES = {
     "bars": "| register | offset | field | bits | access | reset |\n|---|---|---|---|---|---|\n| A | 0 | F | 3:0 | rw | 5 |\n| | | G | 7:4 | r | 1 |\n",
     "widths": "register;offset;field;lsb;width;access;reset\nA;0;F;0;4;rw;5\n;;G;4;4;ro;1\n",
     "the register's reset": "register;offset;field;bits;access;reset\nA;0;;;rw;0x15\n;;F;3:0;;\n;;G;7:4;ro;\n",
+    "names of columns in two lines": '"Register\nname",Offset,Field,"Bit\nrange",Access,"Reset\nvalue"\nA,0,F,3:0,RW,5\n,,G,7:4,RO,1\n',
+    "a size in words": "register,offset,size,field,bits,access,reset\nA,0,32-bit,F,3:0,RW,5\n,,,G,7:4,RO,1\n",
     "Windows": "\ufeffregister;offset;field;bits;access;reset\r\nA;0;F;3:0;rw;5\r\n;;G;7:4;ro;1\r\n",
 }  # fmt: skip
 
@@ -211,6 +213,49 @@ def test_tables(what: str, tmp_path: Path) -> None:
         "  G 7:4 RO HARD=0x1",
     ]
     assert lines_of(import_file(str(path)).text) == wanted
+
+
+def test_a_block_with_the_name_of_a_register(tmp_path: Path) -> None:
+    path = tmp_path / "t.csv"
+    path.write_text(
+        "block,register,offset,field,bits,access\n"
+        "SYS,UART,0x0,ON,0,RW\nUART,CTRL,0x4,ON,0,RW\nTIMER,TIMER,0x8,COUNT,7:0,RW\n,LOAD,0xc,VALUE,7:0,RW\n"
+    )
+    result = import_file(str(path))
+    assert sorted(items(result.text)) == ["SYS.UART", "TIMER.LOAD", "TIMER.TIMER", "UART.CTRL"]
+    assert result.report.number("left out") == 0
+
+
+# What of a table comes, where a reader of its rows would say so, and what the report says of the first row that is left out.
+PARTS = {
+    "a field of which nothing is known": (
+        "register,offset,field,bits,access\nA,0,F,7:0,RW\nB,4,F,7:0,maybe\n",
+        ["reg regs.A bytes=4 at bus+0x0 rw skip NO_REG_HW_RESET_TEST", "  F 7:0 RW"],
+        "B.F: the access `maybe` isn't known",
+    ),
+    "a reset value that is no number": (
+        "register,offset,field,bits,access,reset\nA,0,F,7:0,RO,1F\n",
+        ["reg regs.A bytes=4 at bus+0x0 rw", "  F 7:0 RO uncompared"],
+        "A.F: its reset value: `1F` isn't a number",
+    ),
+    "the width of a register": (
+        "register,offset,width,access,reset\nA,0,16,RW,0x1234\nB,2,8,RO,1\n",
+        ["reg regs.A bytes=2 at bus+0x0 rw", "  value 15:0 RW HARD=0x1234"]
+        + ["reg regs.B bytes=1 at bus+0x2 rw", "  value 7:0 RO HARD=0x1"],
+        "",
+    ),
+}  # fmt: skip
+
+
+@pytest.mark.parametrize("what", PARTS)
+def test_parts_of_a_table(what: str, tmp_path: Path) -> None:
+    text, lines, left_out = PARTS[what]
+    path = tmp_path / "t.csv"
+    path.write_text(text)
+    result = import_file(str(path))
+    assert lines_of(result.text)[2:] == lines
+    said = [one for one in result.report.entries if one.kind == "left out"]
+    assert [f"{one.where}: {one.text}" for one in said[:1]] == ([left_out] if left_out else [])
 
 
 HJSON = {

@@ -56,6 +56,16 @@ LOGS = [
         "the session is refused: refused line 3: no such name",
     ),
     (CHECK.format("") + END.format(1, 0, 0), 7, [], "the link to the device broke"),
+    (CHECK.format("") + END.format(1, 0, 0), "", [], "it: it.status has no exit status"),
+    ("\033[31mlost\0\n", 0, [], "line 1 is none that this version writes"),
+    (
+        "# not done: `hw a.b 0x1`; the answer was `\033`\n"
+        + CHECK.format("")
+        + END.format(1, 0, 0),
+        1,
+        [],
+        "it: 1 failing, first line 1: # not done",
+    ),
     (
         REFUSED + END.format(1, 0, 0),
         0,
@@ -86,6 +96,18 @@ def test_a_session_passes_only_where_all_is_well(tmp_path, capsys, log, status, 
     else:
         assert (code, len(case)) == (1, 1)
         assert why in told
+
+
+def test_what_is_missing_is_named(tmp_path, capsys):
+    log = tmp_path / "it.log"
+    for file in ("it.log", "it.status"):
+        assert main(["junit", str(log)]) == 1
+        wanted = f"it: the session wasn't run to its end: {file} isn't there\n"
+        assert capsys.readouterr().err.startswith(wanted)
+        log.write_text(END.format(0, 0, 0))
+    (tmp_path / "it.status").write_text("0")
+    (tmp_path / "it.seconds").write_text("")
+    assert main(["junit", "--allow", "empty:it", str(log)]) == 0
 
 
 def test_the_page_marks_the_bits(capsys):

@@ -5,7 +5,7 @@ from __future__ import annotations
 import csv
 import io
 import re
-from typing import Dict, Iterator, List, Optional, Tuple
+from typing import Dict, Iterator, List, Optional, Set, Tuple
 
 from . import numbers, policy, source
 from .choice import Choice
@@ -13,6 +13,7 @@ from .errors import SourceError
 from .report import Report
 
 HEADER_LINES = 50
+MOST_LINES_OF_A_ROW = 10
 SEPARATORS = ",;\t|"
 MOST_CELLS = 200
 
@@ -45,6 +46,11 @@ class _Row:
 
     def get(self, column: str) -> str:
         return self.cells.get(column, "")
+
+    @property
+    def is_of_field(self) -> bool:
+        """Whether it says something of a field; else it is the register's own."""
+        return any(self.get(column) for column in ("field", "bits", "msb", "lsb"))
 
 
 class _Rows:
@@ -82,10 +88,11 @@ class _Rows:
 def _header(text: str) -> Tuple[str, List[str], int]:
     """The separator, the column of each cell, and how many lines stand above the header row."""
     best: Tuple[int, str, List[str], int] = (0, "", [], 0)
-    for number, line in enumerate(text.splitlines()[:HEADER_LINES]):
+    lines = text.splitlines(keepends=True)
+    for number, line in enumerate(lines[:HEADER_LINES]):
         for separator in SEPARATORS if len(line) <= 10_000 else "":
-            rows = list(csv.reader([line], delimiter=separator))
-            columns = [_column(cell) for cells in rows for cell in cells]
+            cells = _first_row(lines[number : number + MOST_LINES_OF_A_ROW], separator)
+            columns = [_column(cell) for cell in cells]
             known = len({column for column in columns if column})
             if known > best[0] and ("register" in columns or "field" in columns):
                 best = (known, separator, columns, number)
@@ -100,6 +107,14 @@ def _header(text: str) -> Tuple[str, List[str], int]:
     return best[1], best[2], best[3]
 
 
+def _first_row(lines: List[str], separator: str) -> List[str]:
+    """The first row, which may go on below its line: a spreadsheet breaks a long name of a column, between quotes."""
+    try:
+        return next(csv.reader(lines, delimiter=separator), [])
+    except csv.Error:
+        return []
+
+
 def _column(cell: str) -> str:
     return _MEANINGS.get(re.sub(r"[^a-z]", "", cell.lower()), "")
 
@@ -111,9 +126,11 @@ class _Reader:
         self.rows = list(_Rows(text, report))
         self.hexadecimal = self._column_is_hexadecimal()
         self.blocks: Dict[str, source.Block] = {}
-        self.left: Dict[str, bool] = {}
+        self.unwanted: Set[str] = set()
+        self.begun: Set[str] = set()
         self.register: Optional[source.Register] = None
         self.head: Optional[_Row] = None
+        self.fields_named = False
         self.carried: Dict[str, str] = {}
 
     def _column_is_hexadecimal(self) -> bool:
@@ -161,10 +178,11 @@ class _Reader:
             self._close()
             self._begin(row)
         if self.register is None:
-            if not self.left.get(self.carried.get("register", "")):
+            if self.carried.get("register") not in self.begun:
                 raise numbers.NumberError("no register stands above")
             return
-        if row.get("field") or row.get("bits") or row.get("msb") or row.get("lsb"):
+        if row.is_of_field:
+            self.fields_named = True
             self._field(row)
 
     def _same_place(self, row: _Row) -> bool:
@@ -180,7 +198,7 @@ class _Reader:
                 self.carried[column] = row.get(column)
         name = self.carried["register"]
         self.register = None
-        self.left[name] = True
+        self.begun.add(name)
         block = self._block(self.carried.get("block", ""), row)
         if block is None:
             return
@@ -189,21 +207,21 @@ class _Reader:
         offset = numbers.table(self.carried["offset"], self.hexadecimal)
         self.choice.count_item(row.line)
         register = source.Register(name, offset, 0, line=row.line)
-        if row.get("size"):
-            bits = numbers.table(re.sub(r"(?i)\s*bits?$", "", row.get("size")))
-            register.bits = bits
+        size = row.get("size") or ("" if row.is_of_field else row.get("width"))
+        if size:
+            register.bits = numbers.table(re.sub(r"(?i)[\s-]*bits?$", "", size))
         if not row.get("field"):
             register.text = row.get("description")
-        self.register, self.head = register, row
+        self.register, self.head, self.fields_named = register, row, False
         block.items.append(register)
 
     def _block(self, name: str, row: _Row) -> Optional[source.Block]:
         plain = name or "regs"
-        if plain not in self.blocks and plain not in self.left:
+        if plain not in self.blocks and plain not in self.unwanted:
             if self.choice.block(plain):
                 self.blocks[plain] = source.Block(plain, 0, line=row.line)
             else:
-                self.left[plain] = True
+                self.unwanted.add(plain)
         return self.blocks.get(plain)
 
     def _close(self) -> None:
@@ -216,7 +234,7 @@ class _Reader:
         if not register.bits:
             register.bits = next((width for width in (32, 64) if top <= width), top)
         try:
-            if not register.fields:
+            if not self.fields_named:
                 whole = source.Field("value", 0, register.bits, line=head.line)
                 self._access(head.get("access"), head, head, whole)
                 register.fields.append(whole)
@@ -244,7 +262,11 @@ class _Reader:
             self.report.noted(row.line, self._where(row), "reserved: no field")
             return
         self._access(row.get("access") or head.get("access"), row, head, field)
-        value = _reset(row.get("reset"))
+        try:
+            value = _reset(row.get("reset"))
+        except numbers.NumberError as error:
+            self.report.left_out(row.line, self._where(row), f"its reset value: {error}")
+            value = None
         if value is not None:
             field.resets[source.HARD] = source.Reset(value, (1 << min(width, 64)) - 1)
         register.fields.append(field)

@@ -4,10 +4,12 @@ from __future__ import annotations
 
 from fnmatch import fnmatchcase
 from pathlib import Path
-from typing import Dict, List, NamedTuple, Optional, Sequence, Tuple
+from typing import Callable, Dict, List, NamedTuple, Optional, Sequence, Tuple, TypeVar
 
 from ..errors import STATUSES
 from ..events import Event, Other, read_log
+
+Number = TypeVar("Number", int, float)
 
 #: What a session may have without failing, where it is allowed by name.
 KINDS = {
@@ -135,15 +137,26 @@ def _some(events: int, name: str, may: Allowed) -> Optional[str]:
 def judge(log: Path, allowed: Optional[Allowed] = None) -> Result:
     """What a log comes to with the exit status in NAME.status beside it, and the seconds in NAME.seconds, if they are there."""
     status, seconds = log.with_suffix(".status"), log.with_suffix(".seconds")
-    if not status.exists() or not log.exists():
-        return Result(log.stem, [], "the session wasn't run to its end", 0.0, 0)
+    missing = next((it for it in (log, status) if not it.is_file()), None)
+    if missing:
+        text = f"the session wasn't run to its end: {missing.name} isn't there"
+        return Result(log.stem, [], text, 0.0, 0)
     failures, why, events = read(log.read_text(errors="replace"), log.stem, allowed)
-    code = int(status.read_text())
-    took = float(seconds.read_text()) if seconds.exists() else 0.0
+    code, took = _number(int, status), _number(float, seconds)
     differing = [it for it in failures if it.field not in BESIDE or it.field == "(link)"]
-    if code not in (0, 1):
+    if code is None:
+        why = f"{status.name} has no exit status"
+    elif code not in (0, 1):
         told = STATUSES.get(code, f"status {code}")
         why = f"{told}: {why}" if why else told
     elif not why and (code == 1) != bool(differing):
         why = f"the status is {code}, and the log shows {len(differing)} failures"
-    return Result(log.stem, failures, why, took, events)
+    return Result(log.stem, failures, why, took or 0.0, events)
+
+
+def _number(kind: Callable[[str], Number], file: Path) -> Optional[Number]:
+    """The number in a file; None where it isn't there, or has none, as after the disk was full."""
+    try:
+        return kind(file.read_text(errors="replace"))
+    except (OSError, ValueError):
+        return None

@@ -17,12 +17,22 @@ from __future__ import annotations
 
 import argparse
 import html
+import re
 import sys
 import xml.etree.ElementTree as xml
 from pathlib import Path
 from typing import Dict, List, Optional, Sequence, Tuple
 
 from .judged import Allowed, Result, judge
+
+
+# What XML can't have, also not as a reference: a peer's line or a log that is none may have it.
+NOT_IN_XML = re.compile("[^\t\n\r -\ud7ff\ue000-\ufffd\U00010000-\U0010ffff]")
+
+
+def _plain(text: str) -> str:
+    """A text as XML can have it."""
+    return NOT_IN_XML.sub("\ufffd", text)
 
 
 def suite(results: Sequence[Result]) -> xml.Element:
@@ -42,11 +52,11 @@ def suite(results: Sequence[Result]) -> xml.Element:
             top, "testcase", classname="regrun", name=it.name, time=f"{it.seconds:.3f}"
         )
         if it.error:
-            xml.SubElement(case, "error", message=it.error)
+            xml.SubElement(case, "error", message=_plain(it.error))
         elif it.failures:
             told = "\n".join(f"line {failure.line}: {failure.text}" for failure in it.failures)
             message = f"{len(it.failures)} failing: {it.failures[0].text}"
-            xml.SubElement(case, "failure", message=message).text = told
+            xml.SubElement(case, "failure", message=_plain(message)).text = _plain(told)
     return top
 
 

@@ -1,7 +1,8 @@
 """json LOG..: the logs as JSON, one object a line: each event with its items, and each other line of the log.
 
 Each object has `log` (the file) and `line`, and its `kind`: event, begin and total (the two lines of a sequence), end,
-refused, or unknown for a line of another version. Numbers of a device are texts such as "0x1f", since JSON's readers lose
+refused, note (what a link says of its peer), item (a word of a woven log before its access's line), or unknown for a line of
+another version. Numbers of a device are texts such as "0x1f", since JSON's readers lose
 bits above 2^53. The exit status is 1 where some line is unknown or refused, or a log has no last line.
 """
 
