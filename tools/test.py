@@ -4,7 +4,7 @@
 A program is the proved one where that stands and is current, else a trial, which is compiled first: `./NAME --program` gives
 its path. The last line of each check is `N passed, M failed` or `N passed, M failed, K skipped`, and so is the last line
 of all, with the sums; the status is 0 where nothing failed. A check that prints no counts, or doesn't end, or ends with
-another status than 0 though it counts no failure, counts as one that failed.
+another status than 0 though it counts no failure, counts as one that failed. What such a check said stands at the end.
 """
 import concurrent.futures, os, re, subprocess, sys, time
 
@@ -24,7 +24,9 @@ CHECKS = [
     ("editors/check.sh", "bash editors/check.sh"),
     ("docs/check.sh", "bash docs/check.sh"),
     ("rows/check.sh, limits", "bash rows/check.sh {regrun} limits"),
-    ("rows/grade.sh", "bash rows/grade.sh {regrun-grade} {regrun}"),
+    ("rows/check.sh, crowds", "bash rows/check.sh {regrun} crowds"),
+    ("rows/grade.sh, texts", "bash rows/grade.sh {regrun-grade} {regrun} texts"),
+    ("rows/grade.sh, beside", "bash rows/grade.sh {regrun-grade} {regrun} beside"),
     ("rows/plan.py", "python3 rows/plan.py {regrun-plan} {regrun-grade} {regrun}"),
     ("docs/DETECTION.md", "bash docs/check.sh {regrun-grade}"),
     ("rows/check.sh, sessions", "bash rows/check.sh {regrun} sessions"),
@@ -35,7 +37,7 @@ CHECKS = [
     ("examples/rtl/run.sh, iverilog", "env TOOL=iverilog bash examples/rtl/run.sh {regrun-link}"),
     ("examples/rtl/run.sh, ghdl", "env TOOL=ghdl bash examples/rtl/run.sh {regrun-link}"),
     ("rows/link.sh", "bash rows/link.sh {regrun-link} {regrun} {regrun-grade} {regrun-waves}"),
-    ("rows/words.sh", "bash rows/words.sh {regrun} {regrun-link} {regrun-waves} {regrun-grade}"),
+    ("rows/words.sh", "bash rows/words.sh {regrun} {regrun-link} {regrun-waves} {regrun-grade} {regrun-plan}"),
 ]
 
 
@@ -66,20 +68,20 @@ def counts_of(status, said):
 
 
 def perform(check, programs):
-    """Waits for the check's programs and runs it; prints its name, its time, and what it said, and gives its counts."""
+    """Waits for the check's programs and runs it; prints its name, its time and its last line; gives its counts and what it said."""
     name, command = check
     needs = [it for it in PROGRAMS if f"{{{it}}}" in command or "python" in name]
     paths = {it: programs[it].result()[0] for it in needs}
     missing = [it for it in needs if not paths[it]]
     if missing:
-        return tell(name, 0, f"there is no program {missing[0]}\n0 passed, 1 failed\n", (0, 1, 0), "")
+        return tell(name, "", 0, f"there is no program {missing[0]}\n0 passed, 1 failed", (0, 1, 0))
     trials = [it for it in needs if is_trial(paths[it])]
     environment = {it.upper().replace("-", "_"): paths[it] for it in needs}
     if trials:
         environment["TRIAL"] = "yes"
     start = time.monotonic()
     status, said = call(["sh", "-c", filled(command, paths)], **environment)
-    return tell(name, time.monotonic() - start, said, counts_of(status, said), " on a trial" if trials else "")
+    return tell(name, " on a trial" if trials else "", time.monotonic() - start, said.rstrip(), counts_of(status, said))
 
 
 def is_trial(path):
@@ -92,11 +94,9 @@ def filled(command, paths):
     return command
 
 
-def tell(name, seconds, said, counts, kind):
-    """Prints all that was said where something failed, and else the counts."""
-    lines = said.rstrip().split("\n")
-    print(f"== {name}{kind}, {seconds:.0f} s", *lines[0 if counts[1] else -1 :], sep="\n", flush=True)
-    return counts
+def tell(name, kind, seconds, said, counts):
+    print(f"== {name}{kind}, {seconds:.0f} s", said.rsplit("\n", 1)[-1], sep="\n", flush=True)
+    return counts, f"== {name}{kind}\n{said}"
 
 
 def is_here(check):
@@ -112,8 +112,10 @@ def main():
             path, said = programs[name].result()
             kind = "no program" if not path else "a trial, not proved" if is_trial(path) else "proved"
             print(f"{name}: {kind}" + ("" if path else f": {said}"), flush=True)
-        sums = [sum(it) for it in zip(*(it.result() for it in results))]
-    print(f"({time.monotonic() - start:.0f} s)\n{sums[0]} passed, {sums[1]} failed, {sums[2]} skipped")
+        ended = [it.result() for it in results]
+    sums = [sum(it) for it in zip(*(counts for counts, _ in ended))]
+    print(*(said for counts, said in ended if counts[1]), f"({time.monotonic() - start:.0f} s)", sep="\n")
+    print(f"{sums[0]} passed, {sums[1]} failed, {sums[2]} skipped")
     return int(sums[1] > 0)
 
 
