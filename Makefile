@@ -26,7 +26,7 @@ prove:
 	@mkdir -p build; exec 9> build/lock; \
 	flock -n 9 || { echo 'another make builds here; waiting for it'; flock 9; }; \
 	echo 'a line for each crate that is proved; what is said is in build/log'; \
-	exec $(MAKE) --no-print-directory $(if $(findstring -j,$(MAKEFLAGS)),,-j$(JOBS)) -f tools/crates.mk $(ASKED)
+	exec $(MAKE) --no-print-directory $(if $(findstring -j,$(MAKEFLAGS)),,-j$(JOBS)) -f tools/crates.mk programs ASKED='$(ASKED)'
 
 test:
 	@python3 -IB tools/test.py

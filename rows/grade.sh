@@ -1,13 +1,14 @@
 #!/usr/bin/env bash
-# grade.sh GRADE PROGRAM: what regrun_grade does. The grades of two examples; the grades and the flaws that aren't found of
+# grade.sh GRADE PROGRAM [PART]: what regrun_grade does. The grades of two examples; the grades and the flaws that aren't found of
 # further sessions beside those of bench/grade.py, which runs the other program once for each flaw; shares that add up to the
 # whole, and how others are refused; flaws that are waived, and how files of them are refused; the lines that find flaws, by
 # scripts that are cut off; the object in JSON beside the other texts; bounds; refusals and wrong words with their statuses; rows
 # of missed flaws and of hidden ones, with each of which a session shows nothing new; and rows of hidden ones with each of which
-# the log is the same.
+# the log is the same. With the part `beside`, only what stands beside bench/grade.py is tried; with `texts`, all else.
 set -u
 grade=$(realpath "$1")
 program=$(realpath "$2")
+part=${3:-}
 here=$(dirname "$(realpath "$0")")
 top=$here/..
 rows=$top/crates/test_rows/data/rows
@@ -255,10 +256,6 @@ shows_nothing() {
     [ "$count" = "$("$grade" run < "$2" | sed -n "s/^end: .* \([0-9]*\) $1.*/\1/p")" ]
 }
 
-for name in uart uart-plan; do
-    judge "$name" grades run "$top/examples/$name.regrun" "$top/examples/$name.grade"
-done
-
 # Sessions to be graded beside the other grader; of these a trial takes the small ones.
 small=("$rows"/{access-test,memory-walk,pair-at-one-address,shared-access,write-only-is-not-compared,empty-session}.session
     "$top/examples/map-tree.regrun")
@@ -323,17 +320,34 @@ check stat
 SESSION
 small+=("$PWD/unchecked.regrun")
 [ -z "$alone" ] || small+=("${large[@]}")
-[ -n "$alone" ] || skipped=$((3 * ${#large[@]}))
-if python3 -c 'import tomllib' 2> /dev/null; then
+
+# all_beside: what is told of these sessions by each word that the other grader knows too.
+all_beside() {
+    local session word
+    [ -n "$alone" ] || skipped=$((3 * ${#large[@]}))
+    if ! python3 -c 'import tomllib' 2> /dev/null; then
+        skipped=$((skipped + 3 * ${#small[@]}))
+        echo 'Python 3.11 or later is not installed'
+        return
+    fi
     for session in "${small[@]}"; do
         for word in run missed hidden; do
             judge "$(basename "$session"), $word" beside "$word" "$session"
         done
     done
-else
-    skipped=$((skipped + 3 * ${#small[@]}))
-    echo 'Python 3.11 or later is not installed'
-fi
+}
+[ "$part" = texts ] || all_beside
+
+# counts: the last line, and the status.
+counts() {
+    echo "$passed passed, $failed failed, $skipped skipped"
+    [ "$failed" = 0 ]
+}
+[ "$part" != beside ] || { counts; exit; }
+
+for name in uart uart-plan; do
+    judge "$name" grades run "$top/examples/$name.regrun" "$top/examples/$name.grade"
+done
 
 judge 'hidden flaws' ends_with unread.regrun \
     'uart.txd: deaf 0 found 0 missed 1 hidden, address 1 found 0 missed; hidden: deaf' \
@@ -486,5 +500,4 @@ done
 judge 'the rows of hidden flaws' shows_nothing hidden unread.regrun +1
 judge 'the rows of flaws that no check compares' shows_nothing hidden "$top/examples/uart.regrun" 1
 
-echo "$passed passed, $failed failed, $skipped skipped"
-[ "$failed" = 0 ]
+counts

@@ -9,8 +9,8 @@ PROGRAM, and one with flaws of its own for these.
 
 The word `add` is tried with the plan as the script, to which it adds nothing; with the plan without the lines of every other
 register and memory, to which it adds lines of some of these; with no script; and with the scripts of the tree. With the lines
-that it adds behind it a script misses nothing but what the plan misses, and by the bus alone flaws of fields that have no
-value for HARD, and so keep what the script made of them.
+that it adds behind it a script misses nothing but what it misses with the whole plan behind it; and nothing but what the plan
+alone misses, and flaws of fields without a value for HARD of which no backdoor is used, which keep what the script made of them.
 
 With COUNT so many drawn descriptions are certified and no other. With a trial (TRIAL in the environment) some are, and the
 others skipped. The last line is `N passed, M failed, K skipped`; above it stand the kinds of the flaws that were missed.
@@ -29,7 +29,9 @@ sys.path.insert(0, f"{TOP}/bench")
 import grades
 from grade import POLICIES, SEPARATOR, WRITE_ONLY, left, number, path, reset_kinds, resets_of, written
 
-MOST_LINES, DRAWN, MOST_ON_TRIAL, MOST_ADDED_ON_TRIAL = 40, 20, 24, 3
+MOST_LINES, MOST_ON_TRIAL, MOST_ADDED_ON_TRIAL = 40, 24, 3
+# The last ones have a field that keeps what the half of their plan makes of it.
+DRAWN = (*range(14), 20, 35, 73, 116, 219, 450)
 NOTHING = "# nothing to add\n"
 BAD = re.compile(r": refused | differ(?: |$)|: bus error at ")
 FLAW = re.compile(rb"^\[\[flaw\]\][^\[]*", re.M)
@@ -125,8 +127,11 @@ class Chip:
         return item, next(it for it in self.items[item]["field"] if it["name"] == last)
 
     def keeps(self, name):
-        """Whether it is a field without a value for HARD, which keeps what a script made of it."""
-        return name not in self.items and "HARD" not in resets_of(self.field_of(name)[1])
+        """Whether it is a field that keeps what a script made of it: it has no value for HARD, and no backdoor is used."""
+        if name in self.items:
+            return False
+        item, field = self.field_of(name)
+        return "HARD" not in resets_of(field) and ("poke", 0) not in self.operations(item)
 
     def is_deaf_shown(self, item):
         it = self.items[item]
@@ -182,37 +187,45 @@ def blocks_of(plan):
     return [(None if it.startswith("# the memories: ") else it[2:].split(":")[0], it) for it in found]
 
 
-def add_to(programs, description, script, bus):
-    """The lines that a script needs, as standard output has them; and what it doesn't find with these, as places and flaws."""
-    plan, grade, program = programs
-    status, text, said = call(plan, description + b"---\n" + script.encode(), "add", *(("bus",) if bus else ()))
+def added_to(programs, description, script, bus):
+    """The lines that a script needs, as standard output has them."""
+    status, text, said = call(programs[0], description + b"---\n" + script.encode(), "add", *(("bus",) if bus else ()))
     if status or said:
         raise ValueError(f"add: status {status}: {text[:80]}{said[:80]}")
-    session = description + b"---\n" + script.encode() + text.encode()
+    return text
+
+
+def missed_by(programs, description, script):
+    """What a script doesn't find, as places and flaws, but for those of the session."""
+    plan, grade, program = programs
+    session = description + b"---\n" + script.encode()
     status, log, _ = call(program, session, "run")
     status_of_grade, graded, _ = call(grade, session, "run")
     if status > 1 or status_of_grade:
-        raise ValueError(f"with the lines added: {(log.splitlines() or [''])[-1][:100]}, {status_of_grade}")
-    return text, {it for it in unfound_in(graded) if it[0] != "session"}
+        raise ValueError(f"with lines added: {(log.splitlines() or [''])[-1][:100]}, {status_of_grade}")
+    return {it for it in unfound_in(graded) if it[0] != "session"}
 
 
 def adds(programs, description, plan, missed, scripts, chip):
     """What is wrong with the lines that are added to the plan, to a half of it and to other scripts, or none."""
-    bus = chip.bus
-    if add_to(programs, description, plan, bus)[0] != NOTHING:
+    if added_to(programs, description, plan, chip.bus) != NOTHING:
         return "the plan needs lines"
     blocks = blocks_of(plan)
     left_out = {it for at, it in enumerate(dict.fromkeys(name for name, _ in blocks if name)) if at % 2 == 0}
-    kept = [it for name, it in blocks if name is not None and name not in left_out]
-    text, rest = add_to(programs, description, "".join(kept), bus)
+    half = "".join(it for name, it in blocks if name is not None and name not in left_out)
+    text = added_to(programs, description, half, chip.bus)
     added = {name for name, _ in blocks_of(text)}
     want = "".join(it for name, it in blocks if name in added)
     if text != (want or NOTHING) or not added <= left_out | {None}:
         return f"added to a half: {sorted(map(str, added))}"
-    rest |= add_to(programs, description, "", bus)[1]
-    for script in scripts:
-        rest |= {it for it in add_to(programs, description, script, bus)[1] if not (bus and chip.keeps(it[0]))}
-    return f"missed with the lines added: {sorted(rest - missed)[:3]}" if rest - missed else None
+    for script in (half, "", *scripts):
+        text = text if script == half else added_to(programs, description, script, chip.bus)
+        rest = missed_by(programs, description, script + text)
+        lost = rest - missed_by(programs, description, script + plan)
+        lost |= {it for it in rest - missed if not chip.keeps(it[0])}
+        if lost:
+            return f"missed with the lines added: {sorted(lost)[:3]}"
+    return None
 
 
 def certify(programs, description, bus, scripts):
@@ -361,7 +374,7 @@ def tasks(programs, count):
             if call(programs[0], bare + b"---\n")[0] == 0:
                 fit = [it.decode().rstrip("\n") + "\n" for it in scripts if runs(programs, bare, it)]
                 yield from ((programs, f"{name}, {way}", way, bare, fit) for way in ways)
-    for seed in range(DRAWN if count is None else count):
+    for seed in DRAWN if count is None else range(count):
         yield from ((programs, f"drawn {seed}, {way}", way, drawn(seed), []) for way in ways)
 
 

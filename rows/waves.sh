@@ -54,7 +54,7 @@ dumped() {
 }
 
 while read -r name status words <&3; do
-    case "$name $words" in rows/*' run') dumped "$name" "$rows/$name.session" "$rows/$name.log" "$status" ;; esac
+    case "$words $name" in 'run rows/'*) dumped "$name" "$rows/$name.session" "$rows/$name.log" "$status" ;; esac
 done 3< "$rows/rows.txt"
 
 for session in "$here"/../examples/*.regrun; do

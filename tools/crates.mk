@@ -1,5 +1,6 @@
 # Proves and builds crates, one rule for each line of crates.txt; Makefile calls this. `make -f tools/crates.mk NAME` builds
 # the program NAME (regrun, regrun-link, ..), where what is built stands in the crate's own folder out/, and is its stamp.
+# `make -f tools/crates.mk programs ASKED='NAME NAME'` builds those named.
 CRATES := $(shell sed -n 's/^\([a-z][a-z0-9_]*\).*:.*/\1/p' crates.txt)
 PROGRAMS := $(filter regrun_%,$(CRATES))
 KIT := $(dir $(shell rt doc))
@@ -20,6 +21,10 @@ $(call built,$(1)): $(call sources,$(1)) $(foreach it,$(call uses,$(1)),$(call b
 endef
 $(foreach it,$(CRATES),$(eval $(call rule,$(it))))
 
-.PHONY: $(subst _,-,$(PROGRAMS)) regrun
+.PHONY: programs $(subst _,-,$(PROGRAMS)) regrun
+
+# The program of the longest chain comes first: of the crates that can be proved, make takes those that it stands on.
+programs: $(filter $(ASKED),$(subst regrun-main,regrun,$(subst _,-,$(filter $(CHAIN),$(PROGRAMS))))) $(ASKED)
+
 $(foreach it,$(PROGRAMS),$(eval $(subst _,-,$(it)): $(call built,$(it))))
 regrun: regrun-main

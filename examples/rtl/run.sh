@@ -16,6 +16,10 @@ done
 [ -x "$program" ] || { echo "examples/rtl/run.sh: ${program:-regrun-link} is not found" >&2; exit 69; }
 program=$(realpath -s "$program")
 tool=${TOOL:-iverilog}
+case $tool in
+    iverilog | verilator | ghdl) ;;
+    *) echo "examples/rtl/run.sh: TOOL is iverilog, verilator or ghdl, and not $tool" >&2; exit 64 ;;
+esac
 if ! command -v "$tool" > /dev/null; then
     echo "examples/rtl/run.sh: $tool is not found; install the Debian package $tool" >&2
     exit 77
