@@ -71,7 +71,8 @@ def test_the_bench_in_each_simulator(
 ) -> None:
     if shutil.which(tool) is None:
         pytest.skip(f"the Debian package {tool} is not installed")
-    with Simulator(build(str(tmp_path), sources)) as bench:
+    from_here = [os.path.relpath(it) for it in sources]
+    with Simulator(build(os.path.relpath(tmp_path), from_here)) as bench:
         asked = [
             ("reset HARD", "ok"),
             (READ, "ok 0x1b2"),

@@ -87,10 +87,10 @@ class Simulator(Target):
 
 def build_icarus(folder: str, sources: Sequence[str], defines: Sequence[str] = ()) -> List[str]:
     """Makes a bench of Verilog by Icarus in a folder; the command that runs it. Raises TargetStartError."""
+    folder = os.path.abspath(folder)
     out = os.path.join(folder, "bench.vvp")
-    _compile(
-        ["iverilog", "-g2005", "-o", out, *(f"-D{name}" for name in defines), *sources], folder
-    )
+    macros = (f"-D{name}" for name in defines)
+    _compile(["iverilog", "-g2005", "-o", out, *macros, *_absolute(sources)], folder)
     return ["vvp", "-n", out]
 
 
@@ -98,6 +98,7 @@ def build_verilator(
     folder: str, sources: Sequence[str], defines: Sequence[str] = (), top: str = "bench"
 ) -> List[str]:
     """Makes a bench of Verilog by Verilator 5 in a folder; the command that runs it. Raises TargetStartError."""
+    folder = os.path.abspath(folder)
     words = [
         "verilator",
         "--binary",
@@ -111,7 +112,7 @@ def build_verilator(
         "-o",
         "bench",
     ]
-    _compile([*words, *(f"-D{name}" for name in defines), *sources], folder)
+    _compile([*words, *(f"-D{name}" for name in defines), *_absolute(sources)], folder)
     return [os.path.join(folder, "bench")]
 
 
@@ -122,8 +123,9 @@ def build_ghdl(
     top: str = "bench",
 ) -> List[str]:
     """Makes a bench of VHDL by GHDL in a folder; the command that runs it. Raises TargetStartError."""
+    folder = os.path.abspath(folder)
     options = ["--std=08", f"--workdir={folder}"]
-    _compile(["ghdl", "-a", *options, *sources], folder)
+    _compile(["ghdl", "-a", *options, *_absolute(sources)], folder)
     _compile(["ghdl", "-e", *options, top], folder)
     return [
         "ghdl",
@@ -132,6 +134,11 @@ def build_ghdl(
         top,
         *(f"-g{name}={value}" for name, value in (generics or {}).items()),
     ]
+
+
+def _absolute(sources: Sequence[str]) -> List[str]:
+    """The paths of sources, from where the caller is: a compiler runs in the folder that it writes to."""
+    return [os.path.abspath(it) for it in sources]
 
 
 def _compile(command: List[str], folder: str) -> None:
