@@ -1,6 +1,7 @@
 #!/usr/bin/env bash
 # words.sh REGRUN LINK WAVES GRADE PLAN: what the programs say on standard error of sessions that are refused, of some that aren't
-# meant so, and where input and output fail. Each case changes one session; what is said was written by hand from its text. The last line is 'N passed, M failed'.
+# meant so, and where input and output fail. Each case changes one session; what is said was written by hand from its text. The
+# last line is 'N passed, M failed'.
 # shellcheck disable=SC2016 # what is said has backticks
 set -u
 programs=("$@")
