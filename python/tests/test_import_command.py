@@ -164,6 +164,34 @@ def test_derived_from_what_is_derived_and_the_first_of_the_file(tmp_path: Path) 
     ]
 
 
+# Fields of an SVD's register, and what comes of them.
+SPELLED = "<field><name>A</name><lsb>0</lsb><msb>1</msb></field>"
+FIELDS: Dict[str, Tuple[str, List[str]]] = {
+    "derived from other spellings of bits": (
+        SPELLED
+        + '<field derivedFrom="A"><name>B</name><bitRange>[5:3]</bitRange></field>'
+        + '<field derivedFrom="B"><name>C</name><bitOffset>6</bitOffset></field>'
+        + '<field derivedFrom="C"><name>D</name><lsb>9</lsb><msb>9</msb></field>'
+        + '<field derivedFrom="D"><name>E</name><bitOffset>10</bitOffset><bitWidth>4</bitWidth></field>'
+        + '<field derivedFrom="E"><name>F</name><bitOffset>14</bitOffset></field>',
+        ["A 1:0 RW", "B 5:3 RW", "C 8:6 RW", "D 9:9 RW", "E 13:10 RW", "F 17:14 RW"],
+    ),
+}
+
+
+@pytest.mark.parametrize("what", FIELDS)
+def test_fields_of_svd(what: str, tmp_path: Path) -> None:
+    fields, lines = FIELDS[what]
+    (tmp_path / "d.svd").write_text(
+        "<device><name>D</name><peripherals><peripheral><name>P</name><baseAddress>0</baseAddress><registers>"
+        f"<register><name>R</name><addressOffset>0</addressOffset><fields>{fields}</fields></register>"
+        "</registers></peripheral></peripherals></device>"
+    )
+    result = import_file(str(tmp_path / "d.svd"))
+    assert [line.strip() for line in lines_of(result.text)[3:]] == lines
+    assert result.report.number("left out") == 0
+
+
 STATUSES: Dict[str, Tuple[List[str], int, str]] = {
     "strict": ([SVD, "--strict"], 1, "15 left out"),
     "strict with nothing left out": ([STM32, "--strict", "--block", "USART*"], 0, "0 left out"),

@@ -17,6 +17,8 @@ MOST_BASES = 32
 WRITING_TESTS = {"NO_REG_BIT_BASH_TEST", "NO_REG_ACCESS_TEST", "NO_REG_SHARED_ACCESS_TEST"}
 _INDEXED = ("peripheral", "cluster", "register", "field", "enumeratedValues")
 _HOLDERS = ("peripherals", "registers", "fields")
+# The three spellings of a field's bits.
+_BITS: Tuple[Tuple[str, ...], ...] = (("lsb", "msb"), ("bitOffset", "bitWidth"), ("bitRange",))
 
 
 @dataclass(frozen=True)
@@ -353,23 +355,31 @@ class _Reader:
             field.resets[source.HARD] = source.Reset(value, known)
 
     def _bits(self, part: _Part, where: str) -> Tuple[int, int]:
-        """The lowest bit and the width. Raises NumberError."""
-        span = part.get("bitRange")
-        if part.get("lsb") and part.get("msb"):
+        """The lowest bit and the width, as the nearest element spells them that does. Raises NumberError."""
+        spelled = (tags for node in part.nodes for tags in _BITS if any(map(node.get, tags)))
+        tags = next(spelled, ())
+        if "msb" in tags:
             lsb, msb = self.number(part, "lsb"), self.number(part, "msb")
-        elif part.get("bitOffset"):
+        elif "bitOffset" in tags:
             lsb = self.number(part, "bitOffset")
-            if not part.get("bitWidth"):
-                self.report.changed(part.line, where, "no bitWidth: taken as 1")
-            msb = lsb + self.number(part, "bitWidth", 1) - 1
-        elif span:
-            high, _, low = span.strip("[] ").partition(":")
+            msb = lsb + self._width(part, where) - 1
+        elif tags:
+            high, _, low = part.get("bitRange").strip("[] ").partition(":")
             lsb, msb = numbers.svd(low or high), numbers.svd(high)
         else:
             raise numbers.NumberError("no bit positions")
         if msb < lsb:
             raise numbers.NumberError(f"its bits end at {msb}, below its first, {lsb}")
         return lsb, msb - lsb + 1
+
+    def _width(self, part: _Part, where: str) -> int:
+        """The width of a field with a bitOffset; without a bitWidth that of what it is derived from."""
+        if part.get("bitWidth"):
+            return self.number(part, "bitWidth")
+        if len(part.nodes) > 1:
+            return self._bits(_Part(part.nodes[1:]), where)[1]
+        self.report.changed(part.line, where, "no bitWidth: taken as 1")
+        return 1
 
     def values(self, part: _Part, where: str) -> List[source.EnumeratedValue]:
         """The enumerated values, those of several usages one behind the other."""
