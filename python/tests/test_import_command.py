@@ -11,7 +11,7 @@ from importing import EXAMPLES, command, expected, lines_of
 
 pytest.importorskip("defusedxml", reason="python3-defusedxml isn't installed")
 from regrun import Description  # noqa: E402
-from regrun.importer import Choice, Options, import_file  # noqa: E402
+from regrun.importer import Choice, Imported, Options, import_file  # noqa: E402
 from regrun.importer.choice import matches  # noqa: E402
 
 SVD = str(EXAMPLES / "soc.svd")
@@ -164,6 +164,48 @@ def test_derived_from_what_is_derived_and_the_first_of_the_file(tmp_path: Path) 
     ]
 
 
+def peripheral(name: str, base: int, *registers: str) -> str:
+    """A peripheral whose registers have these fields: R0, R1 and so on."""
+    inner = "".join(
+        f"<register><name>R{at}</name><addressOffset>{4 * at}</addressOffset><fields>{one}</fields></register>"
+        for at, one in enumerate(registers)
+    )
+    return f"<peripheral><name>{name}</name><baseAddress>{base}</baseAddress><registers>{inner}</registers></peripheral>"
+
+
+def of_svd(folder: Path, *peripherals: str) -> Imported:
+    """The import of an SVD with these peripherals."""
+    path = folder / "d.svd"
+    inner = "\n".join(peripherals)
+    path.write_text(f"<device><name>D</name><peripherals>{inner}</peripherals></device>")
+    return import_file(str(path))
+
+
+def field_of_values(bit: int, values: str) -> str:
+    return f"<field><name>F{bit}</name><lsb>{bit}</lsb><msb>{bit}</msb>{values}</field>"
+
+
+VALUES = "<enumeratedValues><name>E</name><enumeratedValue><name>{}</name><value>0</value></enumeratedValue></enumeratedValues>"
+NAMED = '<enumeratedValues derivedFrom="{}"/>'
+
+
+def test_enumerated_values_by_name_and_by_the_end_of_a_path(tmp_path: Path) -> None:
+    first = field_of_values(0, VALUES.format("Off")) + field_of_values(1, NAMED.format("E"))
+    other = field_of_values(0, VALUES.format("Low")) + field_of_values(1, NAMED.format("E"))
+    ends = field_of_values(0, NAMED.format("R0.F0.E")) + field_of_values(1, NAMED.format("E"))
+    result = of_svd(tmp_path, peripheral("P", 0, first, other), peripheral("Q", 16, ends))
+    rows = [row for section in result.description.sections for row in section.items]
+    fields = {
+        f"{row.of}.{row.name}.{it.name}": it for row in rows for it in getattr(row, "fields", [])
+    }
+    assert {path: [value.name for value in it.values] for path, it in fields.items()} == {
+        "P.R0.F0": ["Off"], "P.R0.F1": ["Off"], "P.R1.F0": ["Low"], "P.R1.F1": ["Low"],
+        "Q.R0.F0": ["Off"], "Q.R0.F1": [],
+    }  # fmt: skip
+    said = [f"{it.where}: {it.text}" for it in result.report.entries if it.kind == "left out"]
+    assert said == ["Q.R0.F1: derivedFrom `E` isn't in the file, or not once"]
+
+
 # Fields of an SVD's register, and what comes of them.
 SPELLED = "<field><name>A</name><lsb>0</lsb><msb>1</msb></field>"
 FIELDS: Dict[str, Tuple[str, List[str]]] = {
@@ -182,12 +224,7 @@ FIELDS: Dict[str, Tuple[str, List[str]]] = {
 @pytest.mark.parametrize("what", FIELDS)
 def test_fields_of_svd(what: str, tmp_path: Path) -> None:
     fields, lines = FIELDS[what]
-    (tmp_path / "d.svd").write_text(
-        "<device><name>D</name><peripherals><peripheral><name>P</name><baseAddress>0</baseAddress><registers>"
-        f"<register><name>R</name><addressOffset>0</addressOffset><fields>{fields}</fields></register>"
-        "</registers></peripheral></peripherals></device>"
-    )
-    result = import_file(str(tmp_path / "d.svd"))
+    result = of_svd(tmp_path, peripheral("P", 0, fields))
     assert [line.strip() for line in lines_of(result.text)[3:]] == lines
     assert result.report.number("left out") == 0
 

@@ -71,6 +71,7 @@ class _Reader:
         self.choice = choice
         self.paths: Dict[int, str] = {}
         self.index: Dict[str, Node] = {}
+        self.values_by_name: Dict[str, List[Node]] = {}
         self._index(root, "")
 
     def _index(self, node: Node, path: str) -> None:
@@ -81,6 +82,8 @@ class _Reader:
                 inner = f"{path}.{child.get('name')}" if path else child.get("name")
                 self.paths[id(child)] = inner
                 self.index.setdefault(inner, child)
+                if child.tag == "enumeratedValues":
+                    self.values_by_name.setdefault(child.get("name"), []).append(child)
                 self._index(child, inner)
 
     def part(self, node: Node) -> Optional[_Part]:
@@ -90,8 +93,9 @@ class _Reader:
             name = nodes[-1].attributes["derivedFrom"].strip()
             base = self._base(nodes[-1], name)
             if base is None:
-                where = self.paths.get(id(node), "")
-                self.report.left_out(node.line, where, f"derivedFrom `{name}` isn't in the file")
+                where = self.paths.get(id(node), "").rstrip(".")
+                text = f"derivedFrom `{name}` isn't in the file, or not once"
+                self.report.left_out(node.line, where, text)
                 return None
             if any(base is known for known in nodes):
                 raise SourceError(f"derivedFrom `{name}` makes a loop", nodes[-1].line)
@@ -111,8 +115,23 @@ class _Reader:
                     return found
                 itself = node
             if not scope:
-                return itself
+                return self._values_named(node, name) or itself
             scope = scope.rpartition(".")[0]
+
+    def _values_named(self, node: Node, name: str) -> Optional[Node]:
+        """Enumerated values by their name, or the end of their path, in the innermost scope that has some; None if several."""
+        if node.tag != "enumeratedValues":
+            return None
+        named = self.values_by_name.get(name.rpartition(".")[2], [])
+        paths = [(f".{self.paths[id(one)]}", one) for one in named if one is not node]
+        found = [(path, one) for path, one in paths if path.endswith(f".{name}")]
+        scope = f".{self.paths[id(node)]}"
+        while scope:
+            scope = scope.rpartition(".")[0]
+            there = [one for path, one in found if path.startswith(f"{scope}.")]
+            if there:
+                return there[0] if len(there) == 1 else None
+        return None
 
     def _look_up(self, path: str, depth: int) -> Optional[Node]:
         """The element of a path, also where it stands only in what its owner is derived from."""
