@@ -229,6 +229,42 @@ def test_fields_of_svd(what: str, tmp_path: Path) -> None:
     assert result.report.number("left out") == 0
 
 
+# What stands in a memory map of IP-XACT's, and what comes of it.
+NUMBERS = "<addressOffset>0</addressOffset><size>32</size>"
+BIT = "<field><name>F</name><bitOffset>0</bitOffset><bitWidth>1</bitWidth></field>"
+IPXACT: Dict[str, Tuple[str, List[str], List[str]]] = {
+    "an alternate register with its own access": (
+        f"<register><name>A</name>{NUMBERS}<access>read-only</access><volatile>true</volatile>{BIT}"
+        "<alternateRegisters><alternateRegister><name>B</name><access>write-only</access><volatile>false</volatile>"
+        f"{BIT}</alternateRegister></alternateRegisters></register>",
+        ["reg b.A bytes=4 at m+0x0 ro", "  F 0:0 RO volatile"]
+        + ["reg b.B bytes=4 at m+0x0 wo", "  F 0:0 WO"],
+        [],
+    ),
+    "an alternate register without fields": (
+        f"<register><name>A</name>{NUMBERS}<access>read-only</access>{BIT}<alternateRegisters>"
+        "<alternateRegister><name>B</name><access>write-only</access></alternateRegister></alternateRegisters></register>",
+        ["reg b.A bytes=4 at m+0x0 ro", "  F 0:0 RO uncompared"]
+        + ["reg b.B bytes=4 at m+0x0 wo", "  value 31:0 WO"],
+        ["changed b.A.F: no reset value: not compared"],
+    ),
+}
+
+
+@pytest.mark.parametrize("what", IPXACT)
+def test_parts_of_ipxact(what: str, tmp_path: Path) -> None:
+    registers, lines, said = IPXACT[what]
+    path = tmp_path / "c.xml"
+    path.write_text(
+        '<component xmlns="http://www.accellera.org/XMLSchema/IPXACT/1685-2022"><name>c</name><memoryMaps>'
+        "<memoryMap><name>m</name><addressBlock><name>b</name><baseAddress>0</baseAddress><range>16</range>"
+        f"<width>32</width>{registers}</addressBlock></memoryMap></memoryMaps></component>"
+    )
+    result = import_file(str(path))
+    assert lines_of(result.text)[2:] == lines
+    assert [f"{it.kind} {it.where}: {it.text}" for it in result.report.entries] == said
+
+
 STATUSES: Dict[str, Tuple[List[str], int, str]] = {
     "strict": ([SVD, "--strict"], 1, "15 left out"),
     "strict with nothing left out": ([STM32, "--strict", "--block", "USART*"], 0, "0 left out"),

@@ -345,7 +345,7 @@ class _Reader:
             fields.extend(self.field(child, node, inner, skip))
         if node.find("field") is None:
             fields.append(self._whole(node, bits, inner))
-        alternates = self._alternates(node, inner, skip)
+        alternates = self._alternates(node, bits, outer, inner, skip)
         for label, step in self.elements(node, -(-bits // max(outer.unit, 1))):
             self.choice.count_item(node.line)
             name = node.get("name") + label
@@ -355,14 +355,14 @@ class _Reader:
             register.rights = policy.rights(access)
             register.skip = set(skip)
             yield register
-            for other, more in alternates:
+            for other, rights, more in alternates:
                 name = other.get("name") + label
                 yield source.Register(
                     name,
                     offset + step,
                     bits,
                     more,
-                    register.rights,
+                    rights,
                     set(skip),
                     _text(other),
                     other.line,
@@ -376,16 +376,25 @@ class _Reader:
         return whole
 
     def _alternates(
-        self, node: Node, inner: _Outer, skip: Set[str]
-    ) -> List[Tuple[Node, List[source.Field]]]:
-        """The other registers at the address of this one."""
-        result: List[Tuple[Node, List[source.Field]]] = []
+        self, node: Node, bits: int, outer: _Outer, inner: _Outer, skip: Set[str]
+    ) -> List[Tuple[Node, str, List[source.Field]]]:
+        """The other registers at the address of this one, each with its own rights and fields."""
+        result: List[Tuple[Node, str, List[source.Field]]] = []
         for holder in node.all("alternateRegisters"):
             for one in holder.all("alternateRegister"):
-                fields: List[source.Field] = []
-                for child in one.all("field"):
-                    fields.extend(self.field(child, one, inner, skip))
-                result.append((one, fields))
+                if not self.present(one, outer.at(one)):
+                    continue
+                try:
+                    access = self.access(one, inner.access)
+                    own = outer.within(one, access, self.boolean(one, "volatile", inner.volatile))
+                    fields: List[source.Field] = []
+                    for child in one.all("field"):
+                        fields.extend(self.field(child, one, own, skip))
+                    if one.find("field") is None:
+                        fields.append(self._whole(one, bits, own))
+                    result.append((one, policy.rights(access), fields))
+                except numbers.NumberError as error:
+                    self.report.left_out(one.line, outer.at(one), str(error))
         return result
 
     # Fields
