@@ -248,6 +248,12 @@ IPXACT: Dict[str, Tuple[str, List[str], List[str]]] = {
         + ["reg b.B bytes=4 at m+0x0 wo", "  value 31:0 WO"],
         ["changed b.A.F: no reset value: not compared"],
     ),
+    "a register's access by mode": (
+        f"<register><name>A</name>{NUMBERS}<accessPolicies><accessPolicy><modeRef>debug</modeRef><access>read-only</access>"
+        f"</accessPolicy><accessPolicy><access>write-only</access></accessPolicy></accessPolicies>{BIT}</register>",
+        ["reg b.A bytes=4 at m+0x0 wo", "  F 0:0 WO"],
+        ["changed A: of its access policies by mode the one of no mode is taken"],
+    ),
 }
 
 

@@ -428,27 +428,34 @@ class _Reader:
             self.report.left_out(node.line, where, str(error))
 
     def _rules(self, node: Node, where: str) -> Node:
-        """The element that holds a field's access: itself, or since 2022 its first access policy."""
+        """The element that holds a field's access: itself, or since 2022 one of its access policies."""
         holder = node.find("fieldAccessPolicies")
-        if holder is None:
-            return node
-        policies = list(holder.all("fieldAccessPolicy"))
+        policies = list(holder.all("fieldAccessPolicy")) if holder is not None else []
         if not policies:
             return node
-        policies.sort(key=lambda one: one.find("modeRef") is not None)
-        chosen = policies[0]
+        chosen = self._of_modes(policies, node, where)
+        if chosen.find("fieldAccessPolicyDefinitionRef") is not None:
+            raise numbers.NumberError("its access policy stands in another file")
+        return chosen
+
+    def _of_modes(self, policies: List[Node], node: Node, where: str) -> Node:
+        """Of an element's access policies the first one without a mode, or else the first."""
+        chosen = min(policies, key=lambda one: one.find("modeRef") is not None)
         if len(policies) > 1 or chosen.find("modeRef") is not None:
             mode = chosen.get("modeRef") or "no mode"
             self.report.changed(
                 node.line, where, f"of its access policies by mode the one of {mode} is taken"
             )
-        if chosen.find("fieldAccessPolicyDefinitionRef") is not None:
-            raise numbers.NumberError("its access policy stands in another file")
         return chosen
 
     def access(self, node: Node, outer: str) -> str:
         """The access of an element, or the one around it. Raises NumberError."""
-        text = node.get("access") or node.get("accessPolicies", "accessPolicy", "access")
+        holder = node.find("accessPolicies")
+        policies = list(holder.all("accessPolicy")) if holder is not None else []
+        if policies:
+            text = self._of_modes(policies, node, node.get("name")).get("access")
+        else:
+            text = node.get("access")
         if not text:
             return outer
         if text not in policy.ACCESSES:
