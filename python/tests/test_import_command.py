@@ -229,7 +229,7 @@ def test_fields_of_svd(what: str, tmp_path: Path) -> None:
     assert result.report.number("left out") == 0
 
 
-# What stands in a memory map of IP-XACT's, and what comes of it.
+# What stands in an address block of IP-XACT and behind it, and what comes of it.
 NUMBERS = "<addressOffset>0</addressOffset><size>32</size>"
 BIT = "<field><name>F</name><bitOffset>0</bitOffset><bitWidth>1</bitWidth></field>"
 IPXACT: Dict[str, Tuple[str, List[str], List[str]]] = {
@@ -253,6 +253,13 @@ IPXACT: Dict[str, Tuple[str, List[str], List[str]]] = {
         f"</accessPolicy><accessPolicy><access>write-only</access></accessPolicy></accessPolicies>{BIT}</register>",
         ["reg b.A bytes=4 at m+0x0 wo", "  F 0:0 WO"],
         ["changed A: of its access policies by mode the one of no mode is taken"],
+    ),
+    "definitions in another file": (
+        f"<register><name>A</name>{NUMBERS}<access>write-only</access>{BIT}</register></addressBlock>"
+        "<bank><name>k</name><baseAddress>32</baseAddress><bankDefinitionRef>t</bankDefinitionRef></bank>"
+        "<addressBlock><name>d</name><baseAddress>64</baseAddress><addressBlockDefinitionRef>t</addressBlockDefinitionRef>",
+        ["reg b.A bytes=4 at m+0x0 wo", "  F 0:0 WO"],
+        [f"left out {name}: its definition `t` stands in another file" for name in "kd"],
     ),
 }
 

@@ -175,7 +175,7 @@ class _Reader:
 
     def space(self, node: Node, ports: List[source.Port]) -> Iterator[source.Space]:
         name = node.get("name")
-        if not self.present(node, name):
+        if not self.present(node, name) or self._defined_elsewhere(node, name):
             return
         try:
             unit = self.number(node, "addressUnitBits", 8)
@@ -199,6 +199,8 @@ class _Reader:
         self, node: Node, outer: _Outer, base: int
     ) -> Iterator[Union[source.Block, source.Memory]]:
         where = outer.at(node)
+        if node.tag in ("addressBlock", "bank") and self._defined_elsewhere(node, where):
+            return
         if node.tag == "addressBlock":
             yield from self.block(node, outer, base)
         elif node.tag == "bank":
