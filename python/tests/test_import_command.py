@@ -287,7 +287,7 @@ STATUSES: Dict[str, Tuple[List[str], int, str]] = {
     "no such report": ([SVD, "--report", "/nowhere/x"], 4, "No such file"),
     "no such block": ([SVD, "--block", "UART9"], 2, "the file has the blocks UART1, UART2, DMA"),
     "nothing to take": ([SVD, "--take", "UART1.CTRL9"], 2, "shares its place"),
-    "an empty range": ([SVD, "--address", "1-2"], 2, "nothing of it can be imported"),
+    "an empty range": ([SVD, "--address", "1-2"], 2, "20 registers weren't chosen by"),
     "a wrong range": ([SVD, "--address", "9-2"], 2, "ends before it begins"),
     "the wrong format": ([SVD, "--format", "ipxact"], 2, "neither"),
     "no word": ([], 2, "usage"),

@@ -10,7 +10,7 @@ from typing import Dict, Iterator, List, Optional, Sequence, Set, Tuple, Union
 from . import names, policy, source
 from .choice import Choice, matches
 from .errors import SourceError
-from .report import Report
+from .report import CHANGED, LEFT_OUT, Report
 
 MOST_REGISTERS = 1_024
 MOST_MEMORIES = 64
@@ -222,12 +222,27 @@ class _Shaper:
             self._overlaps(space, of_space)
         entries = [self._limits(space, of_space) for space, of_space in zip(spaces, entries)]
         if self.not_chosen:
-            self.report.noted(0, "", f"{self.not_chosen:,} registers weren't chosen by --address")
+            self.report.noted(0, "", self._not_chosen())
         result = Description(self.chip.name, self.chip.format, self.chip.text)
         if not any(entries):
             return result
         self._sections(result, spaces, entries)
         return result
+
+    def _not_chosen(self) -> str:
+        return f"{self.not_chosen:,} registers weren't chosen by --address"
+
+    def nothing(self) -> SourceError:
+        """The refusal of a file of which nothing is left, with the first reason."""
+        text = "nothing of it can be imported"
+        if self.not_chosen:
+            return SourceError(f"{text}: {self._not_chosen()}")
+        reasons = [one for one in self.report.entries if one.kind != CHANGED]
+        if not reasons:
+            return SourceError(text)
+        first = min(reasons, key=lambda one: (one.kind != LEFT_OUT, one.line))
+        where = f"{first.where}: " if first.where else ""
+        return SourceError(f"{text}: {where}{first.text}", first.line)
 
     # Spaces, reset kinds, names of blocks
 
@@ -781,7 +796,8 @@ def shape(
     chip: source.Chip, report: Report, choice: Choice, options: Optional[Options] = None
 ) -> Description:
     """The description of what a file says. Raises SourceError where nothing is left."""
-    result = _Shaper(chip, report, choice, options or Options()).description()
+    shaper = _Shaper(chip, report, choice, options or Options())
+    result = shaper.description()
     rows = [item for section in result.sections for item in section.items]
     registers = [row for row in rows if isinstance(row, RegRow)]
     report.counts = {
@@ -791,5 +807,5 @@ def shape(
         "memories": sum(isinstance(row, MemRow) for row in rows),
     }
     if not registers and not report.counts["memories"]:
-        raise SourceError("nothing of it can be imported")
+        raise shaper.nothing()
     return result
