@@ -11,7 +11,7 @@ from importing import EXAMPLES, command, expected, lines_of
 
 pytest.importorskip("defusedxml", reason="python3-defusedxml isn't installed")
 from regrun import Description  # noqa: E402
-from regrun.importer import Choice, Imported, Options, import_file  # noqa: E402
+from regrun.importer import Choice, Imported, Options, SourceError, import_file  # noqa: E402
 from regrun.importer.choice import matches  # noqa: E402
 
 SVD = str(EXAMPLES / "soc.svd")
@@ -370,6 +370,35 @@ def test_parts_of_a_table(what: str, tmp_path: Path) -> None:
     assert lines_of(result.text)[2:] == lines
     said = [one for one in result.report.entries if one.kind == "left out"]
     assert [f"{one.where}: {one.text}" for one in said[:1]] == ([left_out] if left_out else [])
+
+
+# A header row, and what is said of its columns: in the report, or in the refusal.
+HEADERS = {
+    "a column of another name": (
+        "register,offset,field,bits,access,HW Access,Reset (hex)\nA,0,F,0,RO,RW,1F\n",
+        "1: columns that aren't read: `HW Access`, `Reset (hex)`",
+    ),
+    "no offset": (
+        "A table\nregister,Offset (hex),field,bits,access\nA,0,F,0,RO\n",
+        "2: the header row has no column `offset`; columns that aren't known: `Offset (hex)`",
+    ),
+    "no register": (
+        "type,mode,notes\nName,offset,bits,access\nA,0,0,RO\n",
+        "2: the header row has no column `register`; columns that aren't known: `Name`",
+    ),
+}
+
+
+@pytest.mark.parametrize("what", HEADERS)
+def test_headers_of_a_table(what: str, tmp_path: Path) -> None:
+    text, said = HEADERS[what]
+    path = tmp_path / "t.csv"
+    path.write_text(text)
+    try:
+        first = import_file(str(path)).report.entries[0]
+        assert f"{first.line}: {first.text}" == said
+    except SourceError as error:
+        assert f"{error.line}: {error.text}" == said
 
 
 HJSON = {

@@ -10,7 +10,7 @@ from typing import Dict, Iterator, List, Optional, Set, Tuple
 from . import numbers, policy, source
 from .choice import Choice
 from .errors import SourceError
-from .report import Report
+from .report import Report, one_line
 
 HEADER_LINES = 50
 MOST_LINES_OF_A_ROW = 10
@@ -57,9 +57,11 @@ class _Rows:
     """The rows below the header."""
 
     def __init__(self, text: str, report: Report) -> None:
-        self.report = report
-        self.separator, self.columns, skipped = _header(text)
-        self.unread: List[str] = []
+        self.separator, names, skipped = _header(text)
+        self.columns = [_column(name) for name in names]
+        unread = _unread(names)
+        if unread:
+            report.noted(skipped + 1, "", f"columns that aren't read: {unread}")
         lines = text.splitlines(keepends=True)
         self.text = "".join(lines[skipped:])
         self.first = skipped
@@ -86,25 +88,33 @@ class _Rows:
 
 
 def _header(text: str) -> Tuple[str, List[str], int]:
-    """The separator, the column of each cell, and how many lines stand above the header row."""
-    best: Tuple[int, str, List[str], int] = (0, "", [], 0)
+    """The separator, the names of the columns, and how many lines stand above the header row."""
+    best: Tuple[bool, int, str, List[str], int] = (False, 2, "", [], 0)
     lines = text.splitlines(keepends=True)
     for number, line in enumerate(lines[:HEADER_LINES]):
         for separator in SEPARATORS if len(line) <= 10_000 else "":
-            cells = _first_row(lines[number : number + MOST_LINES_OF_A_ROW], separator)
-            columns = [_column(cell) for cell in cells]
-            known = len({column for column in columns if column})
-            if known > best[0] and ("register" in columns or "field" in columns):
-                best = (known, separator, columns, number)
-    if best[0] < 3:
+            names = _first_row(lines[number : number + MOST_LINES_OF_A_ROW], separator)
+            known = {column for column in map(_column, names) if column}
+            named = bool(known & {"register", "field"})
+            if len(known) > 2 and (named, len(known)) > best[:2]:
+                best = (named, len(known), separator, names, number)
+    _, _, separator, names, number = best
+    if not names:
         raise SourceError(
             "no header row: it names the columns register, offset, field, bits, access, reset, description"
         )
-    found = set(best[2])
+    found = set(map(_column, names))
     wanted = [one for one in ("register", "offset") if one not in found]
     if wanted:
-        raise SourceError(f"the header row has no column `{wanted[0]}`", best[3] + 1)
-    return best[1], best[2], best[3]
+        others = _unread(names)
+        tail = f"; columns that aren't known: {others}" if others else ""
+        raise SourceError(f"the header row has no column `{wanted[0]}`{tail}", number + 1)
+    return separator, names, number
+
+
+def _unread(names: List[str]) -> str:
+    """The names of columns that have no meaning here."""
+    return ", ".join(f"`{one_line(name)}`" for name in names if name.strip() and not _column(name))
 
 
 def _first_row(lines: List[str], separator: str) -> List[str]:
