@@ -312,13 +312,14 @@ TABLES = {
     "names of columns in two lines": '"Register\nname",Offset,Field,"Bit\nrange",Access,"Reset\nvalue"\nA,0,F,3:0,RW,5\n,,G,7:4,RO,1\n',
     "a size in words": "register,offset,size,field,bits,access,reset\nA,0,32-bit,F,3:0,RW,5\n,,,G,7:4,RO,1\n",
     "Windows": "\ufeffregister;offset;field;bits;access;reset\r\nA;0;F;3:0;rw;5\r\n;;G;7:4;ro;1\r\n",
+    "UTF-16": "\ufeffregister\toffset\tfield\tbits\taccess\treset\r\nA\t0\tF\t3:0\trw\t5\r\n\t\tG\t7:4\tro\t1\r\n",
 }  # fmt: skip
 
 
 @pytest.mark.parametrize("what", TABLES)
 def test_tables(what: str, tmp_path: Path) -> None:
     path = tmp_path / "t.csv"
-    path.write_bytes(TABLES[what].encode())
+    path.write_bytes(TABLES[what].encode("utf-16-le" if what == "UTF-16" else "utf-8"))
     wanted = [
         "map bus bytes=4",
         "block regs",

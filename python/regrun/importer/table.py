@@ -319,14 +319,21 @@ def _reset(text: str) -> Optional[int]:
     return numbers.table(text)
 
 
+def _decoded(data: bytes, report: Report) -> str:
+    """The text of a file in UTF-8, in UTF-16 with its mark, as a spreadsheet's "Unicode text" is, or in Windows-1252."""
+    marked = data.startswith((b"\xff\xfe", b"\xfe\xff"))
+    try:
+        return data.decode("utf-16" if marked else "utf-8-sig")
+    except UnicodeDecodeError:
+        report.noted(0, "", "not UTF-8: read as Windows-1252")
+        return data.decode("cp1252", "replace")
+
+
 def read(data: bytes, report: Report, choice: Choice) -> source.Chip:
     """What a table says. Raises SourceError."""
-    try:
-        text = data.decode("utf-8-sig")
-    except UnicodeDecodeError:
-        text = data.decode("cp1252", "replace")
-        report.noted(0, "", "not UTF-8: read as Windows-1252")
+    text = _decoded(data, report)
     if "\0" in text:
-        raise SourceError("not a table: it has a byte 0", text[: text.index("\0")].count("\n") + 1)
+        line = text[: text.index("\0")].count("\n") + 1
+        raise SourceError("not a table: it has a byte 0; a spreadsheet is read as CSV", line)
     reader = _Reader(text, report, choice)
     return reader.chip(re.sub(r".*[/\\]|\.[^.]*$", "", report.file) or "table")
