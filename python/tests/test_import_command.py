@@ -353,6 +353,11 @@ PARTS = {
         ["reg regs.A bytes=4 at bus+0x0 rw", "  F 7:0 RO uncompared"],
         "A.F: its reset value: `1F` isn't a number",
     ),
+    "reset values with a 0 in front": (
+        "register,offset,field,bits,access,reset\nA,0,F,3:0,RW,0001\n,,G,7:4,RO,0010\n",
+        ["reg regs.A bytes=4 at bus+0x0 rw", "  F 3:0 RW HARD=0x1", "  G 7:4 RO uncompared"],
+        "A.G: its reset value: the base of `0010` isn't known: 0b and 0x tell it",
+    ),
     "the width of a register": (
         "register,offset,width,access,reset\nA,0,16,RW,0x1234\nB,2,8,RO,1\n",
         ["reg regs.A bytes=2 at bus+0x0 rw", "  value 15:0 RW HARD=0x1234"]

@@ -316,7 +316,11 @@ def _reset(text: str) -> Optional[int]:
     """A reset value, or None where it is left open. Raises NumberError."""
     if not text or re.fullmatch(r"(?i)[-?x]+|undefined|unknown|n/?a|undef\.?|0x[x]+|x+h", text):
         return None
-    return numbers.table(text)
+    value = numbers.table(text)
+    digits = re.sub("[ _]", "", text)
+    if re.fullmatch("0[0-9]+", digits) and value != int(digits, 16):
+        raise numbers.NumberError(f"the base of `{text}` isn't known: 0b and 0x tell it")
+    return value
 
 
 def _decoded(data: bytes, report: Report) -> str:
