@@ -67,6 +67,15 @@ LOGS = [
         "it: 1 failing, first line 1: # not done",
     ),
     (
+        "# not done: `hw a.b 0x1`; the answer was `none\r`\n"
+        + CHECK.format("")
+        + END.format(1, 0, 0),
+        1,
+        [],
+        "it: 1 failing, first line 1: # not done",
+    ),
+    ("\ufeff" + (CHECK.format("") + END.format(1, 0, 0)).replace("\n", "\r\n"), 0, [], None),
+    (
         REFUSED + END.format(1, 0, 0),
         0,
         [],
@@ -119,6 +128,28 @@ def test_the_page_marks_the_bits(capsys):
     assert [it for it in cells if it.startswith('class="wrong"')] == [
         'class="wrong" colspan="1">divider RW'
     ]
+
+
+# A log, and what the page has behind the registers.
+ENDS = [
+    (b"", "the log has no last line"),
+    (CHECK.format("")[:-3].encode(), "the log is cut off within its last line"),
+    (b"# not done: `hw a.b 0x1`; the answer was `\xff`\n", "the answer was `\ufffd`"),
+    (
+        CHECK.format("").encode() + b"regrun 9\n",
+        "line 3 is none that this version writes: regrun 9",
+    ),
+]
+
+
+@pytest.mark.parametrize("log, why", ENDS)
+def test_the_page_tells_of_a_log_that_is_not_whole(tmp_path, capsys, log, why):
+    session = '[[reg]]\nname = "a"\nbytes = 1\nfield = [{ name = "b", lsb = 0, width = 1, policy = "RW" }]\n'
+    (tmp_path / "it.session").write_text(session)
+    (tmp_path / "it.log").write_bytes(log)
+    assert main(["page", str(tmp_path / "it.log")]) == 0
+    told = capsys.readouterr().out.partition("</table>")[2]
+    assert why in told and "end:" not in told
 
 
 def test_json_has_what_the_log_has(capsys):

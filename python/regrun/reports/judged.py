@@ -134,6 +134,11 @@ def _some(events: int, name: str, may: Allowed) -> Optional[str]:
     return None if events or may.has("empty", name) else "it has no operation"
 
 
+def text_of(log: Path) -> str:
+    """A log's text. It may have a byte order mark and CRLF; a carriage return within a peer's line stays."""
+    return log.read_bytes().decode("utf-8-sig", "replace").replace("\r\n", "\n")
+
+
 def judge(log: Path, allowed: Optional[Allowed] = None) -> Result:
     """What a log comes to with the exit status in NAME.status beside it, and the seconds in NAME.seconds, if they are there."""
     status, seconds = log.with_suffix(".status"), log.with_suffix(".seconds")
@@ -141,7 +146,7 @@ def judge(log: Path, allowed: Optional[Allowed] = None) -> Result:
     if missing:
         text = f"the session wasn't run to its end: {missing.name} isn't there"
         return Result(log.stem, [], text, 0.0, 0)
-    failures, why, events = read(log.read_text(errors="replace"), log.stem, allowed)
+    failures, why, events = read(text_of(log), log.stem, allowed)
     code, took = _number(int, status), _number(float, seconds)
     differing = [it for it in failures if it.field not in BESIDE or it.field == "(link)"]
     if code is None:

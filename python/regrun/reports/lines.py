@@ -14,6 +14,7 @@ from pathlib import Path
 from typing import Any, Dict, Iterator, Optional, Sequence
 
 from ..events import Event, Other, read_log
+from .judged import text_of
 
 COUNTS = {
     "total": ("steps", "differences", "bus_errors"),
@@ -28,7 +29,8 @@ def _other(told: Other) -> Dict[str, Any]:
 
 def objects(log: Path) -> Iterator[Dict[str, Any]]:
     """Each line of a log that isn't an item, as plain data."""
-    for told in read_log(log.read_text(errors="replace").splitlines()):
+    lines = text_of(log).split("\n")
+    for told in read_log(lines if lines[-1] else lines[:-1]):
         if isinstance(told, Event):
             yield {"log": str(log), "kind": "event", **told.as_dict()}
         else:

@@ -2,7 +2,7 @@
 
 Before each LOG stands its SESSION; where none does, it is the file NAME.session or NAME.regrun beside NAME.log. Bits that a
 check found different are marked: those of the fields that it named in which the value read isn't what was mirrored before.
-The page goes to standard output, is static, and needs no script.
+Behind the registers stands why a log isn't a whole one, if so. The page goes to standard output, is static, and needs no script.
 """
 
 from __future__ import annotations
@@ -16,6 +16,7 @@ from typing import Dict, Iterator, List, Optional, Sequence, Tuple
 from ..description import Description, Field, Register
 from ..errors import DescriptionError
 from ..events import CHECKS, Event, Other, read_log
+from .judged import read, text_of
 
 STYLE = """body{font-family:sans-serif;margin:2em;max-width:75em} h2{margin-top:2em} td{border:1px solid #888;text-align:center;
 padding:.15em;min-width:1.1em;font-size:80%} .none{background:#eee} .bit{border:0;color:#666} .wrong{background:#d33;color:#fff;font-weight:bold}
@@ -71,7 +72,8 @@ def picture(reg: Register, wrong: int) -> str:
 def shown(session: Path, log: Path) -> Iterator[str]:
     """The part of the page that one session has."""
     chip = Description.read(session)
-    entries = list(read_log(log.read_text().split("\n")[:-1]))
+    text = text_of(log)
+    entries = list(read_log(text.split("\n")[:-1]))
     wrong, told = differing(chip, entries)
     yield f"<h2>{html.escape(session.name)}</h2>"
     for path, reg in chip.registers.items():
@@ -80,13 +82,16 @@ def shown(session: Path, log: Path) -> Iterator[str]:
             yield f'<pre class="told">{html.escape(chr(10).join(dict.fromkeys(told[path])))}</pre>'
     last = [it.raw for it in entries if _ends(it)]
     yield f"<pre>{html.escape(chr(10).join(last))}</pre>"
+    _, why, _ = read(text)
+    if why and why not in last:
+        yield f'<pre class="told">{html.escape(log.name)}: {html.escape(why)}</pre>'
 
 
 def _ends(told: "Event | Other") -> bool:
-    """Whether a line is told below the registers: a bus error, the last line, or a refusal."""
+    """Whether a line is told below the registers: a bus error, the last line, a refusal, or what a link told of its peer."""
     if isinstance(told, Event):
         return told.result == "bus error"
-    return told.kind in ("end", "refused")
+    return told.kind in ("end", "refused", "note")
 
 
 def pairs(files: Sequence[str]) -> Iterator[Tuple[Path, Path]]:
