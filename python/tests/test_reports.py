@@ -119,6 +119,29 @@ def test_what_is_missing_is_named(tmp_path, capsys):
     assert main(["junit", "--allow", "empty:it", str(log)]) == 0
 
 
+def test_names_that_a_report_cannot_have(tmp_path, capsys):
+    """A name in Latin-1, with a control character, and with what XML and HTML escape."""
+    names = ["a\udcf6", "b\033", '<&">']
+    for name in names:
+        (tmp_path / f"{name}.session").write_text("")
+        (tmp_path / f"{name}.log").write_text(END.format(0, 0, 0))
+        (tmp_path / f"{name}.status").write_text("0")
+    assert main(["junit", str(tmp_path)]) == 1
+    cases = xml.parse(tmp_path / "junit.xml").getroot().findall("testcase")
+    assert {it.get("name") for it in cases} == {"a\ufffd", "b\ufffd", '<&">'}
+    assert "<li>&lt;&amp;&quot;&gt;: it has" in (tmp_path / "failing.html").read_text("utf-8")
+    assert capsys.readouterr().out.endswith("0 passed, 3 failed\n")
+    for name in names:
+        assert main(["page", str(tmp_path / f"{name}.log")]) == 0
+    assert "\033" not in capsys.readouterr().out
+
+
+def test_a_folder_without_sessions_is_named(tmp_path, capsys):
+    assert main(["junit", str(tmp_path)]) == 1
+    wanted = f"{tmp_path}: no NAME.session stands there\n0 passed, 0 failed\n"
+    assert capsys.readouterr().out == wanted
+
+
 def test_the_page_marks_the_bits(capsys):
     """The guide's example: bit 7 of ctrl, in the field divider, isn't as the reset should make it."""
     assert main(["page", str(TOP / "examples/wrong-reset.log")]) == 0

@@ -2,6 +2,8 @@
 
 from __future__ import annotations
 
+import html
+import re
 from fnmatch import fnmatchcase
 from pathlib import Path
 from typing import Callable, Dict, List, NamedTuple, Optional, Sequence, Tuple, TypeVar
@@ -132,6 +134,20 @@ def _whole(end: Optional[Other], events: int, found: List[Failure]) -> Optional[
 
 def _some(events: int, name: str, may: Allowed) -> Optional[str]:
     return None if events or may.has("empty", name) else "it has no operation"
+
+
+# What XML and HTML can't have, also not as a reference: a peer's line, a log that is none or a file's name may have it.
+_UNWRITABLE = re.compile("[^\t\n\r -\ud7ff\ue000-\ufffd\U00010000-\U0010ffff]")
+
+
+def plain(text: str) -> str:
+    """A text as a report can have it."""
+    return _UNWRITABLE.sub("\ufffd", text)
+
+
+def escaped(text: str) -> str:
+    """A text as HTML can have it."""
+    return html.escape(plain(text))
 
 
 def text_of(log: Path) -> str:

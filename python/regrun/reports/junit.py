@@ -16,23 +16,12 @@ operation at all. NAME may have `*`. The exit status is 0 where all passed, and 
 from __future__ import annotations
 
 import argparse
-import html
-import re
 import sys
 import xml.etree.ElementTree as xml
 from pathlib import Path
 from typing import Dict, List, Optional, Sequence, Tuple
 
-from .judged import Allowed, Result, judge
-
-
-# What XML can't have, also not as a reference: a peer's line or a log that is none may have it.
-NOT_IN_XML = re.compile("[^\t\n\r -\ud7ff\ue000-\ufffd\U00010000-\U0010ffff]")
-
-
-def _plain(text: str) -> str:
-    """A text as XML can have it."""
-    return NOT_IN_XML.sub("\ufffd", text)
+from .judged import Allowed, Result, escaped, judge, plain
 
 
 def suite(results: Sequence[Result]) -> xml.Element:
@@ -49,14 +38,14 @@ def suite(results: Sequence[Result]) -> xml.Element:
     top.set("time", f"{sum(it.seconds for it in results):.3f}")
     for it in results:
         case = xml.SubElement(
-            top, "testcase", classname="regrun", name=it.name, time=f"{it.seconds:.3f}"
+            top, "testcase", classname="regrun", name=plain(it.name), time=f"{it.seconds:.3f}"
         )
         if it.error:
-            xml.SubElement(case, "error", message=_plain(it.error))
+            xml.SubElement(case, "error", message=plain(it.error))
         elif it.failures:
             told = "\n".join(f"line {failure.line}: {failure.text}" for failure in it.failures)
             message = f"{len(it.failures)} failing: {it.failures[0].text}"
-            xml.SubElement(case, "failure", message=_plain(message)).text = _plain(told)
+            xml.SubElement(case, "failure", message=plain(message)).text = plain(told)
     return top
 
 
@@ -68,7 +57,7 @@ def page(results: Sequence[Result]) -> str:
             rows.setdefault((failure.item, failure.field), []).append(
                 (result.name, failure.line, failure.text)
             )
-    told = html.escape
+    told = escaped
     lines = [
         f"<tr><td>{told(item)}<td>{told(field)}<td>{len(at)}<td>{told(at[0][0])}.log:{at[0][1]}<td><code>{told(at[0][2])}</code>"
         for (item, field), at in sorted(rows.items())
@@ -101,7 +90,7 @@ def summary(results: Sequence[Result]) -> List[str]:
                 f"{it.name}: {len(it.failures)} failing, first line {it.failures[0].line}: {it.failures[0].text}"
             )
     passed = sum(it.passed for it in results)
-    return [*told, f"{passed} passed, {len(results) - passed} failed"]
+    return [*map(plain, told), f"{passed} passed, {len(results) - passed} failed"]
 
 
 def main(arguments: Optional[Sequence[str]] = None) -> int:
@@ -139,5 +128,8 @@ def main(arguments: Optional[Sequence[str]] = None) -> int:
         tree.write(xml_file, encoding="utf-8", xml_declaration=True)
     if page_file:
         Path(page_file).write_text(page(results), encoding="utf-8")
-    print("\n".join(summary(results)), file=sys.stderr if xml_file == "-" else sys.stdout)
+    told = summary(results)
+    if folder is not None and not results:
+        told.insert(0, f"{folder}: no NAME.session stands there")
+    print("\n".join(told), file=sys.stderr if xml_file == "-" else sys.stdout)
     return 0 if results and all(it.passed for it in results) else 1

@@ -8,7 +8,6 @@ Behind the registers stands why a log isn't a whole one, if so. The page goes to
 from __future__ import annotations
 
 import argparse
-import html
 import sys
 from pathlib import Path
 from typing import Dict, Iterator, List, Optional, Sequence, Tuple
@@ -16,7 +15,7 @@ from typing import Dict, Iterator, List, Optional, Sequence, Tuple
 from ..description import Description, Field, Register
 from ..errors import DescriptionError
 from ..events import CHECKS, Event, Other, read_log
-from .judged import read, text_of
+from .judged import escaped, read, text_of
 
 STYLE = """body{font-family:sans-serif;margin:2em;max-width:75em} h2{margin-top:2em} td{border:1px solid #888;text-align:center;
 padding:.15em;min-width:1.1em;font-size:80%} .none{background:#eee} .bit{border:0;color:#666} .wrong{background:#d33;color:#fff;font-weight:bold}
@@ -64,7 +63,7 @@ def picture(reg: Register, wrong: int) -> str:
             bit -= 1
         name = f"{field.name} {field.policy}" if field else ""
         kind = "wrong" if is_wrong else "" if field else "none"
-        cells.append(f'<td class="{kind}" colspan="{first - bit + 1}">{html.escape(name)}')
+        cells.append(f'<td class="{kind}" colspan="{first - bit + 1}">{escaped(name)}')
         bit -= 1
     return f"<table><tr>{numbers}<tr>{''.join(cells)}</table>"
 
@@ -75,16 +74,16 @@ def shown(session: Path, log: Path) -> Iterator[str]:
     text = text_of(log)
     entries = list(read_log(text.split("\n")[:-1]))
     wrong, told = differing(chip, entries)
-    yield f"<h2>{html.escape(session.name)}</h2>"
+    yield f"<h2>{escaped(session.name)}</h2>"
     for path, reg in chip.registers.items():
-        yield f"<h3>{html.escape(path)}</h3>{picture(reg, wrong[path])}"
+        yield f"<h3>{escaped(path)}</h3>{picture(reg, wrong[path])}"
         if told[path]:
-            yield f'<pre class="told">{html.escape(chr(10).join(dict.fromkeys(told[path])))}</pre>'
+            yield f'<pre class="told">{escaped(chr(10).join(dict.fromkeys(told[path])))}</pre>'
     last = [it.raw for it in entries if _ends(it)]
-    yield f"<pre>{html.escape(chr(10).join(last))}</pre>"
+    yield f"<pre>{escaped(chr(10).join(last))}</pre>"
     _, why, _ = read(text)
     if why and why not in last:
-        yield f'<pre class="told">{html.escape(log.name)}: {html.escape(why)}</pre>'
+        yield f'<pre class="told">{escaped(log.name)}: {escaped(why)}</pre>'
 
 
 def _ends(told: "Event | Other") -> bool:
