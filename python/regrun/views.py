@@ -63,7 +63,24 @@ class Node(View):
     """A block, a register file, or the whole chip."""
 
 
-class RegisterView(View):
+class _Readable(View):
+    """What `int()` reads: a comparison, which would be of the view itself, is an error, and so is its truth."""
+
+    def _unread(self) -> TypeError:
+        return TypeError(
+            f"{self._path} is no number: int() reads it over the bus, .mirrored sends nothing"
+        )
+
+    def __eq__(self, other: object) -> bool:
+        raise self._unread()
+
+    __hash__ = View.__hash__
+
+    def __bool__(self) -> bool:
+        raise self._unread()
+
+
+class RegisterView(_Readable):
     """A register. `int()` reads it over the bus, and an assignment to a field writes the field over the bus."""
 
     def __int__(self) -> int:
@@ -136,7 +153,7 @@ class RegisterView(View):
         return self._session.mirrored(self._path)
 
 
-class FieldView(View):
+class FieldView(_Readable):
     """A field. `int()` reads it over the bus."""
 
     def __int__(self) -> int:

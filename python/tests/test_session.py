@@ -244,6 +244,25 @@ def test_what_goes_wrong_is_raised(program):
     assert s.status == 1
 
 
+# A misuse, its exception, and what the text of that says.
+MISUSED = [
+    (lambda s: s.top.ctrl == 5, TypeError, "top.ctrl is no number: int() reads it"),
+    (lambda s: s.top.ctrl.enable != 0, TypeError, "top.ctrl.enable is no number"),
+    (lambda s: bool(s.top.stat.done), TypeError, "top.stat.done is no number"),
+]
+
+
+def test_a_misuse_sends_nothing(script):
+    """So any program will do."""
+    with regrun.Session(CHIP, program=script(f"PIECE, PAUSE, WORDS = 4096, 0, {{}}\n{DRIPS}")) as s:
+        sent = s.session
+        for do, cause, text in MISUSED:
+            with pytest.raises(cause) as raised:
+                do(s)
+            assert text in str(raised.value)
+        assert (s.events, s.session) == (0, sent)
+
+
 def test_a_difference_shows_the_fields_side_by_side(program):
     """The mode was mirrored as 5 after the reset, and bit 1 of it is stuck at 1: so it is read as 7."""
     with regrun.Session(CHIP + FLAWS, program=program) as s:
