@@ -621,7 +621,7 @@ class Session:
         elif item not in names.registers:
             names.require(item, names.registers, "register")
         line = f"{command} {item}"
-        if value is not None:
+        if value is not None or command in _WITH_VALUE:
             line = f"{line} {self._number(item, value):#x}"
         if map is not None:
             names.require(map, names.maps, "map")
@@ -651,7 +651,7 @@ class Session:
             line = f"{line} @{map}"
         return line
 
-    def _number(self, item: str, value: Value) -> int:
+    def _number(self, item: str, value: Optional[Value]) -> int:
         """A value as a number: itself, or what a field's named value is."""
         if isinstance(value, str):
             field = self._known.fields.get(item, (None, None))[1]
@@ -659,9 +659,13 @@ class Session:
                 raise TypeError(f"a value of {item} is a number: {value!r}")
             self._known.require(value, field.values, f"value of {item}")
             return field.values[value]
-        number = operator.index(value)
+        try:
+            number = operator.index(value)  # type: ignore[arg-type]
+        except TypeError:
+            kind = type(value).__name__
+            raise TypeError(f"a value of {item} is a number, and not {value!r} ({kind})") from None
         if not 0 <= number <= _MOST:
-            raise ValueError(f"a value is 0 to 2^64-1: {value}")
+            raise ValueError(f"a value of {item} is 0 to 2^64-1: {value}")
         return number
 
     def _event(
@@ -729,8 +733,10 @@ class Session:
 
     def _run(self, line: str) -> List[Event]:
         """Sends a line that may have many events."""
-        if "\n" in line or "\r" in line:
+        if not isinstance(line, str) or "\n" in line or "\r" in line:
             raise ValueError(f"not one line: {line!r}")
+        if not line.isascii():
+            raise ValueError(f"a line of a script is ASCII: {line!r}")
         if len(line) > _MOST_LINE:
             raise ValueError(f"a line of {len(line)} bytes; {_MOST_LINE} are the most")
         self._script.append(line)
@@ -906,13 +912,16 @@ class Session:
 
 
 def _require_bits(mask: Optional[int]) -> None:
-    """Raises ValueError for a mask of no bit, in which any two values are alike."""
+    """Raises TypeError for a mask that is no number, and ValueError for one of no bit, in which any two values are alike."""
+    if mask is not None and not hasattr(mask, "__index__"):
+        raise TypeError(f"a mask is a number, and not {mask!r}")
     if mask == 0:
-        raise ValueError("a mask of 0 compares nothing")
+        raise ValueError("a mask of 0 compares nothing; a value is given by value=0")
 
 
 _OF_FIELDS = frozenset(["field-write", "field-read", "set", "hw"])
 _OF_TARGET = frozenset(["reset", "hw"])
+_WITH_VALUE = frozenset("write field-write set poke back-write other-write hw".split())
 
 
 def _described(description: Union[Where, Description]) -> Tuple[str, Optional[Description]]:

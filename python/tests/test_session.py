@@ -249,6 +249,15 @@ MISUSED = [
     (lambda s: s.top.ctrl == 5, TypeError, "top.ctrl is no number: int() reads it"),
     (lambda s: s.top.ctrl.enable != 0, TypeError, "top.ctrl.enable is no number"),
     (lambda s: bool(s.top.stat.done), TypeError, "top.stat.done is no number"),
+    (lambda s: s.write("top.ctrl", None), TypeError, "a value of top.ctrl is a number, and"),
+    (lambda s: s.hw("top.stat.done", None), TypeError, "a value of top.stat.done is a number"),
+    (lambda s: s.poke("top.ctrl", -1), ValueError, "a value of top.ctrl is 0 to 2^64-1: -1"),
+    (lambda s: s.mem_write("top.ram", 0, None), TypeError, "a value of top.ram is a number"),
+    (lambda s: s.expect("top.ctrl", 1, mask="mode"), TypeError, "a number, and not 'mode'"),
+    (lambda s: s.wait("top.stat", "done"), TypeError, "a mask is a number, and not 'done'"),
+    (lambda s: s.wait("top.stat.done", 0), ValueError, "nothing; a value is given by value=0"),
+    (lambda s: s.do("read tôp"), ValueError, "a line of a script is ASCII: 'read tôp'"),
+    (lambda s: s.do(None), ValueError, "not one line: None"),
 ]
 
 
