@@ -83,6 +83,7 @@ def test_an_access_that_never_ends(registers: Path, number: int, error: type, wh
         ({"path": "/no/such/file"}, "/no/such/file can't be mapped: .*No such file"),
         ({"remote": ["no-such-shell"]}, "no-such-shell can't be started"),
         ({"remote": ["false"]}, "false ended with the status 1"),
+        ({"remote": "false root@board"}, "false ended with the status 1"),
         ({"size": 3 * PAGE}, "can't be mapped: mmap length is greater than file size"),
     ],
 )

@@ -222,7 +222,10 @@ def test_no_server() -> None:
         with GdbServer(address):
             pass
     with pytest.raises(TargetStartError, match="(?s)sh ended with the status 3.*no probe"):
-        with GdbServer(address, command=["sh", "-c", "echo no probe >&2; exit 3"]):
+        with GdbServer(address, command="sh -c 'echo no probe >&2; exit 3'"):
+            pass
+    with pytest.raises(TargetStartError, match="localhost, a socket since it has no port: No such"):
+        with GdbServer("localhost"):
             pass
     silent = ["sh", "-c", "echo no board >&2; exec sleep 100"]
     with pytest.raises(TargetStartError, match="(?s)Connection refused; sh runs.*no board"):

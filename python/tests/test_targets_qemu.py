@@ -121,6 +121,7 @@ def test_the_monitor(machine: Qemu) -> None:
             {"machine": "virt", "args": ["-device", "what"]},
             "'what' is not a valid device model name",
         ),
+        ({"machine": "virt", "args": "-device what"}, "'what' is not a valid device model name"),
         ({"machine": "virt", "cpu": "what"}, "(?s)ended with the status 1"),
     ],
 )

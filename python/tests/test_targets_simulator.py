@@ -99,10 +99,11 @@ def test_a_bench_that_does_not_compile(tmp_path: Path) -> None:
     if shutil.which("iverilog") is None:
         pytest.skip("the Debian package iverilog is not installed")
     (tmp_path / "bad.v").write_text("module bench; nonsense endmodule\n")
-    with pytest.raises(
-        TargetStartError, match="(?s)iverilog .* ended with the status .*syntax error"
-    ):
-        build_icarus(str(tmp_path), [str(tmp_path / "bad.v")])
+    for sources in ([str(tmp_path / "bad.v")], str(tmp_path / "bad.v")):
+        with pytest.raises(
+            TargetStartError, match="(?s)iverilog .* ended with the status .*syntax error"
+        ):
+            build_icarus(str(tmp_path), sources)
 
 
 def test_chatter_is_kept_and_is_no_answer() -> None:
@@ -208,6 +209,11 @@ def test_a_program_that_is_not_there() -> None:
     with pytest.raises(TargetStartError, match="no-such-simulator can't be started: No such file"):
         with Simulator("no-such-simulator +option"):
             pass
+    with pytest.raises(TargetStartError, match="sh can't be started: No such file.*: /no/folder"):
+        with Simulator("sh", cwd="/no/folder"):
+            pass
+    with pytest.raises(ValueError, match="a command without a word"):
+        Simulator("")
 
 
 def test_much_on_standard_error_blocks_nothing() -> None:

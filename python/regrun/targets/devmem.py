@@ -5,7 +5,7 @@ from __future__ import annotations
 import shlex
 import sys
 import time
-from typing import List, Optional, Sequence
+from typing import List, Optional
 
 from regrun.targets.base import (
     Access,
@@ -17,7 +17,7 @@ from regrun.targets.base import (
     TargetStartError,
     Verify,
 )
-from regrun.targets.process import Child
+from regrun.targets.process import Child, Words, words_of
 
 # What makes the accesses, in a process of its own: a bus error of the board ends that process alone. An assignment to a cast
 # memoryview is one store of the item's size, and taking an item is one load. A value of ctypes isn't: its store reads first.
@@ -67,7 +67,7 @@ class DevMem(MemoryTarget):
         *,
         path: str = "/dev/mem",
         offset: Optional[int] = None,
-        remote: Sequence[str] = (),
+        remote: Words = (),
         python: str = "",
         ports: Optional[Ports] = None,
         verify: Verify = False,
@@ -91,7 +91,9 @@ class DevMem(MemoryTarget):
             _WORKER,
         ]
         words += [path, str(offset), str(size)]
-        self._command: List[str] = [*remote, shlex.join(words)] if remote else words
+        self._command: List[str] = words
+        if remote:
+            self._command = [*words_of(remote), shlex.join(words)]
         self._child: Optional[Child] = None
 
     def start(self) -> None:

@@ -5,7 +5,7 @@ from __future__ import annotations
 import os
 import socket
 import time
-from typing import Mapping, Optional, Sequence, Tuple, Union
+from typing import Mapping, Optional, Tuple, Union
 
 from regrun.targets.base import (
     Access,
@@ -18,7 +18,7 @@ from regrun.targets.base import (
     TargetTimeout,
     Verify,
 )
-from regrun.targets.process import Child
+from regrun.targets.process import Child, Words, words_of
 
 _TRIES = 3
 
@@ -45,7 +45,7 @@ class GdbServer(MemoryTarget):
         self,
         address: str,
         *,
-        command: Optional[Sequence[str]] = None,
+        command: Optional[Words] = None,
         ports: Optional[Ports] = None,
         verify: Verify = False,
         order: str = "little",
@@ -60,9 +60,9 @@ class GdbServer(MemoryTarget):
             raise ValueError('order is "little" or "big"')
         self.timeout = timeout
         self._start_timeout = start_timeout
-        self._address = address
-        self._where = _where(address)
-        self._command = command
+        self._address = str(address)
+        self._where = _where(self._address)
+        self._command = words_of(command) if command else None
         self.order = order
         self._physical = physical
         self._resets = dict(resets or {})
@@ -150,7 +150,9 @@ class GdbServer(MemoryTarget):
             try:
                 return self._connected(max(0.01, until - time.monotonic()))
             except OSError as error:
-                why = f"no GDB server at {self._address}: {error.strerror or error}"
+                path = self._where == self._address and os.sep not in self._address
+                what = f"{self._address}, a socket since it has no port" if path else self._address
+                why = f"no GDB server at {what}: {error.strerror or error}"
                 if self._child is None:
                     raise TargetStartError(why) from error
             self._child.drain(self.note)

@@ -4,12 +4,13 @@ from __future__ import annotations
 
 import os
 import select
+import shlex
 import signal
 import subprocess
 import time
 import weakref
 from collections import deque
-from typing import TYPE_CHECKING, Callable, Deque, Mapping, Optional, Sequence
+from typing import TYPE_CHECKING, Callable, Deque, List, Mapping, Optional, Sequence, Union
 
 from regrun.targets.base import TargetEnded, TargetStartError, TargetTimeout, log
 
@@ -21,6 +22,18 @@ if TYPE_CHECKING:
 
 # Waits for a line on standard input, and kills the process group $1 where the input ends before one.
 _GUARD = 'read -r line || kill -s KILL -- "-$1"'
+
+
+# Several words, or one text.
+Words = Union[str, Sequence[str]]
+
+
+def words_of(command: Words) -> List[str]:
+    """The words of a command, which may also be one text. Raises ValueError where it has none."""
+    words = shlex.split(command) if isinstance(command, str) else list(command)
+    if not words:
+        raise ValueError("a command without a word can't be started")
+    return words
 
 
 class Child:
@@ -154,7 +167,9 @@ def _start(
             start_new_session=True,
         )
     except OSError as error:
-        raise TargetStartError(f"{command[0]} can't be started: {error.strerror}") from error
+        where = "" if error.filename in (None, command[0]) else f": {error.filename}"
+        text = f"{command[0]} can't be started: {error.strerror}{where}"
+        raise TargetStartError(text) from error
 
 
 def _guard(process: Process) -> Process:

@@ -7,7 +7,7 @@ import re
 import shlex
 import socket
 import time
-from typing import Any, Dict, List, Optional, Sequence, Tuple
+from typing import Any, Dict, List, Optional, Tuple
 
 from regrun.targets.base import (
     Access,
@@ -20,7 +20,7 @@ from regrun.targets.base import (
     TargetTimeout,
     Verify,
 )
-from regrun.targets.process import Child
+from regrun.targets.process import Child, Words, words_of
 
 _LETTERS = {1: "b", 2: "w", 4: "l", 8: "q"}
 _VALUE = re.compile(r"OK 0x([0-9a-fA-F]+)", re.ASCII)
@@ -50,7 +50,7 @@ class Qemu(MemoryTarget):
         *,
         binary: str = "qemu-system-arm",
         cpu: Optional[str] = None,
-        args: Sequence[str] = (),
+        args: Words = (),
         serial: str = "null",
         ports: Optional[Ports] = None,
         verify: Verify = False,
@@ -73,7 +73,8 @@ class Qemu(MemoryTarget):
         self._command = [binary, "-M", machine, *(("-cpu", cpu) if cpu else ()), "-S"]
         self._command += ["-serial", serial, *shlex.split("-nic none -display none -monitor none")]
         self._command += shlex.split("-qtest stdio -qtest-log none -chardev socket,id=regrun,fd=FD")
-        self._command += ["-mon", "chardev=regrun,mode=control", *args]
+        self._command += ["-mon", "chardev=regrun,mode=control"]
+        self._command += words_of(args) if args else []
 
     def start(self) -> None:
         self._broken = None

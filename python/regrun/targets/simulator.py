@@ -8,10 +8,10 @@ import shlex
 import shutil
 import subprocess
 import time
-from typing import List, Mapping, Optional, Sequence, Union
+from typing import List, Mapping, Optional, Sequence
 
 from regrun.targets.base import Target, TargetAnswerError, TargetStartError
-from regrun.targets.process import Child
+from regrun.targets.process import Child, Words, words_of
 
 _WORD = re.compile(r"(?:0[xX][0-9a-fA-F]+|[0-9]+)", re.ASCII)
 _UNKNOWN = re.compile(r"[0-9a-f]*[xz][0-9a-fxz]*", re.ASCII | re.IGNORECASE)
@@ -29,14 +29,14 @@ class Simulator(Target):
 
     def __init__(
         self,
-        command: Union[str, Sequence[str]],
+        command: Words,
         *,
         cwd: Optional[str] = None,
         env: Optional[Mapping[str, str]] = None,
         timeout: float = 5.0,
         start_timeout: float = 60.0,
     ) -> None:
-        self._command = shlex.split(command) if isinstance(command, str) else list(command)
+        self._command = words_of(command)
         self._cwd = cwd
         self._env = env
         self._child: Optional[Child] = None
@@ -85,7 +85,7 @@ class Simulator(Target):
             self._child = None
 
 
-def build_icarus(folder: str, sources: Sequence[str], defines: Sequence[str] = ()) -> List[str]:
+def build_icarus(folder: str, sources: Words, defines: Sequence[str] = ()) -> List[str]:
     """Makes a bench of Verilog by Icarus in a folder; the command that runs it. Raises TargetStartError."""
     folder = os.path.abspath(folder)
     out = os.path.join(folder, "bench.vvp")
@@ -95,7 +95,7 @@ def build_icarus(folder: str, sources: Sequence[str], defines: Sequence[str] = (
 
 
 def build_verilator(
-    folder: str, sources: Sequence[str], defines: Sequence[str] = (), top: str = "bench"
+    folder: str, sources: Words, defines: Sequence[str] = (), top: str = "bench"
 ) -> List[str]:
     """Makes a bench of Verilog by Verilator 5 in a folder; the command that runs it. Raises TargetStartError."""
     folder = os.path.abspath(folder)
@@ -118,7 +118,7 @@ def build_verilator(
 
 def build_ghdl(
     folder: str,
-    sources: Sequence[str],
+    sources: Words,
     generics: Optional[Mapping[str, str]] = None,
     top: str = "bench",
 ) -> List[str]:
@@ -136,9 +136,9 @@ def build_ghdl(
     ]
 
 
-def _absolute(sources: Sequence[str]) -> List[str]:
-    """The paths of sources, from where the caller is: a compiler runs in the folder that it writes to."""
-    return [os.path.abspath(it) for it in sources]
+def _absolute(sources: Words) -> List[str]:
+    """The paths of sources, or of one, from where the caller is: a compiler runs in the folder that it writes to."""
+    return [os.path.abspath(it) for it in ([sources] if isinstance(sources, str) else sources)]
 
 
 def _compile(command: List[str], folder: str) -> None:
