@@ -53,7 +53,8 @@ def find(name: str = "regrun", given: Optional[str] = None) -> List[str]:
     if asked:
         found = shutil.which(asked)
         if found is None:
-            raise ProgramNotFound(f"{'program' if given else variable}: no such program: {asked}")
+            why = "it can't be executed" if os.path.isfile(asked) else "no such program"
+            raise ProgramNotFound(f"{'program' if given else variable}: {why}: {asked}")
         return [_behind(os.path.abspath(found))]
     launcher = CHECKOUT / name
     if os.access(launcher, os.X_OK) and (CHECKOUT / "crates.txt").exists():

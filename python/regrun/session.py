@@ -124,6 +124,7 @@ class Session:
     ) -> None:
         if on_error not in _ON_ERROR:
             raise ValueError(f"on_error is {on_error!r}, and must be raise or return")
+        _require_target(target)
         self._on_error = on_error
         self._target = target
         self._text, self._given = _described(description)
@@ -909,6 +910,13 @@ class Session:
             event,
             fields_of(register, wanted, read, names),
         )
+
+
+def _require_target(target: Any) -> None:
+    """Raises TypeError for a class, a command or an address in the place of a target."""
+    calls = (getattr(target, name, None) for name in ("start", "answer", "close"))
+    if target is not None and (isinstance(target, type) or not all(map(callable, calls))):
+        raise TypeError(f"a target is made by a class of regrun.targets, and this is {target!r}")
 
 
 def _require_bits(mask: Optional[int]) -> None:

@@ -12,6 +12,7 @@ from hypothesis import strategies as st
 import regrun
 from chips import CHIP, FIELDS, FLAWS, MAPS, MEMORIES, REGISTERS
 from regrun.events import Event
+from regrun.targets import Simulator
 
 TOP = Path(__file__).resolve().parents[2]
 VALUES = st.one_of(
@@ -370,6 +371,14 @@ def test_no_program(monkeypatch):
     monkeypatch.setenv("REGRUN", "/nowhere/regrun")
     with pytest.raises(regrun.ProgramNotFound, match="REGRUN: no such program: /nowhere/regrun"):
         regrun.Session(CHIP)
+    with pytest.raises(regrun.ProgramNotFound, match=f"program: it can't be executed: {__file__}"):
+        regrun.Session(CHIP, program=__file__)
+
+
+@pytest.mark.parametrize("target", [Simulator, "vvp bench", 5], ids=str)
+def test_what_is_no_target(target):
+    with pytest.raises(TypeError, match="a target is made by a class of regrun.targets, and this"):
+        regrun.Session(CHIP, target)
 
 
 @pytest.mark.parametrize("status", [0, 70])
