@@ -98,6 +98,8 @@ class _Thing:
         return str(value)
 
     def _skips(self, skip: Sequence[str]) -> Tuple[str, ...]:
+        if isinstance(skip, str):
+            raise self._fail(f"skip is a list, and not {skip!r}")
         return tuple(self._one_of("skip", it, SKIPS) for it in skip)
 
 

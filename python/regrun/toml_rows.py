@@ -18,6 +18,7 @@ from .description import (
     Register,
     RegisterFile,
     Row,
+    caller,
     number,
 )
 from .errors import DescriptionError
@@ -261,11 +262,11 @@ class Reader:
 
 
 def _at(origin: Origin, error: Exception) -> str:
-    """An error's text with the place of the row in front."""
-    text = f"missing key {error}" if isinstance(error, KeyError) else str(error)
+    """An error's text with the place of the row in front, and without that of the call which reads it."""
+    text = f"missing key {error.args[0]}" if isinstance(error, KeyError) else str(error)
     text = re.sub(
         r".*\.__init__\(\) got an unexpected keyword argument '(\w+)'", r"unknown key \1", text
     )
     text = re.sub(r".*\.__init__\(\) missing \d+ required .*?: '(\w+)'.*", r"missing key \1", text)
-    own = re.match(r"(?:None|[^\s:]*\.py:\d+): ", text)
-    return f"{origin}: {text[own.end():] if own else text}"
+    own = f"{caller()}: "
+    return f"{origin}: {text[len(own) :] if text.startswith(own) else text}"

@@ -140,6 +140,7 @@ WRONG = [
         lambda: Register("a", 2, [Field("b", 0, 2, "RW"), Field("c", 1, 1, "RW")]),
         "fields b and c of a overlap",
     ),
+    (lambda: Register("a", skip="NO_REG_TESTS"), "skip is a list, and not 'NO_REG_TESTS'"),
     (lambda: Register("a", 9), "bytes of a is 9, and must be 1 to 8"),
     (lambda: Memory("a", 4, 0), "size of a is 0, and must be 1 to 65536"),
     (lambda: Register("a").at(0, count=2), "2 times a need a stride"),
@@ -153,6 +154,16 @@ def test_an_error_names_the_line(make, text):
         make()
     where = f"{__file__}:{make.__code__.co_firstlineno}: "
     assert str(raised.value).startswith(where + text)
+
+
+@pytest.mark.parametrize("caller", ["a b.py", "<string>"])
+def test_a_row_that_python_cannot_read_names_its_line_alone(caller):
+    """Whatever the file of the call is."""
+    text = '[[reg]]\nname = "a"\nbytes = 4\n[[reg]]\nname = "b"\nbytes = 9\n'
+    code = compile(f"Description.read({text!r})", caller, "exec")
+    with pytest.raises(regrun.DescriptionError) as raised:
+        exec(code, {"Description": Description, "__name__": "test"})
+    assert str(raised.value) == "<text>:4: bytes of b is 9, and must be 1 to 8"
 
 
 def test_what_the_program_refuses_names_the_line(program):
