@@ -303,6 +303,15 @@ def test_status(what: str) -> None:
     assert (done.stdout == "") == (status != 0)
 
 
+def test_words_of_a_file(tmp_path: Path) -> None:
+    words = tmp_path / "choice"
+    words.write_text("# The block that we have.\r\n\r\n--block\r\n  UART1 \r\n--volatile=*.CTRL.*\r\n")
+    done = command(SVD, f"@{words}")
+    assert done.returncode == 0
+    assert {item.partition(".")[0] for item in items(done.stdout)} == {"UART1"}
+    assert "volatile, as --volatile says" in done.stderr
+
+
 TABLES = {
     "tabs, and a register in each row": "reg\taddr\tfield\tmsb\tlsb\ttype\tdefault\nA\t0x0\tF\t3\t0\tRW\t5\nA\t0x0\tG\t7\t4\tRO\t1\n",
     "commas and bars in the text": 'Name,note\n\nRegister Name,Offset,Bit Field,Bit Range,Attr,Reset,Comment\nA,0,F,[3:0],R/W,5h,"a, b | c"\n,,G,[7:4],R,1,\n',

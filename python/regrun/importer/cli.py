@@ -15,12 +15,21 @@ from .shape import Options
 
 LEFT_OUT, REFUSED, UNREADABLE, UNWRITABLE = 1, 2, 3, 4
 
-_EPILOG = """A word @FILE stands for the lines of a file, one word a line. exit status: 0 imported; 1 with --strict something was left out; 2 the file is refused, or the
+_EPILOG = """A word @FILE stands for the lines of a file, one word a line, without empty lines and those that
+begin with #. exit status: 0 imported; 1 with --strict something was left out; 2 the file is refused, or the
 words of the command are; 3 it can't be read; 4 the output can't be written"""
 
 
+class _Parser(argparse.ArgumentParser):
+    """A parser whose files of words may have empty lines and comments."""
+
+    def convert_arg_line_to_args(self, arg_line: str) -> List[str]:
+        word = arg_line.strip()
+        return [] if not word or word.startswith("#") else [word]
+
+
 def _parser() -> argparse.ArgumentParser:
-    parser = argparse.ArgumentParser(
+    parser = _Parser(
         prog="python -m regrun import",
         description="Makes a description of IP-XACT, CMSIS-SVD, reggen hjson or a table.",
         epilog=_EPILOG,
