@@ -137,11 +137,14 @@ def test_whole_expected_is_the_choice_of_all() -> None:
 
 
 def test_base_adapter_volatile_and_backdoor() -> None:
-    options = Options("apb", 0x1000, ["UART1.CTRL.*"])
-    text = import_file(SVD, None, Choice(["UART1"]), options, backdoor=False).text
-    lines = lines_of(text)
+    options = Options("apb", 0x1000, ["UART1.CTRL.*", "UART1.STAT*", "UART9.*"])
+    result = import_file(SVD, None, Choice(["UART1"]), options, backdoor=False)
+    text, lines = result.text, lines_of(result.text)
     assert "map bus bytes=4 adapter=apb base=0x40002000" in lines
-    assert "  EN 0:0 RW volatile HARD=0x0" in lines and "  DONE 0:0 W1C HARD=0x0" in lines
+    assert "  EN 0:0 RW volatile HARD=0x0" in lines
+    assert "  DONE 0:0 W1C volatile HARD=0x0" in lines
+    unmet = [entry.text for entry in result.report.entries if "no field is like it" in entry.text]
+    assert unmet == ["--volatile `UART9.*`: no field is like it"]
     assert text.count("backdoor = false") == text.count("[[reg]]")
 
 

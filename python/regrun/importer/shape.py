@@ -209,6 +209,7 @@ class _Shaper:
         self.apb: Dict[int, bool] = {}
         self.order = 0
         self.not_chosen = 0
+        self.met: Set[str] = set()
 
     def description(self) -> Description:
         spaces = [space for space in self.chip.spaces if self._unit(space)]
@@ -227,6 +228,9 @@ class _Shaper:
         if not any(entries):
             return result
         self._sections(result, spaces, entries)
+        for like in self.options.volatile:
+            if like not in self.met:
+                self.report.noted(0, "", f"--volatile `{like}`: no field is like it")
         return result
 
     def _not_chosen(self) -> str:
@@ -576,10 +580,11 @@ class _Shaper:
 
     def _is_volatile(self, one: source.Field, where: str) -> bool:
         """Whether the file or the command line says that the device changes a field by itself."""
-        if not one.volatile and any(matches(where, like) for like in self.options.volatile):
+        meets = [like for like in self.options.volatile if matches(where, like)]
+        self.met.update(meets)
+        if meets and not one.volatile:
             self.report.changed(one.line, where, "volatile, as --volatile says")
-            return True
-        return one.volatile
+        return one.volatile or bool(meets)
 
     def _field_row(self, one: source.Field, name: str, where: str, skip: Set[str]) -> FieldRow:
         volatile = self._is_volatile(one, where)
