@@ -68,6 +68,11 @@ CHAIN = (
     )
     + "<peripheral><name>P3000</name></peripheral>"
 )
+ENUMERATED = registers("".join(register(f"R{n}", str(4 * n), "<fields>" + "".join(
+    f"<field><name>F{f}</name><lsb>0</lsb><msb>0</msb><enumeratedValues><name>E</name></enumeratedValues></field>"
+    f'<field><name>G{f}</name><lsb>0</lsb><msb>0</msb><enumeratedValues derivedFrom="X{n}.Y{f}.E"/></field>'
+    for f in range(30)
+) + "</fields>") for n in range(500)))  # fmt: skip
 FIELDS = "register,offset,field,bits,access\nR,0,,,\n" + ",,F,0,RW\n" * 120_000
 BITS = "<field><name>f</name><bitOffset>0</bitOffset><bitWidth>{}</bitWidth></field>"
 
@@ -91,6 +96,7 @@ HOSTILE: Dict[str, Tuple[str, Callable[[], str], str]] = {
     "10,000 digits in IP-XACT": ("a.xml", lambda: component(BITS.format(DIGITS)), "nothing of it can be imported"),
     "10,000 digits in hjson": ("a.hjson", lambda: f'{{ name: "a", regwidth: {DIGITS}, registers: [] }}', "characters"),
     "10,000 digits in a table": ("a.csv", lambda: f"register,offset,bits,access\nA,{DIGITS},0,RW\n", ":2: refused: nothing of it can be imported: A: a number of"),
+    "enumerated values of one name": ("a.svd", lambda: ENUMERATED, "too many enumerated values"),
     "loop of derivedFrom": ("a.svd", lambda: registers(LOOP), "makes a loop"),
     "derived from itself": ("a.svd", lambda: registers(register("A", derived="A")), "makes a loop"),
     "a cluster in itself": ("a.svd", lambda: registers(INSIDE), "nested too deep"),

@@ -14,6 +14,7 @@ from .report import Report
 MOST_DIM = 65_536
 MOST_LOOKS = 8
 MOST_BASES = 32
+MOST_COMPARED = 500_000
 WRITING_TESTS = {"NO_REG_BIT_BASH_TEST", "NO_REG_ACCESS_TEST", "NO_REG_SHARED_ACCESS_TEST"}
 _INDEXED = ("peripheral", "cluster", "register", "field", "enumeratedValues")
 _HOLDERS = ("peripherals", "registers", "fields")
@@ -72,6 +73,8 @@ class _Reader:
         self.paths: Dict[int, str] = {}
         self.index: Dict[str, Node] = {}
         self.values_by_name: Dict[str, List[Node]] = {}
+        self.values_in: Dict[str, Dict[str, List[Node]]] = {}
+        self.compared = 0
         self._index(root, "")
 
     def _index(self, node: Node, path: str) -> None:
@@ -122,16 +125,32 @@ class _Reader:
         """Enumerated values by their name, or the end of their path, in the innermost scope that has some; None if several."""
         if node.tag != "enumeratedValues":
             return None
-        named = self.values_by_name.get(name.rpartition(".")[2], [])
-        paths = [(f".{self.paths[id(one)]}", one) for one in named if one is not node]
-        found = [(path, one) for path, one in paths if path.endswith(f".{name}")]
-        scope = f".{self.paths[id(node)]}"
+        if name not in self.values_in:
+            self.values_in[name] = self._scopes_of(name, node.line)
+        scope = self.paths[id(node)]
         while scope:
             scope = scope.rpartition(".")[0]
-            there = [one for path, one in found if path.startswith(f"{scope}.")]
+            there = [one for one in self.values_in[name].get(scope, ()) if one is not node]
             if there:
                 return there[0] if len(there) == 1 else None
         return None
+
+    def _scopes_of(self, name: str, line: int) -> Dict[str, List[Node]]:
+        """For each scope the enumerated values of a name below it, three at most."""
+        scopes: Dict[str, List[Node]] = {}
+        named = self.values_by_name.get(name.rpartition(".")[2], [])
+        self.compared += len(named)
+        if self.compared > MOST_COMPARED:
+            raise SourceError("derivedFrom of too many enumerated values of one name", line)
+        for one in named:
+            path = self.paths[id(one)]
+            scope = path if f".{path}".endswith(f".{name}") else ""
+            while scope:
+                scope = scope.rpartition(".")[0]
+                held = scopes.setdefault(scope, [])
+                if len(held) < 3:
+                    held.append(one)
+        return scopes
 
     def _look_up(self, path: str, depth: int) -> Optional[Node]:
         """The element of a path, also where it stands only in what its owner is derived from."""
