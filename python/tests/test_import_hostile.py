@@ -110,6 +110,7 @@ HOSTILE: Dict[str, Tuple[str, Callable[[], str], str]] = {
     "no XML": ("a.svd", lambda: "<device", "not XML"),
     "no hjson": ("a.hjson", lambda: "{ a: ", "not Hjson"),
     "no table": ("a.csv", lambda: "hello\n", "no header row"),
+    "another format": ("a.rdl", lambda: "addrmap a {\n};\n", "or of a format that isn't read"),
     "bytes": ("a.bin", lambda: "\0\1\2", "a byte 0; a spreadsheet is read as CSV"),
     "nothing": ("a.svd", lambda: " \n", "nothing stands in it"),
     "quotes that don't end": ("a.csv", lambda: 'register,offset,bits\nA,0,"' + "x" * 1_000_000, "not a table"),

@@ -101,7 +101,8 @@ def _header(text: str) -> Tuple[str, List[str], int]:
     _, _, separator, names, number = best
     if not names:
         raise SourceError(
-            "no header row: it names the columns register, offset, field, bits, access, reset, description"
+            "a table with no header row, which names the columns register, offset, field, bits, access, reset,"
+            " description; or of a format that isn't read"
         )
     found = set(map(_column, names))
     wanted = [one for one in ("register", "offset") if one not in found]
