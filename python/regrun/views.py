@@ -202,6 +202,9 @@ class MemoryView(View):
     def __len__(self) -> int:
         return self._names.memories[self._path].size
 
+    def __iter__(self) -> Iterator[int]:
+        return (self[index] for index in range(len(self)))
+
     def __getitem__(self, index: Any) -> Any:
         if isinstance(index, slice):
             first, last, step = index.indices(len(self))

@@ -145,6 +145,13 @@ def test_an_answer_ends_where_it_ends(script, piece, pause):
     assert s.events == 9
 
 
+def test_a_memory_ends_with_its_last_location(script):
+    text = f"PIECE, PAUSE, WORDS = 4096, 0, {{'top.ram': 1}}\n{DRIPS}"
+    with regrun.Session(CHIP, program=script(text)) as s:
+        assert list(s.top.ram) == [1] * 8
+    assert s.events == 8
+
+
 def test_a_script_is_promised_its_log(program):
     """What the sessions rest on: where a program has taken a further line, the log of those before stands in the pipe."""
     with regrun.Session(CHIP, program=program) as s:
