@@ -72,10 +72,16 @@ class _Rows:
         try:
             for number, cells in enumerate(reader):
                 if number and any(cell.strip(" -:=") for cell in cells):
-                    yield _Row(self._named(cells), line)
+                    if not self._is_header(cells):
+                        yield _Row(self._named(cells), line)
                 line = self.first + reader.line_num + 1
         except csv.Error as error:
             raise SourceError(f"not a table: {error}", line) from None
+
+    def _is_header(self, cells: List[str]) -> bool:
+        """Whether it is the header row once more, as each register of a manual has its own."""
+        columns = zip(cells, self.columns)
+        return len(cells) == len(self.columns) and all(_column(it) == name for it, name in columns)
 
     def _named(self, cells: List[str]) -> Dict[str, str]:
         if len(cells) > MOST_CELLS:
