@@ -322,7 +322,7 @@ TABLES = {
     "widths": "register;offset;field;lsb;width;access;reset\nA;0;F;0;4;rw;5\n;;G;4;4;ro;1\n",
     "the register's reset": "register;offset;field;bits;access;reset\nA;0;;;rw;0x15\n;;F;3:0;;\n;;G;7:4;ro;\n",
     "names of columns in two lines": '"Register\nname",Offset,Field,"Bit\nrange",Access,"Reset\nvalue"\nA,0,F,3:0,RW,5\n,,G,7:4,RO,1\n',
-    "the header row again": "register,offset,field,bits,access,reset\nA,0,F,3:0,RW,5\n\nRegister,Offset,Field,Bits,Access,Reset\n,,G,7:4,RO,1\n",
+    "the header row again": "register,Offset address,field,bits,access,reset\nA,0,F,3:0,RW,5\n\nRegister,Offset,Field,Bits,Access,Reset\n,,G,7:4,RO,1\n",
     "a size in words": "register,offset,size,field,bits,access,reset\nA,0,32-bit,F,3:0,RW,5\n,,,G,7:4,RO,1\n",
     "Windows": "\ufeffregister;offset;field;bits;access;reset\r\nA;0;F;3:0;rw;5\r\n;;G;7:4;ro;1\r\n",
     "UTF-16": "\ufeffregister\toffset\tfield\tbits\taccess\treset\r\nA\t0\tF\t3:0\trw\t5\r\n\t\tG\t7:4\tro\t1\r\n",

@@ -21,7 +21,7 @@ MOST_CELLS = 200
 COLUMNS: Dict[str, str] = {
     "block": "block peripheral module instance unit component ip",
     "register": "register registername reg regname",
-    "offset": "offset address addr addressoffset regoffset registeroffset addroffset",
+    "offset": "offset address addr addressoffset offsetaddress regoffset registeroffset addroffset",
     "size": "size registersize regsize registerwidth regwidth",
     "field": "field fieldname bitfield bitname bitfieldname",
     "bits": "bits bit bitrange range position bitposition bitoffset",
