@@ -66,7 +66,8 @@ def _short(text: str) -> str:
 
 _TOKEN = re.compile(
     r"\s*(?:(?P<real>[0-9][0-9_]*\.[0-9]+)"
-    r"|(?P<number>[0-9]*'[sS]?[hHdDbBoO]\s*[0-9a-fA-F_xXzZ?]+|0[xX][0-9a-fA-F_]+|\#[0-9a-fA-F]+"
+    r"|(?P<number>[0-9]*'[sS]?[hHdDbBoO]\s*[0-9a-fA-F_xXzZ?]+|\#[0-9a-fA-F]+"
+    r"|0[xX][0-9a-fA-F_]+|0[bB][01_]+"
     r"|[0-9][0-9_]*[kKmMgGtT]?(?![A-Za-z0-9_]))"
     r"|(?P<name>\$?[A-Za-z_][A-Za-z0-9_]*)"
     r"|(?P<sign>\*\*|<<<|>>>|<<|>>|<=|>=|==|!=|&&|\|\||[-+*/%()<>&|^~!?:,]))"
@@ -216,6 +217,8 @@ def _literal(word: str) -> int:
         digits = rest[1:].strip().replace("_", "")
     elif word[:2] in ("0x", "0X"):
         base, digits = 16, word[2:].replace("_", "")
+    elif word[:2] in ("0b", "0B"):
+        base, digits = 2, word[2:].replace("_", "")
     elif word[0] == "#":
         base, digits = 16, word[1:]
     else:
