@@ -420,6 +420,16 @@ def test_headers_of_a_table(what: str, tmp_path: Path) -> None:
         assert f"{error.line}: {error.text}" == said
 
 
+def test_what_a_file_of_reggen_lacks(tmp_path: Path) -> None:
+    path = tmp_path / "a.hjson"
+    path.write_text(
+        '{ name: "a", registers: [\n{ name: "R", swaccess: "rw", fields: [{ bits: "0" }, { name: "f" }] },\n'
+        '{ multireg: { name: "M", swaccess: "rw", fields: [{ bits: "0" }] } } ] }'
+    )
+    said = [(it.line, it.where, it.text) for it in import_file(str(path)).report.entries]
+    assert said == [(2, "a.R.f", "no bits"), (3, "a.M", "no count")]
+
+
 HJSON = {
     "{a: 1, b: [1, 2, 'x'\n\"y\"], c: {}}": {"a": "1", "b": ["1", "2", "x", "y"], "c": {}},
     "# c\na: text to the end, of } it\n// c\nb:'''\n  one\n   two\n  '''\n/* c */ 'c': true": {

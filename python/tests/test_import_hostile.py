@@ -108,6 +108,7 @@ HOSTILE: Dict[str, Tuple[str, Callable[[], str], str]] = {
     "a power of powers": ("a.xml", lambda: component(BITS.format("9**9**9**9")), "imported: b.r.f: "),
     "another XML": ("a.xml", lambda: "<html/>", "`html` is neither"),
     "no XML": ("a.svd", lambda: "<device", "not XML"),
+    "a register that is a text": ("a.hjson", lambda: '{ name: "a", registers: ["b"] }', ":1: refused: `registers` isn't a list"),
     "no hjson": ("a.hjson", lambda: "{ a: ", "not Hjson"),
     "no table": ("a.csv", lambda: "hello\n", "no header row"),
     "another format": ("a.rdl", lambda: "addrmap a {\n};\n", "or of a format that isn't read"),

@@ -65,8 +65,10 @@ class _Reader:
         except numbers.NumberError as error:
             raise SourceError(f"{key}: {error}", self.root.line) from None
 
-    def number(self, text: str) -> int:
+    def number(self, text: str, what: str = "number") -> int:
         """A number, a parameter or an expression of both. Raises NumberError."""
+        if not text:
+            raise numbers.NumberError(f"no {what}")
         return numbers.expression(text, self._parameter)
 
     def _parameter(self, name: str) -> int:
@@ -87,7 +89,8 @@ class _Reader:
         ports = [one.text("name") for one in self.root.tables("bus_interfaces")]
         for at, key in enumerate(holders):
             port = key or next((port for port in ports if port), "") or "bus"
-            block = self.block(f"{name}_{key}" if key else name, holders.tables(key), at == 0)
+            entries = holders.tables(key) if key else self.root.tables("registers")
+            block = self.block(f"{name}_{key}" if key else name, entries, at == 0)
             if block is not None:
                 space = source.Space(port, [block], [source.Port(port)], self.width)
                 chip.spaces.append(space)
@@ -154,7 +157,9 @@ class _Reader:
     # The entries of a list of registers
 
     def entry(self, entry: Table, path: str) -> Iterator[source.Item]:
-        where = f"{path}.{entry.text('name')}" if "name" in entry else path
+        inner = entry.get("multireg", entry.get("window"))
+        named = inner if isinstance(inner, Table) else entry
+        where = f"{path}.{named.text('name')}" if "name" in named else path
         try:
             if "skipto" in entry:
                 self._skip_to(self.number(entry.text("skipto")), entry, where)
@@ -291,7 +296,7 @@ class _Reader:
 
     def _bits(self, text: str) -> Tuple[int, int]:
         high, sign, low = text.partition(":")
-        msb = self.number(high)
+        msb = self.number(high, "bits")
         lsb = self.number(low) if sign else msb
         if not 0 <= lsb <= msb < 2**16:
             raise numbers.NumberError(f"bits `{text}`")
@@ -320,7 +325,7 @@ class _Reader:
     # Several registers of one kind
 
     def multireg(self, entry: Table, path: str) -> Iterator[source.Item]:
-        count = self.number(entry.text("count"))
+        count = self.number(entry.text("count"), "count")
         if not 0 < count <= MOST_COUNT:
             raise numbers.NumberError(f"count {count} isn't from 1 to {MOST_COUNT}")
         model = self.register(entry, path)
